@@ -1,5 +1,6 @@
--- A set of nodes is a number: node n is a member where bit n is 1.
-use Rattle.std.specs.Prelude.{ℕ, ◌+◌, ◌%◌, ◌^◌, ◌&&◌, not, Bool, Option, List, [], ◌∷◌, length, map, filter, fold, count_by, nat_lt, ◌==◌, if◌then◌else◌, bit_and, bit_or, slice_get, slice_index}
+-- A set of nodes is a number: node n is a member where bit n is 1. The nodes of a machine are below 256.
+-- The operations are those of the Linux kernel's bitmaps; what stands in quotes is from the comments in its lib/bitmap.c.
+use Rattle.std.specs.Prelude.{ℕ, ◌%◌, ◌^◌, ◌&&◌, not, Bool, Option, List, length, map, filter, fold, count_by, nat_lt, ◌==◌, if◌then◌else◌, bit_and, bit_or, slice_get, slice_index}
 use Rattle.std.specs.Int.{bit_at}
 use Rattle.std.specs.List.{filter_map, range_with_len}
 
@@ -15,7 +16,7 @@ members set = filter (has set) (range_with_len 0 256)
 abbrev pub weight_of : ℕ → ℕ
 weight_of set = length (members set)
 
--- the n-th member
+-- the n-th member, counted from 0: the one with exactly n smaller members
 abbrev pub nth_member : ℕ → ℕ → Option ℕ
 nth_member set n = slice_get (members set) n
 
@@ -35,17 +36,20 @@ set_of nodes = fold with_node 0 nodes
 abbrev pub both : ℕ → ℕ → ℕ
 both = bit_and
 
--- each member modulo the size
+-- bitmap_fold: "For each bit oldbit in @orig, set bit oldbit mod @sz in @dst."
 abbrev pub fold_set : ℕ → ℕ → ℕ
 fold_set set size = set_of (map (λ m. m % size) (members set))
 
--- member n gives the n-th member of the other set, where there is one
+-- bitmap_onto: "Set the n-th bit of @dst iff there exists some m such that the n-th bit of @relmap is set, the m-th bit of @orig is set, and
+-- the n-th bit of @relmap is also the m-th _set_ bit of @relmap." So member m gives the m-th member of the other set, where there is one.
 abbrev pub onto_set : ℕ → ℕ → ℕ
 onto_set set other = set_of (filter_map (nth_member other) (members set))
 
--- the n-th member of old gives the member of new with ordinal n modulo the weight of new; any other node, and any where new is empty, stays
+-- bitmap_remap, for one node: "map the position of the n-th set bit in @old to the position of the m-th set bit in @new, where m == n % w",
+-- w being the weight of new; "the positions of unset bits in @old are mapped to themselves", and so are all where new is empty
 abbrev pub moved : ℕ → ℕ → ℕ → ℕ
 moved old new node = if has old node && not (new == 0) then slice_index (members new) (ordinal_of old node % weight_of new) else node
 
+-- bitmap_remap: each member, moved
 abbrev pub remap_set : ℕ → ℕ → ℕ → ℕ
 remap_set set old new = set_of (map (moved old new) (members set))

@@ -1,23 +1,74 @@
-//! A set of nodes, kept as the bits of a word.
-ghost use Rattle.std.specs.Prelude.{◌≡◌, ◌≢◌, ◌==◌, ◌+◌, ◌<◌, ◌≤◌, ◌%◌, ◌^◌, ◌↔◌, ℕ, IsTrue, IfSome, List, [], length, nat_lt, Some, None, if◌then◌else◌};
+//! Sets of nodes, with the operations of the Linux kernel's bitmaps (lib/bitmap.c) that its memory policies are made of.
+//!
+//! A set has up to 256 members, the nodes 0 to 255. A contract sees it as one number whose bit n is 1 where node n is
+//! a member; the code keeps that number as four words of 64 bits, the lowest first. The n-th member of a set is the one
+//! with exactly n smaller members, counted from 0; its ordinal is n. The weight is the number of members.
+//!
+//! Three operations map the members of a set, one by one, and give the set of all images:
+//!
+//! - `fold` by a size: "for each bit oldbit in @orig, set bit oldbit mod @sz in @dst" (comment on bitmap_fold). It
+//!   makes a mask of any width fit the first `size` nodes.
+//! - `onto` another set: member n goes to the n-th member of the other set, and nowhere where the other set has no n-th
+//!   member (comment on bitmap_onto). It reads a mask as one relative to another set.
+//! - `remap` from an old set to a new one: the n-th member of the old set goes to the member of the new set with
+//!   ordinal n modulo the new weight; "the positions of unset bits in @old are mapped to themselves", and all are
+//!   where the new set is empty (comment on bitmap_remap). It carries a policy over to another set of allowed nodes.
+//!
+//! No call takes memory.
+ghost use Rattle.std.specs.Prelude.{count_ones, ◌≡◌, ◌≢◌, ◌==◌, ◌+◌, ◌-◌, ◌<◌, ◌≤◌, ◌%◌, ◌^◌, ◌↔◌, ℕ, true, false, IsTrue, IsSome, IfSome, List, [], length, nat_lt, Some, None, if◌then◌else◌};
+ghost use Rattle.std.specs.List.{sum_by};
+ghost use Rattle.std.specs.Cmp.Rules.{comparing};
+ghost use Rattle.std.proofs.Common.{rules};
 ghost use Rattle.numa_mask.specs.NodeSet.{has, members, weight_of, nth_member, ordinal_of, with_node, both, fold_set, onto_set, moved, remap_set};
-ghost use Rattle.std.specs.Iterator.{YieldsFirst, item_count};
 
 use crate::node::NodeId;
+use crate::nodes::Nodes;
+use crate::ranked::Ranked;
 use std::marker::Model;
 
-/// A set of nodes.
-#[derive(Clone, Copy, Debug, PartialEq, Eq)]
+/// A set of nodes from 0 to 255. Two sets are equal where they have the same members.
+#[derive(Clone, Copy, Debug)]
 pub struct NodeMask {
-    word: u64,
+    words: [u64; 4],
 }
 
 impl Model for NodeMask {
+    ghost use Rattle.std.specs.Prelude.{ℕ, ◌<◌, ◌^◌, slice_index};
+    ghost use Rattle.numa_mask.specs.Words.{number_of};
+
     ghost Value = { ℕ };
 
-    ghost view = { λ a. a.word };
+    ghost view = { λ a. number_of a.words };
 
-    ghost inverse = { λ s. record { word = s } };
+    ghost use Rattle.numa_mask.specs.Words.{AreFour, words_of, words_of-number};
+
+    ghost invariant = { λ a. AreFour a.words };
+
+    ghost inverse = { λ n. record { words = words_of n } };
+
+    ghost inverse_ok = { λ a h i. record { words = words_of-number a.words h i } };
+}
+
+impl PartialEq for NodeMask {
+    ghost eq = { ◌==◌ };
+
+    ghost laws = { Prim.search (comparing, rules) };
+
+    fn eq(&self, other: &NodeMask) -> bool {
+        self.words == other.words
+    }
+}
+
+impl Eq for NodeMask {
+    ghost laws = { Prim.search (comparing, rules) };
+}
+
+/// How many bits of a few words are 1.
+fn ones_of(words: &[u64]) -> u32
+    requires { length words.now ≤ 4 }
+    ensures { result ≡ sum_by count_ones words.now }
+{
+    words.iter().map(|word| word.count_ones()).sum()
 }
 
 impl NodeMask {
@@ -25,21 +76,32 @@ impl NodeMask {
     pub fn empty() -> NodeMask
         ensures { result ≡ 0 }
     {
-        NodeMask { word: 0 }
+        NodeMask { words: [0; 4] }
     }
 
     /// Adds a node.
     pub fn insert(&mut self, node: NodeId)
         ensures { self.new ≡ with_node self.old node }
     {
-        self.word |= 1u64 << node.number();
+        let number = node.number();
+        self.words[number as usize / 64] |= 1u64 << (number % 64);
+    }
+
+    /// Takes a node away, where it is a member.
+    pub(crate) fn remove(&mut self, node: NodeId)
+        ensures gone { has self.new node ≡ false }
+        ensures others { (other : ℕ) → other ≢ node → has self.new other ≡ has self.old other }
+    {
+        let number = node.number();
+        self.words[number as usize / 64] &= !(1u64 << (number % 64));
     }
 
     /// Whether the node is a member.
     pub fn contains(&self, node: NodeId) -> bool
         ensures { result ≡ has self.now node }
     {
-        (self.word >> node.number()) & 1 == 1
+        let number = node.number();
+        (self.words[number as usize / 64] >> (number % 64)) & 1 == 1
     }
 
     /// The nodes that both sets have.
@@ -47,51 +109,82 @@ impl NodeMask {
         ensures { result ≡ both self.now other.now }
     {
         NodeMask {
-            word: self.word & other.word,
+            words: [
+                self.words[0] & other.words[0],
+                self.words[1] & other.words[1],
+                self.words[2] & other.words[2],
+                self.words[3] & other.words[3],
+            ],
         }
     }
 
-    /// How many members there are.
+    /// How many members there are, at most 256. It is 0 for the empty set alone.
     pub fn weight(&self) -> u32
         ensures weight { result ≡ weight_of self.now }
         ensures some { self.now ≢ 0 → 0 < result }
+        ensures at_most { result ≤ 256 }
+        ensures within { self.now < 2 ^ 256 }
     {
-        self.word.count_ones()
+        ones_of(&self.words)
     }
 
     /// Whether there is no member.
     pub fn is_empty(&self) -> bool
         ensures { result ≡ (self.now == 0) }
     {
-        self.word == 0
+        self.first().is_none()
     }
 
-    /// The lowest member.
+    /// The lowest member, `None` for the empty set alone.
     pub fn first(&self) -> Option<NodeId>
-        ensures { result ≡ nth_member self.now 0 }
+        ensures first { result ≡ nth_member self.now 0 }
+        ensures some { IsSome result ↔ (self.now ≢ 0) }
+        ensures member { IfSome result (λ node. has self.now node ≡ true) }
+        ensures lowest { IfSome result (λ node. (other : ℕ) → other < node → has self.now other ≡ false) }
     {
-        self.iter().next()
+        for (place, word) in self.words.iter().enumerate() {
+            if *word != 0 {
+                return Some(NodeId::of((place * 64) as u8 + word.trailing_zeros() as u8));
+            }
+        }
+        None
     }
 
-    /// The member with k smaller ones.
+    /// The k-th member, counted from 0: the one with exactly k smaller members. `None` where there are at most k.
     pub fn nth(&self, k: u32) -> Option<NodeId>
-        ensures { result ≡ nth_member self.now k }
+        ensures nth { result ≡ nth_member self.now k }
+        ensures some { IsSome result ↔ (k < weight_of self.now) }
+        ensures member { IfSome result (λ node. has self.now node ≡ true) }
+        ensures ordinal { IfSome result (λ node. ordinal_of self.now node ≡ k) }
     {
         self.iter().nth(k as usize)
     }
 
-    /// How many members are smaller than this one, where it is a member.
+    /// How many members are smaller than this node, where it is a member itself; else `None`.
     pub fn ordinal(&self, node: NodeId) -> Option<u32>
-        ensures { result ≡ if has self.now node then Some (ordinal_of self.now node) else None }
+        ensures ordinal { result ≡ if has self.now node then Some (ordinal_of self.now node) else None }
+        ensures within { IfSome result (λ k. k < weight_of self.now) }
+        ensures nth { IfSome result (λ k. nth_member self.now k ≡ Some node) }
     {
         if self.contains(node) {
-            Some((self.word & ((1u64 << node.number()) - 1)).count_ones())
+            Some(self.count_below(node))
         } else {
             None
         }
     }
 
-    /// Each member modulo the size.
+    /// How many members are smaller than this node.
+    fn count_below(&self, node: NodeId) -> u32
+        ensures ordinal { result ≡ ordinal_of self.now node }
+        ensures node { node < 256 }
+    {
+        let number = node.number();
+        let place = number as usize / 64;
+        let below = self.words[place] & ((1u64 << (number % 64)) - 1);
+        ones_of(&self.words[..place]) + below.count_ones()
+    }
+
+    /// The set of each member modulo the size (the kernel's bitmap_fold). The size is at least 1.
     pub fn fold(&self, size: u32) -> NodeMask
         requires { 1 ≤ size }
         ensures { result ≡ fold_set self.now size }
@@ -103,13 +196,15 @@ impl NodeMask {
         set
     }
 
-    /// Member n gives the n-th member of the other set, where there is one.
+    /// The set of the n-th member of the other set for each member n (the kernel's bitmap_onto, with the other set as
+    /// its @relmap). A member at or above the other set's weight has no image.
     pub fn onto(&self, other: &NodeMask) -> NodeMask
         ensures { result ≡ onto_set self.now other.now }
     {
+        let images = Ranked::of(other);
         let mut set = NodeMask::empty();
         for node in self.iter() {
-            match other.nth(u32::from(node.number())) {
+            match images.nth(u32::from(node.number())) {
                 Some(image) => set.insert(image),
                 None => {}
             }
@@ -117,36 +212,27 @@ impl NodeMask {
         set
     }
 
-    /// Each member of `old` gives the member of `new` with its ordinal, modulo the weight of `new`. A node outside `old`
-    /// stays, and so does each where `new` is empty.
+    /// The set in which each member that is the n-th of `old` has become the member of `new` with ordinal n modulo the
+    /// weight of `new` (the kernel's bitmap_remap). A member outside `old` stays, and so does each where `new` is empty.
     pub fn remap(&self, old: &NodeMask, new: &NodeMask) -> NodeMask
         ensures { result ≡ remap_set self.now old.now new.now }
     {
+        let images = Ranked::of(new);
         let mut set = NodeMask::empty();
         for node in self.iter() {
-            set.insert(node.moved(old, new));
+            set.insert(node.moved(old, &images));
         }
         set
     }
 
-    /// The members, rising.
+    /// The members, rising, each once.
     pub fn iter(&self) -> Nodes
-        ensures { result ≡ self.now }
+        ensures members { result ≡ self.now }
+        ensures within { self.now < 2 ^ 256 }
     {
-        Nodes { word: self.word }
+        let _ = &self.words;
+        Nodes::of(*self)
     }
-}
-
-/// The members of a set that are left.
-#[derive(Drop)]
-pub struct Nodes {
-    word: u64,
-}
-
-impl Model for Nodes {
-    ghost Value = { ℕ };
-
-    ghost view = { λ a. a.word };
 }
 
 impl NodeId {
@@ -159,7 +245,7 @@ impl NodeId {
     }
 
     /// Where `remap` takes it.
-    fn moved(self, old: &NodeMask, new: &NodeMask) -> NodeId
+    fn moved(self, old: &NodeMask, new: &Ranked) -> NodeId
         ensures { result ≡ moved old.now new.now self }
     {
         if new.is_empty() {
@@ -169,22 +255,5 @@ impl NodeId {
             Some(n) => new.nth(n % new.weight()).unwrap(),
             None => self,
         }
-    }
-}
-
-impl Iterator for Nodes {
-    type Item = NodeId;
-
-    ghost next_gives = { YieldsFirst members };
-
-    ghost remaining = { item_count members };
-
-    fn next(&mut self) -> Option<NodeId> {
-        if self.word == 0 {
-            return None;
-        }
-        let lowest = self.word.trailing_zeros();
-        self.word &= !(1u64 << lowest);
-        NodeId::new(lowest as u8)
     }
 }

@@ -1,0 +1,4 @@
+pub mod LaneLemmas
+pub mod CycleLemmas
+pub mod EndLemmas
+pub mod WithinLemmas

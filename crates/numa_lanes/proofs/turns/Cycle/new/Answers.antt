@@ -1,0 +1,20 @@
+use Rattle.std.proofs.Common.{ℕ, ◌<◌, ◌%◌, get_or, length, arith, sym, ap, ◌∙◌}
+use Rattle.std.proofs.Math.Nat.{mod-mod}
+use Rattle.std.proofs.lemmas.Nat.{mod_below}
+use Rattle.numa_lanes.proofs.CycleLemmas.{front_is}
+use Rattle.numa_lanes.proofs.turns.Cycle.new.Goals as goal
+
+pub invariant_of-result : goal.invariant_of-result
+invariant_of-result c = record {
+  some = c.requires;
+  long = omega arith;
+  again = λ k lt.
+      let n : ℕ = length c.args.entries.now in
+      let low : k % n < n = mod_below k n c.requires in
+      let near : k % n < c.loop-turn.turn = omega arith in
+      let far : k < c.loop-turn.turn = omega arith in
+      c.loop-turn.invariant.same k far ∙ sym (c.loop-turn.invariant.same (k % n) near ∙ ap (λ i. get_or c.args.entries.now i 0) (mod-mod k n));
+}
+
+pub returns : goal.returns
+returns c = front_is c.args.entries.now c.loop-turn.table.items c.loop-turn.turn (omega arith) (omega arith) c.loop-turn.invariant.same

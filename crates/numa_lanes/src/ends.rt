@@ -1,0 +1,115 @@
+//! Between which nodes the pages of a block are.
+ghost use Rattle.std.specs.Prelude.{◌≡◌, ℕ, ◌+◌, ◌*◌, ◌<◌, ◌≤◌, length, slice_index, EachIndex, IfSome};
+ghost use Rattle.numa_lanes.specs.Spans.{between};
+
+use crate::lanes::LANES;
+use std::simd::prelude::*;
+
+/// How many neighbouring nodes a block may hold at most, so that a pass of lanes for each is faster than a tally.
+const NEAR: u8 = 12;
+
+/// How many vectors of a block are looked at before the rest.
+const FIRST: usize = 8;
+
+/// Of each lane and the block's entry at its place, from `at` on, the lesser.
+#[inline(always)]
+fn lesser(lanes: u8x32, block: &[u8], at: usize) -> u8x32
+    requires room { at + 32 ≤ length block.now }
+    requires long { length lanes ≡ 32 }
+    ensures lanes { (j : ℕ) → j < 32 → slice_index result j ≤ slice_index lanes j }
+    ensures entries { (j : ℕ) → j < 32 → slice_index result j ≤ slice_index block.now (at + j) }
+    ensures long { length result ≡ 32 }
+{
+    lanes.simd_min(u8x32::from_slice(&block[at..]))
+}
+
+/// Of each lane and the block's entry at its place, from `at` on, the greater.
+#[inline(always)]
+fn greater(lanes: u8x32, block: &[u8], at: usize) -> u8x32
+    requires room { at + 32 ≤ length block.now }
+    requires long { length lanes ≡ 32 }
+    ensures lanes { (j : ℕ) → j < 32 → slice_index lanes j ≤ slice_index result j }
+    ensures entries { (j : ℕ) → j < 32 → slice_index block.now (at + j) ≤ slice_index result j }
+    ensures long { length result ≡ 32 }
+{
+    lanes.simd_max(u8x32::from_slice(&block[at..]))
+}
+
+/// The least lane.
+fn least_lane(lanes: u8x32) -> u8
+    requires { length lanes ≡ 32 }
+    ensures { EachIndex lanes (λ j. result ≤ slice_index lanes j) }
+{
+    let mut least = u8::MAX;
+    for lane in lanes.to_array() {
+        least = least.min(lane);
+    }
+    least
+}
+
+/// The greatest lane.
+fn greatest_lane(lanes: u8x32) -> u8
+    requires { length lanes ≡ 32 }
+    ensures { EachIndex lanes (λ j. slice_index lanes j ≤ result) }
+{
+    let mut greatest = 0;
+    for lane in lanes.to_array() {
+        greatest = greatest.max(lane);
+    }
+    greatest
+}
+
+/// The least and the greatest node of a block of whole vectors.
+fn ends(block: &[u8], rounds: usize) -> (u8, u8)
+    requires { length block.now ≡ 32 * rounds }
+    ensures { between result.0 result.1 block.now }
+{
+    let mut least = u8x32::splat(u8::MAX);
+    let mut greatest = u8x32::splat(0);
+    for round in 0..rounds {
+        least = lesser(least, block, round * LANES);
+        greatest = greater(greatest, block, round * LANES);
+    }
+    (least_lane(least), greatest_lane(greatest))
+}
+
+/// Whether four entries of a block are too far apart already.
+fn looks_wide(block: &[u8]) -> bool
+    requires { 0 < length block.now }
+{
+    let len = block.len();
+    [block[len / 3], block[len / 2], block[len - 1]]
+        .iter()
+        .any(|entry| entry.abs_diff(block[0]) >= NEAR)
+}
+
+/// Whether more than so many neighbouring nodes are between these.
+fn is_wide(least: u8, greatest: u8) -> bool {
+    greatest.saturating_sub(least) >= NEAR
+}
+
+/// Whether the pages of the first vectors of a block are too far apart already.
+fn begins_wide(block: &[u8]) -> bool
+    requires { 256 ≤ length block.now }
+{
+    let (least, greatest) = ends(&block[..FIRST * LANES], FIRST);
+    is_wide(least, greatest)
+}
+
+/// Two nodes between which the pages of a block of whole vectors are, where they are so near that a pass of lanes for
+/// each node between them is faster than a tally. Where it gives none is a matter of speed, and no clause says it.
+pub(crate) fn near_ends(block: &[u8], rounds: usize) -> Option<(u8, u8)>
+    requires whole { length block.now ≡ 32 * rounds }
+    requires some { 8 ≤ rounds }
+    ensures { IfSome result (λ ends. between ends.0 ends.1 block.now) }
+{
+    if looks_wide(block) || begins_wide(block) {
+        return None;
+    }
+    let (least, greatest) = ends(block, rounds);
+    if is_wide(least, greatest) {
+        None
+    } else {
+        Some((least, greatest))
+    }
+}

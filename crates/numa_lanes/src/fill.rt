@@ -1,0 +1,32 @@
+//! A span with all its pages on one node.
+ghost use Rattle.std.specs.Prelude.{◌≡◌, ℕ, ◌<◌, ◌≤◌, length, slice_index};
+ghost use Rattle.numa_lanes.specs.Spans.{filled};
+
+use crate::lanes::LANES;
+use std::simd::prelude::*;
+
+/// How many vectors are stored at most before the rest of a span goes to a plain loop. The back end makes that loop one call
+/// of the C library's memset, which fills a long span faster than vectors of this size, and a short one slower.
+const FEW: usize = 8;
+
+/// Places the pages of the first whole vectors of a span on the node. Answers how many pages these are.
+fn fill_vectors(node: u8, out: &mut [u8]) -> usize
+    ensures within { result ≤ length out.new }
+    ensures filled { (k : ℕ) → k < result → slice_index out.new k ≡ node }
+{
+    let lanes = u8x32::splat(node);
+    let whole = (out.len() / LANES).min(FEW);
+    for round in 0..whole {
+        lanes.copy_to_slice(&mut out[round * LANES..]);
+    }
+    whole * LANES
+}
+
+/// Places each page of the span on the node.
+pub fn fill_one(node: u8, out: &mut [u8])
+    ensures { filled node out.new }
+{
+    for page in fill_vectors(node, out)..out.len() {
+        out[page] = node;
+    }
+}

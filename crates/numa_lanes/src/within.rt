@@ -1,0 +1,76 @@
+//! How many pages of a span are on the nodes of a set.
+ghost use Rattle.std.specs.Prelude.{◌≡◌, ◌*◌, ◌<◌, ◌≤◌, length};
+ghost use Rattle.numa_mask.specs.NodeSet.{has};
+ghost use Rattle.numa_lanes.specs.Spans.{counted_in, between};
+
+use crate::count::count_block;
+use crate::ends::near_ends;
+use crate::lanes::{LANES, ROUNDS, WORTH};
+use numa_mask::{NodeId, NodeMask};
+
+/// Whether the node of this number is in the set.
+#[inline(always)]
+fn is_in(number: u8, set: &NodeMask) -> bool
+    ensures { result ≡ has set.now number }
+{
+    match NodeId::new(number) {
+        Some(node) => set.contains(node),
+        None => false,
+    }
+}
+
+/// The count in a set, one page after another.
+fn count_pages_in(span: &[u8], set: &NodeMask) -> u64
+    ensures { result ≡ counted_in set.now span.now }
+{
+    let mut total = 0u64;
+    for entry in span {
+        total += u64::from(is_in(*entry, set));
+    }
+    total
+}
+
+/// The count in a set, where the pages of a block are all on nodes from `least` to `greatest`: a pass over the block for
+/// each of these that is in the set.
+fn count_between_in(block: &[u8], rounds: usize, least: u8, greatest: u8, set: &NodeMask) -> u64
+    requires whole { length block.now ≡ 32 * rounds }
+    requires rounds_fit { rounds ≤ 255 }
+    requires ends { between least greatest block.now }
+    ensures { result ≡ counted_in set.now block.now }
+{
+    let mut total = 0u64;
+    for number in usize::from(least)..usize::from(greatest) + 1 {
+        if is_in(number as u8, set) {
+            total += count_block(block, rounds, number as u8);
+        }
+    }
+    total
+}
+
+/// The count in a set over a block.
+fn count_block_in(block: &[u8], rounds: usize, set: &NodeMask) -> u64
+    requires whole { length block.now ≡ 32 * rounds }
+    requires some { 8 ≤ rounds }
+    requires rounds_fit { rounds ≤ 255 }
+    ensures { result ≡ counted_in set.now block.now }
+{
+    match near_ends(block, rounds) {
+        Some((least, greatest)) => count_between_in(block, rounds, least, greatest, set),
+        None => count_pages_in(block, set),
+    }
+}
+
+/// How many pages of a span are on a node of the set.
+pub fn count_in(nodes: &[u8], set: &NodeMask) -> u64
+    ensures { result ≡ counted_in set.now nodes.now }
+{
+    let mut total = 0u64;
+    let mut rest = nodes;
+    while rest.len() >= WORTH * LANES {
+        let rounds = (rest.len() / LANES).min(ROUNDS);
+        let (block, after) = rest.split_at(rounds * LANES);
+        total += count_block_in(block, rounds, set);
+        rest = after;
+    }
+    total + count_pages_in(rest, set)
+}

@@ -1,0 +1,4 @@
+pub mod Machine
+pub mod Faults
+pub mod Weights
+pub mod Sound

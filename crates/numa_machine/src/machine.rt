@@ -1,0 +1,122 @@
+//! A machine: its nodes, those with memory, the distances between them and their frames.
+ghost use Rattle.std.specs.Prelude.{◌≡◌, ◌≢◌, ◌<◌, ◌≤◌, ℕ, All, IfErr, IfOk, MatchOption, None, false, length};
+ghost use Rattle.numa_mask.specs.NodeSet.{has, members};
+ghost use Rattle.numa_machine.specs.Machine.{distance, frames_of, distance_order, IsDistanceOrder};
+ghost use Rattle.numa_machine.specs.Faults.{machine_fault, hardware_fault};
+
+use crate::description::fault_of;
+use crate::fault::MachineFault;
+use crate::orders::{entry, orders_of};
+use numa_mask::NodeMask;
+use std::alloc::Global;
+use std::marker::Model;
+
+/// A machine of 1 to 256 nodes, some of which have memory. The distances between nodes are those of ACPI's System Locality
+/// Information Table, which `numactl --hardware` prints: 10 from a node to itself and more to another, not always the same
+/// both ways. 255 is a distance like the others.
+#[derive(Debug, Drop)]
+pub struct Machine {
+    nodes: u32,
+    memory: NodeMask,
+    distances: Vec<u8>,
+    frames: Vec<u32>,
+    /// The orders of nodes 0, 1, .., one after the other, each as long as there are nodes with memory.
+    orders: Vec<u8>,
+}
+
+impl Model for Machine {
+    ghost use Rattle.numa_machine.specs.Machine.{Hardware};
+    ghost use Rattle.numa_machine.specs.Sound.{IsSound};
+
+    ghost Value = { Hardware };
+
+    ghost view = { λ m. record { nodes = m.nodes; memory = m.memory; distances = m.distances.items; frames = m.frames.items } };
+
+    ghost invariant = { λ m. IsSound (record { nodes = m.nodes; memory = m.memory; distances = m.distances.items; frames = m.frames.items }) m.orders.items };
+}
+
+impl Machine {
+    /// The machine with this many nodes, these of them with memory, these distances between them (row by row, the row of
+    /// a node before that of the next) and this many frames of 4,096 bytes for each node. Refusals, the first that
+    /// applies: `NodeCount`, `NoMemoryNode`, `BadDistance`, `TooManyFrames`, `NoMemory`.
+    pub fn new(
+        alloc: Global,
+        nodes: u32,
+        memory: NodeMask,
+        distances: &[u8],
+        frames: &[u32],
+    ) -> Result<Machine, MachineFault>
+        ensures ok { IfOk result (λ machine. (machine_fault nodes memory distances.now frames.now ≡ None)
+            × (machine ≡ record { nodes = nodes; memory = memory; distances = distances.now; frames = frames.now })) }
+        ensures err { IfErr result (λ fault. MatchOption (machine_fault nodes memory distances.now frames.now)
+            (fault ≡ MachineFault.NoMemory) (λ first. fault ≡ first)) }
+    {
+        if let Some(fault) = fault_of(nodes, &memory, distances, frames) {
+            return Err(fault);
+        }
+        let orders = orders_of(alloc, nodes, &memory, distances)?;
+        let distances = Vec::from_slice(alloc, distances)?;
+        let frames = Vec::from_slice(alloc, frames)?;
+        Ok(Machine {
+            nodes,
+            memory,
+            distances,
+            frames,
+            orders,
+        })
+    }
+
+    /// How many nodes the machine has: they are numbered from 0.
+    pub fn nodes(&self) -> u32
+        ensures nodes { result ≡ self.now.nodes }
+        ensures at_least { 1 ≤ result }
+        ensures at_most { result ≤ 256 }
+        ensures no_fault { hardware_fault self.now ≡ None }
+    {
+        self.nodes
+    }
+
+    /// The nodes with memory.
+    pub fn memory(&self) -> NodeMask
+        ensures memory { result ≡ self.now.memory }
+        ensures some { result ≢ 0 }
+        ensures of_the_machine { All (λ node. node < self.now.nodes) (members result) }
+    {
+        self.memory
+    }
+
+    /// How far it is from one node to another.
+    pub fn distance(&self, from: u32, to: u32) -> u8
+        requires from { from < self.now.nodes }
+        requires to { to < self.now.nodes }
+        ensures { result ≡ distance self.now from to }
+    {
+        entry(
+            &self.distances,
+            from as usize * self.nodes as usize + to as usize,
+        )
+    }
+
+    /// How many frames of 4,096 bytes a node has: none where it has no memory, none past the last node.
+    pub fn frames(&self, node: u32) -> u32
+        ensures frames { result ≡ frames_of self.now node }
+        ensures at_most { result ≤ 4096 }
+        ensures without_memory { has self.now.memory node ≡ false → result ≡ 0 }
+    {
+        self.frames.get(node as usize).copied().unwrap_or(0)
+    }
+
+    /// All nodes with memory, the nearest to a node first, equally distant ones by their number. In this order an allocation
+    /// falls back: "NUMA Memory Policy" has the kernel search other nodes in order of increasing distance.
+    pub fn order(&self, node: u32) -> &[u8]
+        requires { node < self.now.nodes }
+        ensures order { result.now ≡ distance_order self.now node }
+        ensures distance_order { IsDistanceOrder self.now node result.now }
+        ensures some { 0 < length result.now }
+        ensures of_the_machine { All (λ near. near < self.now.nodes) result.now }
+    {
+        let width = self.memory.weight() as usize;
+        let start = node as usize * width;
+        &self.orders[start..start + width]
+    }
+}

@@ -1,0 +1,106 @@
+//! Lists of nodes as text, as in `0,2-3,5`: the form that the kernel's bitmap_parselist reads, without its strides, and
+//! that `/sys/devices/system/node/online` shows.
+ghost use Rattle.std.specs.Prelude.{◌≡◌, ◌≢◌, ℕ, ◌+◌, ◌-◌, ◌*◌, ◌<◌, ◌≤◌, ◌++◌, List, length, Ok, Err, Some, None};
+ghost use Rattle.numa_mask.specs.NodeSet.{has, with_node};
+ghost use Rattle.std.specs.List.{fold};
+ghost use Rattle.numa_mask.specs.Lists.{list_of, item_of, ends_of, digit_of, numeral_of, nodes_between, starts_run, run_end, run_text, text_of};
+
+use crate::items::{Items, first_place};
+use crate::mask::NodeMask;
+use crate::node::NodeId;
+
+/// Why a text is no list of nodes.
+#[derive(Clone, Copy, Debug, PartialEq, Eq, Drop)]
+pub enum ListFault {
+    /// An item without a byte, as in the empty text.
+    Empty,
+    /// An item that is neither `a` nor `a-b` with numbers of 1 to 4 decimal digits.
+    BadDigit,
+    /// A range whose first number is above its last.
+    BackRange,
+    /// A number of 256 or more.
+    NodeTooHigh,
+}
+
+/// The value of a decimal digit.
+#[tactic(auto, unfolding(crate::specs::Lists::digit_of))]
+fn digit(byte: u8) -> Option<u32>
+    ensures { result ≡ digit_of byte }
+{
+    char::from(byte).to_digit(10)
+}
+
+/// The number that 1 to 4 decimal digits write.
+fn numeral(digits: &[u8]) -> Option<u32>
+    ensures { result ≡ numeral_of digits.now }
+{
+    if digits.is_empty() || digits.len() > 4 {
+        return None;
+    }
+    let mut value = 0;
+    for byte in digits {
+        value = value * 10 + digit(*byte)?;
+    }
+    Some(value)
+}
+
+/// The two ends of an item `a-b`, or twice the number of an item `a`.
+fn ends(item: &[u8]) -> Option<(u32, u32)>
+    ensures { result ≡ ends_of item.now }
+{
+    match first_place(item, b'-') {
+        Some(dash) => {
+            let first = numeral(&item[..dash])?;
+            let last = numeral(&item[dash + 1..])?;
+            Some((first, last))
+        }
+        None => {
+            let number = numeral(item)?;
+            Some((number, number))
+        }
+    }
+}
+
+/// The first and the last node of an item, or its first fault.
+fn read_item(item: &[u8]) -> Result<(u8, u8), ListFault>
+    ensures { result ≡ item_of item.now }
+{
+    if item.is_empty() {
+        return Err(ListFault::Empty);
+    }
+    let Some((first, last)) = ends(item) else {
+        return Err(ListFault::BadDigit);
+    };
+    if last < first {
+        return Err(ListFault::BackRange);
+    }
+    if last > 255 {
+        return Err(ListFault::NodeTooHigh);
+    }
+    Ok((first as u8, last as u8))
+}
+
+/// Adds the nodes from the first to the last.
+fn insert_between(set: &mut NodeMask, first: u8, last: u8)
+    ensures { set.new ≡ fold with_node set.old (nodes_between first last) }
+{
+    for number in first..=last {
+        set.insert(NodeId::of(number));
+    }
+}
+
+/// Reads a list of nodes: items separated by commas, each of them `a` or `a-b`, where a and b are numbers of 1 to 4
+/// decimal digits. Items may overlap and come in any order.
+///
+/// Items are judged from the left, and the first faulty one decides. Inside an item the faults come in this order:
+/// `Empty`, `BadDigit`, `BackRange`, `NodeTooHigh`.
+pub fn read_list(text: &[u8]) -> Result<NodeMask, ListFault>
+    ensures { result ≡ list_of text.now }
+{
+    let mut set = NodeMask::empty();
+    for item in Items::new(text) {
+        let (first, last) = read_item(item)?;
+        insert_between(&mut set, first, last);
+    }
+    Ok(set)
+}

@@ -1,0 +1,3 @@
+pub mod Policy
+pub mod Flags
+pub mod Within

@@ -1,0 +1,43 @@
+-- Frames, lists of them, and the bits that stand for them.
+-- Each node has 64 words. Frame k of node n is bit k % 64 of word 64 * n + k / 64.
+use Rattle.std.specs.Prelude.{ℕ, zero, suc, ◌+◌, ◌*◌, ◌/◌, ◌%◌, ◌<◌, ◌==◌, ◌&&◌, Bool, cond, List, [], ◌∷◌, slice_index, Option, Some, None}
+use Rattle.std.specs.Int.{bit_at}
+use Rattle.numa_core.specs.declared.frame.Frame.{Frame}
+
+abbrev pub frame_of : ℕ → ℕ → Frame
+frame_of n k = record { node = n; number = k }
+
+-- the frame is frame k of node n
+abbrev pub is_frame : Frame → ℕ → ℕ → Bool
+is_frame f n k = (f.node == n) && (f.number == k)
+
+abbrev pub one_if : Bool → ℕ
+one_if b = cond b 1 0
+
+-- how often frame k of node n is among these
+abbrev pub times : ℕ → ℕ → List Frame → ℕ
+times n k [] = 0
+times n k (f ∷ fs) = one_if (is_frame f n k) + times n k fs
+
+-- the frame is among these
+abbrev pub Holds : List Frame → Frame → Type 0
+Holds held f = 0 < times f.node f.number held
+
+-- these without frame k of node n
+abbrev pub without : ℕ → ℕ → List Frame → List Frame
+without n k [] = []
+without n k (f ∷ fs) = cond (is_frame f n k) (without n k fs) (f ∷ without n k fs)
+
+-- these and the frame that was found, if one was
+abbrev pub gained : Option Frame → List Frame → List Frame
+gained None held = held
+gained (Some f) held = f ∷ held
+
+-- the bit of frame k of node n
+abbrev pub bit_in : List ℕ → ℕ → ℕ → ℕ
+bit_in words n k = bit_at (slice_index words (64 * n + k / 64)) (k % 64)
+
+-- how many of the first m frames of node n have their bit set
+abbrev pub set_below : List ℕ → ℕ → ℕ → ℕ
+set_below words n zero = 0
+set_below words n (suc m) = bit_in words n m + set_below words n m

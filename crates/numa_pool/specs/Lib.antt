@@ -1,0 +1,6 @@
+pub mod Frames
+pub mod Steps
+pub mod Rule
+pub mod Walk
+pub mod Search
+pub mod Seats

@@ -1,0 +1,53 @@
+-- What each kind of step does to what a seat shows: the frames that it holds, and its own steps, newest first.
+use Rattle.std.specs.Prelude.{◌≡◌, ℕ, ◌+◌, ◌*◌, ◌/◌, ◌%◌, ◌^◌, ◌<◌, ◌==◌, Bool, true, false, [], ◌∷◌, ◌++◌}
+use Rattle.std.specs.Int.{bit_at, bit_not}
+use mir.Syntax.{w64}
+use Rattle.atomic_table.specs.Table.{Me, Step}
+use Rattle.numa_core.specs.declared.frame.Frame.{Frame}
+use Rattle.numa_pool.specs.declared.view.Entry.{Entry}
+use Rattle.numa_pool.specs.declared.view.Entry.TheVariants.{Load, Won, Lost, Gave}
+use Rattle.numa_pool.specs.declared.view.View.{View}
+use Rattle.numa_pool.specs.Frames.{frame_of, times, without}
+
+-- a new seat holds nothing and has made no step
+abbrev pub newcomer : View
+newcomer = record { held = []; log = [] }
+
+abbrev pub logged : View → Entry → View
+logged v e = record { held = v.held; log = e ∷ v.log }
+
+-- after a try of the frame, which was free or not
+abbrev pub tried : View → Frame → Bool → View
+tried v f true = record { held = f ∷ v.held; log = Won f ∷ v.log }
+tried v f false = logged v (Lost f)
+
+-- after the frame was given up
+abbrev pub gave : View → Frame → View
+gave v f = record { held = without f.node f.number v.held; log = Gave f ∷ v.log }
+
+-- the first seat has the frames of both, and its log as it was
+abbrev pub poured : View → View → View
+poured v w = record { held = v.held ++ w.held; log = v.log }
+
+-- the frame of a bit of a word
+abbrev pub frame_at : ℕ → ℕ → Frame
+frame_at word bit = frame_of (word / 64) (64 * (word % 64) + bit)
+
+module _ {S : Type 0} where
+  -- a load: the seat logs the word and the value found
+  abbrev pub looked : Step S → Me S View → ℕ → Me S View → Type 0
+  looked step before found after =
+      after ≡ (logged before.0 (Load (step.word / 64) (step.word % 64) found), before.1)
+
+  -- an or of one bit: won where the bit was clear, and then the seat did not hold the frame; lost where it was set
+  abbrev pub attempted : Step S → Me S View → ℕ → Me S View → Type 0
+  attempted step before found after =
+      (bit : ℕ) → bit < 64 → step.first ≡ 2 ^ bit
+      → (after ≡ (tried before.0 (frame_at step.word bit) (bit_at found bit == 0), before.1))
+      × (bit_at found bit ≡ 0 → times (step.word / 64) (64 * (step.word % 64) + bit) before.0.held ≡ 0)
+
+  -- an and of all bits but one: the seat gives up the frame
+  abbrev pub returned : Step S → Me S View → ℕ → Me S View → Type 0
+  returned step before found after =
+      (bit : ℕ) → bit < 64 → step.first ≡ bit_not w64 (2 ^ bit)
+      → after ≡ (gave before.0 (frame_at step.word bit), before.1)

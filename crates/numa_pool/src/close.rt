@@ -1,0 +1,104 @@
+//! Counting the frames that are taken at the end.
+ghost use Rattle.std.specs.Prelude.{◌≡◌, ℕ, ◌+◌, ◌*◌, ◌<◌, ◌≤◌, List, length, slice_index, IsTrue, ◌↔◌};
+ghost use Rattle.std.specs.Int.{bit_at};
+ghost use Rattle.std.specs.Mem.Slots.{slots_items, slots_len, IsFull};
+ghost use Rattle.numa_pool.specs.Frames.{bit_in, set_below};
+ghost use Rattle.numa_pool.specs.Seats.{Closes, IsShaped, Marks};
+
+use crate::closed::Closed;
+use crate::rule::{Token, Words};
+use std::alloc::Global;
+
+type Rest = atomic_table::Closed<Option<()>, Global>;
+
+/// Whether the bit is set.
+fn is_set(word: u64, bit: usize) -> bool
+    requires { bit < 64 }
+    ensures { IsTrue result ↔ (bit_at word bit ≡ 1) }
+{
+    (word >> bit) & 1 == 1
+}
+
+/// Whether the frame is taken.
+fn is_taken(rest: &Rest, node: usize, k: usize) -> bool
+    requires { IsFull rest.now.words × (64 * node + 64 ≤ slots_len rest.now.words)
+        × (slots_len rest.now.words ≤ 16384) × (k < 4096) }
+    ensures { IsTrue result ↔ (bit_in (slots_items rest.now.words) node k ≡ 1) }
+{
+    is_set(rest.word(64 * node + k / 64), k % 64)
+}
+
+/// How many of the first frames of a node are taken.
+fn count_node(rest: &Rest, node: usize, frames: usize) -> u32
+    requires { IsFull rest.now.words × (64 * node + 64 ≤ slots_len rest.now.words)
+        × (slots_len rest.now.words ≤ 16384) × (frames ≤ 4096) }
+    ensures { result ≡ set_below (slots_items rest.now.words) node frames }
+{
+    let mut count = 0;
+    for k in 0..frames {
+        if is_taken(rest, node, k) {
+            count += 1;
+        }
+    }
+    count
+}
+
+/// Whether each frame of a node that is taken is marked.
+fn is_all_marked(rest: &Rest, bits: &[u64], node: usize, frames: usize) -> bool
+    requires { IsFull rest.now.words × (64 * node + 64 ≤ slots_len rest.now.words)
+        × (slots_len rest.now.words ≤ 16384) × (frames ≤ 4096)
+        × (length bits.now ≡ slots_len rest.now.words) }
+    ensures { IsTrue result ↔ ((k : ℕ) → k < frames
+        → bit_in (slots_items rest.now.words) node k ≡ 1 → bit_in bits.now node k ≡ 1) }
+{
+    for k in 0..frames {
+        if is_taken(rest, node, k) && !is_set(bits[64 * node + k / 64], k % 64) {
+            return false;
+        }
+    }
+    true
+}
+
+/// Whether each frame that is taken is marked.
+fn is_alone(rest: &Rest, bits: &[u64], frames: &[u32]) -> bool
+    requires { IsFull rest.now.words × (slots_len rest.now.words ≡ 64 * length frames.now)
+        × (length frames.now ≤ 256) × (length bits.now ≡ slots_len rest.now.words)
+        × ((n : ℕ) → slice_index frames.now n ≤ 4096) }
+    ensures { IsTrue result ↔ ((n k : ℕ) → n < length frames.now → k < slice_index frames.now n
+        → bit_in (slots_items rest.now.words) n k ≡ 1 → bit_in bits.now n k ≡ 1) }
+{
+    for node in 0..frames.len() {
+        if !is_all_marked(rest, bits, node, frames[node] as usize) {
+            return false;
+        }
+    }
+    true
+}
+
+/// How many frames of each node are taken.
+fn count_all(rest: &Rest, frames: &[u32]) -> [u32; 256]
+    requires { IsFull rest.now.words × (slots_len rest.now.words ≡ 64 * length frames.now)
+        × (length frames.now ≤ 256) × ((n : ℕ) → slice_index frames.now n ≤ 4096) }
+    ensures { (n : ℕ)
+        → slice_index result n ≡ set_below (slots_items rest.now.words) n (slice_index frames.now n) }
+{
+    let mut taken = [0; 256];
+    for node in 0..frames.len() {
+        taken[node] = count_node(rest, node, frames[node] as usize);
+    }
+    taken
+}
+
+/// Counts what is taken, and frees the words.
+pub(crate) fn counted(words: Words, token: Token, bits: &[u64], frames: &[u32]) -> Closed
+    requires shape { (token.table_id ≡ words.shared.table_id)
+        × (words.shared.key.items ≡ frames.now) × IsShaped words.shared.table_id frames.now }
+    requires marks { Marks words.shared.table_id.words bits.now token.me.0.held }
+    ensures { Closes frames.now token.me.0.held result.taken result.alone }
+{
+    let rest = words.close_with(token);
+    let taken = count_all(&rest, frames);
+    let alone = is_alone(&rest, bits, frames);
+    rest.free();
+    Closed { taken, alone }
+}

@@ -1,0 +1,22 @@
+//! Pools of page frames that threads share without a lock. Each frame of the machine has a bit; a seat takes a frame by
+//! setting its bit in one atomic step and gives it up by clearing it, and each thread works with a seat of its own.
+#![tactic(auto)]
+
+mod close;
+pub mod closed;
+pub mod law;
+mod marks;
+pub mod no_memory;
+pub mod pools;
+mod rule;
+mod search;
+pub mod seat;
+mod steps;
+#[cfg(test)]
+mod tests;
+pub mod view;
+
+pub use closed::Closed;
+pub use no_memory::NoMemory;
+pub use pools::Pools;
+pub use seat::PoolSeat;

@@ -1,0 +1,156 @@
+//! The pools of a machine's frames.
+ghost use Rattle.std.specs.Prelude.{◌≡◌, ℕ, ◌+◌, ◌*◌, ◌<◌, ◌≤◌, ◌∷◌, ◌++◌, [], List, length, slice_index, IfOk, IfSome, IsTrue, MatchOption, ◌↔◌};
+ghost use Rattle.numa_pool.specs.Frames.{times, without, gained, Holds};
+ghost use Rattle.numa_pool.specs.Seats.{Closes};
+ghost use Rattle.numa_pool.specs.Walk.{IsWalk, LoadsOnce, TriesOnce};
+ghost use Rattle.numa_pool.specs.declared.view.Entry.{Entry};
+ghost use Rattle.numa_pool.specs.declared.view.Entry.TheVariants.{Gave};
+
+use crate::close::counted;
+use crate::closed::Closed;
+use crate::marks::{add_marks, blank, mark, unmark};
+use crate::no_memory::NoMemory;
+use crate::rule::Words;
+use crate::search::take_frame;
+use crate::seat::PoolSeat;
+use crate::steps::{another, clear, pour};
+use atomic_table::Table;
+use numa_core::Frame;
+use numa_machine::Machine;
+use std::alloc::{AllocError, Global};
+use std::marker::Model;
+
+/// The frames of a machine's nodes, which any number of threads take and give up through seats of their own, by single
+/// atomic steps. No call waits. At run time the pools are 64 words of 64 bits for each node of the machine; frame f of
+/// a node is bit f mod 64 of the node's word f / 64, and a bit is set while the frame is taken.
+#[derive(Drop)]
+pub struct Pools {
+    words: Words,
+    frames: Vec<u32>,
+}
+
+impl Model for Pools {
+    ghost use Rattle.std.specs.Prelude.{◌≡◌};
+    ghost use Rattle.numa_pool.specs.Seats.{PoolsView, IsShaped};
+
+    ghost Value = { PoolsView };
+
+    ghost view = { λ p. record { table = p.words.shared.table_id; frames = p.frames.items } };
+
+    ghost invariant = { λ p. IsShaped p.words.shared.table_id p.frames.items × (p.words.shared.key ≡ p.frames) };
+}
+
+/// How many frames each node has.
+fn frame_counts(alloc: Global, machine: &Machine) -> Result<Vec<u32>, AllocError>
+    ensures { IfOk result (λ counts. (counts.items ≡ machine.now.frames) × (0 < length counts.items) × (length counts.items ≤ 256)
+        × ((n : ℕ) → slice_index counts.items n ≤ 4096)) }
+{
+    let nodes = machine.nodes();
+    let mut counts = Vec::new(alloc);
+    for node in 0..nodes {
+        counts.push(machine.frames(node))?;
+    }
+    Ok(counts)
+}
+
+impl Pools {
+    /// The pools of the machine, in which each frame is free, and a first seat, which holds nothing. `NoMemory` where
+    /// there was no memory for the words or for the seat.
+    pub fn open(alloc: Global, machine: &Machine) -> Result<(Pools, PoolSeat), NoMemory>
+        ensures frames { IfOk result (λ opened. opened.0.frames ≡ machine.now.frames) }
+        ensures seat { IfOk result (λ opened. (opened.1.table ≡ opened.0.table)
+            × (opened.1.held ≡ []) × (opened.1.log ≡ [])) }
+    {
+        let frames = frame_counts(alloc, machine)?;
+        let bits = blank(alloc, 64 * frames.len())?;
+        let (words, token) = Table::vacant(alloc, bits.as_slice(), 0, &frames)?;
+        let pools = Pools { words, frames };
+        Ok((pools, PoolSeat { token, bits }))
+    }
+
+    /// How many frames a node has: 0 for a node that is not of the machine.
+    pub fn frames(&self, node: u8) -> u32
+        ensures { result ≡ slice_index self.now.frames node }
+    {
+        match self.frames.get(usize::from(node)) {
+            Some(frames) => *frames,
+            None => 0,
+        }
+    }
+
+    /// A new seat of these pools, which holds nothing, for another thread. `NoMemory` where there was no memory for it.
+    pub fn split(&self, alloc: Global, seat: &mut PoolSeat) -> Result<PoolSeat, NoMemory>
+        requires { seat.old.table ≡ self.now.table }
+        ensures same { seat.new ≡ seat.old }
+        ensures fresh { IfOk result (λ other. (other.table ≡ self.now.table) × (other.held ≡ [])
+            × (other.log ≡ [])) }
+    {
+        let bits = blank(alloc, 64 * self.frames.len())?;
+        let token = another(&self.words.shared, &mut seat.token);
+        Ok(PoolSeat { token, bits })
+    }
+
+    /// The first seat gets the frames of the second, which is spent. Takes no memory.
+    pub fn join(&self, seat: &mut PoolSeat, other: PoolSeat)
+        requires { (seat.old.table ≡ self.now.table) × (other.table ≡ self.now.table) }
+        ensures { (seat.new.table ≡ seat.old.table)
+            × (seat.new.held ≡ seat.old.held ++ other.held) × (seat.new.log ≡ seat.old.log) }
+    {
+        let PoolSeat { token, bits } = other;
+        pour(&self.words.shared, &mut seat.token, token);
+        add_marks(&mut seat.bits, bits.as_slice());
+    }
+
+    /// Takes a free frame of the node, the first that it finds. `None` only where each frame of the node was found
+    /// taken at a step of this call, so also for a node without frames and for one that is not of the machine. Each
+    /// word of the node is loaded at most once, and each frame tried at most once. Takes no memory.
+    pub fn take(&self, seat: &mut PoolSeat, node: u8) -> Option<Frame>
+        requires { seat.old.table ≡ self.now.table }
+        ensures same { seat.new.table ≡ seat.old.table }
+        ensures walk { (es : List Entry) × (seat.new.log ≡ es ++ seat.old.log)
+            × IsWalk self.now.frames (node ∷ []) result es × LoadsOnce es × TriesOnce es }
+        ensures held { seat.new.held ≡ gained result seat.old.held }
+        ensures found { IfSome result (λ f. (f.node ≡ node)
+            × (f.number < slice_index self.now.frames node)
+            × (times f.node f.number seat.old.held ≡ 0)) }
+    {
+        let frames = self.frames(node) as usize;
+        if frames == 0 {
+            return None;
+        }
+        let Some(frame) = take_frame(&self.words.shared, &mut seat.token, node, frames) else {
+            return None;
+        };
+        mark(&mut seat.bits, frame);
+        Some(frame)
+    }
+
+    /// Gives up a frame that the seat holds, and no other. Takes no memory.
+    pub fn give(&self, seat: &mut PoolSeat, frame: Frame)
+        requires { (seat.old.table ≡ self.now.table) × Holds seat.old.held frame }
+        ensures { (seat.new.table ≡ seat.old.table)
+            × (seat.new.held ≡ without frame.node frame.number seat.old.held)
+            × (seat.new.log ≡ Gave frame ∷ seat.old.log) }
+    {
+        let number = frame.number as usize;
+        clear(
+            &self.words.shared,
+            &mut seat.token,
+            frame.node as usize,
+            number / 64,
+            number % 64,
+        );
+        unmark(&mut seat.bits, frame);
+    }
+
+    /// The end of the pools: how many frames of each node are taken, and whether the seat holds them all. It uses up
+    /// the pools, so no other thread steps on them any more. Takes no memory.
+    pub fn close(self, seat: PoolSeat) -> Closed
+        requires { seat.table ≡ self.table }
+        ensures { Closes self.frames seat.held result.taken result.alone }
+    {
+        let Pools { words, frames } = self;
+        let PoolSeat { token, bits } = seat;
+        counted(words, token, bits.as_slice(), frames.as_slice())
+    }
+}

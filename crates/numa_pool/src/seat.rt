@@ -1,0 +1,44 @@
+//! Seats: what one thread holds of the pools.
+ghost use Rattle.std.specs.Prelude.{◌≡◌, ◌*◌, ◌+◌, ◌<◌, ◌≤◌, IsTrue, ◌↔◌};
+ghost use Rattle.numa_pool.specs.Frames.{Holds};
+
+use crate::marks::is_marked;
+use crate::rule::Token;
+use numa_core::Frame;
+use std::marker::Model;
+
+/// The frames that one thread holds of some pools, and the right to take more and to give them up. A contract sees the
+/// pools that the seat belongs to, the frames that it holds, and its own steps. At run time a seat is one bit for each
+/// frame that its nodes may have, 64 words for each node of the machine. A seat that is dropped keeps its frames taken.
+#[derive(Drop)]
+pub struct PoolSeat {
+    pub(crate) token: Token,
+    pub(crate) bits: Vec<u64>,
+}
+
+impl Model for PoolSeat {
+    ghost use Rattle.std.specs.Prelude.{◌≡◌, []};
+    ghost use Rattle.numa_pool.specs.Seats.{SeatView, Marks};
+
+    ghost Value = { SeatView };
+
+    ghost view = { λ s. record { table = s.token.table_id; held = s.token.me.0.held; log = s.token.me.0.log } };
+
+    ghost invariant = { λ s. (s.token.me.1 ≡ []) × Marks s.token.table_id.words s.bits.items s.token.me.0.held };
+}
+
+impl PoolSeat {
+    /// Whether the seat holds the frame.
+    pub fn holds(&self, frame: &Frame) -> bool
+        ensures { IsTrue result ↔ Holds self.now.held frame.now }
+    {
+        let bits = self.bits.as_slice();
+        if frame.number >= 4096 {
+            return false;
+        }
+        if 64 * frame.node as usize + frame.number as usize / 64 >= bits.len() {
+            return false;
+        }
+        is_marked(bits, *frame)
+    }
+}

@@ -1,0 +1,21 @@
+//! What a seat shows: the frames that it holds, and its own steps.
+use numa_core::Frame;
+use std::collections::LinkedList;
+
+/// One step of a seat on a frame word.
+pub enum Entry {
+    /// A load: the node, the number of the word among the node's, and the value found.
+    Load(u64, u64, u64),
+    /// The bit of the frame was clear, and the seat set it.
+    Won(Frame),
+    /// The bit of the frame was set already.
+    Lost(Frame),
+    /// The seat cleared the bit of the frame.
+    Gave(Frame),
+}
+
+/// The frames that a seat holds, and its steps, the newest first. It stands in contracts alone: no value of it is made.
+pub struct View {
+    pub held: LinkedList<Frame>,
+    pub log: LinkedList<Entry>,
+}

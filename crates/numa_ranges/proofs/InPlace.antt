@@ -1,0 +1,82 @@
+-- Runs that are changed and joined where they stand.
+use Rattle.std.proofs.Common.{◌≡◌, append_assoc, ℕ, suc, ◌+◌, ◌<◌, ◌≤◌, Bool, true, List, [], ◌∷◌, ◌++◌, length, map, take, drop, get_or, refl, sym, ap, subst, ◌∙◌, arith, inl, inr}
+use Rattle.std.proofs.Math.ListN.{set}
+use Rattle.std.specs.Prelude.{All}
+use Rattle.std.proofs.lemmas.Bool.{cases_Bool}
+use Rattle.std.proofs.lemmas.List.{drop_more, take_more, take_more_set, set_at, get_or_at, get_or-drop, map-append, length-map, length-take-le}
+use Rattle.std.proofs.lemmas.Grind.{drop_more_same}
+use Rattle.numa_ranges.specs.Runs.{page_at, in_pages, AreApart, Continues, end_of}
+use Rattle.numa_ranges.specs.Maps.{changed_page}
+use Rattle.numa_ranges.specs.Edits.{IsInRange, joins, grown, joined, joined_from, revalued}
+use Rattle.numa_ranges.specs.declared.run.Run.{Run}
+use Rattle.numa_ranges.proofs.Apart.{apart-bounds}
+use Rattle.numa_ranges.proofs.Joined.{not-joins, joins-continues}
+
+module _ {T : Type 0} where
+  pub next-run : (runs whole : List (Run T)) (i : ℕ) (run : Run T) → i < length runs → drop i runs ≡ drop i whole → run ≡ get_or runs i run → drop i whole ≡ run ∷ drop (i + 1) whole
+  next-run runs whole i run within ahead is =
+      sym ahead ∙ drop_more runs i run within ∙ ap (λ r. r ∷ drop (i + 1) runs) (sym is) ∙ ap (λ l. run ∷ l) (drop_more_same runs whole i ahead)
+
+  -- one more run with its new value
+  pub change-more : (runs whole : List (Run T)) (i : ℕ) (f : Run T → Run T) (run new : Run T) → i < length whole → runs ≡ map f (take i whole) ++ drop i whole → run ≡ get_or runs i run → new ≡ f run → set runs i new ≡ map f (take (i + 1) whole) ++ drop (i + 1) whole
+  change-more runs whole i f run new within is read made =
+      let front = map f (take i whole) in
+      let here = get_or whole i run in
+      let size : length front ≡ i = length-map (take i whole) f ∙ length-take-le i whole (omega arith) in
+      let opens : runs ≡ front ++ here ∷ drop (i + 1) whole = is ∙ ap (λ l. front ++ l) (drop_more whole i run within) in
+      let same : run ≡ here = read ∙ ap (λ l. get_or l i run) opens ∙ get_or_at front here (drop (i + 1) whole) run i size in
+      let value : new ≡ f here = made ∙ ap f same in
+      ap (λ l. set l i new) opens ∙ set_at front here (drop (i + 1) whole) new i size
+      ∙ ap (λ r. front ++ r ∷ drop (i + 1) whole) value
+      ∙ sym (append_assoc front (f here ∷ []) (drop (i + 1) whole))
+      ∙ ap (λ l. l ++ drop (i + 1) whole) (sym (ap (map f) (take_more whole i run within) ∙ map-append f (take i whole) (here ∷ [])))
+
+  pub apart-revalued : (change : T → T) (from : ℕ) (runs : List (Run T)) → AreApart from runs → AreApart from (map (revalued change) runs)
+  apart-revalued change from [] apart = apart
+  apart-revalued change from (run ∷ runs) apart = (apart.0, apart.1, apart.2, apart-revalued change (end_of run) runs apart.3)
+
+  pub in-range-revalued : (change : T → T) (runs : List (Run T)) → AreApart 0 runs → All IsInRange (map (revalued change) runs)
+  in-range-revalued change runs apart k d l =
+      let bounds = apart-bounds 0 (map (revalued change) runs) k d (apart-revalued change 0 runs apart) l in
+      record { end = bounds.0; index = bounds.1 }
+
+  pub page_at-revalued : (change : T → T) (runs : List (Run T)) (page : ℕ) → page_at (map (revalued change) runs) page ≡ changed_page change (page_at runs page)
+  page_at-revalued change [] page = refl
+  page_at-revalued change (run ∷ runs) page =
+      elim (cases_Bool (in_pages run.first run.pages page)) [
+        | inl here ↦ rw here refl
+        | inr out ↦ rw out (page_at-revalued change runs page)
+      ]
+
+module _ {T : Type 0} (same : T → T → Bool) (exact : (a b : T) → same a b ≡ true → a ≡ b) (itself : (a : T) → same a a ≡ true) where
+  pub step-joins : (front rest whole : List (Run T)) (last run : Run T) → front ++ joined_from same (run ∷ rest) last ≡ whole → Continues last run → front ++ joined_from same rest (grown last run) ≡ whole
+  step-joins front rest whole last run h goes =
+      let e : joined_from same (run ∷ rest) last ≡ joined_from same rest (grown last run) = rw (joins-continues same exact itself last run goes) refl in
+      ap (λ l. front ++ l) (sym e) ∙ h
+
+  pub step-closes : (runs rest whole : List (Run T)) (kept : ℕ) (last run : Run T) → kept < length runs → take kept runs ++ joined_from same (run ∷ rest) last ≡ whole → (Continues last run → ⊥) → take (kept + 1) (set runs kept last) ++ joined_from same rest run ≡ whole
+  step-closes runs rest whole kept last run within h stops =
+      let e : joined_from same (run ∷ rest) last ≡ last ∷ joined_from same rest run = rw (not-joins same exact itself last run stops) refl in
+      ap (λ l. l ++ joined_from same rest run) (take_more_set runs kept last within) ∙ append_assoc (take kept runs) (last ∷ []) (joined_from same rest run) ∙ ap (λ l. take kept runs ++ l) (sym e) ∙ h
+
+  length-joined_from : (runs : List (Run T)) (run : Run T) → length (joined_from same runs run) ≤ suc (length runs)
+  length-joined_from [] run = omega arith
+  length-joined_from (next ∷ runs) run =
+      elim (cases_Bool (joins same run next)) [
+        | inl goes ↦ rw goes (omega (arith, length-joined_from runs (grown run next)))
+        | inr stops ↦ rw stops (omega (arith, length-joined_from runs next))
+      ]
+
+  pub length-joined : (runs : List (Run T)) → length (joined same runs) ≤ length runs
+  length-joined [] = omega arith
+  length-joined (run ∷ runs) = length-joined_from runs run
+
+module _ {T : Type 0} where
+  pub in-range-next : (whole rest : List (Run T)) (i : ℕ) (run : Run T) → All IsInRange whole → i < length whole → drop i whole ≡ run ∷ rest → IsInRange run
+  in-range-next whole rest i run all within opens =
+      let place : i + 0 ≡ i = omega arith in
+      let here : get_or whole i run ≡ run = sym (get_or-drop i whole 0 run ∙ ap (λ k. get_or whole k run) place) ∙ ap (λ l. get_or l 0 run) opens in
+      subst IsInRange here (all i run within)
+
+  pub in-range-grown : (last run : Run T) → IsInRange last → IsInRange run → Continues last run → IsInRange (grown last run)
+  in-range-grown last run a b goes = record { end = omega (arith, b.end, goes.page); index = omega (arith, b.index, goes.index) }

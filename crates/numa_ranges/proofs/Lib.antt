@@ -1,0 +1,12 @@
+pub mod Apart
+pub mod Counted
+pub mod Cut
+pub mod Gather
+pub mod InPlace
+pub mod Insert
+pub mod Joined
+pub mod Laws
+pub mod Pages
+pub mod Placed
+pub mod Spans
+pub mod Window

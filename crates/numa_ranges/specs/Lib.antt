@@ -1,0 +1,6 @@
+pub mod Counts
+pub mod Edits
+pub mod Gathered
+pub mod Maps
+pub mod Ranges
+pub mod Runs

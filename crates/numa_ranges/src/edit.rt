@@ -1,0 +1,134 @@
+//! Runs, cut at the ends of a span and edited inside.
+ghost use Rattle.std.specs.Prelude.{◌+◌, ◌*◌, ◌<◌, ◌≤◌, ◌^◌, List, ◌++◌, length, Option, All};
+ghost use Rattle.numa_ranges.specs.Maps.{Makes};
+ghost use Rattle.numa_ranges.specs.Edits.{IsInRange, part_before, part_within, part_from, parts, edited};
+ghost use Rattle.numa_ranges.specs.Gathered.{Gathered};
+
+use crate::exact::Exact;
+use crate::pieces::Pieces;
+use crate::run::Run;
+use std::alloc::Global;
+
+/// Gathers runs, with those pages edited that lie in the span.
+pub(crate) fn gather_edited<T: Exact, F: Fn(&T) -> Option<T>>(
+    alloc: Global,
+    runs: &[Run<T>],
+    first: u64,
+    end: u64,
+    edit: &F,
+) -> Pieces<T>
+    requires callable { F.IsAlwaysCallable edit.now }
+    requires len { length runs.now ≤ 2 ^ 32 }
+    requires in_range { All IsInRange runs.now }
+    ensures gathered { (change : T → Option T) → Makes F.Fn edit.now change → Gathered T.eq result (edited first end change runs.now) }
+    ensures count { result.count ≤ 3 * length runs.now }
+{
+    let mut pieces = Pieces::new(alloc);
+    for run in runs {
+        add_parts(&mut pieces, *run, first, end, edit);
+    }
+    pieces
+}
+
+/// Adds runs as they are.
+pub(crate) fn add_all<T: Exact>(pieces: &mut Pieces<T>, runs: &[Run<T>])
+    requires len { length runs.now ≤ 2 ^ 32 }
+    requires in_range { All IsInRange runs.now }
+    requires room { pieces.old.count < 2 ^ 60 }
+    ensures gathered { (added : List (Run T)) → Gathered T.eq pieces.old added → Gathered T.eq pieces.new (added ++ runs.now) }
+    ensures count { pieces.new.count ≤ pieces.old.count + length runs.now }
+{
+    for run in runs {
+        pieces.add(*run);
+    }
+}
+
+/// Adds the parts of a run before a span, in it and behind it.
+fn add_parts<T: Exact, F: Fn(&T) -> Option<T>>(
+    pieces: &mut Pieces<T>,
+    run: Run<T>,
+    first: u64,
+    end: u64,
+    edit: &F,
+)
+    requires callable { F.IsAlwaysCallable edit.now }
+    requires in_range { IsInRange run }
+    requires room { pieces.old.count < 2 ^ 62 }
+    ensures gathered { (change : T → Option T) → Makes F.Fn edit.now change → (added : List (Run T)) → Gathered T.eq pieces.old added → Gathered T.eq pieces.new (added ++ parts first end change run) }
+    ensures count { pieces.new.count ≤ pieces.old.count + 3 }
+{
+    add_before(pieces, run, first);
+    add_within(pieces, run, first, end, edit);
+    add_from(pieces, run, end);
+}
+
+/// Adds the part of a run before a page.
+fn add_before<T: Exact>(pieces: &mut Pieces<T>, run: Run<T>, page: u64)
+    requires in_range { IsInRange run }
+    requires room { pieces.old.count < 2 ^ 63 }
+    ensures gathered { (added : List (Run T)) → Gathered T.eq pieces.old added → Gathered T.eq pieces.new (added ++ part_before page run) }
+    ensures count { pieces.new.count ≤ pieces.old.count + 1 }
+{
+    if run.first < page {
+        let Run {
+            first,
+            pages,
+            index,
+            value,
+        } = run;
+        pieces.add(Run {
+            first,
+            pages: pages.min(page - first),
+            index,
+            value,
+        });
+    }
+}
+
+/// Adds the part of a run from a page on.
+fn add_from<T: Exact>(pieces: &mut Pieces<T>, run: Run<T>, page: u64)
+    requires in_range { IsInRange run }
+    requires room { pieces.old.count < 2 ^ 63 }
+    ensures gathered { (added : List (Run T)) → Gathered T.eq pieces.old added → Gathered T.eq pieces.new (added ++ part_from page run) }
+    ensures count { pieces.new.count ≤ pieces.old.count + 1 }
+{
+    let end = run.first + run.pages;
+    if page < end {
+        let start = page.max(run.first);
+        let passed = start - run.first;
+        pieces.add(Run {
+            first: start,
+            pages: end - start,
+            index: run.index + passed,
+            value: run.value,
+        });
+    }
+}
+
+/// Adds the part of a run between two pages with the value that `edit` gives it, if it gives one.
+fn add_within<T: Exact, F: Fn(&T) -> Option<T>>(
+    pieces: &mut Pieces<T>,
+    run: Run<T>,
+    first: u64,
+    end: u64,
+    edit: &F,
+)
+    requires callable { F.IsAlwaysCallable edit.now }
+    requires in_range { IsInRange run }
+    requires room { pieces.old.count < 2 ^ 63 }
+    ensures gathered { (change : T → Option T) → Makes F.Fn edit.now change → (added : List (Run T)) → Gathered T.eq pieces.old added → Gathered T.eq pieces.new (added ++ part_within first end change run) }
+    ensures count { pieces.new.count ≤ pieces.old.count + 1 }
+{
+    let start = first.max(run.first);
+    let stop = end.min(run.first + run.pages);
+    if start < stop {
+        if let Some(value) = edit(&run.value) {
+            pieces.add(Run {
+                first: start,
+                pages: stop - start,
+                index: run.index + (start - run.first),
+                value,
+            });
+        }
+    }
+}

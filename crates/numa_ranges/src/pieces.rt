@@ -1,0 +1,126 @@
+//! Runs, joined as they are gathered.
+ghost use Rattle.std.specs.Option.{ForSome};
+ghost use Rattle.numa_ranges.specs.Edits.{IsInRange};
+
+use crate::exact::Exact;
+use crate::fault::RangeFault;
+use crate::run::{Run, continues};
+use std::alloc::Global;
+
+/// Runs that were added one after another, each joined to the one before where it continues that.
+///
+/// Where memory is refused the runs are only counted.
+#[derive(Drop)]
+pub(crate) struct Pieces<T> {
+    pub(crate) closed: Vec<Run<T>>,
+    pub(crate) open_run: Option<Run<T>>,
+    pub(crate) count: u64,
+    pub(crate) is_refused: bool,
+    ghost in_range: { ForSome open_run IsInRange },
+}
+
+impl<T: Exact> Pieces<T> {
+    ghost use Rattle.std.specs.Prelude.{◌≡◌, ◌+◌, ◌<◌, ◌≤◌, ◌^◌, List, [], ◌∷◌, ◌++◌, length, OnOk, OnErr, IfErr, false, if◌then◌else◌, nat_lt};
+    ghost use Rattle.numa_ranges.specs.Edits.{IsInRange, joined};
+    ghost use Rattle.numa_ranges.specs.Gathered.{Gathered};
+    ghost use Rattle.std.specs.List.{splice};
+    ghost use Rattle.numa_ranges.specs.declared.fault.RangeFault.TheVariants.{TooManyRanges, NoMemory};
+
+    /// No runs.
+    pub(crate) fn new(alloc: Global) -> Pieces<T>
+        ensures gathered { Gathered T.eq result [] }
+        ensures count { result.count ≡ 0 }
+    {
+        Pieces {
+            closed: Vec::new(alloc),
+            open_run: None,
+            count: 0,
+            is_refused: false,
+        }
+    }
+
+    /// Adds a run.
+    pub(crate) fn add(&mut self, run: Run<T>)
+        requires in_range { IsInRange run }
+        requires room { self.old.count < 2 ^ 63 }
+        ensures gathered { (added : List (Run T)) → Gathered T.eq self.old added → Gathered T.eq self.new (added ++ run ∷ []) }
+        ensures count { self.new.count ≤ self.old.count + 1 }
+    {
+        let Some(last) = self.open_run else {
+            self.open_run = Some(run);
+            return;
+        };
+        if continues(&last, &run) {
+            self.open_run = Some(Run {
+                first: last.first,
+                pages: last.pages + run.pages,
+                index: last.index,
+                value: last.value,
+            });
+        } else {
+            self.close(last);
+            self.open_run = Some(run);
+        }
+    }
+
+    /// Closes the open run, so that all that was added stands among the closed ones.
+    fn seal(&mut self)
+        requires room { self.old.count < 2 ^ 63 }
+        ensures count { (added : List (Run T)) → Gathered T.eq self.old added → self.new.count ≡ length (joined T.eq added) }
+        ensures closed { (added : List (Run T)) → Gathered T.eq self.old added → self.new.is_refused ≡ false → self.new.closed.items ≡ joined T.eq added }
+        ensures bound { self.new.count ≤ self.old.count + 1 }
+    {
+        if let Some(last) = self.open_run {
+            self.close(last);
+            self.open_run = None;
+        }
+    }
+
+    /// Puts the gathered runs in the place of a window of runs, unless that makes too many.
+    pub(crate) fn put(
+        mut self,
+        runs: &mut Vec<Run<T>>,
+        from: usize,
+        to: usize,
+        limit: u32,
+    ) -> Result<(), RangeFault>
+        requires window { (from ≤ to) × (to ≤ length runs.old.items) }
+        requires room { self.count < 2 ^ 62 }
+        requires len { length runs.old.items ≤ 2 ^ 32 }
+        ensures ok { (added : List (Run T)) → Gathered T.eq self added → OnOk result ((runs.new.items ≡ splice runs.old.items from to (joined T.eq added)) × (length (splice runs.old.items from to (joined T.eq added)) ≤ limit)) }
+        ensures err { (added : List (Run T)) → Gathered T.eq self added → IfErr result (λ refusal. refusal ≡ (if nat_lt limit (length (splice runs.old.items from to (joined T.eq added))) then TooManyRanges else NoMemory)) }
+        ensures unchanged { OnErr result (runs.new.items ≡ runs.old.items) }
+    {
+        self.seal();
+        let Pieces {
+            closed,
+            open_run: _,
+            count,
+            is_refused,
+        } = self;
+        let others = runs.len() - (to - from);
+        if others as u64 + count > u64::from(limit) {
+            return Err(RangeFault::TooManyRanges);
+        }
+        if is_refused {
+            return Err(RangeFault::NoMemory);
+        }
+        let Ok(_) = runs.splice(from..to, closed) else {
+            return Err(RangeFault::NoMemory);
+        };
+        Ok(())
+    }
+
+    /// Adds a run to the closed ones, or only counts it.
+    fn close(&mut self, run: Run<T>)
+        requires room { self.old.count < 2 ^ 63 }
+        ensures open_run { self.new.open_run ≡ self.old.open_run }
+        ensures count { self.new.count ≡ self.old.count + 1 }
+        ensures closed { self.new.is_refused ≡ false → (self.old.is_refused ≡ false) × (self.new.closed.items ≡ self.old.closed.items ++ run ∷ []) }
+    {
+        self.count += 1;
+        if !self.is_refused && self.closed.push(run).is_err() {
+            self.is_refused = true;
+        }
+    }
+}

@@ -1,0 +1,330 @@
+//! The map from pages to an index and a value.
+ghost use Rattle.std.specs.Prelude.{true, ◌↔◌, Contains, OnOk, OnErr, IfErr, MatchOption, ◌≡◌, ◌+◌, ◌-◌, ◌<◌, ◌≤◌, ◌^◌, ℕ, Option, List, length, [], not, is_some, IsSomeAnd, IfNone, IfSome, OnSome, false};
+ghost use Rattle.std.specs.List.{splice, slice_range};
+ghost use Rattle.std.specs.Fn.{FnReturnsAt};
+ghost use Rattle.numa_ranges.specs.Runs.{end_of, page_at, AreApart, AreMaximal};
+ghost use Rattle.numa_ranges.specs.Counts.{range_count, IsRange};
+ghost use Rattle.numa_ranges.specs.Maps.{Shows, Makes, IsRefusal, any_page, with_span, without_span, changed_page, changed_span, count_refusal, map_refusal, set_refusal};
+ghost use Rattle.numa_ranges.specs.Edits.{StartsAround, joined, edited, HoldsPage, HasRoom, Becomes, edited_span};
+
+use crate::edit::{add_all, gather_edited};
+use crate::exact::Exact;
+use crate::fault::RangeFault;
+use crate::join::{change_values, join_in_place};
+use crate::pieces::Pieces;
+use crate::run::Run;
+use std::alloc::Global;
+use std::marker::Model;
+
+/// A finite map from pages to an index and a value, kept as its ranges.
+///
+/// A range is a maximal run of mapped pages whose indexes run on by one and whose values are equal. Pages lie below
+/// 2^35, and the index of a page counts the pages of what is mapped there: as the page offset of a mapping in
+/// mmap(2), it belongs to its page, whatever happens to the pages beside it. Ranges split and join as Linux splits
+/// and merges the areas of an address space under mbind(2).
+///
+/// The ranges stand in one sorted vector. A call over a span works on the ranges that it touches and one more on
+/// each side, judges their number, and then moves the tail of the vector once.
+#[derive(Drop)]
+pub struct RangeMap<T> {
+    runs: Vec<Run<T>>,
+    alloc: Global,
+    max_ranges: u32,
+}
+
+impl<T> Model for RangeMap<T> {
+    ghost use Rattle.std.specs.Prelude.{List, ℕ, length, ◌≤◌};
+    ghost use Rattle.numa_ranges.specs.declared.run.Run.{Run};
+    ghost use Rattle.numa_ranges.specs.Ranges.{Ranges};
+    ghost use Rattle.numa_ranges.specs.Runs.{AreApart, AreMaximal};
+
+    ghost Value = { Ranges T };
+
+    ghost view = { λ a. record { runs = a.runs.items; max_ranges = a.max_ranges } };
+
+    ghost invariant = { λ a. AreApart 0 a.runs.items × AreMaximal a.runs.items × (length a.runs.items ≤ a.max_ranges) };
+}
+
+impl<T> RangeMap<T> {
+    /// A map without pages, for at most `max_ranges` ranges. It keeps the allocator and takes no memory.
+    pub fn new(alloc: Global, max_ranges: u32) -> RangeMap<T>
+        ensures { result ≡ record { runs = []; max_ranges = max_ranges } }
+    {
+        RangeMap {
+            runs: Vec::new(alloc),
+            alloc,
+            max_ranges,
+        }
+    }
+}
+
+impl<T: Exact> RangeMap<T> {
+    /// How many ranges there are: as many as mapped pages whose predecessor is unmapped, has another value or an
+    /// index that is not one less.
+    pub fn len(&self) -> usize
+        ensures runs { result ≡ length self.now.runs }
+        ensures count { result ≡ range_count T.eq (page_at self.now.runs) }
+        ensures max_ranges { result ≤ self.now.max_ranges }
+    {
+        self.runs.len()
+    }
+
+    /// The ranges in rising order, each as its first page, its number of pages, its first index and its value.
+    pub fn iter(&self) -> std::slice::Iter<'_, Run<T>>
+        ensures runs { result.rest.now ≡ self.now.runs }
+        ensures rising { AreApart 0 self.now.runs }
+        ensures maximal { AreMaximal self.now.runs }
+        ensures ranges { (run : Run T) → Contains self.now.runs run ↔ IsRange T.eq (page_at self.now.runs) run }
+        ensures alone { (others : List (Run T)) → AreApart 0 others → AreMaximal others → Shows others (page_at self.now.runs)
+            → others ≡ self.now.runs }
+    {
+        self.runs.iter()
+    }
+
+    /// The index and the value of a page, where it is mapped. The search is binary.
+    pub fn at(&self, page: u64) -> Option<(u64, T)>
+        ensures page { result ≡ page_at self.now.runs page }
+        ensures bound { IfSome result (λ found. (page < 2 ^ 35) × (found.0 < 2 ^ 36)) }
+    {
+        let run = self.run_at(page)?;
+        Some((run.index + (page - run.first), run.value))
+    }
+
+    /// Whether one of the `pages` pages from `first` on is not mapped, which mbind(2) answers with EFAULT. `set_span`
+    /// is then refused.
+    pub fn has_hole(&self, first: u64, pages: u64) -> bool
+        requires span { first + pages ≤ 2 ^ 35 }
+        ensures { result ≡ any_page (λ page. not (is_some (page_at self.now.runs page))) first pages }
+    {
+        let end = first + pages;
+        let mut page = first;
+        while page < end {
+            let Some(run) = self.run_at(page) else {
+                return true;
+            };
+            page = run.first + run.pages;
+        }
+        false
+    }
+
+    /// Maps the `pages` pages from `first` on, with the indexes from `index` on and one value.
+    ///
+    /// Refusals, in this order, after which the map is as it was:
+    /// - `Overlap`: a page of the span is mapped.
+    /// - `TooManyRanges`: there would be more than `max_ranges` ranges.
+    /// - `NoMemory`: the vector could not grow.
+    pub fn map_span(
+        &mut self,
+        first: u64,
+        pages: u64,
+        index: u64,
+        value: T,
+    ) -> Result<(), RangeFault>
+        requires some { 0 < pages }
+        requires span { first + pages ≤ 2 ^ 35 }
+        requires index { index < 2 ^ 35 }
+        ensures ok { OnOk result (Shows self.new.runs (with_span first pages index value (page_at self.old.runs))) }
+        ensures accepted { OnOk result (map_refusal T.eq self.old.max_ranges (page_at self.old.runs) first pages index value ≡ None) }
+        ensures err { IfErr result (IsRefusal (map_refusal T.eq self.old.max_ranges (page_at self.old.runs) first pages index value)) }
+        ensures unchanged { OnErr result (self.new ≡ self.old) }
+        ensures max_ranges { self.new.max_ranges ≡ self.old.max_ranges }
+    {
+        let Some(place) = self.place_between(first, pages) else {
+            return Err(RangeFault::Overlap);
+        };
+        let run = Run {
+            first,
+            pages,
+            index,
+            value,
+        };
+        self.insert_run(place, run)
+    }
+
+    /// Puts a run in at its place among the runs, joined to its neighbours where they go on from one another.
+    fn insert_run(&mut self, place: usize, run: Run<T>) -> Result<(), RangeFault>
+        requires some { 0 < run.pages }
+        requires room { HasRoom self.old.runs place run.first (run.first + (run.pages - 1)) }
+        requires span { end_of run ≤ 2 ^ 35 }
+        requires index { run.index < 2 ^ 35 }
+        ensures ok { OnOk result (Becomes T.eq self.old self.new (with_span run.first run.pages run.index run.value (page_at self.old.runs))) }
+        ensures err { IfErr result (IsRefusal (count_refusal T.eq self.old.max_ranges (with_span run.first run.pages run.index run.value (page_at self.old.runs)))) }
+        ensures unchanged { OnErr result (self.new ≡ self.old) }
+        ensures max_ranges { self.new.max_ranges ≡ self.old.max_ranges }
+    {
+        let from = place.saturating_sub(1);
+        let to = self.runs.len().min(place + 1);
+        let mut pieces = Pieces::new(self.alloc);
+        add_all(&mut pieces, &self.runs[from..place]);
+        pieces.add(run);
+        add_all(&mut pieces, &self.runs[place..to]);
+        pieces.put(&mut self.runs, from, to, self.max_ranges)?;
+        Ok(())
+    }
+
+    /// The place of a span among the runs, where none of its pages is mapped.
+    fn place_between(&self, first: u64, pages: u64) -> Option<usize>
+        requires some { 0 < pages }
+        requires span { first + pages ≤ 2 ^ 35 }
+        ensures none { IfNone result (any_page (λ page. is_some (page_at self.now.runs page)) first pages ≡ true) }
+        ensures room { IfSome result (λ place. HasRoom self.now.runs place first (first + (pages - 1))) }
+        ensures free { OnSome result (any_page (λ page. is_some (page_at self.now.runs page)) first pages ≡ false) }
+    {
+        let place = self.starts_up_to(first + (pages - 1));
+        if place == 0 {
+            return Some(0);
+        }
+        let run = self.runs[place - 1];
+        if run.first + run.pages > first {
+            None
+        } else {
+            Some(place)
+        }
+    }
+
+    /// Gives the `pages` pages from `first` on another value. Each keeps its index.
+    ///
+    /// Refusals, in this order, after which the map is as it was:
+    /// - `Hole`: a page of the span is not mapped, which mbind(2) answers with EFAULT.
+    /// - `TooManyRanges`: there would be more than `max_ranges` ranges.
+    /// - `NoMemory`: the vector could not grow.
+    pub fn set_span(&mut self, first: u64, pages: u64, value: T) -> Result<(), RangeFault>
+        requires some { 0 < pages }
+        requires span { first + pages ≤ 2 ^ 35 }
+        ensures ok { OnOk result (Shows self.new.runs (changed_span first pages (λ old. value) (page_at self.old.runs))) }
+        ensures accepted { OnOk result (set_refusal T.eq self.old.max_ranges (page_at self.old.runs) first pages value ≡ None) }
+        ensures err { IfErr result (IsRefusal (set_refusal T.eq self.old.max_ranges (page_at self.old.runs) first pages value)) }
+        ensures unchanged { OnErr result (self.new ≡ self.old) }
+        ensures max_ranges { self.new.max_ranges ≡ self.old.max_ranges }
+    {
+        if self.has_hole(first, pages) {
+            return Err(RangeFault::Hole);
+        }
+        self.edit_span(first, pages, &|_: &T| Some(value))
+    }
+
+    /// Unmaps the `pages` pages from `first` on, as munmap(2) does: pages of the span that are not mapped are passed
+    /// over, and the others keep their indexes.
+    ///
+    /// Refusals, in this order, after which the map is as it was:
+    /// - `TooManyRanges`: a range that is split would make more than `max_ranges` ranges.
+    /// - `NoMemory`: the parts that stay could not be gathered, also where the map shrinks.
+    pub fn unmap_span(&mut self, first: u64, pages: u64) -> Result<(), RangeFault>
+        requires some { 0 < pages }
+        requires span { first + pages ≤ 2 ^ 35 }
+        ensures ok { OnOk result (Shows self.new.runs (without_span first pages (page_at self.old.runs))) }
+        ensures accepted { OnOk result (count_refusal T.eq self.old.max_ranges (without_span first pages (page_at self.old.runs)) ≡ None) }
+        ensures err { IfErr result (IsRefusal (count_refusal T.eq self.old.max_ranges (without_span first pages (page_at self.old.runs)))) }
+        ensures unchanged { OnErr result (self.new ≡ self.old) }
+        ensures max_ranges { self.new.max_ranges ≡ self.old.max_ranges }
+    {
+        self.edit_span(first, pages, &|_: &T| None)
+    }
+
+    /// Gives each mapped page among the `pages` pages from `first` on the value that `f` makes of its own. Each keeps
+    /// its index, and pages that are not mapped are passed over. `f` answers equal values with equal values.
+    ///
+    /// Refusals, in this order, after which the map is as it was:
+    /// - `TooManyRanges`: there would be more than `max_ranges` ranges.
+    /// - `NoMemory`: the vector could not grow.
+    pub fn update_span<F: Fn(&T) -> T>(
+        &mut self,
+        first: u64,
+        pages: u64,
+        f: F,
+    ) -> Result<(), RangeFault>
+        requires some { 0 < pages }
+        requires span { first + pages ≤ 2 ^ 35 }
+        requires callable { F.IsAlwaysCallable f }
+        requires function { (change : T → T) × Makes F.Fn f change }
+        ensures ok { (change : T → T) → Makes F.Fn f change → OnOk result (Shows self.new.runs (changed_span first pages change (page_at self.old.runs))) }
+        ensures accepted { (change : T → T) → Makes F.Fn f change
+            → OnOk result (count_refusal T.eq self.old.max_ranges (changed_span first pages change (page_at self.old.runs)) ≡ None) }
+        ensures err { (change : T → T) → Makes F.Fn f change
+            → IfErr result (IsRefusal (count_refusal T.eq self.old.max_ranges (changed_span first pages change (page_at self.old.runs)))) }
+        ensures unchanged { OnErr result (self.new ≡ self.old) }
+        ensures max_ranges { self.new.max_ranges ≡ self.old.max_ranges }
+    {
+        let edit = |value: &T| -> Option<T>
+            requires { F.IsAlwaysCallable f }
+            ensures { IsSomeAnd result (λ made. FnReturnsAt F.Fn f value.now made) }
+        { Some(f(value)) };
+        self.edit_span(first, pages, &edit)
+    }
+
+    /// Gives each mapped page the value that `f` makes of its own. Each keeps its index, and neighbours that become
+    /// equal join. `f` answers equal values with equal values. It takes no memory and is never refused.
+    pub fn update_all<F: Fn(&T) -> T>(&mut self, f: F)
+        requires callable { F.IsAlwaysCallable f }
+        requires function { (change : T → T) × Makes F.Fn f change }
+        ensures pages { (change : T → T) → Makes F.Fn f change
+            → (page : ℕ) → page_at self.new.runs page ≡ changed_page change (page_at self.old.runs page) }
+        ensures max_ranges { self.new.max_ranges ≡ self.old.max_ranges }
+    {
+        change_values(&mut self.runs, &f);
+        join_in_place(&mut self.runs);
+    }
+
+    /// Gives every mapped page of a span the value that `edit` makes of its own, or unmaps it.
+    fn edit_span<F: Fn(&T) -> Option<T>>(
+        &mut self,
+        first: u64,
+        pages: u64,
+        edit: &F,
+    ) -> Result<(), RangeFault>
+        requires span { first + pages ≤ 2 ^ 35 }
+        requires callable { F.IsAlwaysCallable edit.now }
+        requires function { (change : T → Option T) × Makes F.Fn edit.now change }
+        ensures ok { (change : T → Option T) → Makes F.Fn edit.now change
+            → OnOk result (Becomes T.eq self.old self.new (edited_span first pages change (page_at self.old.runs))) }
+        ensures err { (change : T → Option T) → Makes F.Fn edit.now change
+            → IfErr result (IsRefusal (count_refusal T.eq self.old.max_ranges (edited_span first pages change (page_at self.old.runs)))) }
+        ensures unchanged { OnErr result (self.new ≡ self.old) }
+        ensures max_ranges { self.new.max_ranges ≡ self.old.max_ranges }
+    {
+        let end = first + pages;
+        let (from, to) = self.window(first, end);
+        let pieces = gather_edited(self.alloc, &self.runs[from..to], first, end, edit);
+        pieces.put(&mut self.runs, from, to, self.max_ranges)?;
+        Ok(())
+    }
+
+    /// The places of the runs that an edit of a span can change or join.
+    fn window(&self, first: u64, end: u64) -> (usize, usize)
+        requires { first ≤ end }
+        ensures rises { result.0 ≤ result.1 }
+        ensures within { result.1 ≤ length self.now.runs }
+        ensures whole { (change : T → Option T) → splice self.now.runs result.0 result.1 (joined T.eq (edited first end change (slice_range self.now.runs result.0 result.1)))
+            ≡ joined T.eq (edited first end change self.now.runs) }
+    {
+        let from = self.starts_up_to(first).saturating_sub(2);
+        let to = self.runs.len().min(self.starts_up_to(end) + 1);
+        (from, to)
+    }
+
+    /// The run that holds a page, where it is mapped.
+    fn run_at(&self, page: u64) -> Option<Run<T>>
+        ensures { MatchOption result (page_at self.now.runs page ≡ None) (λ run. HoldsPage self.now.runs run page) }
+    {
+        let count = self.starts_up_to(page);
+        if count == 0 {
+            return None;
+        }
+        let run = self.runs[count - 1];
+        if page - run.first < run.pages {
+            Some(run)
+        } else {
+            None
+        }
+    }
+
+    /// How many runs start at the page or before it.
+    fn starts_up_to(&self, page: u64) -> usize
+        ensures within { result ≤ length self.now.runs }
+        ensures apart { AreApart 0 self.now.runs }
+        ensures maximal { AreMaximal self.now.runs }
+        ensures parts { StartsAround self.now.runs result page }
+    {
+        self.runs.partition_point(|run| run.first <= page)
+    }
+}

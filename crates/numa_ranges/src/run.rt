@@ -1,0 +1,29 @@
+//! A run of pages.
+ghost use Rattle.std.specs.Prelude.{IsTrue, ◌↔◌, ◌+◌, ◌≤◌, ◌^◌};
+ghost use Rattle.numa_ranges.specs.Runs.{Continues, end_of};
+
+use crate::exact::Exact;
+
+/// Pages that follow each other, with indexes that run on by one, and one value. The items of a range map.
+#[derive(Clone, Copy, Debug, PartialEq, Eq)]
+pub struct Run<T> {
+    /// The first page.
+    pub first: u64,
+    /// How many pages: at least one.
+    pub pages: u64,
+    /// The index of the first page.
+    pub index: u64,
+    /// The value of every page.
+    pub value: T,
+}
+
+/// Whether the second run goes on where the first ends.
+pub(crate) fn continues<T: Exact>(run: &Run<T>, next: &Run<T>) -> bool
+    requires end { end_of run.now ≤ 2 ^ 36 }
+    requires index { run.now.index + run.now.pages ≤ 2 ^ 36 }
+    ensures { IsTrue result ↔ Continues run.now next.now }
+{
+    next.first == run.first + run.pages
+        && next.index == run.index + run.pages
+        && run.value == next.value
+}
