@@ -1,0 +1,10 @@
+use Rattle.numa_run.specs.Texts.{text_of}
+use Rattle.numa_run.proofs.tell.tell.Goals as goal
+
+pub returns-in-BadLimits : goal.returns-in-BadLimits
+unfolding text_of
+returns-in-BadLimits g c = λ from said h. rw c.in-BadLimits.is (c.say-in-BadLimits.ensures from said h)
+
+pub returns-in-BadMachine : goal.returns-in-BadMachine
+unfolding text_of
+returns-in-BadMachine g c = λ from said h. rw (c.in-BadMachine.is, ← c.machine_name.ensures.text) (c.say_line.ensures from said h)

@@ -1,0 +1,5 @@
+pub mod States
+pub mod Replies
+pub mod Texts
+pub mod Answers
+pub mod Standing

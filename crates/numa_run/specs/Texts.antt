@@ -1,0 +1,96 @@
+-- The text of each answer, and the names of faults and refusals in it.
+use Rattle.std.specs.Prelude.{ℕ, List, [], ◌∷◌, ◌++◌, codes, decimal, flat_map}
+use Rattle.numa_mask.specs.declared.list.ListFault.{ListFault}
+use Rattle.numa_mask.specs.declared.list.ListFault.TheVariants as list
+use Rattle.numa_mode.specs.declared.specification.SpecFault.{SpecFault}
+use Rattle.numa_mode.specs.declared.specification.SpecFault.TheVariants as policy
+use Rattle.numa_machine.specs.declared.fault.MachineFault.{MachineFault}
+use Rattle.numa_machine.specs.declared.fault.MachineFault.TheVariants as machine
+use Rattle.numa_space.specs.Errors.{errno_of}
+use Rattle.numa_space.specs.declared.refusal.Errno.{Errno}
+use Rattle.numa_space.specs.declared.refusal.Errno.TheVariants as errno
+use Rattle.numa_space.specs.declared.refusal.Refusal.{Refusal}
+use Rattle.numa_space.specs.declared.refusal.Refusal.TheVariants as refusal
+use Rattle.numa_space.specs.declared.refusal.PlaceRefusal.{PlaceRefusal}
+use Rattle.numa_space.specs.declared.refusal.PlaceRefusal.TheVariants as place
+use Rattle.numa_script.specs.declared.policy.WordFault.{WordFault}
+use Rattle.numa_script.specs.declared.policy.WordFault.TheVariants as word
+use Rattle.numa_run.specs.declared.reply.Reply.{Reply}
+use Rattle.numa_run.specs.declared.reply.Reply.TheVariants as reply
+
+-- ---- names
+
+abbrev pub list_name : ListFault → List ℕ
+list_name list.Empty = codes "Empty"
+list_name list.BadDigit = codes "BadDigit"
+list_name list.BackRange = codes "BackRange"
+list_name list.NodeTooHigh = codes "NodeTooHigh"
+
+abbrev pub policy_name : SpecFault → List ℕ
+policy_name policy.UnknownMode = codes "UnknownMode"
+policy_name policy.BothFlags = codes "BothFlags"
+policy_name policy.NodesForbidden = codes "NodesForbidden"
+policy_name policy.FlagsForbidden = codes "FlagsForbidden"
+policy_name policy.NodesMissing = codes "NodesMissing"
+
+abbrev pub machine_name : MachineFault → List ℕ
+machine_name machine.NodeCount = codes "NodeCount"
+machine_name machine.NoMemoryNode = codes "NoMemoryNode"
+machine_name machine.BadDistance = codes "BadDistance"
+machine_name machine.TooManyFrames = codes "TooManyFrames"
+machine_name machine.NoMemory = codes "NoMemory"
+
+abbrev pub refusal_name : Refusal → List ℕ
+refusal_name refusal.CommandsSpent = codes "CommandsSpent"
+refusal_name refusal.Unaligned = codes "Unaligned"
+refusal_name refusal.OutOfSpace = codes "OutOfSpace"
+refusal_name refusal.EmptyLength = codes "EmptyLength"
+refusal_name refusal.BadOffset = codes "BadOffset"
+refusal_name refusal.Overlap = codes "Overlap"
+refusal_name refusal.Hole = codes "Hole"
+refusal_name refusal.NoSuchNode = codes "NoSuchNode"
+refusal_name refusal.BadWeight = codes "BadWeight"
+refusal_name refusal.NodesNotAllowed = codes "NodesNotAllowed"
+refusal_name refusal.NotSupported = codes "NotSupported"
+refusal_name refusal.TooManyTasks = codes "TooManyTasks"
+refusal_name refusal.TooManyRanges = codes "TooManyRanges"
+refusal_name refusal.NoMemory = codes "NoMemory"
+
+-- errno(3)
+abbrev pub errno_name : Errno → List ℕ
+errno_name errno.EInval = codes "EINVAL"
+errno_name errno.ENoMem = codes "ENOMEM"
+errno_name errno.EExist = codes "EEXIST"
+errno_name errno.EFault = codes "EFAULT"
+errno_name errno.ENoSpc = codes "ENOSPC"
+errno_name errno.EOpNotSupp = codes "EOPNOTSUPP"
+
+abbrev pub place_name : PlaceRefusal → List ℕ
+place_name place.BadCpu = codes "BadCpu"
+place_name place.Unmapped = codes "Unmapped"
+
+-- ---- answers
+
+abbrev pub word_text : WordFault → List ℕ
+word_text (word.List fault) = codes "bad list " ++ list_name fault
+word_text (word.Policy fault) = codes "bad policy " ++ policy_name fault
+
+-- a space, and the number of a node
+abbrev pub node_text : ℕ → List ℕ
+node_text node = 32 ∷ decimal node
+
+-- the line that a reply is written as
+unfoldable pub text_of : Reply → List ℕ
+text_of reply.Silent = []
+text_of reply.BadWords = codes "bad words\n"
+text_of reply.BadState = codes "bad state\n"
+text_of reply.LimitsOk = codes "limits ok\n"
+text_of reply.BadLimits = codes "bad limits\n"
+text_of reply.Ready = codes "ready\n"
+text_of (reply.BadMachine fault) = codes "bad machine " ++ machine_name fault ++ codes "\n"
+text_of (reply.BadWord fault) = word_text fault ++ codes "\n"
+text_of (reply.Accepted version) = codes "ok " ++ decimal version ++ codes "\n"
+text_of (reply.Refused cause) = codes "refused " ++ refusal_name cause ++ codes " " ++ errno_name (errno_of cause) ++ codes "\n"
+text_of (reply.Unanswered cause) = codes "refused " ++ place_name cause ++ codes "\n"
+text_of (reply.Placed version nodes) = codes "v" ++ decimal version ++ codes ":" ++ flat_map node_text nodes ++ codes "\n"
+text_of (reply.Ranges count) = codes "ranges " ++ decimal count ++ codes "\n"

@@ -1,0 +1,11 @@
+pub mod Adding
+pub mod Answering
+pub mod Eaches
+pub mod Endings
+pub mod Fronts
+pub mod Numerals
+pub mod Saturates
+pub mod Saying
+pub mod Sessions
+pub mod Splits
+pub mod Splitting

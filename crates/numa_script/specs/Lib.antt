@@ -1,0 +1,11 @@
+pub mod Lines
+pub mod Machines
+pub mod Numbers
+pub mod Output
+pub mod Parts
+pub mod Policies
+pub mod Present
+pub mod Session
+pub mod Split
+pub mod Watching
+pub mod Written

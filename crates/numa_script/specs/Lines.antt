@@ -1,0 +1,149 @@
+-- What a line of a script says.
+use Rattle.std.specs.Prelude.{ℕ, ◌==◌, Bool, true, List, [], ◌∷◌, length, codes, nat_lt, if◌then◌else◌, Option, Some, None, Result, Ok, Err, unwrap_or, option_and_then}
+use Rattle.std.specs.Option.{option_map, option_or}
+use Rattle.std.specs.Str.{bytes_eq}
+use Rattle.numa_mask.specs.Lists.{list_of}
+use Rattle.numa_mask.specs.declared.list.ListFault.{ListFault}
+use Rattle.numa_mode.specs.Policy.{Specification}
+use Rattle.numa_space.specs.declared.command.Command.{Command}
+use Rattle.numa_space.specs.declared.command.Command.TheVariants as command
+use Rattle.numa_script.specs.Parts.{words_of}
+use Rattle.numa_script.specs.Present.{with_two, with_three}
+use Rattle.numa_script.specs.Numbers.{number_of, small_of}
+use Rattle.numa_script.specs.Machines.{frames_of, distances_of}
+use Rattle.numa_script.specs.Policies.{policy_of}
+use Rattle.numa_script.specs.declared.policy.WordFault.{WordFault}
+use Rattle.numa_script.specs.declared.policy.WordFault.TheVariants as fault
+use Rattle.numa_script.specs.declared.keyword.Keyword.{Keyword}
+use Rattle.numa_script.specs.declared.keyword.Keyword.TheVariants as keyword
+use Rattle.numa_script.specs.declared.line.Line.{Line}
+use Rattle.numa_script.specs.declared.line.Line.TheVariants as line
+use Rattle.numa_script.specs.declared.line.Question.TheVariants as question
+
+-- ---- first words
+
+unfoldable pub setting_keyword : List ℕ → Option Keyword
+setting_keyword first =
+    if bytes_eq first (codes "limits") then Some keyword.Limits
+    else if bytes_eq first (codes "machine") then Some keyword.Machine
+    else None
+
+unfoldable pub command_keyword : List ℕ → Option Keyword
+command_keyword first =
+    if bytes_eq first (codes "map") then Some keyword.Map
+    else if bytes_eq first (codes "unmap") then Some keyword.Unmap
+    else if bytes_eq first (codes "mbind") then Some keyword.Mbind
+    else if bytes_eq first (codes "home") then Some keyword.Home
+    else if bytes_eq first (codes "task") then Some keyword.Task
+    else if bytes_eq first (codes "weight") then Some keyword.Weight
+    else if bytes_eq first (codes "mems") then Some keyword.Mems
+    else None
+
+unfoldable pub question_keyword : List ℕ → Option Keyword
+question_keyword first =
+    if bytes_eq first (codes "place") then Some keyword.Place
+    else if bytes_eq first (codes "ranges") then Some keyword.Ranges
+    else None
+
+-- what a first word asks for
+unfoldable pub keyword_of : List ℕ → Option Keyword
+keyword_of first = option_or (question_keyword first) (option_or (command_keyword first) (setting_keyword first))
+
+-- ---- the words after the first
+
+-- a command that needs a policy, or a list of nodes
+abbrev pub with_policy : (Specification → Command) → Result Specification WordFault → Line
+with_policy f (Ok spec) = line.Command (Ok (f spec))
+with_policy f (Err wrong) = line.Command (Err wrong)
+
+abbrev pub with_nodes : (ℕ → Command) → Result ℕ ListFault → Line
+with_nodes f (Ok mask) = line.Command (Ok (f mask))
+with_nodes f (Err wrong) = line.Command (Err (fault.List wrong))
+
+-- limits R T C
+abbrev pub limits_line : List (List ℕ) → Option Line
+limits_line (ranges ∷ tasks ∷ commands ∷ []) = with_three line.Limits (small_of ranges) (small_of tasks) (small_of commands)
+limits_line _ = None
+
+-- machine NODES MEM FRAMES DIST
+abbrev pub machine_line : List (List ℕ) → Option Line
+machine_line (nodes ∷ memory ∷ frames ∷ distances ∷ []) =
+    with_three (λ n f d. line.Machine (record { nodes = n; memory = list_of memory; frames = f; distances = d })) (small_of nodes) (frames_of frames) (distances_of distances)
+machine_line _ = None
+
+-- map START LENGTH OFFSET
+abbrev pub map_line : List (List ℕ) → Option Line
+map_line (start ∷ size ∷ offset ∷ []) = with_three (λ s l o. line.Command (Ok (command.Map s l o))) (number_of start) (number_of size) (number_of offset)
+map_line _ = None
+
+-- unmap START LENGTH
+abbrev pub unmap_line : List (List ℕ) → Option Line
+unmap_line (start ∷ size ∷ []) = with_two (λ s l. line.Command (Ok (command.Unmap s l))) (number_of start) (number_of size)
+unmap_line _ = None
+
+-- mbind START LENGTH POLICY
+abbrev pub mbind_line : List (List ℕ) → Option Line
+mbind_line (start ∷ size ∷ policy ∷ []) = with_two (λ s l. with_policy (command.Mbind s l) (policy_of policy)) (number_of start) (number_of size)
+mbind_line _ = None
+
+-- home START LENGTH NODE
+abbrev pub home_line : List (List ℕ) → Option Line
+home_line (start ∷ size ∷ node ∷ []) = with_three (λ s l n. line.Command (Ok (command.SetHome s l n))) (number_of start) (number_of size) (small_of node)
+home_line _ = None
+
+-- task TASK POLICY
+abbrev pub task_line : List (List ℕ) → Option Line
+task_line (task ∷ policy ∷ []) = option_map (λ t. with_policy (command.SetTask t) (policy_of policy)) (small_of task)
+task_line _ = None
+
+-- weight NODE W
+abbrev pub weight_line : List (List ℕ) → Option Line
+weight_line (node ∷ weight ∷ []) = with_two (λ n w. line.Command (Ok (command.SetWeight n w))) (small_of node) (small_of weight)
+weight_line _ = None
+
+-- mems LIST
+abbrev pub mems_line : List (List ℕ) → Option Line
+mems_line (nodes ∷ []) = Some (with_nodes command.SetMems (list_of nodes))
+mems_line _ = None
+
+-- place TASK ADDR CPU
+abbrev pub place_line : List (List ℕ) → Option Line
+place_line (task ∷ address ∷ cpu ∷ []) = with_three (λ t a c. line.Question (question.Place t a c)) (small_of task) (number_of address) (small_of cpu)
+place_line _ = None
+
+-- ranges
+abbrev pub ranges_line : List (List ℕ) → Option Line
+ranges_line [] = Some (line.Question question.Ranges)
+ranges_line _ = None
+
+abbrev pub line_after : Keyword → List (List ℕ) → Option Line
+line_after keyword.Limits words = limits_line words
+line_after keyword.Machine words = machine_line words
+line_after keyword.Map words = map_line words
+line_after keyword.Unmap words = unmap_line words
+line_after keyword.Mbind words = mbind_line words
+line_after keyword.Home words = home_line words
+line_after keyword.Task words = task_line words
+line_after keyword.Weight words = weight_line words
+line_after keyword.Mems words = mems_line words
+line_after keyword.Place words = place_line words
+line_after keyword.Ranges words = ranges_line words
+
+-- ---- lines
+
+-- the line that the words write, where they write one
+abbrev pub words_line : List (List ℕ) → Option Line
+words_line [] = None
+words_line (first ∷ words) = option_and_then (λ k. line_after k words) (keyword_of first)
+
+-- a line that gives no answer: it is empty, or a comment
+abbrev pub is_silent : List ℕ → Bool
+is_silent [] = true
+is_silent (b ∷ bs) = b == 35
+
+-- what a line says, whatever its length: more than 4,096 bytes say nothing that is understood
+unfoldable pub line_of : List ℕ → Line
+line_of bytes =
+    if is_silent bytes then line.Silent
+    else if nat_lt 4096 (length bytes) then line.Malformed
+    else unwrap_or (words_line (words_of bytes)) line.Malformed

@@ -1,0 +1,47 @@
+-- Numbers, as words of a script.
+use Rattle.std.specs.Prelude.{◌≡◌, ℕ, ◌^◌, ◌<◌, ◌≤◌, ◌⊎◌, ◌++◌, ◌==◌, true, List, length, take, drop, codes, nat_lt, if◌then◌else◌, Option, Some, None}
+use Rattle.std.specs.Char.{is_digit, digit_value}
+use Rattle.std.specs.List.{list_all}
+use Rattle.std.specs.Str.{bytes_eq}
+use Rattle.std.specs.Str.Parse.{digits_value}
+
+-- 1 to `most` digits in the radix, and the number that they write
+abbrev pub IsNumeral : ℕ → ℕ → List ℕ → ℕ → Type 0
+IsNumeral radix most digits n = (0 < length digits) × (length digits ≤ most) × (list_all (λ c. is_digit c radix) digits ≡ true) × (n ≡ digits_value radix digits)
+
+-- the texts of numbers: 0x and 1 to 16 hexadecimal digits, or 1 to 20 decimal digits, below 2^64
+abbrev pub IsNumber : List ℕ → ℕ → Type 0
+IsNumber word n = (n < 2 ^ 64) × (((digits : List ℕ) × (word ≡ codes "0x" ++ digits) × IsNumeral 16 16 digits n) ⊎ IsNumeral 10 20 word n)
+
+-- the digit that a byte is in the radix
+unfoldable pub digit_of : ℕ → ℕ → Option ℕ
+digit_of radix c = if is_digit c radix then Some (digit_value c) else None
+
+-- the number, where it fits 64 bits
+unfoldable pub fitting : ℕ → Option ℕ
+fitting n = if nat_lt n (2 ^ 64) then Some n else None
+
+-- the number that the digits write, where they are 1 to `most` in the radix, and fit 64 bits
+unfoldable pub numeral_of : ℕ → ℕ → List ℕ → Option ℕ
+numeral_of radix most digits =
+    if length digits == 0 then None
+    else if nat_lt most (length digits) then None
+    else if list_all (λ c. is_digit c radix) digits then fitting (digits_value radix digits)
+    else None
+
+-- the number of a word, where it is one
+unfoldable pub number_of : List ℕ → Option ℕ
+number_of word = if bytes_eq (take 2 word) (codes "0x") then numeral_of 16 16 (drop 2 word) else numeral_of 10 20 word
+
+-- the number, where it is below the bound
+abbrev pub below : ℕ → Option ℕ → Option ℕ
+below bound None = None
+below bound (Some n) = if nat_lt n bound then Some n else None
+
+-- the number of a word, where it is below 2^32
+abbrev pub small_of : List ℕ → Option ℕ
+small_of word = below (2 ^ 32) (number_of word)
+
+-- the number of an item of a list of numbers: 1 to 10 decimal digits, below 2^32
+abbrev pub item_of : List ℕ → Option ℕ
+item_of item = below (2 ^ 32) (numeral_of 10 10 item)

@@ -1,0 +1,73 @@
+-- Policy words: NAME, then =static or not, then =relative or not, then : and a list of nodes or nothing.
+use Rattle.std.specs.Prelude.{ℕ, ◌+◌, ◌==◌, ◌&&◌, Bool, true, false, List, [], ◌∷◌, take, drop, position, codes, if◌then◌else◌, Option, Some, None, Result, Ok, Err}
+use Rattle.std.specs.Str.{bytes_eq}
+use Rattle.std.specs.Option.{option_map}
+use Rattle.numa_mask.specs.Lists.{list_of}
+use Rattle.numa_mask.specs.declared.list.ListFault.{ListFault}
+use Rattle.numa_mode.specs.Policy.{Specification, specification_of}
+use Rattle.numa_mode.specs.declared.modes.Mode.{Mode}
+use Rattle.numa_mode.specs.declared.modes.Mode.TheVariants as mode
+use Rattle.numa_mode.specs.declared.specification.SpecFault.{SpecFault}
+use Rattle.numa_mode.specs.declared.specification.SpecFault.TheVariants.{UnknownMode}
+use Rattle.numa_script.specs.Parts.{parts_of}
+use Rattle.numa_script.specs.declared.policy.PolicyForm.{PolicyForm}
+use Rattle.numa_script.specs.declared.policy.WordFault.{WordFault}
+use Rattle.numa_script.specs.declared.policy.WordFault.TheVariants as fault
+
+-- the mode of a name
+unfoldable pub mode_of : List ℕ → Option Mode
+mode_of name =
+    if bytes_eq name (codes "default") then Some mode.Default
+    else if bytes_eq name (codes "prefer") then Some mode.Preferred
+    else if bytes_eq name (codes "bind") then Some mode.Bind
+    else if bytes_eq name (codes "interleave") then Some mode.Interleave
+    else if bytes_eq name (codes "local") then Some mode.Local
+    else if bytes_eq name (codes "many") then Some mode.PreferredMany
+    else if bytes_eq name (codes "weighted") then Some mode.WeightedInterleave
+    else None
+
+-- the mode of a name, with these flags
+abbrev pub form_with : Bool → Bool → List ℕ → Option PolicyForm
+form_with static relative name = option_map (λ m. record { mode = m; is_static = static; is_relative = relative }) (mode_of name)
+
+-- a name and one flag
+unfoldable pub form_of_two : List ℕ → List ℕ → Option PolicyForm
+form_of_two name flag =
+    if bytes_eq flag (codes "static") then form_with true false name
+    else if bytes_eq flag (codes "relative") then form_with false true name
+    else None
+
+-- a name and both flags, in this order
+unfoldable pub form_of_three : List ℕ → List ℕ → List ℕ → Option PolicyForm
+form_of_three name first second =
+    if bytes_eq first (codes "static") && bytes_eq second (codes "relative") then form_with true true name else None
+
+-- what stands between `=`: a name, and then the flags
+abbrev pub form_of_parts : List (List ℕ) → Option PolicyForm
+form_of_parts (name ∷ []) = form_with false false name
+form_of_parts (name ∷ flag ∷ []) = form_of_two name flag
+form_of_parts (name ∷ first ∷ second ∷ []) = form_of_three name first second
+form_of_parts _ = None
+
+-- what a policy word says before its first colon
+abbrev pub form_of : List ℕ → Option PolicyForm
+form_of text = form_of_parts (parts_of 61 text)
+
+abbrev pub specified : Result Specification SpecFault → Result Specification WordFault
+specified (Ok spec) = Ok spec
+specified (Err f) = Err (fault.Policy f)
+
+-- the form is judged first, then the list, then the two together
+abbrev pub policy_from : Option PolicyForm → Result ℕ ListFault → Result Specification WordFault
+policy_from None nodes = Err (fault.Policy UnknownMode)
+policy_from (Some form) (Err f) = Err (fault.List f)
+policy_from (Some form) (Ok mask) = specified (specification_of form.mode form.is_static form.is_relative mask)
+
+-- a word without a colon names no nodes
+abbrev pub policy_cut : List ℕ → Option ℕ → Result Specification WordFault
+policy_cut word None = policy_from (form_of word) (Ok 0)
+policy_cut word (Some colon) = policy_from (form_of (take colon word)) (list_of (drop (colon + 1) word))
+
+-- the policy of a word, which is cut at its first colon
+unfoldable pub policy_of : List ℕ → Result Specification WordFault
+policy_of word = policy_cut word (position (λ b. b == 58) word)

@@ -1,0 +1,24 @@
+//! The lower half of the script language: what a line of a script says.
+#![tactic(auto)]
+
+mod engine;
+pub mod gathered;
+pub mod keyword;
+pub mod line;
+pub mod machine;
+pub mod number;
+mod open_line;
+pub mod parts;
+pub mod policy;
+pub mod run;
+pub mod serve;
+#[cfg(test)]
+mod tests;
+pub mod watched;
+
+pub use gathered::Gathered;
+pub use line::{Line, MachineLine, Question};
+pub use policy::WordFault;
+pub use run::{RunFault, serve_script};
+pub use serve::Serve;
+pub use watched::{CallFailed, Watched};

@@ -1,0 +1,257 @@
+//! What a line of a script says.
+ghost use Rattle.std.specs.Prelude.{◌≡◌, ◌==◌, ◌+◌, ◌≤◌, ◌<◌, ℕ, List, length, Option};
+ghost use Rattle.numa_script.specs.Lines.{limits_line, machine_line, map_line, unmap_line, mbind_line, home_line, task_line, weight_line, mems_line, place_line, ranges_line, line_after, words_line, is_silent, line_of};
+
+use crate::keyword::{Keyword, read_keyword};
+use crate::machine::{Distances, Frames};
+use crate::number::{number, small};
+use crate::parts::{Parts, words};
+use crate::policy::{WordFault, read_policy};
+use numa_mask::{ListFault, NodeMask, read_list};
+use numa_space::Command;
+
+/// The most bytes that a line may have, its line feed apart.
+pub const LIMIT: usize = 4096;
+
+/// A line that describes a machine.
+#[derive(Drop)]
+pub struct MachineLine<'a> {
+    /// How many nodes there are to be.
+    pub nodes: u32,
+    /// The nodes with memory, or the fault of the list that names them.
+    pub memory: Result<NodeMask, ListFault>,
+    /// The frames of the nodes.
+    pub frames: Frames<'a>,
+    /// The distances between them.
+    pub distances: Distances<'a>,
+}
+
+/// What a line asks of a machine.
+#[derive(Clone, Copy, Debug, PartialEq, Eq)]
+pub enum Question {
+    /// The nodes for the page of an address, in bytes, that the task first touches on a CPU of the node `cpu`.
+    Place { task: u32, address: u64, cpu: u32 },
+    /// How many ranges there are.
+    Ranges,
+}
+
+/// What a line says.
+#[derive(Drop)]
+pub enum Line<'a> {
+    /// Nothing, or a comment.
+    Silent,
+    /// No line of a script: it is too long, its first word is unknown, it has another number of words, or one of its
+    /// numbers is malformed or out of its bounds.
+    Malformed,
+    /// The limits of the machine to come: at most so many ranges, tasks with a policy and accepted commands.
+    Limits {
+        ranges: u32,
+        tasks: u32,
+        commands: u32,
+    },
+    /// A machine.
+    Machine(MachineLine<'a>),
+    /// A command, or the fault of its list or policy, which counts once a machine is ready.
+    Command(Result<Command, WordFault>),
+    /// A question.
+    Question(Question),
+}
+
+/// Whether the line is empty or a comment.
+fn is_silent_line(line: &[u8]) -> bool
+    ensures { result ≡ is_silent line.now }
+{
+    match line {
+        [] => true,
+        [first, ..] => *first == b'#',
+    }
+}
+
+/// `limits R T C`
+fn limits(mut words: Parts) -> Option<Line>
+    ensures { result ≡ limits_line words.entry }
+{
+    let ranges = words.next()?;
+    let tasks = words.next()?;
+    let commands = words.only()?;
+    Some(Line::Limits {
+        ranges: small(ranges)?,
+        tasks: small(tasks)?,
+        commands: small(commands)?,
+    })
+}
+
+/// `machine NODES MEM FRAMES DIST`
+fn machine<'a>(mut words: Parts<'a>) -> Option<Line<'a>>
+    ensures { result ≡ machine_line words.entry }
+{
+    let nodes = words.next()?;
+    let memory = words.next()?;
+    let frames = words.next()?;
+    let distances = words.only()?;
+    Some(Line::Machine(MachineLine {
+        nodes: small(nodes)?,
+        memory: read_list(memory),
+        frames: Frames::read(frames)?,
+        distances: Distances::read(distances)?,
+    }))
+}
+
+/// `map START LENGTH OFFSET`
+fn map(mut words: Parts) -> Option<Line>
+    ensures { result ≡ map_line words.entry }
+{
+    let start = words.next()?;
+    let length = words.next()?;
+    let offset = words.only()?;
+    Some(Line::Command(Ok(Command::Map {
+        start: number(start)?,
+        length: number(length)?,
+        offset: number(offset)?,
+    })))
+}
+
+/// `unmap START LENGTH`
+fn unmap(mut words: Parts) -> Option<Line>
+    ensures { result ≡ unmap_line words.entry }
+{
+    let start = words.next()?;
+    let length = words.only()?;
+    Some(Line::Command(Ok(Command::Unmap {
+        start: number(start)?,
+        length: number(length)?,
+    })))
+}
+
+/// `mbind START LENGTH POLICY`
+fn mbind(mut words: Parts) -> Option<Line>
+    ensures { result ≡ mbind_line words.entry }
+{
+    let start = words.next()?;
+    let length = words.next()?;
+    let policy = words.only()?;
+    let start = number(start)?;
+    let length = number(length)?;
+    match read_policy(policy) {
+        Ok(spec) => Some(Line::Command(Ok(Command::Mbind {
+            start,
+            length,
+            spec,
+        }))),
+        Err(fault) => Some(Line::Command(Err(fault))),
+    }
+}
+
+/// `home START LENGTH NODE`
+fn home(mut words: Parts) -> Option<Line>
+    ensures { result ≡ home_line words.entry }
+{
+    let start = words.next()?;
+    let length = words.next()?;
+    let node = words.only()?;
+    Some(Line::Command(Ok(Command::SetHome {
+        start: number(start)?,
+        length: number(length)?,
+        node: small(node)?,
+    })))
+}
+
+/// `task TASK POLICY`
+fn task(mut words: Parts) -> Option<Line>
+    ensures { result ≡ task_line words.entry }
+{
+    let task = words.next()?;
+    let policy = words.only()?;
+    let task = small(task)?;
+    match read_policy(policy) {
+        Ok(spec) => Some(Line::Command(Ok(Command::SetTask { task, spec }))),
+        Err(fault) => Some(Line::Command(Err(fault))),
+    }
+}
+
+/// `weight NODE W`
+fn weight(mut words: Parts) -> Option<Line>
+    ensures { result ≡ weight_line words.entry }
+{
+    let node = words.next()?;
+    let weight = words.only()?;
+    Some(Line::Command(Ok(Command::SetWeight {
+        node: small(node)?,
+        weight: small(weight)?,
+    })))
+}
+
+/// `mems LIST`
+fn mems(words: Parts) -> Option<Line>
+    ensures { result ≡ mems_line words.entry }
+{
+    match read_list(words.only()?) {
+        Ok(mask) => Some(Line::Command(Ok(Command::SetMems { mask }))),
+        Err(fault) => Some(Line::Command(Err(WordFault::List(fault)))),
+    }
+}
+
+/// `place TASK ADDR CPU`
+fn place(mut words: Parts) -> Option<Line>
+    ensures { result ≡ place_line words.entry }
+{
+    let task = words.next()?;
+    let address = words.next()?;
+    let cpu = words.only()?;
+    Some(Line::Question(Question::Place {
+        task: small(task)?,
+        address: number(address)?,
+        cpu: small(cpu)?,
+    }))
+}
+
+/// `ranges`
+fn ranges(mut words: Parts) -> Option<Line>
+    ensures { result ≡ ranges_line words.entry }
+{
+    match words.next() {
+        None => Some(Line::Question(Question::Ranges)),
+        Some(_) => None,
+    }
+}
+
+/// The line that the words after the first write.
+fn line_after(keyword: Keyword, words: Parts) -> Option<Line>
+    ensures { result ≡ line_after keyword words.entry }
+{
+    match keyword {
+        Keyword::Limits => limits(words),
+        Keyword::Machine => machine(words),
+        Keyword::Map => map(words),
+        Keyword::Unmap => unmap(words),
+        Keyword::Mbind => mbind(words),
+        Keyword::Home => home(words),
+        Keyword::Task => task(words),
+        Keyword::Weight => weight(words),
+        Keyword::Mems => mems(words),
+        Keyword::Place => place(words),
+        Keyword::Ranges => ranges(words),
+    }
+}
+
+/// The line that the words write.
+fn of_words(mut words: Parts) -> Option<Line>
+    ensures { result ≡ words_line words.entry }
+{
+    let first = words.next()?;
+    line_after(read_keyword(first)?, words)
+}
+
+/// What a line says, without its line feed.
+#[tactic(auto, unfolding(crate::specs::Lines::line_of))]
+pub fn parse(line: &[u8]) -> Line<'_>
+    ensures { result ≡ line_of line.now }
+{
+    if is_silent_line(line) {
+        return Line::Silent;
+    }
+    if line.len() > LIMIT {
+        return Line::Malformed;
+    }
+    of_words(words(line)).unwrap_or(Line::Malformed)
+}

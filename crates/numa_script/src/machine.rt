@@ -1,0 +1,234 @@
+//! The words of a machine line that are lists of numbers: its frames and its distances.
+ghost use Rattle.std.specs.Prelude.{◌≡◌, ◌==◌, ◌≤◌, ◌<◌, ◌^◌, ℕ, List, Option, map, unwrap_or, IfOk, OnOk, ◌++◌, is_some};
+ghost use Rattle.std.specs.List.{list_all, flat_map, range_with_len};
+ghost use Rattle.numa_script.specs.Numbers.{item_of};
+ghost use Rattle.numa_script.specs.Parts.{items_of, rows_of};
+ghost use Rattle.numa_script.specs.Machines.{entries_of, distance_of, frames_of, table_of, distances_of, frames_at, flat_distance, flat_row, frames_for, distances_for};
+
+use crate::number::{distance, small_item};
+use crate::parts::{items, rows};
+use numa_mask::{NodeId, NodeMask};
+use std::alloc::{AllocError, Global};
+use std::marker::Model;
+
+/// The frames of a machine's nodes, as a word: decimal numbers below 2^32 with commas between them.
+#[derive(Drop)]
+pub struct Frames<'a> {
+    word: &'a [u8],
+}
+
+impl<'a> Model for Frames<'a> {
+    ghost use Rattle.std.specs.Prelude.{ℕ, List, map, unwrap_or};
+    ghost use Rattle.numa_script.specs.Numbers.{item_of};
+    ghost use Rattle.numa_script.specs.Parts.{items_of};
+
+    ghost Value = { List ℕ };
+
+    ghost view = { λ a. map (λ item. unwrap_or (item_of item) 0) (items_of a.word.now) };
+}
+
+/// A distance table, as a word: rows with semicolons between them, of decimal numbers of at most 255 with commas between
+/// them.
+#[derive(Drop)]
+pub struct Entries<'a> {
+    word: &'a [u8],
+}
+
+impl<'a> Model for Entries<'a> {
+    ghost use Rattle.std.specs.Prelude.{ℕ, List, map, unwrap_or};
+    ghost use Rattle.std.specs.List.{flat_map};
+    ghost use Rattle.numa_script.specs.Numbers.{item_of, below};
+    ghost use Rattle.numa_script.specs.Parts.{items_of, rows_of};
+
+    ghost Value = { List ℕ };
+
+    ghost view = { λ a. map (λ item. unwrap_or (below 256 (item_of item)) 0) (flat_map items_of (rows_of a.word.now)) };
+}
+
+/// The distances of a machine's nodes, as a word.
+#[derive(Drop)]
+pub enum Distances<'a> {
+    /// `flat`: 10 from a node to itself and 20 to every other.
+    Flat,
+    /// The entries of the distance table, row after row.
+    Table(Entries<'a>),
+}
+
+/// Whether each item is a number.
+fn are_numbers(word: &[u8]) -> bool
+    ensures { result ≡ list_all (λ item. is_some (item_of item)) (items_of word.now) }
+{
+    items(word).all(|item| small_item(item).is_some())
+}
+
+impl<'a> Frames<'a> {
+    /// The frames that the word writes, where each item is a number.
+    #[tactic(auto, using(crate::proofs::Eaches::each_known, crate::proofs::Eaches::each_missing))]
+    pub fn read(word: &'a [u8]) -> Option<Frames<'a>>
+        ensures { result ≡ frames_of word.now }
+    {
+        if are_numbers(word) {
+            Some(Frames { word })
+        } else {
+            None
+        }
+    }
+
+    /// The frames of each of so many nodes: one number is that of each node with memory, where the others have none, and
+    /// more than one are those of the nodes in turn, as many as were written. `Err` is want of memory.
+    pub fn for_nodes(
+        &self,
+        alloc: Global,
+        nodes: u32,
+        memory: &NodeMask,
+    ) -> Result<Vec<u32>, AllocError>
+        requires { nodes ≤ 256 }
+        ensures { IfOk result (λ v. v.items ≡ frames_for nodes memory.now self.now) }
+    {
+        match items(self.word).only() {
+            Some(item) => frames_with_memory(alloc, nodes, memory, small_item(item).unwrap_or(0)),
+            None => self.numbers(alloc),
+        }
+    }
+
+    /// The numbers in turn.
+    fn numbers(&self, alloc: Global) -> Result<Vec<u32>, AllocError>
+        ensures { IfOk result (λ v. v.items ≡ self.now) }
+    {
+        items(self.word)
+            .map(|item| small_item(item).unwrap_or(0))
+            .collect(alloc)
+    }
+}
+
+#[tactic(auto, using(crate::proofs::Eaches::row_more))]
+/// So many frames for each node with memory, and none for the others.
+fn frames_with_memory(
+    alloc: Global,
+    nodes: u32,
+    memory: &NodeMask,
+    frames: u32,
+) -> Result<Vec<u32>, AllocError>
+    requires { nodes ≤ 256 }
+    ensures { IfOk result (λ v. v.items ≡ map (frames_at memory.now frames) (range_with_len 0 nodes)) }
+{
+    let mut each = Vec::new(alloc);
+    for node in 0..nodes {
+        each.push(frames_at(memory, frames, node as u8))?;
+    }
+    Ok(each)
+}
+
+/// The frames of a node, where each node with memory has so many.
+fn frames_at(memory: &NodeMask, frames: u32, node: u8) -> u32
+    ensures { result ≡ frames_at memory.now frames node }
+{
+    match NodeId::new(node) {
+        Some(node) if memory.contains(node) => frames,
+        _ => 0,
+    }
+}
+
+/// Whether each item of a row is a distance.
+fn is_row(row: &[u8]) -> bool
+    ensures { result ≡ list_all (λ item. is_some (distance_of item)) (items_of row.now) }
+{
+    items(row).all(|item| distance(item).is_some())
+}
+
+/// Whether each item of a table is a distance.
+fn is_table(word: &[u8]) -> bool
+    ensures { result ≡ list_all (λ row. list_all (λ item. is_some (distance_of item)) (items_of row)) (rows_of word.now) }
+{
+    rows(word).all(|row| is_row(row))
+}
+
+/// Appends the entries of a row.
+fn add_row(table: &mut Vec<u8>, row: &[u8]) -> Result<(), AllocError>
+    ensures { OnOk result (table.new.items ≡ table.old.items ++ map (λ item. unwrap_or (distance_of item) 0) (items_of row.now)) }
+{
+    for item in items(row) {
+        table.push(distance(item).unwrap_or(0))?;
+    }
+    Ok(())
+}
+
+impl<'a> Entries<'a> {
+    /// The entries that the word writes, where each item is a distance.
+    #[tactic(auto, using(crate::proofs::Eaches::table_known, crate::proofs::Eaches::table_missing))]
+    pub fn read(word: &'a [u8]) -> Option<Entries<'a>>
+        ensures { result ≡ table_of word.now }
+    {
+        if is_table(word) {
+            Some(Entries { word })
+        } else {
+            None
+        }
+    }
+
+    /// The entries in turn.
+    fn numbers(&self, alloc: Global) -> Result<Vec<u8>, AllocError>
+        ensures { IfOk result (λ v. v.items ≡ self.now) }
+    {
+        let mut table = Vec::new(alloc);
+        for row in rows(self.word) {
+            add_row(&mut table, row)?;
+        }
+        Ok(table)
+    }
+}
+
+impl<'a> Distances<'a> {
+    /// The distances that the word writes: `flat`, or a table whose every item is a distance.
+    #[tactic(auto, unfolding(crate::specs::Machines::distances_of))]
+    pub fn read(word: &'a [u8]) -> Option<Distances<'a>>
+        ensures { result ≡ distances_of word.now }
+    {
+        if word == b"flat".as_slice() {
+            return Some(Distances::Flat);
+        }
+        Some(Distances::Table(Entries::read(word)?))
+    }
+
+    /// The entries of the distance table of so many nodes, row after row: `flat` makes one for each two nodes, and a table
+    /// is as it was written, whatever the number of nodes. `Err` is want of memory.
+    pub fn for_nodes(&self, alloc: Global, nodes: u32) -> Result<Vec<u8>, AllocError>
+        requires { nodes ≤ 256 }
+        ensures { IfOk result (λ v. v.items ≡ distances_for nodes self.now) }
+    {
+        match self {
+            Distances::Flat => flat_table(alloc, nodes),
+            Distances::Table(entries) => entries.numbers(alloc),
+        }
+    }
+}
+
+/// The distance between two nodes where all are equally far apart.
+fn flat_distance(from: u32, to: u32) -> u8
+    ensures { result ≡ flat_distance from to }
+{
+    if from == to { 10 } else { 20 }
+}
+
+#[tactic(auto, using(crate::proofs::Eaches::row_more))]
+/// Appends the row of a node, which is 10 from itself and 20 from every other.
+fn add_flat_row(table: &mut Vec<u8>, nodes: u32, from: u32) -> Result<(), AllocError>
+    ensures { OnOk result (table.new.items ≡ table.old.items ++ flat_row nodes from) }
+{
+    for to in 0..nodes {
+        table.push(flat_distance(from, to))?;
+    }
+    Ok(())
+}
+
+#[tactic(auto, using(crate::proofs::Eaches::table_more))]
+/// The table in which each node is 10 from itself and 20 from every other.
+fn flat_table(alloc: Global, nodes: u32) -> Result<Vec<u8>, AllocError>
+    ensures { IfOk result (λ v. v.items ≡ flat_map (flat_row nodes) (range_with_len 0 nodes)) }
+{
+    let mut table = Vec::new(alloc);
+    for from in 0..nodes {
+        add_flat_row(&mut table, nodes, from)?;
+    }
+    Ok(table)
+}

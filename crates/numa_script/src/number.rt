@@ -1,0 +1,80 @@
+//! Numbers, as words of a script.
+ghost use Rattle.std.specs.Prelude.{◌≡◌, ℕ, ◌+◌, ◌*◌, ◌^◌, ◌<◌, ◌≤◌, List, MatchOption, IfSome};
+ghost use Rattle.numa_script.specs.Numbers.{digit_of, fitting, numeral_of, number_of, small_of, item_of, below, IsNumber};
+
+/// The digit that a byte is in the radix.
+#[tactic(auto, unfolding(crate::specs::Numbers::digit_of))]
+fn digit_in(byte: u8, radix: u32) -> Option<u32>
+    requires low { 2 ≤ radix }
+    requires high { radix ≤ 36 }
+    ensures { result ≡ digit_of radix byte }
+{
+    char::from(byte).to_digit(radix)
+}
+
+/// The number with one more digit, where it fits.
+#[tactic(auto, unfolding(crate::specs::Numbers::fitting))]
+fn with_digit(value: u64, radix: u32, digit: u32) -> Option<u64>
+    ensures { result ≡ fitting (value * radix + digit) }
+{
+    value
+        .checked_mul(u64::from(radix))?
+        .checked_add(u64::from(digit))
+}
+
+/// The number that the digits write, where they are 1 to `most` in the radix and the number fits.
+#[tactic(auto, using(crate::proofs::Numerals::numeral_steps))]
+fn numeral(digits: &[u8], radix: u32, most: usize) -> Option<u64>
+    requires low { 2 ≤ radix }
+    requires high { radix ≤ 36 }
+    ensures { result ≡ numeral_of radix most digits.now }
+{
+    if digits.is_empty() {
+        return None;
+    }
+    if digits.len() > most {
+        return None;
+    }
+    let mut value = 0u64;
+    for byte in digits {
+        let digit = digit_in(*byte, radix)?;
+        value = with_digit(value, radix, digit)?;
+    }
+    Some(value)
+}
+
+/// The number of a word: `0x` and 1 to 16 hexadecimal digits, or 1 to 20 decimal digits, in 64 bits.
+#[tactic(auto, using(crate::proofs::Numerals::number_steps))]
+pub fn number(word: &[u8]) -> Option<u64>
+    ensures value { result ≡ number_of word.now }
+    ensures grammar { MatchOption result ((n : ℕ) → IsNumber word.now n → ⊥) (λ n. IsNumber word.now n) }
+{
+    match word.strip_prefix(b"0x") {
+        Some(digits) => numeral(digits, 16, 16),
+        None => numeral(word, 10, 20),
+    }
+}
+
+/// The number of a word, where it is below 2^32.
+pub fn small(word: &[u8]) -> Option<u32>
+    ensures { result ≡ small_of word.now }
+{
+    let n = number(word)?;
+    u32::try_from(n).ok()
+}
+
+/// The number of an item of a list of numbers: 1 to 10 decimal digits, below 2^32.
+pub fn small_item(item: &[u8]) -> Option<u32>
+    ensures { result ≡ item_of item.now }
+{
+    let n = numeral(item, 10, 10)?;
+    u32::try_from(n).ok()
+}
+
+/// The distance of an item of a distance table: 1 to 10 decimal digits, at most 255.
+pub fn distance(item: &[u8]) -> Option<u8>
+    ensures { result ≡ below 256 (item_of item.now) }
+{
+    let n = small_item(item)?;
+    u8::try_from(n).ok()
+}

@@ -1,0 +1,155 @@
+//! Policy words: NAME, then `=static` or not, then `=relative` or not, then `:LIST` or not.
+ghost use Rattle.std.specs.Prelude.{◌≡◌, ◌==◌, ℕ, true, Ok};
+ghost use Rattle.numa_mode.specs.Flags.{has_static, has_relative};
+ghost use Rattle.numa_script.specs.Policies.{mode_of, form_with, form_of, form_of_two, form_of_three, policy_from, policy_of};
+
+use crate::parts::{Parts, first_separator};
+use bitflags::Flags;
+use numa_mask::{ListFault, NodeMask, read_list};
+use numa_mode::{Mode, PolicyFlags, PolicySpec, SpecFault};
+
+/// What is wrong with a word for nodes or for a policy.
+#[derive(Clone, Copy, Debug, PartialEq, Eq)]
+pub enum WordFault {
+    /// The list of nodes is faulty.
+    List(ListFault),
+    /// There is no such policy.
+    Policy(SpecFault),
+}
+
+/// What a policy word says before its first colon.
+#[derive(Clone, Copy, Debug, PartialEq, Eq)]
+pub struct PolicyForm {
+    pub mode: Mode,
+    pub is_static: bool,
+    pub is_relative: bool,
+}
+
+/// The mode of a name.
+#[tactic(auto, unfolding(crate::specs::Policies::mode_of))]
+fn read_mode(name: &[u8]) -> Option<Mode>
+    ensures { result ≡ mode_of name.now }
+{
+    if name == b"default".as_slice() {
+        return Some(Mode::Default);
+    }
+    if name == b"prefer".as_slice() {
+        return Some(Mode::Preferred);
+    }
+    if name == b"bind".as_slice() {
+        return Some(Mode::Bind);
+    }
+    if name == b"interleave".as_slice() {
+        return Some(Mode::Interleave);
+    }
+    if name == b"local".as_slice() {
+        return Some(Mode::Local);
+    }
+    if name == b"many".as_slice() {
+        return Some(Mode::PreferredMany);
+    }
+    if name == b"weighted".as_slice() {
+        return Some(Mode::WeightedInterleave);
+    }
+    None
+}
+
+/// The form of a name with these flags.
+fn form_with(is_static: bool, is_relative: bool, name: &[u8]) -> Option<PolicyForm>
+    ensures { result ≡ form_with is_static is_relative name.now }
+{
+    let mode = read_mode(name)?;
+    Some(PolicyForm {
+        mode,
+        is_static,
+        is_relative,
+    })
+}
+
+/// The form of a name with one flag.
+#[tactic(auto, unfolding(crate::specs::Policies::form_of_two))]
+fn form_of_two(name: &[u8], flag: &[u8]) -> Option<PolicyForm>
+    ensures { result ≡ form_of_two name.now flag.now }
+{
+    if flag == b"static".as_slice() {
+        return form_with(true, false, name);
+    }
+    if flag == b"relative".as_slice() {
+        return form_with(false, true, name);
+    }
+    None
+}
+
+/// The form of a name with two flags.
+#[tactic(auto, unfolding(crate::specs::Policies::form_of_three))]
+fn form_of_three(name: &[u8], first: &[u8], second: &[u8]) -> Option<PolicyForm>
+    ensures { result ≡ form_of_three name.now first.now second.now }
+{
+    if first == b"static".as_slice() && second == b"relative".as_slice() {
+        return form_with(true, true, name);
+    }
+    None
+}
+
+/// What a policy word says before its first colon, where it is of that form.
+fn read_form(text: &[u8]) -> Option<PolicyForm>
+    ensures { result ≡ form_of text.now }
+{
+    let mut parts = Parts::new(text, b'=');
+    let name = parts.next()?;
+    let Some(first) = parts.next() else {
+        return form_with(false, false, name);
+    };
+    let Some(second) = parts.next() else {
+        return form_of_two(name, first);
+    };
+    match parts.next() {
+        None => form_of_three(name, first, second),
+        Some(_) => None,
+    }
+}
+
+/// The flags as set_mempolicy(2) has them.
+fn flags(is_static: bool, is_relative: bool) -> PolicyFlags
+    ensures has_static { has_static result ≡ is_static }
+    ensures has_relative { has_relative result ≡ is_relative }
+{
+    match (is_static, is_relative) {
+        (false, false) => PolicyFlags::empty(),
+        (true, false) => PolicyFlags::STATIC_NODES,
+        (false, true) => PolicyFlags::RELATIVE_NODES,
+        (true, true) => PolicyFlags::STATIC_NODES.union(PolicyFlags::RELATIVE_NODES),
+    }
+}
+
+/// The policy of a form and its nodes. The form is judged first, then the list, and then the two together.
+fn policy(
+    form: Option<PolicyForm>,
+    nodes: Result<NodeMask, ListFault>,
+) -> Result<PolicySpec, WordFault>
+    ensures { result ≡ policy_from form nodes }
+{
+    let Some(form) = form else {
+        return Err(WordFault::Policy(SpecFault::UnknownMode));
+    };
+    let mask = match nodes {
+        Ok(mask) => mask,
+        Err(fault) => return Err(WordFault::List(fault)),
+    };
+    match PolicySpec::new(form.mode, flags(form.is_static, form.is_relative), mask) {
+        Ok(spec) => Ok(spec),
+        Err(fault) => Err(WordFault::Policy(fault)),
+    }
+}
+
+/// The policy of a word, which is cut at its first colon. A part before it that is not of the form is `UnknownMode`; then a
+/// fault of the list is answered; then those of [`PolicySpec::new`]. Without a colon there are no nodes.
+#[tactic(auto, unfolding(crate::specs::Policies::policy_of))]
+pub fn read_policy(word: &[u8]) -> Result<PolicySpec, WordFault>
+    ensures { result ≡ policy_of word.now }
+{
+    match first_separator(word, b':') {
+        None => policy(read_form(word), Ok(NodeMask::empty())),
+        Some(colon) => policy(read_form(&word[..colon]), read_list(&word[colon + 1..])),
+    }
+}

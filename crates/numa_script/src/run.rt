@@ -1,0 +1,82 @@
+//! A script from a reader, and its answers to a writer.
+ghost use Rattle.std.specs.Prelude.{◌≡◌, ℕ, ◌+◌, ◌≤◌, ◌⊎◌, ◌++◌, List, Bool, Option, length, OnOk, IsErrOf, true, false};
+ghost use Rattle.std.specs.Io.KnownBytes.{Appends, Consumes, IsAtEnd, Keeps};
+ghost use Rattle.numa_script.specs.Output.{answers, output_of};
+ghost use Rattle.numa_script.specs.Split.{ended};
+ghost use Rattle.numa_script.specs.Watching.{has_failed};
+ghost use Rattle.numa_script.specs.Written.{AppendsFront};
+
+use crate::engine::Engine;
+use crate::serve::Serve;
+use crate::watched::Watched;
+use std::alloc::Global;
+use std::io::{Read, Write};
+use thiserror::Error;
+
+/// Why a run ended early.
+#[derive(Clone, Copy, Debug, PartialEq, Eq, Error)]
+pub enum RunFault {
+    /// A read failed, or one more than 4,294,967,295 reads was needed.
+    #[error("read fault")]
+    Read,
+    /// A write failed, or took no byte.
+    #[error("write fault")]
+    Write,
+    /// There was no memory for the open line and the answers.
+    #[error("out of memory")]
+    Memory,
+}
+
+/// Answers the script that a reader gives, and hands the answers to a writer. Whatever is answered is handed over before
+/// the next read.
+pub fn serve_script<S: Serve + Drop, R: Read, W: Write>(
+    alloc: Global,
+    server: S,
+    input: &mut Watched<R>,
+    output: &mut Watched<W>,
+) -> Result<(), RunFault>
+    requires server { S.stands_for server S.start }
+    requires well { has_failed output.old ≡ false }
+
+    // The script was read to its end, its output was written, and no call failed.
+    ensures ok { OnOk result ((script : List ℕ) × (refused : ℕ → Bool) × Consumes (R.remaining input.old.inner) (R.remaining input.new.inner) script
+        × IsAtEnd (R.remaining input.new.inner)
+        × Appends (W.contents output.old.inner) (W.contents output.new.inner) (output_of S.answer_of S.after S.start refused script)
+        × (has_failed input.new ≡ has_failed input.old) × (has_failed output.new ≡ false)) }
+
+    // The answers of the lines that had ended before the fault were written.
+    ensures read { IsErrOf result RunFault.Read → (front : List ℕ) × (refused : ℕ → Bool) × Consumes (R.remaining input.old.inner) (R.remaining input.new.inner) front
+        × Appends (W.contents output.old.inner) (W.contents output.new.inner) (answers S.answer_of S.after refused S.start (ended front))
+        × ((has_failed input.new ≡ true) ⊎ (4294967295 ≤ length front)) × (has_failed output.new ≡ false) }
+
+    // A front of the output of what was read was written.
+    ensures write { IsErrOf result RunFault.Write → (front : List ℕ) × (refused : ℕ → Bool) × Consumes (R.remaining input.old.inner) (R.remaining input.new.inner) front
+        × AppendsFront (W.contents output.old.inner) (W.contents output.new.inner) (output_of S.answer_of S.after S.start refused front)
+        × (has_failed input.new ≡ has_failed input.old) × (has_failed output.new ≡ true) }
+
+    // Nothing was read or written.
+    ensures memory { IsErrOf result RunFault.Memory → Keeps (R.remaining input.old.inner) (R.remaining input.new.inner)
+        × Keeps (W.contents output.old.inner) (W.contents output.new.inner)
+        × (has_failed input.new ≡ has_failed input.old) × (has_failed output.new ≡ false) }
+{
+    let Ok(mut engine) = Engine::new(alloc, server) else {
+        return Err(RunFault::Memory);
+    };
+    let mut buffer = [0u8; 4096];
+    for _ in 0..4294967295u64 {
+        let Ok(count) = input.read(&mut buffer) else {
+            return Err(RunFault::Read);
+        };
+        if count == 0 {
+            match engine.finish(alloc, output) {
+                Ok(()) => return Ok(()),
+                Err(_) => return Err(RunFault::Write),
+            }
+        }
+        match engine.take(alloc, &buffer[..count], output) {
+            Ok(()) => {}
+            Err(_) => return Err(RunFault::Write),
+        }
+    }
+    Err(RunFault::Read)
+}

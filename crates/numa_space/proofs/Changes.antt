@@ -1,0 +1,156 @@
+-- What the changes of a space's parts make of the space.
+use Rattle.std.proofs.Common.{◌≡◌, ◌≢◌, ◌<◌, ◌≤◌, ◌+◌, ◌-◌, ℕ, Bool, true, false, not, ◌&&◌, eqb, Option, Some, None, is_some, Result, Ok, Err, MatchOption, MatchResult, List, [], ◌∷◌, length, refl, sym, ap, ◌∙◌, subst, arith, nat_eq}
+use Rattle.std.specs.Prelude.{if◌then◌else◌, nat_le, nat_lt, ◌==◌}
+use Rattle.std.proofs.lemmas.Bool.{lt-leb, cases_Bool}
+use Rattle.std.proofs.Common.{inl, inr}
+use Rattle.std.specs.List.{list_any}
+use Rattle.numa_mask.specs.NodeSet.{both, members}
+use Rattle.numa_machine.specs.Machine.{Hardware}
+use Rattle.numa_mode.specs.Policy.{Specification, PolicyRecord, is_default, record_when_set}
+use Rattle.numa_ranges.specs.Runs.{page_at}
+use Rattle.numa_ranges.specs.Maps.{any_page, changed_span, changed_page}
+use Rattle.numa_ranges.specs.declared.run.Run.{Run}
+use Rattle.numa_space.specs.declared.command.Command.{Command}
+use Rattle.numa_space.specs.declared.command.Command.TheVariants.{Mbind, SetTask, SetMems}
+use Rattle.numa_space.specs.declared.refusal.Refusal.{Refusal}
+use Rattle.numa_space.specs.declared.refusal.Refusal.TheVariants.{CommandsSpent, NoMemory, TooManyTasks, NoSuchNode, NodesNotAllowed}
+use Rattle.numa_space.specs.Edits.{PageRanges, IsEdit, hole_cause, too_many}
+use Rattle.numa_space.specs.History.{page_of, page_count}
+use Rattle.numa_space.specs.Refusals.{PageMap, bad_span, first_of, when, has_no_node, refusal_in}
+use Rattle.numa_space.specs.Standing.{SpaceState, record_of}
+use Rattle.numa_space.specs.Steps.{IsAnswer, IsNext, scene_in, record_now, rebound}
+
+-- ---- an Mbind
+
+module _ (old : SpaceState) (start bytes : ℕ) (spec : Specification) (room : old.version < old.bounds.max_commands) (span : bad_span start bytes ≡ None) (some : (bytes == 0) ≡ false) (node : has_no_node old.allowed spec ≡ false) where
+  abbrev pub bound : ℕ → ℕ → Option PolicyRecord → PageMap
+  bound first count policy = changed_span first count (λ r. policy) (page_at old.ranges)
+
+  bind-cause : any_page (λ page. not (is_some (page_at old.ranges page))) (page_of start) (page_count bytes) ≡ false → refusal_in (scene_in old (Mbind start bytes spec)) (Mbind start bytes spec) ≡ too_many old.bounds.max_ranges (bound (page_of start) (page_count bytes) (record_now old.allowed spec))
+  bind-cause mapped = rw (lt-leb old.bounds.max_commands old.version room, span, some, mapped, node) refl
+
+  bind-next : (runs : List (Run (Option PolicyRecord))) → ((page : ℕ) → page_at runs page ≡ bound (page_of start) (page_count bytes) (record_now old.allowed spec) page) → IsNext old (Mbind start bytes spec) (record old { ranges = runs; version = old.version + 1 })
+  bind-next runs pages = record { machine = refl; bounds = refl; version = refl; allowed = refl; pages = pages; tasks = λ task. refl; task_count = refl; weights = λ n. refl }
+
+  -- the space afterwards, which is the old one where the edit was refused
+  abbrev pub bind-after : Result (Unit {0}) Refusal → PageRanges → SpaceState
+  bind-after (Ok u) pages = record old { ranges = pages.runs; version = old.version + 1 }
+  bind-after (Err r) pages = record old { ranges = pages.runs }
+
+  by_result : (limit : ℕ) (new : PageRanges) (result : Result (Unit {0}) Refusal) (cause : Option Refusal) → refusal_in (scene_in old (Mbind start bytes spec)) (Mbind start bytes spec) ≡ cause
+      → IsEdit cause (bound (page_of start) (page_count bytes) (record_now old.allowed spec)) (record { runs = old.ranges; limit = limit }) result new → IsAnswer old (Mbind start bytes spec) result (bind-after result new)
+  by_result limit new (Ok u) None e edit = rw e (bind-next new.runs edit)
+  by_result limit new (Err r) None e edit = rw e (edit.0, ap (λ (p : PageRanges). record old { ranges = p.runs }) edit.1)
+  by_result limit new (Ok u) (Some cause) e edit = let odd : ◌≡◌ {A = Result (Unit {0}) Refusal} (Ok u) (Err cause) = edit.0 in absurd (cc)
+  by_result limit new (Err r) (Some cause) e edit = rw e (edit.0, ap (λ (p : PageRanges). record old { ranges = p.runs }) edit.1)
+
+  pub bind-answer : (first count limit : ℕ) (policy : Option PolicyRecord) (new : PageRanges) (result : Result (Unit {0}) Refusal)
+      → first ≡ page_of start → count ≡ page_count bytes → limit ≡ old.bounds.max_ranges → policy ≡ record_now old.allowed spec
+      → any_page (λ page. not (is_some (page_at old.ranges page))) first count ≡ false
+      → IsEdit (first_of (hole_cause (page_at old.ranges) first count) (too_many limit (bound first count policy))) (bound first count policy) (record { runs = old.ranges; limit = limit }) result new
+      → IsAnswer old (Mbind start bytes spec) result (bind-after result new)
+  bind-answer first count limit policy new result is_first is_count is_limit is_policy mapped edit =
+      let P : ℕ → ℕ → ℕ → Option PolicyRecord → Type 0 = λ a b l p. IsEdit (too_many l (bound a b p)) (bound a b p) (record { runs = old.ranges; limit = limit }) result new in
+      let free : P first count limit policy = rw mapped at edit in
+      let placed : P (page_of start) (page_count bytes) old.bounds.max_ranges (record_now old.allowed spec) =
+      subst (λ p. P (page_of start) (page_count bytes) old.bounds.max_ranges p) is_policy
+      (subst (λ l. P (page_of start) (page_count bytes) l policy) is_limit (subst (λ b. P (page_of start) b limit policy) is_count (subst (λ a. P a count limit policy) is_first free))) in
+      let clear : any_page (λ page. not (is_some (page_at old.ranges page))) (page_of start) (page_count bytes) ≡ false =
+      subst (λ b. any_page (λ page. not (is_some (page_at old.ranges page))) (page_of start) b ≡ false) is_count (subst (λ a. any_page (λ page. not (is_some (page_at old.ranges page))) a count ≡ false) is_first mapped) in
+      by_result limit new result (too_many old.bounds.max_ranges (bound (page_of start) (page_count bytes) (record_now old.allowed spec))) (bind-cause clear) placed
+
+-- ---- a task's policy
+
+module _ (old : SpaceState) (task : ℕ) (spec : Specification) (room : old.version < old.bounds.max_commands) (node : has_no_node old.allowed spec ≡ false) where
+  default-none : None ≡ record_now old.allowed spec → is_default spec ≡ true
+  default-none h = go (is_default spec) h
+    where
+      go : (b : Bool) → None ≡ (if b then None else Some (record_when_set spec old.allowed)) → b ≡ true
+      go true h = refl
+      go false h = cc
+
+  default-some : (policy : PolicyRecord) → Some policy ≡ record_now old.allowed spec → is_default spec ≡ false
+  default-some policy h = go (is_default spec) h
+    where
+      go : (b : Bool) → Some policy ≡ (if b then None else Some (record_when_set spec old.allowed)) → b ≡ false
+      go false h = refl
+      go true h = cc
+
+  pub clear-answer : (tasks : List (ℕ × PolicyRecord)) → None ≡ record_now old.allowed spec
+      → ((other : ℕ) → record_of tasks other ≡ if task == other then None else record_of old.tasks other)
+      → length tasks + (if is_some (record_of old.tasks task) then 1 else 0) ≡ length old.tasks
+      → IsAnswer old (SetTask task spec) (Ok tt) (record old { tasks = tasks; version = old.version + 1 })
+  clear-answer tasks none records count =
+      let default : is_default spec ≡ true = default-none none in
+      let free : refusal_in (scene_in old (SetTask task spec)) (SetTask task spec) ≡ None = rw (lt-leb old.bounds.max_commands old.version room, node, default) refl in
+      let counted : length tasks ≡ (length old.tasks - (if is_some (record_of old.tasks task) then 1 else 0)) + 0 = omega arith in
+      rw free (record {
+        machine = refl;
+        bounds = refl;
+        version = refl;
+        allowed = refl;
+        pages = λ page. refl;
+        tasks = λ other. records other ∙ ap (λ r. if task == other then r else record_of old.tasks other) none;
+        task_count = rw default counted;
+        weights = λ n. refl;
+      })
+
+  set-cause : (policy : PolicyRecord) → Some policy ≡ record_now old.allowed spec → (not (is_some (record_of old.tasks task)) && nat_le old.bounds.max_tasks (length old.tasks)) ≡ false → refusal_in (scene_in old (SetTask task spec)) (SetTask task spec) ≡ None
+  set-cause policy some place = rw (lt-leb old.bounds.max_commands old.version room, node, default-some policy some, place) refl
+
+  pub set-answer : (policy : PolicyRecord) (tasks : List (ℕ × PolicyRecord)) → Some policy ≡ record_now old.allowed spec
+      → (not (is_some (record_of old.tasks task)) && nat_le old.bounds.max_tasks (length old.tasks)) ≡ false
+      → ((other : ℕ) → record_of tasks other ≡ if task == other then Some policy else record_of old.tasks other)
+      → length tasks ≡ length old.tasks + (if is_some (record_of old.tasks task) then 0 else 1)
+      → IsAnswer old (SetTask task spec) (Ok tt) (record old { tasks = tasks; version = old.version + 1 })
+  set-answer policy tasks some place records count =
+      let set : is_default spec ≡ false = default-some policy some in
+      rw (set-cause policy some place) (record {
+        machine = refl;
+        bounds = refl;
+        version = refl;
+        allowed = refl;
+        pages = λ page. refl;
+        tasks = λ other. records other ∙ ap (λ r. if task == other then r else record_of old.tasks other) some;
+        task_count = rw set (count ∙ counted (record_of old.tasks task) refl);
+        weights = λ n. refl;
+      })
+    where
+      held : (tasks : List (ℕ × PolicyRecord)) → is_some (record_of tasks task) ≡ true → 0 < length tasks
+      held [] h = absurd (cc)
+      held (one ∷ tasks) h = omega arith
+
+      counted : (r : Option PolicyRecord) → record_of old.tasks task ≡ r → length old.tasks + (if is_some r then 0 else 1) ≡ (length old.tasks - (if is_some r then 1 else 0)) + 1
+      counted None e = omega arith
+      counted (Some r) e = omega (arith, held old.tasks (ap is_some e))
+
+  pub starved-answer : (policy : PolicyRecord) → Some policy ≡ record_now old.allowed spec
+      → (not (is_some (record_of old.tasks task)) && nat_le old.bounds.max_tasks (length old.tasks)) ≡ false
+      → IsAnswer old (SetTask task spec) (Err NoMemory) old
+  starved-answer policy some place = rw (set-cause policy some place) (refl, refl)
+
+-- ---- the allowed nodes
+
+module _ (old : SpaceState) (mask : ℕ) (room : old.version < old.bounds.max_commands) where
+  pub mems-no_node : list_any (λ node. nat_le old.machine.nodes node) (members mask) ≡ true → IsAnswer old (SetMems mask) (Err NoSuchNode) old
+  mems-no_node above = rw (lt-leb old.bounds.max_commands old.version room, above) (refl, refl)
+
+  pub mems-not_allowed : list_any (λ node. nat_le old.machine.nodes node) (members mask) ≡ false → (both mask old.machine.memory == 0) ≡ true → IsAnswer old (SetMems mask) (Err NodesNotAllowed) old
+  mems-not_allowed within none = rw (lt-leb old.bounds.max_commands old.version room, within, none) (refl, refl)
+
+  pub mems-answer : (runs : List (Run (Option PolicyRecord))) (tasks : List (ℕ × PolicyRecord))
+      → list_any (λ node. nat_le old.machine.nodes node) (members mask) ≡ false → (both mask old.machine.memory == 0) ≡ false
+      → ((page : ℕ) → page_at runs page ≡ changed_page (rebound old.allowed (both mask old.machine.memory)) (page_at old.ranges page))
+      → ((task : ℕ) → record_of tasks task ≡ rebound old.allowed (both mask old.machine.memory) (record_of old.tasks task))
+      → length tasks ≡ length old.tasks
+      → IsAnswer old (SetMems mask) (Ok tt) (record old { ranges = runs; tasks = tasks; allowed = both mask old.machine.memory; version = old.version + 1 })
+  mems-answer runs tasks within some pages records count = rw (lt-leb old.bounds.max_commands old.version room, within, some) (record {
+    machine = refl;
+    bounds = refl;
+    version = refl;
+    allowed = refl;
+    pages = pages;
+    tasks = records;
+    task_count = count;
+    weights = λ n. refl;
+  })

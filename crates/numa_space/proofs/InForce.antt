@@ -1,0 +1,233 @@
+-- What holds of every space holds after each accepted command.
+use Rattle.std.proofs.Common.{◌≡◌, ◌≢◌, ℕ, ◌+◌, ◌-◌, ◌^◌, ◌<◌, ◌≤◌, true, false, not, ◌&&◌, eqb, leb, List, [], ◌∷◌, length, Option, Some, None, is_some, IfSome, Result, Ok, Err, MatchOption, MatchResult, refl, sym, ap, subst, ◌∙◌, arith, inl, inr}
+use Rattle.std.proofs.lemmas.Bool.{cases_Bool, both_ways, cond_both, eq-eqb, leb-false}
+use Rattle.std.specs.Option.{ForSome}
+use Rattle.std.specs.List.{list_any}
+use Rattle.numa_mask.specs.NodeSet.{both, members, weight_of}
+use Rattle.numa_mask.proofs.Images.{weight-some}
+use Rattle.numa_machine.specs.Machine.{Hardware}
+use Rattle.numa_mode.specs.Policy.{Specification, PolicyRecord, is_default, takes_home, with_home, record_when_set, record_after, effect_when_set, effect_after}
+use Rattle.numa_mode.proofs.Subsets.{both-within, effect_when_set-within, effect_after-within}
+use Rattle.numa_ranges.specs.Runs.{page_at, in_pages}
+use Rattle.numa_ranges.specs.Maps.{changed_page}
+use Rattle.numa_space.specs.History.{page_of, page_count}
+use Rattle.numa_space.specs.Refusals.{Scene, when, bad_span, has_no_node, cause_in, refusal_in}
+use Rattle.numa_space.specs.Standing.{SpaceState, record_of, IsInForce, IsSound}
+use Rattle.numa_space.specs.Steps.{record_now, homed, rebound, allowed_next, pages_next, task_next, task_count_next, IsNext, scene_in, IsAnswer}
+use Rattle.numa_space.specs.declared.command.Command.{Command}
+use Rattle.numa_space.specs.declared.command.Command.TheVariants.{Map, Unmap, Mbind, SetTask, SetHome, SetWeight, SetMems}
+use Rattle.numa_space.specs.declared.refusal.Refusal.{Refusal}
+use Rattle.numa_space.specs.declared.refusal.Refusal.TheVariants.{CommandsSpent, NoSuchNode, NodesNotAllowed, TooManyTasks, NoMemory}
+use Rattle.numa_space.proofs.Answers.{AnswersBy}
+use Rattle.numa_space.proofs.Refused.{first_of-none, when-none}
+use Rattle.numa_space.proofs.NodeLists.{within-both, within-from_both, small-inside}
+
+-- ---- one record
+
+pub in_force-now : (machine : Hardware) (allowed : ℕ) (spec : Specification) → IsInForce machine allowed (record_when_set spec allowed)
+in_force-now machine allowed spec = record {
+  inside = within-both (effect_when_set spec allowed) allowed (effect_when_set-within spec allowed);
+  home = λ node none. absurd (cc);
+}
+
+pub in_force-home : (machine : Hardware) (allowed : ℕ) (r : PolicyRecord) (node : ℕ) → node < machine.nodes → IsInForce machine allowed r → IsInForce machine allowed (with_home r node)
+in_force-home machine allowed r node low force = record {
+  inside = force.inside;
+  home = λ other same. let e : node ≡ other = cc in omega arith;
+}
+
+pub in_force-after : (machine : Hardware) (old new : ℕ) (r : PolicyRecord) → 0 < weight_of new → IsInForce machine old r → IsInForce machine new (record_after r old new)
+in_force-after machine old new r some force = record {
+  inside = within-both (effect_after r.spec r.effective old new) new (effect_after-within r.spec r.effective old new some (within-from_both r.effective old force.inside));
+  home = force.home;
+}
+
+-- ---- records that may be missing
+
+for_some-from_if : {T : Type 0} (o : Option T) (P : T → Type 0) → IfSome o P → ForSome o P
+for_some-from_if None P h = λ x e. absurd (cc)
+for_some-from_if (Some y) P h = λ x e. let same : y ≡ x = cc in subst P same h
+
+if_some-from_for : {T : Type 0} (o : Option T) (P : T → Type 0) → ForSome o P → IfSome o P
+if_some-from_for None P h = tt
+if_some-from_for (Some x) P h = h x refl
+
+-- the record, if there is one, is in force
+abbrev Holds : Hardware → ℕ → Option PolicyRecord → Type 0
+Holds machine allowed r = IfSome r (IsInForce machine allowed)
+
+holds-now : (machine : Hardware) (allowed : ℕ) (spec : Specification) → Holds machine allowed (record_now allowed spec)
+holds-now machine allowed spec = elim (cases_Bool (is_default spec)) [ inl t ↦ rw t tt | inr f ↦ rw f (in_force-now machine allowed spec) ]
+
+holds-homed : (machine : Hardware) (allowed node : ℕ) (r : Option PolicyRecord) → node < machine.nodes → Holds machine allowed r → Holds machine allowed (homed node r)
+holds-homed machine allowed node None low h = tt
+holds-homed machine allowed node (Some r) low h = elim (cases_Bool (takes_home r)) [ inl t ↦ rw t (in_force-home machine allowed r node low h) | inr f ↦ rw f h ]
+
+holds-rebound : (machine : Hardware) (old new : ℕ) (r : Option PolicyRecord) → 0 < weight_of new → Holds machine old r → Holds machine new (rebound old new r)
+holds-rebound machine old new None some h = tt
+holds-rebound machine old new (Some r) some h = in_force-after machine old new r some h
+
+-- the page's record, if it is mapped and has one, is in force
+abbrev PageHolds : Hardware → ℕ → Option (ℕ × Option PolicyRecord) → Type 0
+PageHolds machine allowed at = IfSome at (λ p. Holds machine allowed p.1)
+
+page-changed : (machine : Hardware) (old new : ℕ) (change : Option PolicyRecord → Option PolicyRecord) (at : Option (ℕ × Option PolicyRecord)) → ((r : Option PolicyRecord) → Holds machine old r → Holds machine new (change r)) → PageHolds machine old at → PageHolds machine new (changed_page change at)
+page-changed machine old new change None keeps h = tt
+page-changed machine old new change (Some p) keeps h = keeps p.1 h
+
+page-for : (machine : Hardware) (allowed : ℕ) (at : Option (ℕ × Option PolicyRecord)) → PageHolds machine allowed at → ForSome at (λ p. ForSome p.1 (IsInForce machine allowed))
+page-for machine allowed None h = λ p e. absurd (cc)
+page-for machine allowed (Some q) h = λ p e.
+    let same : q ≡ p = cc in
+    subst (λ (p : ℕ × Option PolicyRecord). ForSome p.1 (IsInForce machine allowed)) same (for_some-from_if q.1 (IsInForce machine allowed) h)
+
+page-moved : (m n : Hardware) (a b : ℕ) (o p : Option (ℕ × Option PolicyRecord)) → m ≡ n → a ≡ b → o ≡ p → PageHolds m a o → PageHolds n b p
+page-moved m n a b o p d e f h = subst (λ o. PageHolds n b o) f (subst (λ a. PageHolds n a o) e (subst (λ m. PageHolds m a o) d h))
+
+held-moved : (m n : Hardware) (a b : ℕ) (o p : Option PolicyRecord) → m ≡ n → a ≡ b → o ≡ p → Holds m a o → Holds n b p
+held-moved m n a b o p d e f h = subst (λ o. Holds n b o) f (subst (λ a. Holds n a o) e (subst (λ m. Holds m a o) d h))
+
+-- ---- what an accepted command says
+
+mems-some : (scene : Scene) (mask : ℕ) → refusal_in scene (SetMems mask) ≡ None → both mask scene.machine.memory ≢ 0
+mems-some scene mask none empty =
+    let causes = first_of-none (when (leb scene.bounds.max_commands scene.version) CommandsSpent) (cause_in scene (SetMems mask)) none in
+    let rest = first_of-none (when (list_any (λ node. leb scene.machine.nodes node) (members mask)) NoSuchNode) (when (eqb (both mask scene.machine.memory) 0) NodesNotAllowed) causes.1 in
+    both_ways (eqb (both mask scene.machine.memory) 0) (when-none (eqb (both mask scene.machine.memory) 0) NodesNotAllowed rest.1) (eq-eqb (both mask scene.machine.memory) 0 empty)
+
+home-node : (scene : Scene) (start bytes node : ℕ) → refusal_in scene (SetHome start bytes node) ≡ None → node < scene.machine.nodes
+home-node scene start bytes node none =
+    let causes = first_of-none (when (leb scene.bounds.max_commands scene.version) CommandsSpent) (cause_in scene (SetHome start bytes node)) none in
+    let behind = first_of-none (bad_span start bytes) _ causes.1 in
+    let rest = first_of-none (when (leb scene.machine.nodes node) NoSuchNode) _ behind.1 in
+    leb-false scene.machine.nodes node (when-none (leb scene.machine.nodes node) NoSuchNode rest.0)
+
+pub version-room : (scene : Scene) (command : Command) → refusal_in scene command ≡ None → scene.version < scene.bounds.max_commands
+version-room scene command none =
+    let causes = first_of-none (when (leb scene.bounds.max_commands scene.version) CommandsSpent) (cause_in scene command) none in
+    leb-false scene.bounds.max_commands scene.version (when-none (leb scene.bounds.max_commands scene.version) CommandsSpent causes.0)
+
+task-room : (scene : Scene) (task : ℕ) (spec : Specification) → refusal_in scene (SetTask task spec) ≡ None → is_default spec ≡ false → is_some (scene.task task) ≡ false → scene.task_count < scene.bounds.max_tasks
+task-room scene task spec none set new =
+    let causes = first_of-none (when (leb scene.bounds.max_commands scene.version) CommandsSpent) (cause_in scene (SetTask task spec)) none in
+    let rest = first_of-none (when (has_no_node scene.allowed spec) NodesNotAllowed) (when (not (is_default spec) && (not (is_some (scene.task task)) && leb scene.bounds.max_tasks scene.task_count)) TooManyTasks) causes.1 in
+    let test = when-none (not (is_default spec) && (not (is_some (scene.task task)) && leb scene.bounds.max_tasks scene.task_count)) TooManyTasks rest.1 in
+    leb-false scene.bounds.max_tasks scene.task_count (rw (set, new) at test)
+
+-- ---- the parts of a space
+
+module _ (old : SpaceState) (sound : IsSound old) (small : old.machine.memory < 2 ^ 256) where
+  pub allowed_some-next : (command : Command) → refusal_in (scene_in old command) command ≡ None → allowed_next old.machine old.allowed command ≢ 0
+  allowed_some-next (Map start bytes offset) none = sound.allowed_some
+  allowed_some-next (Unmap start bytes) none = sound.allowed_some
+  allowed_some-next (Mbind start bytes spec) none = sound.allowed_some
+  allowed_some-next (SetTask task spec) none = sound.allowed_some
+  allowed_some-next (SetHome start bytes node) none = sound.allowed_some
+  allowed_some-next (SetWeight node weight) none = sound.allowed_some
+  allowed_some-next (SetMems mask) none = mems-some (scene_in old (SetMems mask)) mask none
+
+  pub allowed_memory-next : (command : Command) → both (allowed_next old.machine old.allowed command) old.machine.memory ≡ allowed_next old.machine old.allowed command
+  allowed_memory-next (Map start bytes offset) = sound.allowed_memory
+  allowed_memory-next (Unmap start bytes) = sound.allowed_memory
+  allowed_memory-next (Mbind start bytes spec) = sound.allowed_memory
+  allowed_memory-next (SetTask task spec) = sound.allowed_memory
+  allowed_memory-next (SetHome start bytes node) = sound.allowed_memory
+  allowed_memory-next (SetWeight node weight) = sound.allowed_memory
+  allowed_memory-next (SetMems mask) = within-both (both mask old.machine.memory) old.machine.memory (both-within mask old.machine.memory)
+
+  some-mems : (mask : ℕ) → refusal_in (scene_in old (SetMems mask)) (SetMems mask) ≡ None → 0 < weight_of (both mask old.machine.memory)
+  some-mems mask none =
+      weight-some (both mask old.machine.memory) (small-inside (both mask old.machine.memory) old.machine.memory (within-both (both mask old.machine.memory) old.machine.memory (both-within mask old.machine.memory)) small) (mems-some (scene_in old (SetMems mask)) mask none)
+
+  page-old : (page : ℕ) → PageHolds old.machine old.allowed (page_at old.ranges page)
+  page-old page = of (page_at old.ranges page) (sound.pages page)
+    where
+      of : (o : Option (ℕ × Option PolicyRecord)) → ForSome o (λ at. ForSome at.1 (IsInForce old.machine old.allowed)) → PageHolds old.machine old.allowed o
+      of None h = tt
+      of (Some at) h = if_some-from_for at.1 (IsInForce old.machine old.allowed) (h at refl)
+
+  task-old : (task : ℕ) → Holds old.machine old.allowed (record_of old.tasks task)
+  task-old task = if_some-from_for (record_of old.tasks task) (IsInForce old.machine old.allowed) (sound.tasks task)
+
+  page-next : (command : Command) (page : ℕ) → refusal_in (scene_in old command) command ≡ None → PageHolds old.machine (allowed_next old.machine old.allowed command) (pages_next old.machine old.allowed (page_at old.ranges) command page)
+  page-next (Map start bytes offset) page none = cond_both (in_pages (page_of start) (page_count bytes) page) (Some (offset + (page - page_of start), None)) (page_at old.ranges page) (PageHolds old.machine old.allowed) (λ e. tt) (λ e. page-old page)
+  page-next (Unmap start bytes) page none = cond_both (in_pages (page_of start) (page_count bytes) page) None (page_at old.ranges page) (PageHolds old.machine old.allowed) (λ e. tt) (λ e. page-old page)
+  page-next (Mbind start bytes spec) page none =
+      cond_both (in_pages (page_of start) (page_count bytes) page) (changed_page (λ r. record_now old.allowed spec) (page_at old.ranges page)) (page_at old.ranges page) (PageHolds old.machine old.allowed)
+      (λ e. page-changed old.machine old.allowed old.allowed (λ r. record_now old.allowed spec) (page_at old.ranges page) (λ r h. holds-now old.machine old.allowed spec) (page-old page))
+      (λ e. page-old page)
+  page-next (SetTask task spec) page none = page-old page
+  page-next (SetHome start bytes node) page none =
+      cond_both (in_pages (page_of start) (page_count bytes) page) (changed_page (homed node) (page_at old.ranges page)) (page_at old.ranges page) (PageHolds old.machine old.allowed)
+      (λ e. page-changed old.machine old.allowed old.allowed (homed node) (page_at old.ranges page) (λ r h. holds-homed old.machine old.allowed node r (home-node (scene_in old (SetHome start bytes node)) start bytes node none) h) (page-old page))
+      (λ e. page-old page)
+  page-next (SetWeight node weight) page none = page-old page
+  page-next (SetMems mask) page none =
+      page-changed old.machine old.allowed (both mask old.machine.memory) (rebound old.allowed (both mask old.machine.memory)) (page_at old.ranges page) (λ r h. holds-rebound old.machine old.allowed (both mask old.machine.memory) r (some-mems mask none) h) (page-old page)
+
+  held-next : (command : Command) (task : ℕ) → refusal_in (scene_in old command) command ≡ None → Holds old.machine (allowed_next old.machine old.allowed command) (task_next old.machine old.allowed (record_of old.tasks) command task)
+  held-next (Map start bytes offset) task none = task-old task
+  held-next (Unmap start bytes) task none = task-old task
+  held-next (Mbind start bytes spec) task none = task-old task
+  held-next (SetTask set spec) task none = cond_both (eqb set task) (record_now old.allowed spec) (record_of old.tasks task) (Holds old.machine old.allowed) (λ e. holds-now old.machine old.allowed spec) (λ e. task-old task)
+  held-next (SetHome start bytes node) task none = task-old task
+  held-next (SetWeight node weight) task none = task-old task
+  held-next (SetMems mask) task none = holds-rebound old.machine old.allowed (both mask old.machine.memory) (record_of old.tasks task) (some-mems mask none) (task-old task)
+
+  -- a task's policy takes up one of the places for tasks
+  task-counted : (tasks : List (ℕ × PolicyRecord)) (task : ℕ) → is_some (record_of tasks task) ≡ true → 0 < length tasks
+  task-counted [] task h = absurd (cc)
+  task-counted (one ∷ tasks) task h = omega arith
+
+  task_limit-next : (command : Command) → refusal_in (scene_in old command) command ≡ None → task_count_next (record_of old.tasks) (length old.tasks) command ≤ old.bounds.max_tasks
+  task_limit-next (Map start bytes offset) none = sound.task_limit
+  task_limit-next (Unmap start bytes) none = sound.task_limit
+  task_limit-next (Mbind start bytes spec) none = sound.task_limit
+  task_limit-next (SetTask task spec) none =
+      elim (cases_Bool (is_default spec)) [
+        | inl d ↦ rw d (omega (arith, sound.task_limit))
+        | inr d ↦ elim (cases_Bool (is_some (record_of old.tasks task))) [
+          | inl t ↦ rw (d, t) (omega (arith, sound.task_limit, task-counted old.tasks task t))
+          | inr f ↦ rw (d, f) (omega (arith, task-room (scene_in old (SetTask task spec)) task spec none d f))
+        ]
+      ]
+  task_limit-next (SetHome start bytes node) none = sound.task_limit
+  task_limit-next (SetWeight node weight) none = sound.task_limit
+  task_limit-next (SetMems mask) none = sound.task_limit
+
+  -- all that holds of every space, after an accepted command
+  pub sound-next : (new : SpaceState) (command : Command) → refusal_in (scene_in old command) command ≡ None → IsNext old command new → IsSound new
+  sound-next new command none next =
+      let allowed : allowed_next old.machine old.allowed command ≡ new.allowed = sym next.allowed in
+      let machine : old.machine ≡ new.machine = sym next.machine in
+      let max_tasks : new.bounds.max_tasks ≡ old.bounds.max_tasks = ap (λ b. b.max_tasks) next.bounds in
+      let max_commands : new.bounds.max_commands ≡ old.bounds.max_commands = ap (λ b. b.max_commands) next.bounds in
+      record {
+        allowed_some = λ empty. allowed_some-next command none (allowed ∙ empty);
+        allowed_memory = (λ i. both (next.allowed i) (next.machine i).memory) ∙ allowed_memory-next command ∙ allowed;
+        pages = λ page. page-for new.machine new.allowed (page_at new.ranges page) (page-moved _ _ _ _ _ _ machine allowed (sym (next.pages page)) (page-next command page none));
+        tasks = λ task. for_some-from_if (record_of new.tasks task) (IsInForce new.machine new.allowed) (held-moved _ _ _ _ _ _ machine allowed (sym (next.tasks task)) (held-next command task none));
+        task_limit = omega (arith, next.task_count, task_limit-next command none);
+        version_limit = omega (arith, next.version, version-room (scene_in old command) command none);
+      }
+
+-- whatever the answer was
+pub sound-answer : (old new : SpaceState) (command : Command) (result : Result (Unit {0}) Refusal) → IsSound old → old.machine.memory < 2 ^ 256 → IsAnswer old command result new → IsSound new
+sound-answer old new command result sound small answer = go (refusal_in (scene_in old command) command) refl result answer
+  where
+    go : (o : Option Refusal) → refusal_in (scene_in old command) command ≡ o → (result : Result (Unit {0}) Refusal) → AnswersBy o old command result new → IsSound new
+    go None e (Ok u) h = sound-next old sound small new command e h
+    go None e (Err r) h = subst IsSound (sym h.1) sound
+    go (Some r) e result h = subst IsSound (sym h.1) sound
+
+-- ---- a new space
+
+pub sound-new : (space : SpaceState) → space.version ≡ 0 → space.allowed ≡ space.machine.memory → space.machine.memory ≢ 0 → space.ranges ≡ [] → space.tasks ≡ [] → IsSound space
+sound-new space version allowed some ranges tasks = record {
+  allowed_some = λ empty. some (sym allowed ∙ empty);
+  allowed_memory = (λ i. both (allowed i) space.machine.memory) ∙ within-both space.machine.memory space.machine.memory (λ node member. member) ∙ sym allowed;
+  pages = λ page. page-for space.machine space.allowed (page_at space.ranges page) (subst (λ runs. PageHolds space.machine space.allowed (page_at runs page)) (sym ranges) tt);
+  tasks = λ task. for_some-from_if (record_of space.tasks task) (IsInForce space.machine space.allowed) (subst (λ held. Holds space.machine space.allowed (record_of held task)) (sym tasks) tt);
+  task_limit = omega (arith, ap (λ l. length l) tasks);
+  version_limit = omega (arith, version);
+}

@@ -1,0 +1,228 @@
+-- Worked examples: what is refused, and for which cause.
+use Rattle.std.proofs.Common.{◌≡◌, true, false, List, [], ◌∷◌, Some, None, Ok, Err, refl}
+use Rattle.numa_mask.specs.NodeSet.{set_of, members}
+use Rattle.numa_machine.specs.Machine.{Hardware, distance_order}
+use Rattle.numa_mode.specs.Policy.{specification_of}
+use Rattle.numa_mode.specs.declared.modes.Mode.TheVariants.{Default, Preferred, Bind, Interleave, Local}
+use Rattle.numa_mode.specs.declared.modes.NodeFlag.TheVariants.{Plain, Relative}
+use Rattle.numa_mode.specs.declared.specification.SpecFault.TheVariants.{BothFlags, NodesForbidden, FlagsForbidden, NodesMissing}
+use Rattle.numa_ranges.specs.Maps.{any_page}
+use Rattle.numa_space.specs.Limited.{Bounds}
+use Rattle.numa_space.specs.Lists.{node_list}
+use Rattle.numa_space.specs.Refusals.{refusal_of, too_many_ranges, scene_of}
+use Rattle.numa_space.specs.Standing.{place_refusal_of}
+use Rattle.numa_space.specs.declared.command.Command.{Command}
+use Rattle.numa_space.specs.declared.command.Command.TheVariants.{Map, Unmap, Mbind, SetTask, SetHome, SetWeight}
+use Rattle.numa_space.specs.declared.refusal.Refusal.TheVariants.{CommandsSpent, Unaligned, OutOfSpace, EmptyLength, BadOffset, Overlap, Hole, NoSuchNode, BadWeight, NodesNotAllowed, NotSupported, TooManyTasks}
+use Rattle.numa_space.specs.declared.refusal.PlaceRefusal.TheVariants.{BadCpu, Unmapped}
+use Rattle.numa_space.proofs.Rows.{flat, in_a_row, asked, mems}
+
+wide : Bounds
+wide = record { max_ranges = 64; max_tasks = 64; max_commands = 64 }
+
+-- ---- holes
+
+two_maps : List Command
+two_maps = Map 0x12000 0x1000 2 ∷ Map 0x10000 0x1000 0 ∷ []
+
+bind-over_a_hole : refusal_of (flat 2) wide two_maps (Mbind 0x10000 0x3000 (asked Bind Plain (1 ∷ []))) ≡ Some Hole
+unfolding any_page two_maps wide
+bind-over_a_hole = refl
+
+default-over_a_hole : refusal_of (flat 2) wide two_maps (Mbind 0x10000 0x3000 (asked Default Plain [])) ≡ Some Hole
+unfolding any_page two_maps wide
+default-over_a_hole = refl
+
+mapped-has_a_list : node_list (flat 2) two_maps 1 0x10 0 ≡ 0 ∷ 1 ∷ []
+unfolding members distance_order two_maps
+mapped-has_a_list = refl
+
+hole-has_no_list : place_refusal_of (flat 2) two_maps 0x11 0 ≡ Some Unmapped
+unfolding two_maps
+hole-has_no_list = refl
+
+node-comes_before_page : place_refusal_of (flat 2) two_maps 0x11 2 ≡ Some BadCpu
+unfolding two_maps
+node-comes_before_page = refl
+
+-- ---- ends
+
+last_page : List Command
+last_page = Map 0x7ffffffff000 0x1000 0 ∷ []
+
+-- up to address 2^47 only the number of ranges can stand against a map
+map-up_to_the_end : refusal_of (flat 2) wide [] (Map 0x7ffffffff000 0x1000 0) ≡ too_many_ranges (scene_of (flat 2) wide [] (Map 0x7ffffffff000 0x1000 0))
+unfolding any_page wide
+map-up_to_the_end = refl
+
+map-past_the_end : refusal_of (flat 2) wide last_page (Map 0x7ffffffff000 0x1001 0) ≡ Some OutOfSpace
+unfolding any_page last_page wide
+map-past_the_end = refl
+
+-- a sum above every u64 is no small number
+map-far_past_the_end : refusal_of (flat 2) wide [] (Map 0xfffffffffffff000 0x2000 0) ≡ Some OutOfSpace
+unfolding any_page wide
+map-far_past_the_end = refl
+
+map-of_the_greatest_length : refusal_of (flat 2) wide [] (Map 0x10000 0xffffffffffffffff 0) ≡ Some OutOfSpace
+unfolding any_page wide
+map-of_the_greatest_length = refl
+
+map-of_nothing : refusal_of (flat 2) wide last_page (Map 0x10000 0 0) ≡ Some EmptyLength
+unfolding any_page last_page wide
+map-of_nothing = refl
+
+bind-of_nothing : refusal_of (flat 2) wide last_page (Mbind 0x20000 0 (asked Bind Plain (1 ∷ []))) ≡ None
+unfolding any_page last_page wide
+bind-of_nothing = refl
+
+unmap-of_nothing : refusal_of (flat 2) wide last_page (Unmap 0x20000 0) ≡ None
+unfolding any_page last_page wide
+unmap-of_nothing = refl
+
+map-between_pages : refusal_of (flat 2) wide last_page (Map 0x10001 1 0) ≡ Some Unaligned
+unfolding any_page last_page wide
+map-between_pages = refl
+
+map-offset_too_large : refusal_of (flat 2) wide last_page (Map 0x30000 1 34359738368) ≡ Some BadOffset
+unfolding any_page last_page wide
+map-offset_too_large = refl
+
+map-over_a_map : refusal_of (flat 2) wide (Map 0x10000 1 0 ∷ last_page) (Map 0x10000 0x2000 5) ≡ Some Overlap
+unfolding any_page last_page wide
+map-over_a_map = refl
+
+part_of_a_page-is_mapped : node_list (flat 2) (Map 0x10000 1 0 ∷ last_page) 1 0x10 0 ≡ 0 ∷ 1 ∷ []
+unfolding members distance_order last_page
+part_of_a_page-is_mapped = refl
+
+-- ---- limits
+
+narrow : Bounds
+narrow = record { max_ranges = 2; max_tasks = 1; max_commands = 4 }
+
+limited_run : List Command
+limited_run = SetTask 1 (asked Local Plain []) ∷ Mbind 0x10000 0x1000 (asked Bind Plain (1 ∷ [])) ∷ Map 0x10000 0x3000 0 ∷ []
+
+second_task-too_many : refusal_of (flat 2) narrow limited_run (SetTask 2 (asked Local Plain [])) ≡ Some TooManyTasks
+unfolding limited_run narrow
+second_task-too_many = refl
+
+same_task-set_again : refusal_of (flat 2) narrow limited_run (SetTask 1 (asked Local Plain [])) ≡ None
+unfolding limited_run narrow
+same_task-set_again = refl
+
+default-takes_no_place : refusal_of (flat 2) narrow limited_run (SetTask 1 (asked Default Plain [])) ≡ None
+unfolding limited_run narrow
+default-takes_no_place = refl
+
+commands-spent : refusal_of (flat 2) narrow (SetTask 1 (asked Default Plain []) ∷ limited_run) (SetTask 1 (asked Local Plain [])) ≡ Some CommandsSpent
+unfolding limited_run narrow
+commands-spent = refl
+
+-- ---- nodes
+
+gap_machine : Hardware
+gap_machine = record (flat 3) { memory = set_of (0 ∷ 2 ∷ []) }
+
+one_page : List Command
+one_page = Map 0x10000 0x1000 0 ∷ []
+
+no_such-faulting_node : place_refusal_of gap_machine one_page 0x10 3 ≡ Some BadCpu
+unfolding gap_machine one_page
+no_such-faulting_node = refl
+
+allowed-node_without_memory : refusal_of gap_machine wide one_page (mems (1 ∷ [])) ≡ Some NodesNotAllowed
+unfolding members gap_machine one_page wide
+allowed-node_without_memory = refl
+
+allowed-no_such_node : refusal_of gap_machine wide one_page (mems (3 ∷ [])) ≡ Some NoSuchNode
+unfolding members gap_machine one_page wide
+allowed-no_such_node = refl
+
+allowed-some_with_memory : refusal_of gap_machine wide one_page (mems (0 ∷ 1 ∷ [])) ≡ None
+unfolding members gap_machine one_page wide
+allowed-some_with_memory = refl
+
+wrapped_machine : Hardware
+wrapped_machine = record (flat 5) { memory = set_of (1 ∷ 2 ∷ 3 ∷ 4 ∷ []) }
+
+relative-mask_wraps : refusal_of wrapped_machine wide one_page (SetTask 1 (asked Bind Relative (5 ∷ []))) ≡ None
+unfolding members wrapped_machine one_page wide
+relative-mask_wraps = refl
+
+plain-mask_overlaps_nothing : refusal_of wrapped_machine wide one_page (SetTask 1 (asked Bind Plain (5 ∷ []))) ≡ Some NodesNotAllowed
+unfolding members wrapped_machine one_page wide
+plain-mask_overlaps_nothing = refl
+
+weight-zero : refusal_of (flat 2) wide one_page (SetWeight 1 0) ≡ Some BadWeight
+unfolding one_page wide
+weight-zero = refl
+
+weight-too_large : refusal_of (flat 2) wide one_page (SetWeight 1 256) ≡ Some BadWeight
+unfolding one_page wide
+weight-too_large = refl
+
+weight-no_such_node : refusal_of (flat 2) wide one_page (SetWeight 2 0) ≡ Some NoSuchNode
+unfolding one_page wide
+weight-no_such_node = refl
+
+-- ---- homes
+
+bound_run : List Command
+bound_run = Mbind 0x12000 0x1000 (asked Interleave Plain (0 ∷ 1 ∷ 2 ∷ [])) ∷ Mbind 0x10000 0x2000 (asked Bind Plain (0 ∷ 1 ∷ [])) ∷ Map 0x10000 0x4000 0 ∷ []
+
+home-over_interleave : refusal_of in_a_row wide bound_run (SetHome 0x10000 0x3000 2) ≡ Some NotSupported
+unfolding any_page bound_run wide
+home-over_interleave = refl
+
+home-no_such_node : refusal_of in_a_row wide bound_run (SetHome 0x10000 0x1000 3) ≡ Some NoSuchNode
+unfolding any_page bound_run wide
+home-no_such_node = refl
+
+home-of_bound_pages : refusal_of in_a_row wide bound_run (SetHome 0x11000 0x1000 2) ≡ too_many_ranges (scene_of in_a_row wide bound_run (SetHome 0x11000 0x1000 2))
+unfolding any_page bound_run wide
+home-of_bound_pages = refl
+
+home-over_unmapped_pages : refusal_of in_a_row wide bound_run (SetHome 0x13000 0x2000 2) ≡ too_many_ranges (scene_of in_a_row wide bound_run (SetHome 0x13000 0x2000 2))
+unfolding any_page bound_run wide
+home-over_unmapped_pages = refl
+
+home-of_nothing : refusal_of in_a_row wide bound_run (SetHome 0x20000 0 2) ≡ None
+unfolding any_page bound_run wide
+home-of_nothing = refl
+
+home-of_nothing_at_no_such_node : refusal_of in_a_row wide bound_run (SetHome 0x20000 0 3) ≡ Some NoSuchNode
+unfolding any_page bound_run wide
+home-of_nothing_at_no_such_node = refl
+
+-- ---- specifications
+
+preferred-without_nodes_is_local : specification_of Preferred false false 0 ≡ Ok (asked Local Plain [])
+preferred-without_nodes_is_local = refl
+
+local-needs_no_nodes : refusal_of (flat 2) wide one_page (SetTask 1 (asked Local Plain [])) ≡ None
+unfolding one_page wide
+local-needs_no_nodes = refl
+
+local-begins_at_the_fault : node_list (flat 2) (SetTask 1 (asked Local Plain []) ∷ one_page) 1 0x10 1 ≡ 1 ∷ 0 ∷ []
+unfolding members distance_order one_page
+local-begins_at_the_fault = refl
+
+preferred_static-without_nodes : specification_of Preferred true false 0 ≡ Err FlagsForbidden
+preferred_static-without_nodes = refl
+
+both_flags : specification_of Bind true true 1 ≡ Err BothFlags
+both_flags = refl
+
+bind-without_nodes : specification_of Bind false false 0 ≡ Err NodesMissing
+bind-without_nodes = refl
+
+default-with_nodes : specification_of Default false false 1 ≡ Err NodesForbidden
+default-with_nodes = refl
+
+local-with_nodes : specification_of Local true false 1 ≡ Err NodesForbidden
+local-with_nodes = refl
+
+default-forgets_a_flag : specification_of Default true false 0 ≡ Ok (asked Default Plain [])
+default-forgets_a_flag = refl

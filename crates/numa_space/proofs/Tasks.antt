@@ -1,0 +1,162 @@
+-- What one command more makes of the tasks and of the weights.
+use Rattle.std.proofs.Common.{◌≡◌, ℕ, ◌+◌, ◌-◌, false, not, eqb, List, [], ◌∷◌, ◌++◌, length, filter, Option, Some, None, is_some, refl, sym, ap, ◌∙◌, arith, inl, inr}
+use Rattle.std.proofs.lemmas.Bool.{cases_Bool, eqb-true}
+use Rattle.std.specs.Option.{option_map}
+use Rattle.std.specs.Prelude.{if◌then◌else◌, option_and_then}
+use Rattle.numa_mask.specs.NodeSet.{both}
+use Rattle.numa_machine.specs.Machine.{Hardware}
+use Rattle.numa_mode.specs.Policy.{Specification, PolicyRecord, is_default, effect_after}
+use Rattle.numa_space.specs.History.{Place, last_where, one_later}
+use Rattle.numa_space.specs.Policies.{allowed_nodes, effective_set, record_set, sets_task, set_by_task, task_record, tasks_of, node_weight}
+use Rattle.numa_space.specs.Steps.{record_now, rebound, task_next, task_count_next, weight_next}
+use Rattle.numa_space.specs.declared.command.Command.{Command}
+use Rattle.numa_space.specs.declared.command.Command.TheVariants.{Map, Unmap, Mbind, SetTask, SetHome, SetWeight, SetMems}
+use Rattle.numa_space.proofs.Places.{changes_allowed, IsPlace, last_where-place, allowed-at_place, effective-now, effective-mems, effective-other}
+
+-- ---- weights
+
+pub weight-next : (history : List Command) (command : Command) (node : ℕ) → node_weight (command ∷ history) node ≡ weight_next (node_weight history) command node
+weight-next history (Map start bytes offset) node = refl
+weight-next history (Unmap start bytes) node = refl
+weight-next history (Mbind start bytes spec) node = refl
+weight-next history (SetTask task spec) node = refl
+weight-next history (SetHome start bytes n) node = refl
+weight-next history (SetWeight n weight) node = refl
+weight-next history (SetMems mask) node = refl
+
+-- ---- records
+
+-- the record of a task after a command that doesn't set it, from the place of the command that did
+later-record : (machine : Hardware) (command : Command) (change : Option PolicyRecord → Option PolicyRecord) (o : Option Place) → change None ≡ None
+    → ((place : Place) (task : ℕ) (spec : Specification) → o ≡ Some place → place.command ≡ SetTask task spec → record_set machine spec (one_later command place) ≡ change (record_set machine spec place))
+    → option_and_then (λ place. set_by_task machine place.command place) (option_map (one_later command) o) ≡ change (option_and_then (λ place. set_by_task machine place.command place) o)
+later-record machine command change None none h = sym none
+later-record machine command change (Some place) none h = go place.command refl
+  where
+    go : (c : Command) → place.command ≡ c → set_by_task machine c (one_later command place) ≡ change (set_by_task machine c place)
+    go (Map start bytes offset) e = sym none
+    go (Unmap start bytes) e = sym none
+    go (Mbind start bytes spec) e = sym none
+    go (SetTask task spec) e = h place task spec refl e
+    go (SetHome start bytes node) e = sym none
+    go (SetWeight node weight) e = sym none
+    go (SetMems mask) e = sym none
+
+record-other : (machine : Hardware) (history : List Command) (task : ℕ) (command : Command) → changes_allowed command ≡ false
+    → option_and_then (λ place. set_by_task machine place.command place) (option_map (one_later command) (last_where (sets_task task) history)) ≡ task_record machine history task
+record-other machine history task command same =
+    later-record machine command (λ r. r) (last_where (sets_task task) history) refl
+    (λ place t spec found is i. if is_default spec then None else Some (record { spec = spec; effective = effective-other machine place.before place.after spec command same i; home = None }))
+
+record-mems : (machine : Hardware) (history : List Command) (task mask : ℕ)
+    → option_and_then (λ place. set_by_task machine place.command place) (option_map (one_later (SetMems mask)) (last_where (sets_task task) history)) ≡ rebound (allowed_nodes machine history) (both mask machine.memory) (task_record machine history task)
+record-mems machine history task mask =
+    later-record machine (SetMems mask) (rebound (allowed_nodes machine history) (both mask machine.memory)) (last_where (sets_task task) history) refl
+    (λ place t spec found is.
+    let here : IsPlace (sets_task task) history place = rw found at (last_where-place (sets_task task) history) in
+    go place spec (effective-mems machine place.before place.after spec mask ∙ ap (λ a. effect_after spec (effective_set machine place.before place.after spec) a (both mask machine.memory)) (allowed-at_place machine (sets_task task) history place (ap changes_allowed is) here)))
+  where
+    go : (place : Place) (spec : Specification) → effective_set machine place.before (SetMems mask ∷ place.after) spec ≡ effect_after spec (effective_set machine place.before place.after spec) (allowed_nodes machine history) (both mask machine.memory)
+        → record_set machine spec (one_later (SetMems mask) place) ≡ rebound (allowed_nodes machine history) (both mask machine.memory) (record_set machine spec place)
+    go place spec moved =
+        elim (cases_Bool (is_default spec)) [
+          | inl d ↦ rw d refl
+          | inr d ↦ rw d (λ i. Some (record { spec = spec; effective = moved i; home = None }))
+        ]
+
+set-now : (machine : Hardware) (history : List Command) (command : Command) (spec : Specification) → record_set machine spec (record { before = history; command = command; after = [] }) ≡ record_now (allowed_nodes machine history) spec
+set-now machine history command spec =
+    let now = effective-now machine history spec in
+    elim (cases_Bool (is_default spec)) [
+      | inl d ↦ rw d refl
+      | inr d ↦ rw d (λ i. Some (record { spec = spec; effective = now i; home = None }))
+    ]
+
+-- the record of each task after one command more
+pub task-next : (machine : Hardware) (history : List Command) (command : Command) (task : ℕ) → task_record machine (command ∷ history) task ≡ task_next machine (allowed_nodes machine history) (task_record machine history) command task
+task-next machine history (Map start bytes offset) task = record-other machine history task (Map start bytes offset) refl
+task-next machine history (Unmap start bytes) task = record-other machine history task (Unmap start bytes) refl
+task-next machine history (Mbind start bytes spec) task = record-other machine history task (Mbind start bytes spec) refl
+task-next machine history (SetTask other spec) task =
+    elim (cases_Bool (eqb other task)) [
+      | inl e ↦ rw e (set-now machine history (SetTask other spec) spec)
+      | inr e ↦ rw e (record-other machine history task (SetTask other spec) refl)
+    ]
+task-next machine history (SetHome start bytes node) task = record-other machine history task (SetHome start bytes node) refl
+task-next machine history (SetWeight node weight) task = record-other machine history task (SetWeight node weight) refl
+task-next machine history (SetMems mask) task = record-mems machine history task mask
+
+-- ---- how many tasks have a record
+
+-- how often a task stands in a list
+abbrev times : ℕ → List ℕ → ℕ
+times task [] = 0
+times task (other ∷ tasks) = (if eqb other task then 1 else 0) + times task tasks
+
+times-append : (task : ℕ) (xs ys : List ℕ) → times task (xs ++ ys) ≡ times task xs + times task ys
+times-append task [] ys = omega arith
+times-append task (x ∷ xs) ys = omega (arith, times-append task xs ys)
+
+-- leaving out one task
+times-left_out : (task : ℕ) (tasks : List ℕ) → times task (filter (λ other. not (eqb other task)) tasks) ≡ 0
+times-left_out task [] = refl
+times-left_out task (x ∷ xs) =
+    elim (cases_Bool (eqb x task)) [ inl e ↦ rw e (times-left_out task xs) | inr e ↦ rw (e, e) (omega (arith, times-left_out task xs)) ]
+
+times-others : (task gone : ℕ) (tasks : List ℕ) → eqb gone task ≡ false → times task (filter (λ other. not (eqb other gone)) tasks) ≡ times task tasks
+times-others task gone [] ne = refl
+times-others task gone (x ∷ xs) ne =
+    elim (cases_Bool (eqb x gone)) [
+      | inl e ↦ let same : eqb x task ≡ false = ap (λ k. eqb k task) (eqb-true x gone e) ∙ ne in rw (e, same) (omega (arith, times-others task gone xs ne))
+      | inr e ↦ rw e (omega (arith, times-others task gone xs ne))
+    ]
+
+length-left_out : (task : ℕ) (tasks : List ℕ) → length (filter (λ other. not (eqb other task)) tasks) ≡ length tasks - times task tasks
+length-left_out task tasks = omega (arith, both_parts task tasks)
+  where
+    both_parts : (task : ℕ) (tasks : List ℕ) → length (filter (λ other. not (eqb other task)) tasks) + times task tasks ≡ length tasks
+    both_parts task [] = refl
+    both_parts task (x ∷ xs) =
+        elim (cases_Bool (eqb x task)) [ inl e ↦ rw e (omega (arith, both_parts task xs)) | inr e ↦ rw e (omega (arith, both_parts task xs)) ]
+
+-- whether there is a record, as a number
+abbrev one_if_some : Option PolicyRecord → ℕ
+one_if_some r = if is_some r then 1 else 0
+
+some-rebound : (old new : ℕ) (r : Option PolicyRecord) → is_some (rebound old new r) ≡ is_some r
+some-rebound old new None = refl
+some-rebound old new (Some r) = refl
+
+-- each task with a record stands once among those that have one, and no other task does
+pub tasks-once : (machine : Hardware) (history : List Command) (task : ℕ) → times task (tasks_of history) ≡ one_if_some (task_record machine history task)
+tasks-once machine [] task = refl
+tasks-once machine (Map start bytes offset ∷ history) task = tasks-once machine history task ∙ ap one_if_some (sym (task-next machine history (Map start bytes offset) task))
+tasks-once machine (Unmap start bytes ∷ history) task = tasks-once machine history task ∙ ap one_if_some (sym (task-next machine history (Unmap start bytes) task))
+tasks-once machine (Mbind start bytes spec ∷ history) task = tasks-once machine history task ∙ ap one_if_some (sym (task-next machine history (Mbind start bytes spec) task))
+tasks-once machine (SetTask other spec ∷ history) task =
+    times-append task (if is_default spec then [] else other ∷ []) (filter (λ o. not (eqb o other)) (tasks_of history))
+    ∙ elim (cases_Bool (eqb other task)) [
+      | inl e ↦
+          let gone : times task (filter (λ o. not (eqb o other)) (tasks_of history)) ≡ 0 = ap (λ k. times task (filter (λ o. not (eqb o k)) (tasks_of history))) (eqb-true other task e) ∙ times-left_out task (tasks_of history) in
+          elim (cases_Bool (is_default spec)) [ inl d ↦ rw (e, d) (omega arith) | inr d ↦ rw (e, d, e) (omega arith) ]
+      | inr e ↦
+          let same = times-others task other (tasks_of history) e in
+          let once = tasks-once machine history task in
+          elim (cases_Bool (is_default spec)) [ inl d ↦ rw (e, d) (omega arith) | inr d ↦ rw (e, d, e) (omega arith) ]
+    ]
+    ∙ ap one_if_some (sym (task-next machine history (SetTask other spec) task))
+tasks-once machine (SetHome start bytes node ∷ history) task = tasks-once machine history task ∙ ap one_if_some (sym (task-next machine history (SetHome start bytes node) task))
+tasks-once machine (SetWeight node weight ∷ history) task = tasks-once machine history task ∙ ap one_if_some (sym (task-next machine history (SetWeight node weight) task))
+tasks-once machine (SetMems mask ∷ history) task = tasks-once machine history task ∙ ap (λ b. if b then 1 else 0) (sym (some-rebound _ _ (task_record machine history task))) ∙ ap one_if_some (sym (task-next machine history (SetMems mask) task))
+
+pub task_count-next : (machine : Hardware) (history : List Command) (command : Command) → length (tasks_of (command ∷ history)) ≡ task_count_next (task_record machine history) (length (tasks_of history)) command
+task_count-next machine history (Map start bytes offset) = refl
+task_count-next machine history (Unmap start bytes) = refl
+task_count-next machine history (Mbind start bytes spec) = refl
+task_count-next machine history (SetTask task spec) =
+    let rest = length-left_out task (tasks_of history) in
+    let once = tasks-once machine history task in
+    elim (cases_Bool (is_default spec)) [ inl d ↦ rw d (omega (arith, rest, once)) | inr d ↦ rw d (omega (arith, rest, once)) ]
+task_count-next machine history (SetHome start bytes node) = refl
+task_count-next machine history (SetWeight node weight) = refl
+task_count-next machine history (SetMems mask) = refl

@@ -1,0 +1,11 @@
+use Rattle.numa_space.proofs.Answers.{answer-ok, answer-err, answer-unchanged, answer-kept}
+use Rattle.numa_space.proofs.space.Space.apply.Goals as goal
+
+pub returns : goal.returns
+returns c = record {
+  ok = λ history stands. answer-ok c.args.self.now c.answer.new.self history c.args.command.now c.answer.result stands c.answer.ensures;
+  err = λ history stands. answer-err c.args.self.now c.answer.new.self history c.args.command.now c.answer.result stands c.answer.ensures;
+  unchanged = answer-unchanged c.args.self.now c.answer.new.self c.args.command.now c.answer.result c.answer.ensures;
+  machine = (answer-kept c.args.self.now c.answer.new.self c.args.command.now c.answer.result c.answer.ensures).0;
+  bounds = (answer-kept c.args.self.now c.answer.new.self c.args.command.now c.answer.result c.answer.ensures).1;
+}

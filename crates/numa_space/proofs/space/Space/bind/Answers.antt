@@ -1,0 +1,43 @@
+use Rattle.std.proofs.Common.{◌≡◌, ◌+◌, ℕ, Ok, Err, refl, rules, arith, ap, ◌∙◌}
+use Rattle.numa_space.specs.Inside.{shown_of}
+use Rattle.numa_space.specs.Steps.{IsAnswer}
+use Rattle.numa_space.specs.declared.command.Command.TheVariants.{Mbind}
+use Rattle.numa_space.specs.declared.space.Space.TheInside.{Inside}
+use Rattle.numa_space.proofs.Kept.{kept-answer}
+use Rattle.numa_space.proofs.space.Space.bind.Goals as goal
+use Rattle.std.proofs.Common.{subst}
+use Rattle.numa_space.specs.Edits.{PageRanges}
+use Rattle.numa_space.specs.Standing.{SpaceState}
+use Rattle.numa_space.specs.declared.refusal.Refusal.{Refusal}
+use Rattle.std.proofs.Common.{Result}
+use Rattle.numa_space.proofs.Changes.{bind-answer, bind-after}
+use Rattle.std.proofs.Common.{false, sym}
+use Rattle.std.proofs.lemmas.Bool.{ne_eqb}
+use Rattle.numa_space.specs.Refusals.{has_no_node}
+use Rattle.numa_space.specs.Steps.{record_now}
+
+pub invariant_of-self-2 : goal.invariant_of-self-2
+invariant_of-self-2 c =
+    let node : has_no_node (shown_of c.self.inside).allowed c.args.spec ≡ false = ap (λ (s : SpaceState). has_no_node s.allowed c.args.spec) c.self.view_is ∙ c.in_ok-policy.ensures.0 in
+    let is : c.in_ok-policy.policy ≡ record_now (shown_of c.self.inside).allowed c.args.spec = c.in_ok-policy.ensures.1 ∙ ap (λ (s : SpaceState). record_now s.allowed c.args.spec) (sym c.self.view_is) in
+    let answer : IsAnswer (shown_of c.self.inside) (Mbind c.args.start c.args.length c.args.spec) c.bind_span.result (bind-after (shown_of c.self.inside) c.args.start c.args.length c.args.spec (omega (arith, c.requires, ap (λ (s : SpaceState). s.version) c.self.view_is, ap (λ (s : SpaceState). s.bounds.max_commands) c.self.view_is)) c.in_ok-first.ensures.span.0 (ne_eqb c.args.length 0 c.if-length-eq0.false) node c.bind_span.result c.bind_span.new.self) =
+    bind-answer (shown_of c.self.inside) c.args.start c.args.length c.args.spec (omega (arith, c.requires, ap (λ (s : SpaceState). s.version) c.self.view_is, ap (λ (s : SpaceState). s.bounds.max_commands) c.self.view_is)) c.in_ok-first.ensures.span.0 (ne_eqb c.args.length 0 c.if-length-eq0.false) node c.in_ok-first.first c.in_ok-first.pages c.self.inside.pages.limit c.in_ok-policy.policy c.bind_span.new.self c.bind_span.result
+    c.in_ok-first.ensures.span.1 c.in_ok-first.ensures.span.2 c.self.invariant.limit is (sym c.has_hole.ensures ∙ c.if-has_hole.false) c.bind_span.ensures.edit in
+    let P : Result (Unit {0}) Refusal → Type 0 = λ r. IsAnswer (shown_of c.self.inside) (Mbind c.args.start c.args.length c.args.spec) r (bind-after (shown_of c.self.inside) c.args.start c.args.length c.args.spec (omega (arith, c.requires, ap (λ (s : SpaceState). s.version) c.self.view_is, ap (λ (s : SpaceState). s.bounds.max_commands) c.self.view_is)) c.in_ok-first.ensures.span.0 (ne_eqb c.args.length 0 c.if-length-eq0.false) node r c.bind_span.new.self) in
+    let new : Inside = record c.self.inside { pages = c.bind_span.new.self; version = c.self.inside.version + 1 } in
+    let done : IsAnswer (shown_of c.self.inside) (Mbind c.args.start c.args.length c.args.spec) (Ok tt) (shown_of new) = subst P c.in_ok-bind_span.was answer in
+    kept-answer c.self.inside new (Mbind c.args.start c.args.length c.args.spec) (Ok tt) c.self.invariant c.bind_span.ensures.limit refl done
+
+pub returns-in_err-bind_span : goal.returns-in_err-bind_span
+returns-in_err-bind_span c =
+    let node : has_no_node (shown_of c.self.inside).allowed c.args.spec ≡ false = ap (λ (s : SpaceState). has_no_node s.allowed c.args.spec) c.self.view_is ∙ c.in_ok-policy.ensures.0 in
+    let is : c.in_ok-policy.policy ≡ record_now (shown_of c.self.inside).allowed c.args.spec = c.in_ok-policy.ensures.1 ∙ ap (λ (s : SpaceState). record_now s.allowed c.args.spec) (sym c.self.view_is) in
+    let answer : IsAnswer (shown_of c.self.inside) (Mbind c.args.start c.args.length c.args.spec) c.bind_span.result (bind-after (shown_of c.self.inside) c.args.start c.args.length c.args.spec (omega (arith, c.requires, ap (λ (s : SpaceState). s.version) c.self.view_is, ap (λ (s : SpaceState). s.bounds.max_commands) c.self.view_is)) c.in_ok-first.ensures.span.0 (ne_eqb c.args.length 0 c.if-length-eq0.false) node c.bind_span.result c.bind_span.new.self) =
+    bind-answer (shown_of c.self.inside) c.args.start c.args.length c.args.spec (omega (arith, c.requires, ap (λ (s : SpaceState). s.version) c.self.view_is, ap (λ (s : SpaceState). s.bounds.max_commands) c.self.view_is)) c.in_ok-first.ensures.span.0 (ne_eqb c.args.length 0 c.if-length-eq0.false) node c.in_ok-first.first c.in_ok-first.pages c.self.inside.pages.limit c.in_ok-policy.policy c.bind_span.new.self c.bind_span.result
+    c.in_ok-first.ensures.span.1 c.in_ok-first.ensures.span.2 c.self.invariant.limit is (sym c.has_hole.ensures ∙ c.if-has_hole.false) c.bind_span.ensures.edit in
+    let P : Result (Unit {0}) Refusal → Type 0 = λ r. IsAnswer (shown_of c.self.inside) (Mbind c.args.start c.args.length c.args.spec) r (bind-after (shown_of c.self.inside) c.args.start c.args.length c.args.spec (omega (arith, c.requires, ap (λ (s : SpaceState). s.version) c.self.view_is, ap (λ (s : SpaceState). s.bounds.max_commands) c.self.view_is)) c.in_ok-first.ensures.span.0 (ne_eqb c.args.length 0 c.if-length-eq0.false) node r c.bind_span.new.self) in
+    let new : Inside = record c.self.inside { pages = c.bind_span.new.self } in
+    let done : IsAnswer (shown_of c.self.inside) (Mbind c.args.start c.args.length c.args.spec) (Err c.in_err-bind_span.field-0.0) (shown_of new) = subst P c.in_err-bind_span.was answer in
+    let is_err : c.from_residual-in_err-bind_span.result ≡ Err c.in_err-bind_span.field-0.0 = search rules in
+    let Q : SpaceState → Type 0 = λ s. IsAnswer s (Mbind c.args.start c.args.length c.args.spec) c.from_residual-in_err-bind_span.result (shown_of new) in
+    subst Q c.self.view_is (rw is_err done)

@@ -1,0 +1,13 @@
+use Rattle.std.proofs.Common.{◌≡◌, ◌+◌, ℕ, Ok, Err, refl, rules, arith, ap, ◌∙◌}
+use Rattle.numa_space.specs.Inside.{shown_of}
+use Rattle.numa_space.specs.Steps.{IsAnswer}
+use Rattle.numa_space.specs.declared.command.Command.TheVariants.{SetHome}
+use Rattle.numa_space.specs.declared.space.Space.TheInside.{Inside}
+use Rattle.numa_space.proofs.Kept.{kept-answer}
+use Rattle.numa_space.proofs.space.Space.set_home.Goals as goal
+
+pub invariant_of-self-2 : goal.invariant_of-self-2
+invariant_of-self-2 c =
+    let new : Inside = record c.self.inside { pages = c.home_span.new.self; version = c.self.inside.version + 1 } in
+    let answer : IsAnswer (shown_of c.self.inside) (SetHome c.args.start c.args.length c.args.node) (Ok tt) (shown_of new) = search rules in
+    kept-answer c.self.inside new (SetHome c.args.start c.args.length c.args.node) (Ok tt) c.self.invariant c.home_span.ensures.limit refl answer

@@ -1,0 +1,13 @@
+use Rattle.std.proofs.Common.{◌≡◌, ◌+◌, ℕ, Ok, Err, refl, rules, arith, ap, ◌∙◌}
+use Rattle.numa_space.specs.Inside.{shown_of}
+use Rattle.numa_space.specs.Steps.{IsAnswer}
+use Rattle.numa_space.specs.declared.command.Command.TheVariants.{SetMems}
+use Rattle.numa_space.specs.declared.space.Space.TheInside.{Inside}
+use Rattle.numa_space.proofs.Kept.{kept-answer}
+use Rattle.numa_space.proofs.space.Space.set_mems.Goals as goal
+
+pub invariant_of-self : goal.invariant_of-self
+invariant_of-self c =
+    let new : Inside = record c.self.inside { allowed = c.and-allowed.result; pages = c.rebind.new.self; tasks = c.rebind-2.new.self; version = c.self.inside.version + 1 } in
+    let answer : IsAnswer (shown_of c.self.inside) (SetMems c.args.mask) (Ok tt) (shown_of new) = search rules in
+    kept-answer c.self.inside new (SetMems c.args.mask) (Ok tt) c.self.invariant c.rebind.ensures.limit refl answer

@@ -1,0 +1,6 @@
+use Rattle.std.proofs.Common.{◌≡◌}
+use Rattle.numa_space.proofs.Moved.{moved_first}
+use Rattle.numa_space.proofs.task_policies.Tasks.rebind.Given as goal
+
+abbrev pub invariant-loop-k : goal.invariant-loop-k
+invariant-loop-k l = l.self-inside.records.entries ≡ moved_first l.old l.new l.k l.fn.self

@@ -1,0 +1,45 @@
+-- What an edit of a space's ranges answers.
+use Rattle.std.specs.Prelude.{◌≡◌, ℕ, ◌-◌, ◌&&◌, Bool, nat_lt, is_some, not, Option, Some, None, Result, Err, List, MatchOption, MatchResult}
+use Rattle.numa_mode.specs.Policy.{PolicyRecord}
+use Rattle.numa_ranges.specs.Maps.{any_page}
+use Rattle.numa_ranges.specs.Runs.{page_at}
+use Rattle.numa_ranges.specs.Counts.{range_count}
+use Rattle.numa_ranges.specs.declared.run.Run.{Run}
+use Rattle.numa_ranges.specs.declared.fault.RangeFault.{RangeFault}
+use Rattle.numa_ranges.specs.declared.fault.RangeFault.TheVariants as fault
+use Rattle.numa_space.specs.declared.refusal.Refusal.{Refusal}
+use Rattle.numa_space.specs.declared.refusal.Refusal.TheVariants.{Overlap, Hole, TooManyRanges, NoMemory}
+use Rattle.numa_space.specs.Refusals.{PageMap, first_of, when, takes_no_home}
+use Rattle.numa_space.specs.Same.{same_record}
+
+-- the ranges of a space in rising order, and how many there may be
+pub record PageRanges : Type 0 where
+  pub runs : List (Run (Option PolicyRecord))
+  pub limit : ℕ
+
+-- a map's fault, as a refusal
+abbrev pub refusal_from : RangeFault → Refusal
+refusal_from fault.Hole = Hole
+refusal_from fault.Overlap = Overlap
+refusal_from fault.TooManyRanges = TooManyRanges
+refusal_from fault.NoMemory = NoMemory
+
+abbrev pub too_many : ℕ → PageMap → Option Refusal
+too_many limit after = when (nat_lt limit (range_count same_record after)) TooManyRanges
+
+abbrev pub overlap_cause : PageMap → ℕ → ℕ → Option Refusal
+overlap_cause pages first count = when (any_page (λ page. is_some (pages page)) first count) Overlap
+
+abbrev pub hole_cause : PageMap → ℕ → ℕ → Option Refusal
+hole_cause pages first count = when (any_page (λ page. not (is_some (pages page))) first count) Hole
+
+-- the first cause, or the pages afterwards; want of memory where there is no cause; unchanged where it is refused
+abbrev pub IsEdit : Option Refusal → PageMap → PageRanges → Result (Unit {0}) Refusal → PageRanges → Type 0
+IsEdit cause after old result new =
+    MatchOption cause
+    (MatchResult result (λ _. (page : ℕ) → page_at new.runs page ≡ after page) (λ refusal. (refusal ≡ NoMemory) × (new ≡ old)))
+    (λ first. (result ≡ Err first) × (new ≡ old))
+
+-- whether a run reaches into the pages from `first` up to `end`, and takes no home
+abbrev pub refuses : ℕ → ℕ → Run (Option PolicyRecord) → Bool
+refuses first end run = nat_lt run.first end && (nat_lt (first - run.first) run.pages && takes_no_home (Some (0, run.value)))

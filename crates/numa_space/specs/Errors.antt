@@ -1,0 +1,21 @@
+-- The error number of each refusal (errno(3)).
+use Rattle.numa_space.specs.declared.refusal.Refusal.{Refusal}
+use Rattle.numa_space.specs.declared.refusal.Refusal.TheVariants.{CommandsSpent, Unaligned, OutOfSpace, EmptyLength, BadOffset, Overlap, Hole, NoSuchNode, BadWeight, NodesNotAllowed, NotSupported, TooManyTasks, TooManyRanges, NoMemory}
+use Rattle.numa_space.specs.declared.refusal.Errno.{Errno}
+use Rattle.numa_space.specs.declared.refusal.Errno.TheVariants.{EInval, ENoMem, EExist, EFault, ENoSpc, EOpNotSupp}
+
+abbrev pub errno_of : Refusal → Errno
+errno_of CommandsSpent = ENoSpc
+errno_of Unaligned = EInval
+errno_of OutOfSpace = ENoMem
+errno_of EmptyLength = EInval
+errno_of BadOffset = EInval
+errno_of Overlap = EExist
+errno_of Hole = EFault
+errno_of NoSuchNode = EInval
+errno_of BadWeight = EInval
+errno_of NodesNotAllowed = EInval
+errno_of NotSupported = EOpNotSupp
+errno_of TooManyTasks = ENoMem
+errno_of TooManyRanges = ENoMem
+errno_of NoMemory = ENoMem

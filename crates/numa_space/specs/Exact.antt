@@ -1,0 +1,46 @@
+-- Records that are equal are one record.
+use Rattle.std.specs.Prelude.{◌≡◌, ℕ, ◌&&◌, ◌==◌, Bool, true, false, Option, Some, None, refl}
+use Rattle.std.proofs.Common.{ap, rules, arith}
+use Rattle.numa_mode.specs.Policy.{PolicyRecord, Specification}
+use Rattle.numa_mode.specs.declared.modes.Mode.{Mode}
+use Rattle.numa_mode.specs.declared.modes.Mode.TheVariants.{Default, Preferred, Bind, Interleave, Local, PreferredMany, WeightedInterleave}
+use Rattle.numa_mode.specs.declared.modes.NodeFlag.{NodeFlag}
+use Rattle.numa_mode.specs.declared.modes.NodeFlag.TheVariants.{Plain, Static, Relative}
+use Rattle.numa_mode.specs.contracts.modes.ModePartialEq.TheImpl as mode_test
+use Rattle.numa_mode.specs.contracts.modes.NodeFlagPartialEq.TheImpl as flag_test
+use Rattle.numa_mode.specs.contracts.specification.PolicySpecPartialEq.TheImpl as spec_test
+use Rattle.numa_mode.specs.contracts.records.RecordPartialEq.TheImpl as record_test
+use Rattle.numa_space.specs.contracts.range_record.RangeRecordPartialEq.TheImpl as range_test
+use Rattle.std.proofs.lemmas.Grind.{common_steps}
+
+pub mode-exact : (a b : Mode) → mode_test.ghosts.eq a b ≡ true → a ≡ b
+mode-exact Default Default h = refl
+mode-exact Preferred Preferred h = refl
+mode-exact Bind Bind h = refl
+mode-exact Interleave Interleave h = refl
+mode-exact Local Local h = refl
+mode-exact PreferredMany PreferredMany h = refl
+mode-exact WeightedInterleave WeightedInterleave h = refl
+mode-exact a b h = cc
+
+pub flag-exact : (a b : NodeFlag) → flag_test.ghosts.eq a b ≡ true → a ≡ b
+flag-exact Plain Plain h = refl
+flag-exact Static Static h = refl
+flag-exact Relative Relative h = refl
+flag-exact a b h = cc
+
+and_split : (a b : Bool) → (a && b) ≡ true → (a ≡ true) × (b ≡ true)
+and_split true b h = (refl, h)
+and_split false b h = cc
+
+pub spec-exact : (a b : Specification) → spec_test.ghosts.eq a b ≡ true → a ≡ b
+spec-exact a b h = Prim.search (rules, common_steps, mode-exact, flag-exact)
+
+pub record-exact : (a b : PolicyRecord) → record_test.ghosts.eq a b ≡ true → a ≡ b
+record-exact a b h = Prim.search (rules, common_steps, spec-exact)
+
+pub range-exact : (a b : Option PolicyRecord) → range_test.ghosts.eq a b ≡ true → a ≡ b
+range-exact None None h = refl
+range-exact (Some a) (Some b) h = ap Some (record-exact a b h)
+range-exact None (Some b) h = cc
+range-exact (Some a) None h = cc

@@ -1,0 +1,23 @@
+-- How a space is kept.
+use Rattle.std.specs.Prelude.{◌≡◌, ◌<◌, ◌^◌, ℕ, All}
+use Rattle.numa_mask.specs.NodeSet.{members}
+use Rattle.numa_space.specs.Standing.{SpaceState, IsSound}
+use Rattle.numa_space.specs.declared.space.Space.TheInside.{Inside}
+
+abbrev pub shown_of : Inside → SpaceState
+shown_of a = record {
+  machine = a.machine;
+  bounds = a.limits;
+  version = a.version;
+  allowed = a.allowed;
+  ranges = a.pages.runs;
+  tasks = a.tasks;
+  weights = a.weights;
+}
+
+pub record IsKept (a : Inside) : Type 0 where
+  pub sound : IsSound (shown_of a)
+  pub limit : a.pages.limit ≡ a.limits.max_ranges
+  pub nodes : a.weights.nodes ≡ a.machine.nodes
+  pub memory : a.machine.memory < 2 ^ 256
+  pub of_the_machine : All (λ node. node < a.machine.nodes) (members a.machine.memory)

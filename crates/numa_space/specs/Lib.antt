@@ -1,0 +1,13 @@
+pub mod Errors
+pub mod Limited
+pub mod History
+pub mod Policies
+pub mod Pages
+pub mod Lists
+pub mod Same
+pub mod Exact
+pub mod Refusals
+pub mod Edits
+pub mod Standing
+pub mod Steps
+pub mod Inside

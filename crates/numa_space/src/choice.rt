@@ -1,0 +1,97 @@
+//! The nodes that an index or a set chooses, and the nodes of an order that a set has.
+ghost use Rattle.std.specs.Prelude.{◌≡◌, ◌≢◌, ◌<◌, ◌≤◌, ◌+◌, ◌++◌, ◌&&◌, not, true, length, filter, slice_index};
+ghost use Rattle.numa_mask.specs.NodeSet.{has, members};
+ghost use Rattle.numa_machine.specs.Weights.{interleave_node, total_weight, weight_at, weighted_node};
+ghost use Rattle.numa_space.specs.Lists.{within};
+
+use arrayvec::ArrayVec;
+use numa_machine::Weights;
+use numa_mask::{NodeId, NodeMask};
+
+/// Whether a set has the node of this number.
+fn has(set: &NodeMask, node: u8) -> bool
+    ensures { result ≡ has set.now node }
+{
+    NodeId::new(node).is_some_and(|node| set.contains(node))
+}
+
+/// Appends those nodes of an order that a set has.
+pub(crate) fn push_within(list: &mut ArrayVec<u8, 256>, order: &[u8], set: &NodeMask)
+    requires { length list.old.items + length (within set.now order.now) ≤ 256 }
+    ensures { list.new.items ≡ list.old.items ++ within set.now order.now }
+{
+    for node in order {
+        if has(set, *node) {
+            list.push(*node);
+        }
+    }
+}
+
+/// Appends those nodes of an order that are allowed and that a set lacks.
+pub(crate) fn push_others(
+    list: &mut ArrayVec<u8, 256>,
+    order: &[u8],
+    allowed: &NodeMask,
+    set: &NodeMask,
+)
+    requires { length list.old.items + length (filter (λ node. has allowed.now node && not (has set.now node)) order.now) ≤ 256 }
+    ensures { list.new.items ≡ list.old.items ++ filter (λ node. has allowed.now node && not (has set.now node)) order.now }
+{
+    for node in order {
+        if has(allowed, *node) && !has(set, *node) {
+            list.push(*node);
+        }
+    }
+}
+
+/// The lowest node of a set.
+pub(crate) fn first_node(set: &NodeMask) -> u8
+    requires { set.now ≢ 0 }
+    ensures node { result ≡ slice_index (members set.now) 0 }
+    ensures member { has set.now result ≡ true }
+{
+    set.first().map_or(0, |node| node.number())
+}
+
+/// The node of a set that interleave chooses for an index: the members take turns.
+pub(crate) fn interleave_node(set: &NodeMask, index: u64) -> u8
+    requires { set.now ≢ 0 }
+    ensures node { result ≡ interleave_node set.now index }
+    ensures member { has set.now result ≡ true }
+{
+    let turn = index % u64::from(set.weight());
+    let Some(node) = set.nth(turn as u32) else {
+        return 0;
+    };
+    node.number()
+}
+
+/// The weights of the nodes of a set together.
+fn total_weight(weights: &Weights, set: &NodeMask) -> u64
+    requires { set.now ≢ 0 }
+    ensures total { result ≡ total_weight (weight_at weights.now) set.now }
+    ensures some { 0 < result }
+{
+    let mut total = 0u64;
+    for node in set.iter() {
+        total += u64::from(weights.get(u32::from(node.number())));
+    }
+    total
+}
+
+/// The node of a set that weighted interleave chooses for an index: the members take turns, each as many as its weight.
+pub(crate) fn weighted_node(weights: &Weights, set: &NodeMask, index: u64) -> u8
+    requires { set.now ≢ 0 }
+    ensures node { result ≡ weighted_node (weight_at weights.now) set.now index }
+    ensures member { has set.now result ≡ true }
+{
+    let mut place = index % total_weight(weights, set);
+    for node in set.iter() {
+        let weight = u64::from(weights.get(u32::from(node.number())));
+        if place < weight {
+            return node.number();
+        }
+        place -= weight;
+    }
+    0
+}

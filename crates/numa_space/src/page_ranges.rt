@@ -1,0 +1,186 @@
+//! The pages of a space: a map that splits and joins, with refusals as a space gives them.
+ghost use Rattle.std.specs.Prelude.{◌≡◌, ◌≢◌, ◌+◌, ◌<◌, ◌≤◌, ◌^◌, ℕ, Some, None, Option, Ok, Err, MatchResult, is_some, not, [], length, Contains, ◌↔◌};
+ghost use Rattle.std.specs.List.{list_any};
+ghost use Rattle.numa_mode.specs.Policy.{PolicyRecord};
+ghost use Rattle.numa_ranges.specs.Runs.{AreApart, AreMaximal, page_at};
+ghost use Rattle.numa_ranges.specs.declared.run.Run.{Run};
+ghost use Rattle.numa_ranges.specs.Counts.{IsRange, range_count};
+ghost use Rattle.numa_ranges.specs.Maps.{any_page};
+ghost use Rattle.numa_ranges.specs.Maps.{with_span, without_span, changed_span, changed_page};
+ghost use Rattle.numa_space.specs.Edits.{IsEdit, too_many, overlap_cause, hole_cause, refusal_from, refuses};
+ghost use Rattle.numa_space.specs.Refusals.{first_of};
+ghost use Rattle.numa_space.specs.Same.{same_record};
+ghost use Rattle.numa_space.specs.Steps.{homed, rebound};
+ghost use Rattle.numa_space.specs.Refusals.{takes_no_home};
+
+use crate::range_record::RangeRecord;
+use crate::refusal::Refusal;
+use numa_mask::NodeMask;
+use numa_mode::Record;
+use numa_ranges::{RangeFault, RangeMap, Run};
+use std::alloc::Global;
+use std::marker::Model;
+
+/// The mapped pages, each with its index and the policy of its range.
+#[derive(Drop)]
+pub(crate) struct Pages {
+    map: RangeMap<RangeRecord>,
+}
+
+impl Model for Pages {
+    ghost use Rattle.numa_space.specs.Edits.{PageRanges};
+
+    ghost Value = { PageRanges };
+
+    ghost view = { λ a. record { runs = a.map.runs; limit = a.map.max_ranges } };
+}
+
+impl Pages {
+    /// No pages, of at most so many ranges; takes no memory.
+    pub(crate) fn new(alloc: Global, max_ranges: u32) -> Pages
+        ensures { result ≡ record { runs = []; limit = max_ranges } }
+    {
+        Pages {
+            map: RangeMap::new(alloc, max_ranges),
+        }
+    }
+
+    /// How many ranges there are.
+    pub(crate) fn len(&self) -> usize
+        ensures runs { result ≡ length self.now.runs }
+        ensures count { result ≡ range_count same_record (page_at self.now.runs) }
+        ensures limit { result ≤ self.now.limit }
+    {
+        self.map.len()
+    }
+
+    /// The ranges, rising.
+    pub(crate) fn iter(&self) -> std::slice::Iter<'_, Run<RangeRecord>>
+        ensures runs { result.rest.now ≡ self.now.runs }
+        ensures rising { AreApart 0 self.now.runs }
+        ensures maximal { AreMaximal self.now.runs }
+        ensures ranges { (run : Run (Option PolicyRecord)) → Contains self.now.runs run ↔ IsRange same_record (page_at self.now.runs) run }
+    {
+        self.map.iter()
+    }
+
+    /// The index of a page and its range's policy, where it is mapped.
+    pub(crate) fn at(&self, page: u64) -> Option<(u64, Option<Record>)>
+        ensures { result ≡ page_at self.now.runs page }
+    {
+        let (index, value) = self.map.at(page)?;
+        Some((index, value.policy()))
+    }
+
+    /// Maps a span without a policy of its own.
+    pub(crate) fn map_span(&mut self, first: u64, pages: u64, index: u64) -> Result<(), Refusal>
+        requires some { 0 < pages }
+        requires span { first + pages ≤ 2 ^ 35 }
+        requires index { index < 2 ^ 35 }
+        ensures edit { IsEdit (first_of (overlap_cause (page_at self.old.runs) first pages) (too_many self.old.limit (with_span first pages index None (page_at self.old.runs)))) (with_span first pages index None (page_at self.old.runs)) self.old result self.new }
+        ensures limit { self.new.limit ≡ self.old.limit }
+    {
+        answered(
+            self.map
+                .map_span(first, pages, index, RangeRecord::of(None)),
+        )
+    }
+
+    /// Unmaps a span.
+    pub(crate) fn unmap_span(&mut self, first: u64, pages: u64) -> Result<(), Refusal>
+        requires some { 0 < pages }
+        requires span { first + pages ≤ 2 ^ 35 }
+        ensures edit { IsEdit (too_many self.old.limit (without_span first pages (page_at self.old.runs))) (without_span first pages (page_at self.old.runs)) self.old result self.new }
+        ensures limit { self.new.limit ≡ self.old.limit }
+    {
+        answered(self.map.unmap_span(first, pages))
+    }
+
+    /// Gives the pages of a span a policy of their own, or takes it away.
+    pub(crate) fn bind_span(
+        &mut self,
+        first: u64,
+        pages: u64,
+        policy: Option<Record>,
+    ) -> Result<(), Refusal>
+        requires some { 0 < pages }
+        requires span { first + pages ≤ 2 ^ 35 }
+        ensures edit { IsEdit (first_of (hole_cause (page_at self.old.runs) first pages) (too_many self.old.limit (changed_span first pages (λ old. policy) (page_at self.old.runs)))) (changed_span first pages (λ old. policy) (page_at self.old.runs)) self.old result self.new }
+        ensures limit { self.new.limit ≡ self.old.limit }
+    {
+        answered(self.map.set_span(first, pages, RangeRecord::of(policy)))
+    }
+
+    /// Whether some page of a span isn't mapped.
+    pub(crate) fn has_hole(&self, first: u64, pages: u64) -> bool
+        requires span { first + pages ≤ 2 ^ 35 }
+        ensures { result ≡ any_page (λ page. not (is_some (page_at self.now.runs page))) first pages }
+    {
+        self.map.has_hole(first, pages)
+    }
+
+    /// Gives the policies of a span's pages a home node, those that have one.
+    pub(crate) fn home_span(&mut self, first: u64, pages: u64, node: u8) -> Result<(), Refusal>
+        requires some { 0 < pages }
+        requires span { first + pages ≤ 2 ^ 35 }
+        ensures edit { IsEdit (too_many self.old.limit (changed_span first pages (homed node) (page_at self.old.runs))) (changed_span first pages (homed node) (page_at self.old.runs)) self.old result self.new }
+        ensures limit { self.new.limit ≡ self.old.limit }
+    {
+        let at_home = |value: &RangeRecord| -> RangeRecord
+            ensures { result ≡ homed node value.now }
+        { value.homed(node) };
+        answered(self.map.update_span(first, pages, at_home))
+    }
+
+    /// Moves every policy with a change of the allowed nodes; takes no memory.
+    pub(crate) fn rebind(&mut self, old: &NodeMask, new: &NodeMask)
+        requires some { new.now ≢ 0 }
+        ensures pages { (page : ℕ) → page_at self.new.runs page ≡ changed_page (rebound old.now new.now) (page_at self.old.runs page) }
+        ensures limit { self.new.limit ≡ self.old.limit }
+    {
+        let (from, to) = (*old, *new);
+        let moved = |value: &RangeRecord| -> RangeRecord
+            requires { to ≢ 0 }
+            ensures { result ≡ rebound from to value.now }
+        { value.rebound(&from, &to) };
+        self.map.update_all(moved);
+    }
+
+    /// Whether some mapped page of a span has a policy of its own that takes no home node.
+    pub(crate) fn refuses_home(&self, first: u64, pages: u64) -> bool
+        requires some { 0 < pages }
+        requires span { first + pages ≤ 2 ^ 35 }
+        ensures { result ≡ any_page (λ page. takes_no_home (page_at self.now.runs page)) first pages }
+    {
+        any_refuses(self.map.iter().as_slice(), first, first + pages)
+    }
+}
+
+/// Whether one of these runs reaches into the pages from `first` up to `end`, and takes no home node.
+fn any_refuses(runs: &[Run<RangeRecord>], first: u64, end: u64) -> bool
+    ensures { result ≡ list_any (refuses first end) runs.now }
+{
+    runs.iter().any(|run| refuses(run, first, end))
+}
+
+/// Whether a run reaches into the pages from `first` up to `end`, and takes no home node.
+fn refuses(run: &Run<RangeRecord>, first: u64, end: u64) -> bool
+    ensures { result ≡ refuses first end run.now }
+{
+    let passed = first.saturating_sub(run.first);
+    let takes_no_home = run.value.takes_no_home();
+    run.first < end && passed < run.pages && takes_no_home
+}
+
+/// A map's answer, as a space's.
+fn answered(outcome: Result<(), RangeFault>) -> Result<(), Refusal>
+    ensures { MatchResult outcome (λ done. result ≡ Ok done) (λ fault. result ≡ Err (refusal_from fault)) }
+{
+    match outcome {
+        Ok(()) => Ok(()),
+        Err(RangeFault::Hole) => Err(Refusal::Hole),
+        Err(RangeFault::Overlap) => Err(Refusal::Overlap),
+        Err(RangeFault::TooManyRanges) => Err(Refusal::TooManyRanges),
+        Err(RangeFault::NoMemory) => Err(Refusal::NoMemory),
+    }
+}

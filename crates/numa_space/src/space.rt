@@ -1,0 +1,174 @@
+//! A space of pages and its policies.
+ghost use Rattle.std.specs.Prelude.{◌≡◌, ◌≢◌, ◌≤◌, ◌<◌, ℕ, OnOk, OnErr, IfErr, IfSome, None, Option, Some, List, [], ◌∷◌, length, MatchOption, slice_get, Bool, AllPairs, Contains, ◌↔◌};
+ghost use Rattle.numa_machine.specs.Machine.{Hardware};
+ghost use Rattle.numa_mode.specs.Policy.{PolicyRecord};
+ghost use Rattle.numa_ranges.specs.Counts.{IsRange, range_count};
+ghost use Rattle.numa_ranges.specs.Runs.{AreApart, AreMaximal, page_at};
+ghost use Rattle.numa_ranges.specs.declared.run.Run.{Run};
+ghost use Rattle.numa_space.specs.declared.command.Command.{Command};
+ghost use Rattle.numa_space.specs.Policies.{task_record};
+ghost use Rattle.numa_space.specs.Pages.{page_in};
+ghost use Rattle.numa_space.specs.Refusals.{refusal_of, range_count_of};
+ghost use Rattle.numa_space.specs.Same.{same_record};
+ghost use Rattle.numa_space.specs.Standing.{SpaceState, StandsFor, accepted_of, record_of};
+ghost use Rattle.numa_space.specs.Steps.{IsAnswer};
+
+use crate::command::Command;
+use crate::limits::Limits;
+use crate::page_ranges::Pages;
+use crate::range_record::RangeRecord;
+use crate::refusal::Refusal;
+use crate::task_policies::Tasks;
+use numa_machine::{Machine, Weights};
+use numa_mask::NodeMask;
+use numa_mode::Record;
+use numa_ranges::Run;
+use std::alloc::Global;
+use std::marker::Model;
+
+mod changes;
+mod place;
+
+/// Pages, policies, weights and allowed nodes of one machine, as the accepted commands left them.
+#[derive(Drop)]
+pub struct Space {
+    machine: Machine,
+    limits: Limits,
+    version: u64,
+    allowed: NodeMask,
+    pages: Pages,
+    tasks: Tasks,
+    weights: Weights,
+}
+
+impl Model for Space {
+    ghost use Rattle.numa_space.specs.Standing.{SpaceState};
+
+    ghost Value = { SpaceState };
+
+    ghost use Rattle.numa_space.specs.Inside.{shown_of, IsKept};
+
+    ghost view = { shown_of };
+
+    ghost invariant = { IsKept };
+}
+
+impl Space {
+    /// A space in which nothing is mapped, no task has a policy, every weight is 1 and all nodes with memory are allowed.
+    /// Takes no memory; the allocator is kept for later commands.
+    pub fn new(alloc: Global, machine: Machine, limits: Limits) -> Space
+        ensures stands { StandsFor result [] }
+        ensures machine { result.machine ≡ machine }
+        ensures bounds { result.bounds ≡ limits }
+    {
+        let allowed = machine.memory();
+        let width = allowed.weight();
+        prove!(width > 0);
+        let weights = Weights::new(machine.nodes());
+        Space {
+            machine,
+            limits,
+            version: 0,
+            allowed,
+            pages: Pages::new(alloc, limits.max_ranges()),
+            tasks: Tasks::new(alloc),
+            weights,
+        }
+    }
+
+    /// Carries out a command, or refuses it by the first cause that applies; want of memory is the last. A refusal leaves
+    /// the space as it was.
+    pub fn apply(&mut self, command: &Command) -> Result<(), Refusal>
+        ensures ok { (history : List Command) → StandsFor self.old history → OnOk result ((refusal_of self.old.machine self.old.bounds history command.now ≡ None) × StandsFor self.new (command.now ∷ history)) }
+        ensures err { (history : List Command) → StandsFor self.old history → IfErr result (λ refusal. MatchOption (refusal_of self.old.machine self.old.bounds history command.now) (refusal ≡ Refusal.NoMemory) (λ first. refusal ≡ first)) }
+        ensures unchanged { OnErr result (self.new ≡ self.old) }
+        ensures machine { self.new.machine ≡ self.old.machine }
+        ensures bounds { self.new.bounds ≡ self.old.bounds }
+    {
+        self.answer(command)
+    }
+
+    /// Carries out commands, the first first, and passes over those that are refused. The space then stands for the history
+    /// with those that were accepted: each against which nothing stood and which didn't want memory.
+    pub fn apply_all(&mut self, commands: &[Command])
+        ensures stands { (history : List Command) → StandsFor self.old history → (starved : List Bool) × (length starved ≡ length commands.now) × StandsFor self.new (accepted_of self.old.machine self.old.bounds commands.now starved history) }
+        ensures machine { self.new.machine ≡ self.old.machine }
+        ensures bounds { self.new.bounds ≡ self.old.bounds }
+    {
+        for command in commands {
+            let _ = self.apply(command);
+        }
+    }
+
+    /// How many commands were accepted.
+    pub fn version(&self) -> u64
+        ensures version { result ≡ self.now.version }
+        ensures limit { result ≤ self.now.bounds.max_commands }
+    {
+        self.version
+    }
+
+    /// The machine.
+    pub fn machine(&self) -> &Machine
+        ensures { result.now ≡ self.now.machine }
+    {
+        &self.machine
+    }
+
+    /// The nodes on which memory may be placed: some, all of them with memory.
+    pub fn allowed(&self) -> NodeMask
+        ensures allowed { result ≡ self.now.allowed }
+        ensures some { result ≢ 0 }
+    {
+        self.allowed
+    }
+
+    /// The weights of the nodes.
+    pub fn weights(&self) -> &Weights
+        ensures { result.now ≡ self.now.weights }
+    {
+        &self.weights
+    }
+
+    /// How many ranges there are: mapped pages whose predecessor isn't mapped, or has another policy of its own or an index
+    /// that isn't one less. Linux keeps as many areas for such an address space (mbind(2) splits and merges them).
+    pub fn ranges(&self) -> usize
+        ensures ranges { result ≡ length self.now.ranges }
+        ensures count { result ≡ range_count same_record (page_at self.now.ranges) }
+        ensures meaning { (history : List Command) → StandsFor self.now history → result ≡ range_count_of self.now.machine history }
+        ensures limit { result ≤ self.now.bounds.max_ranges }
+    {
+        let _ = &self.allowed;
+        self.pages.len()
+    }
+
+    /// The ranges, rising: each as its first page, how many pages it has, the index of the first and, by `value.policy()`, the
+    /// policy of its own, if it has one. No two of them could be one.
+    pub fn range_iter(&self) -> std::slice::Iter<'_, Run<RangeRecord>>
+        ensures runs { result.rest.now ≡ self.now.ranges }
+        ensures rising { AreApart 0 self.now.ranges }
+        ensures maximal { AreMaximal self.now.ranges }
+        ensures ranges { (run : Run (Option PolicyRecord)) → Contains self.now.ranges run ↔ IsRange same_record (page_at self.now.ranges) run }
+        ensures meaning { (history : List Command) → StandsFor self.now history → (run : Run (Option PolicyRecord)) → Contains self.now.ranges run ↔ IsRange same_record (page_in self.now.machine history) run }
+    {
+        self.pages.iter()
+    }
+
+    /// How many tasks have a policy. Each task is there once.
+    pub fn task_count(&self) -> usize
+        ensures tasks { result ≡ length self.now.tasks }
+        ensures limit { result ≤ self.now.bounds.max_tasks }
+        ensures each_once { AllPairs (λ earlier later. earlier.0 ≢ later.0) self.now.tasks }
+    {
+        self.tasks.len()
+    }
+
+    /// The k-th task that has a policy, and the policy; None from `task_count` on.
+    pub fn task_at(&self, k: usize) -> Option<(u32, Record)>
+        ensures task { result ≡ slice_get self.now.tasks k }
+        ensures policy { IfSome result (λ held. record_of self.now.tasks held.0 ≡ Some held.1) }
+        ensures meaning { (history : List Command) → StandsFor self.now history → IfSome result (λ held. task_record self.now.machine history held.0 ≡ Some held.1) }
+    {
+        self.tasks.at(k)
+    }
+}

@@ -1,0 +1,211 @@
+//! What each command changes.
+ghost use Rattle.std.specs.Prelude.{◌≡◌, ◌+◌, ◌<◌, ◌≤◌, ◌^◌, ◌&&◌, ℕ, true, false, not, nat_le, is_some, length, Option, Some, None, MatchResult};
+ghost use Rattle.std.specs.List.{list_any};
+ghost use Rattle.numa_mask.specs.NodeSet.{members};
+ghost use Rattle.numa_mode.specs.Policy.{PolicyRecord};
+ghost use Rattle.numa_space.specs.declared.command.Command.{Command};
+ghost use Rattle.numa_space.specs.History.{page_of, page_count};
+ghost use Rattle.numa_space.specs.Refusals.{bad_span, has_no_node};
+ghost use Rattle.numa_space.specs.Standing.{SpaceState, record_of};
+ghost use Rattle.numa_space.specs.Steps.{IsAnswer, record_now};
+
+use crate::command::Command;
+use crate::refusal::Refusal;
+use crate::space::Space;
+use numa_machine::WeightFault;
+use numa_mask::NodeMask;
+use numa_mode::{Mode, PolicySpec, Record};
+
+/// The first page of a span and the number of its pages.
+fn span_of(start: u64, length: u64) -> Result<(u64, u64), Refusal>
+    ensures span { MatchResult result (λ span. (bad_span start length ≡ None) × (span.0 ≡ page_of start) × (span.1 ≡ page_count length)) (λ refusal. bad_span start length ≡ Some refusal) }
+    ensures within { MatchResult result (λ span. span.0 + span.1 ≤ 2 ^ 35) (λ refusal. Unit {0}) }
+{
+    if start % 4096 != 0 {
+        return Err(Refusal::Unaligned);
+    }
+    let pages = length / 4096 + u64::from(length % 4096 != 0);
+    if start > 1 << 47 || pages > (1 << 35) - start / 4096 {
+        return Err(Refusal::OutOfSpace);
+    }
+    Ok((start / 4096, pages))
+}
+
+/// Whether a set has a node of this number or above.
+fn has_node_from(mask: &NodeMask, first: u32) -> bool
+    ensures { result ≡ list_any (λ node. nat_le first node) (members mask.now) }
+{
+    mask.iter().any(|node| first <= u32::from(node.number()))
+}
+
+impl Space {
+    /// Carries out a command, or refuses it.
+    pub(super) fn answer(&mut self, command: &Command) -> Result<(), Refusal>
+        ensures { IsAnswer self.old command.now result self.new }
+    {
+        if self.version >= u64::from(self.limits.max_commands()) {
+            return Err(Refusal::CommandsSpent);
+        }
+        match *command {
+            Command::Map {
+                start,
+                length,
+                offset,
+            } => self.map(start, length, offset),
+            Command::Unmap { start, length } => self.unmap(start, length),
+            Command::Mbind {
+                start,
+                length,
+                spec,
+            } => self.bind(start, length, spec),
+            Command::SetTask { task, spec } => self.set_task(task, spec),
+            Command::SetHome {
+                start,
+                length,
+                node,
+            } => self.set_home(start, length, node),
+            Command::SetWeight { node, weight } => self.set_weight(node, weight),
+            Command::SetMems { mask } => self.set_mems(mask),
+        }
+    }
+
+    /// The policy that a specification sets now; DEFAULT sets none.
+    fn policy_of(&self, spec: PolicySpec) -> Result<Option<Record>, Refusal>
+        ensures { MatchResult result (λ policy. (has_no_node self.now.allowed spec ≡ false) × (policy ≡ record_now self.now.allowed spec)) (λ refusal. (has_no_node self.now.allowed spec ≡ true) × (refusal ≡ Refusal.NodesNotAllowed)) }
+    {
+        if spec.mode() == Mode::Default {
+            return Ok(None);
+        }
+        match Record::set(spec, &self.allowed) {
+            Ok(policy) => Ok(Some(policy)),
+            Err(_) => Err(Refusal::NodesNotAllowed),
+        }
+    }
+
+    fn map(&mut self, start: u64, length: u64, offset: u64) -> Result<(), Refusal>
+        requires { self.old.version < self.old.bounds.max_commands }
+        ensures { IsAnswer self.old (Command.Map start length offset) result self.new }
+    {
+        let (first, pages) = span_of(start, length)?;
+        if length == 0 {
+            return Err(Refusal::EmptyLength);
+        }
+        if offset >= 1 << 35 {
+            return Err(Refusal::BadOffset);
+        }
+        self.pages.map_span(first, pages, offset)?;
+        self.version += 1;
+        Ok(())
+    }
+
+    fn unmap(&mut self, start: u64, length: u64) -> Result<(), Refusal>
+        requires { self.old.version < self.old.bounds.max_commands }
+        ensures { IsAnswer self.old (Command.Unmap start length) result self.new }
+    {
+        let (first, pages) = span_of(start, length)?;
+        if length == 0 {
+            self.version += 1;
+            return Ok(());
+        }
+        self.pages.unmap_span(first, pages)?;
+        self.version += 1;
+        Ok(())
+    }
+
+    fn bind(&mut self, start: u64, length: u64, spec: PolicySpec) -> Result<(), Refusal>
+        requires { self.old.version < self.old.bounds.max_commands }
+        ensures { IsAnswer self.old (Command.Mbind start length spec) result self.new }
+    {
+        let (first, pages) = span_of(start, length)?;
+        if length == 0 {
+            self.version += 1;
+            return Ok(());
+        }
+        if self.pages.has_hole(first, pages) {
+            return Err(Refusal::Hole);
+        }
+        let policy = self.policy_of(spec)?;
+        self.pages.bind_span(first, pages, policy)?;
+        self.version += 1;
+        Ok(())
+    }
+
+    /// Whether a task has no policy, and as many tasks as may have one do.
+    fn has_no_place_for(&self, task: u32) -> bool
+        ensures { result ≡ (not (is_some (record_of self.now.tasks task)) && nat_le self.now.bounds.max_tasks (length self.now.tasks)) }
+    {
+        let is_full = self.limits.max_tasks() as usize <= self.tasks.len();
+        self.tasks.get(task).is_none() && is_full
+    }
+
+    fn set_task(&mut self, task: u32, spec: PolicySpec) -> Result<(), Refusal>
+        requires { self.old.version < self.old.bounds.max_commands }
+        ensures { IsAnswer self.old (Command.SetTask task spec) result self.new }
+    {
+        let Some(policy) = self.policy_of(spec)? else {
+            self.tasks.clear(task);
+            self.version += 1;
+            return Ok(());
+        };
+        if self.has_no_place_for(task) {
+            return Err(Refusal::TooManyTasks);
+        }
+        if self.tasks.set(task, policy).is_err() {
+            return Err(Refusal::NoMemory);
+        }
+        self.version += 1;
+        Ok(())
+    }
+
+    fn set_home(&mut self, start: u64, length: u64, node: u32) -> Result<(), Refusal>
+        requires { self.old.version < self.old.bounds.max_commands }
+        ensures { IsAnswer self.old (Command.SetHome start length node) result self.new }
+    {
+        let (first, pages) = span_of(start, length)?;
+        if node >= self.machine.nodes() {
+            return Err(Refusal::NoSuchNode);
+        }
+        if length == 0 {
+            self.version += 1;
+            return Ok(());
+        }
+        if self.pages.refuses_home(first, pages) {
+            return Err(Refusal::NotSupported);
+        }
+        self.pages.home_span(first, pages, node as u8)?;
+        self.version += 1;
+        Ok(())
+    }
+
+    fn set_weight(&mut self, node: u32, weight: u32) -> Result<(), Refusal>
+        requires { self.old.version < self.old.bounds.max_commands }
+        ensures { IsAnswer self.old (Command.SetWeight node weight) result self.new }
+    {
+        match self.weights.set(node, weight) {
+            Ok(()) => {}
+            Err(WeightFault::NoSuchNode) => return Err(Refusal::NoSuchNode),
+            Err(WeightFault::BadWeight) => return Err(Refusal::BadWeight),
+        }
+        self.version += 1;
+        Ok(())
+    }
+
+    fn set_mems(&mut self, mask: NodeMask) -> Result<(), Refusal>
+        requires { self.old.version < self.old.bounds.max_commands }
+        ensures { IsAnswer self.old (Command.SetMems mask) result self.new }
+    {
+        if has_node_from(&mask, self.machine.nodes()) {
+            return Err(Refusal::NoSuchNode);
+        }
+        let allowed = mask.and(&self.machine.memory());
+        if allowed.is_empty() {
+            return Err(Refusal::NodesNotAllowed);
+        }
+        let before = self.allowed;
+        self.pages.rebind(&before, &allowed);
+        self.tasks.rebind(&before, &allowed);
+        self.allowed = allowed;
+        self.version += 1;
+        Ok(())
+    }
+}

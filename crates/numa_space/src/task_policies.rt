@@ -1,0 +1,94 @@
+//! The policies of tasks.
+ghost use Rattle.std.specs.Prelude.{◌≡◌, ◌≢◌, ◌+◌, ◌==◌, ◌<◌, ℕ, Some, None, OnOk, OnErr, IsOk, [], length, is_some, slice_get, if◌then◌else◌, AllPairs, IfSome};
+ghost use Rattle.numa_space.specs.Standing.{record_of};
+ghost use Rattle.numa_space.specs.Steps.{rebound};
+
+use indexmap::IndexMap;
+use numa_mask::NodeMask;
+use numa_mode::Record;
+use std::alloc::{AllocError, Global};
+use std::marker::Model;
+
+/// The policy of each task that has one.
+#[derive(Drop)]
+pub(crate) struct Tasks {
+    records: IndexMap<u32, Record>,
+}
+
+impl Model for Tasks {
+    ghost use Rattle.std.specs.Prelude.{List, ℕ};
+    ghost use Rattle.numa_mode.specs.Policy.{PolicyRecord};
+
+    ghost Value = { List (ℕ × PolicyRecord) };
+
+    ghost view = { λ a. a.records.entries };
+}
+
+impl Tasks {
+    /// No task has a policy; takes no memory.
+    pub(crate) fn new(alloc: Global) -> Tasks
+        ensures { result ≡ [] }
+    {
+        Tasks {
+            records: IndexMap::new(alloc),
+        }
+    }
+
+    /// How many tasks have a policy.
+    pub(crate) fn len(&self) -> usize
+        ensures len { result ≡ length self.now }
+        ensures each_once { AllPairs (λ earlier later. earlier.0 ≢ later.0) self.now }
+    {
+        self.records.len()
+    }
+
+    /// The policy of a task.
+    pub(crate) fn get(&self, task: u32) -> Option<Record>
+        ensures { result ≡ record_of self.now task }
+    {
+        self.records.get(&task).copied()
+    }
+
+    /// The k-th task that has a policy, in the order in which they got one.
+    pub(crate) fn at(&self, k: usize) -> Option<(u32, Record)>
+        ensures at { result ≡ slice_get self.now k }
+        ensures record { IfSome result (λ held. record_of self.now held.0 ≡ Some held.1) }
+    {
+        match self.records.get_index(k) {
+            None => None,
+            Some((task, policy)) => Some((*task, *policy)),
+        }
+    }
+
+    /// Gives a task a policy.
+    pub(crate) fn set(&mut self, task: u32, policy: Record) -> Result<(), AllocError>
+        ensures records { OnOk result ((other : ℕ) → record_of self.new other ≡ if task == other then Some policy else record_of self.old other) }
+        ensures count { OnOk result (length self.new ≡ length self.old + (if is_some (record_of self.old task) then 0 else 1)) }
+        ensures err { OnErr result (self.new ≡ self.old) }
+    {
+        match self.records.insert(task, policy) {
+            Ok(_) => Ok(()),
+            Err(_) => Err(AllocError),
+        }
+    }
+
+    /// Takes a task's policy away, if it has one.
+    pub(crate) fn clear(&mut self, task: u32)
+        ensures records { (other : ℕ) → record_of self.new other ≡ if task == other then None else record_of self.old other }
+        ensures count { length self.new + (if is_some (record_of self.old task) then 1 else 0) ≡ length self.old }
+    {
+        let _ = self.records.shift_remove(&task);
+    }
+
+    /// Moves every policy with a change of the allowed nodes; takes no memory.
+    pub(crate) fn rebind(&mut self, old: &NodeMask, new: &NodeMask)
+        requires some { new.now ≢ 0 }
+        ensures records { (task : ℕ) → record_of self.new task ≡ rebound old.now new.now (record_of self.old task) }
+        ensures count { length self.new ≡ length self.old }
+    {
+        for k in 0..self.records.len() {
+            let moved = self.records[k].rebind(old, new);
+            self.records[k] = moved;
+        }
+    }
+}

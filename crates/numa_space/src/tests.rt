@@ -1,0 +1,487 @@
+//! Worked examples, made by hand from the rules of mbind(2), set_mempolicy(2), set_mempolicy_home_node(2) and "NUMA Memory
+//! Policy". Mode words are those of set_mempolicy(2): 2 is BIND, 0x8000 STATIC_NODES, 0x4000 RELATIVE_NODES.
+use super::*;
+use numa_machine::Machine;
+use numa_mask::{NodeId, NodeMask};
+use numa_mode::PolicySpec;
+use std::alloc::{AllocError, Global};
+use std::process::Abort;
+use std::test::Fail;
+
+/// A command, with its policy as a mode word and nodes.
+#[derive(Clone, Copy)]
+enum Asked<'a> {
+    Map(u64, u64, u64),
+    Unmap(u64, u64),
+    Mbind(u64, u64, u32, &'a [u8]),
+    Task(u32, u32, &'a [u8]),
+    Home(u64, u64, u32),
+    Weight(u32, u32),
+    Mems(&'a [u8]),
+}
+
+/// One line of an example.
+#[derive(Clone, Copy)]
+enum Step<'a> {
+    /// The command is accepted.
+    Does(Asked<'a>),
+    /// The command is refused so.
+    Refuses(Asked<'a>, Refusal),
+    /// The node list of a task and a page, for a fault on a node.
+    List(u32, u64, u32, &'a [u8]),
+    /// The same question, refused so.
+    NoList(u32, u64, u32, PlaceRefusal),
+    /// The first nodes of the lists of a task's pages from this one on, for faults on node 0.
+    Firsts(u32, u64, &'a [u8]),
+    /// How many ranges there are.
+    Ranges(usize),
+}
+
+use Asked::{Home, Map, Mbind, Mems, Task, Unmap, Weight};
+use Step::{Does, Firsts, List, NoList, Ranges, Refuses};
+
+fn set_of(nodes: &[u8]) -> NodeMask {
+    let mut set = NodeMask::empty();
+    for number in nodes {
+        if let Some(node) = NodeId::new(*number) {
+            set.insert(node);
+        }
+    }
+    set
+}
+
+fn spec_of(rt: &impl Abort, word: u32, nodes: &[u8]) -> PolicySpec {
+    PolicySpec::from_raw(word, set_of(nodes)).expect(rt, "a specification")
+}
+
+fn command_of(rt: &impl Abort, asked: &Asked) -> Command {
+    match asked {
+        Map(start, length, offset) => Command::Map {
+            start: *start,
+            length: *length,
+            offset: *offset,
+        },
+        Unmap(start, length) => Command::Unmap {
+            start: *start,
+            length: *length,
+        },
+        Mbind(start, length, word, nodes) => Command::Mbind {
+            start: *start,
+            length: *length,
+            spec: spec_of(rt, *word, nodes),
+        },
+        Task(task, word, nodes) => Command::SetTask {
+            task: *task,
+            spec: spec_of(rt, *word, nodes),
+        },
+        Home(start, length, node) => Command::SetHome {
+            start: *start,
+            length: *length,
+            node: *node,
+        },
+        Weight(node, weight) => Command::SetWeight {
+            node: *node,
+            weight: *weight,
+        },
+        Mems(nodes) => Command::SetMems {
+            mask: set_of(nodes),
+        },
+    }
+}
+
+/// The distances of a machine whose nodes are all 20 apart.
+fn flat(alloc: Global, nodes: u32) -> Result<Vec<u8>, AllocError> {
+    let mut table = Vec::new(alloc);
+    for from in 0..nodes {
+        for to in 0..nodes {
+            table.push(if from == to { 10 } else { 20 })?;
+        }
+    }
+    Ok(table)
+}
+
+/// A space of a machine with these nodes, memory and distances.
+fn space_of(
+    rt: &impl Abort,
+    alloc: Global,
+    nodes: u32,
+    memory: &[u8],
+    distances: &[u8],
+    limits: Limits,
+) -> Result<Space, AllocError> {
+    let mut frames = Vec::new(alloc);
+    for node in 0..nodes {
+        let has = memory.iter().any(|m| u32::from(*m) == node);
+        frames.push(if has { 8 } else { 0 })?;
+    }
+    let machine = Machine::new(alloc, nodes, set_of(memory), distances, frames.as_slice());
+    Ok(Space::new(alloc, machine.expect(rt, "a machine"), limits))
+}
+
+fn expect_list(rt: &impl Abort, space: &Space, place: (u32, u64, u32), want: &[u8], line: usize) {
+    let (task, page, cpu) = place;
+    let list = space.list_at(task, page, cpu).expect(rt, "a list");
+    assert_eq!(rt; list.as_slice(), want, "line {line}");
+}
+
+fn expect_firsts(rt: &impl Abort, space: &Space, task: u32, first: u64, want: &[u8], line: usize) {
+    let mut page = first;
+    for node in want {
+        let list = space.list_at(task, page, 0).expect(rt, "a list");
+        assert_eq!(rt;
+            list.first().copied(),
+            Some(*node),
+            "line {line}, page {page}"
+        );
+        page = page.saturating_add(1);
+    }
+}
+
+fn play(rt: &impl Abort, space: &mut Space, steps: &[Step]) {
+    for (line, step) in steps.iter().enumerate() {
+        match step {
+            Does(asked) => {
+                assert_eq!(rt; space.apply(&command_of(rt, asked)), Ok(()), "line {line}");
+            }
+            Refuses(asked, refusal) => {
+                assert_eq!(rt;
+                    space.apply(&command_of(rt, asked)),
+                    Err(*refusal),
+                    "line {line}"
+                );
+            }
+            List(task, page, cpu, want) => expect_list(rt, space, (*task, *page, *cpu), want, line),
+            NoList(task, page, cpu, refusal) => {
+                let answer = space.list_at(*task, *page, *cpu);
+                assert_eq!(rt; answer.err(), Some(*refusal), "line {line}");
+            }
+            Firsts(task, page, want) => expect_firsts(rt, space, *task, *page, want, line),
+            Ranges(want) => {
+                assert_eq!(rt; space.ranges(), *want, "line {line}");
+            }
+        }
+    }
+}
+
+fn limits_of(rt: &impl Abort, ranges: u32, tasks: u32, commands: u32) -> Limits {
+    Limits::new(ranges, tasks, commands).expect(rt, "limits")
+}
+
+/// Plays an example on a machine of this many nodes, 20 apart, all with memory.
+fn play_flat(rt: &impl Abort, alloc: Global, nodes: u32, steps: &[Step]) -> Result<(), AllocError> {
+    let all = [0, 1, 2, 3, 4, 5, 6, 7, 8, 9];
+    let table = flat(alloc, nodes)?;
+    let memory = all.get(..nodes as usize).expect(rt, "ten nodes at most");
+    let limits = limits_of(rt, 64, 8, 1000);
+    let mut space = space_of(rt, alloc, nodes, memory, table.as_slice(), limits)?;
+    play(rt, &mut space, steps);
+    Ok(())
+}
+
+#[test]
+fn spans_and_their_refusals(rt: HostRuntime) -> Result<(), Fail> {
+    let alloc = rt.alloc();
+    let first_run = [
+        Does(Map(0x10000, 0x2000, 0)),
+        Does(Mbind(0x10000, 0x1000, 2, &[1])),
+        List(1, 16, 0, &[1]),
+        List(1, 17, 0, &[0, 1]),
+    ];
+    play_flat(&rt, alloc, 2, &first_run)?;
+    let hole = [
+        Does(Map(0x10000, 0x1000, 0)),
+        Does(Map(0x12000, 0x1000, 2)),
+        Refuses(Mbind(0x10000, 0x3000, 2, &[1]), Refusal::Hole),
+        List(1, 16, 0, &[0, 1]),
+        NoList(1, 17, 0, PlaceRefusal::Unmapped),
+        NoList(1, 17, 2, PlaceRefusal::BadCpu),
+    ];
+    play_flat(&rt, alloc, 2, &hole)?;
+    let ends = [
+        Does(Map(0x7fff_ffff_f000, 0x1000, 0)),
+        Refuses(Map(0x7fff_ffff_f000, 0x1001, 0), Refusal::OutOfSpace),
+        Refuses(Map(0x10000, 0, 0), Refusal::EmptyLength),
+        Does(Mbind(0x20000, 0, 2, &[1])),
+        Does(Map(0x10000, 1, 0)),
+        List(1, 16, 0, &[0, 1]),
+        Refuses(Map(0x10001, 1, 0), Refusal::Unaligned),
+        Refuses(Map(0x30000, 1, 34_359_738_368), Refusal::BadOffset),
+        Refuses(Map(0x10000, 0x2000, 5), Refusal::Overlap),
+    ];
+    play_flat(&rt, alloc, 2, &ends)?;
+    Ok(())
+}
+
+#[test]
+fn ranges_split_and_join(rt: HostRuntime) -> Result<(), Fail> {
+    let alloc = rt.alloc();
+    let split_and_join = [
+        Does(Map(0x10000, 0xa000, 0)),
+        Does(Task(1, 3, &[0, 1, 2, 3])),
+        Does(Mbind(0x13000, 0x3000, 2, &[2])),
+        Firsts(1, 16, &[0, 1, 2, 2, 2, 2, 2, 3, 0, 1]),
+        Ranges(3),
+        Does(Mbind(0x13000, 0x3000, 0, &[])),
+        Firsts(1, 16, &[0, 1, 2, 3, 0, 1, 2, 3, 0, 1]),
+        Ranges(1),
+    ];
+    play_flat(&rt, alloc, 4, &split_and_join)?;
+    let indexes_apart = [
+        Does(Map(0x10000, 0x1000, 0)),
+        Does(Map(0x11000, 0x1000, 6)),
+        Does(Map(0x12000, 0x1000, 7)),
+        Ranges(2),
+        Does(Task(1, 3, &[0, 1, 2, 3])),
+        Firsts(1, 16, &[0, 2, 3]),
+        Does(Unmap(0xf000, 0x3000)),
+        Ranges(1),
+        Firsts(1, 18, &[3]),
+    ];
+    play_flat(&rt, alloc, 4, &indexes_apart)?;
+    Ok(())
+}
+
+#[test]
+fn limits_are_kept(rt: HostRuntime) -> Result<(), Fail> {
+    let alloc = rt.alloc();
+    let limits = [
+        Does(Map(0x10000, 0x3000, 0)),
+        Refuses(Mbind(0x11000, 0x1000, 2, &[1]), Refusal::TooManyRanges),
+        Ranges(1),
+        Does(Mbind(0x10000, 0x1000, 2, &[1])),
+        Does(Task(1, 4, &[])),
+        Refuses(Task(2, 4, &[]), Refusal::TooManyTasks),
+        Does(Task(1, 0, &[])),
+        Refuses(Task(1, 4, &[]), Refusal::CommandsSpent),
+    ];
+    let table = [10, 20, 20, 10];
+    let mut space = space_of(&rt, alloc, 2, &[0, 1], &table, limits_of(&rt, 2, 1, 4))?;
+    play(&rt, &mut space, &limits);
+    assert_eq!(rt; space.version(), 4);
+    let range_limit = [
+        Does(Map(0x10000, 0x3000, 0)),
+        Refuses(Unmap(0x11000, 0x1000), Refusal::TooManyRanges),
+        Does(Unmap(0x12000, 0x5000)),
+        NoList(1, 18, 0, PlaceRefusal::Unmapped),
+        Does(Map(0x12000, 0x1000, 2)),
+        Ranges(1),
+        Refuses(Map(0x13000, 0x1000, 9), Refusal::TooManyRanges),
+    ];
+    let mut space = space_of(&rt, alloc, 1, &[0], &[10], limits_of(&rt, 1, 1, 9))?;
+    play(&rt, &mut space, &range_limit);
+    assert_eq!(rt; Limits::new(65_537, 1, 1), None);
+    assert_eq!(rt; Limits::new(1, 1_025, 1), None);
+    let greatest = limits_of(&rt, 65_536, 1_024, 4_294_967_295);
+    assert_eq!(rt; greatest.max_ranges(), 65_536);
+    assert_eq!(rt; greatest.max_tasks(), 1_024);
+    assert_eq!(rt; greatest.max_commands(), 4_294_967_295);
+    Ok(())
+}
+
+#[test]
+fn policies_after_a_change_of_nodes(rt: HostRuntime) -> Result<(), Fail> {
+    let alloc = rt.alloc();
+    let interleave = [
+        Does(Map(0x10000, 0x6000, 0)),
+        Does(Mems(&[1, 2, 3])),
+        Does(Task(1, 3, &[1, 2, 3])),
+        Does(Task(2, 0x8003, &[1, 2, 3])),
+        Does(Mems(&[3, 4, 5])),
+        Firsts(1, 16, &[3, 4, 5, 3, 4, 5]),
+        Firsts(2, 16, &[3, 3, 3, 3, 3, 3]),
+    ];
+    play_flat(&rt, alloc, 6, &interleave)?;
+    let relative = [
+        Does(Map(0x10000, 0x4000, 0)),
+        Does(Mems(&[2, 3, 4, 5])),
+        Does(Task(1, 0x4003, &[2, 3, 4, 5])),
+        Firsts(1, 16, &[2, 3, 4, 5]),
+        Does(Mems(&[3, 4, 5, 6, 7])),
+        Firsts(1, 16, &[3, 5, 6, 7]),
+        Does(Mems(&[0, 2, 3, 5])),
+        Firsts(1, 16, &[0, 2, 3, 5]),
+    ];
+    play_flat(&rt, alloc, 8, &relative)?;
+    let not_restored = [
+        Does(Map(0x10000, 0x3000, 0)),
+        Does(Mems(&[1, 2, 3, 4, 5])),
+        Does(Task(1, 3, &[1, 3, 5])),
+        Does(Task(2, 2, &[1, 3, 5])),
+        Firsts(1, 16, &[1, 3, 5]),
+        Does(Mems(&[7, 8, 9])),
+        Firsts(1, 16, &[7, 8, 9]),
+        List(2, 16, 0, &[7, 8, 9]),
+        Does(Mems(&[1, 2, 3, 4, 5])),
+        Firsts(1, 16, &[1, 2, 3]),
+        List(2, 16, 0, &[1, 2, 3]),
+    ];
+    play_flat(&rt, alloc, 10, &not_restored)?;
+    Ok(())
+}
+
+#[test]
+fn policies_that_wait(rt: HostRuntime) -> Result<(), Fail> {
+    let alloc = rt.alloc();
+    let without_overlap = [
+        Does(Map(0x10000, 0x1000, 0)),
+        Does(Task(1, 1, &[3])),
+        Does(Mbind(0x10000, 0x1000, 0x8002, &[1])),
+        List(1, 16, 0, &[1]),
+        Does(Mems(&[2, 3])),
+        List(1, 16, 0, &[3, 2]),
+        Does(Mems(&[0, 1, 2, 3])),
+        List(1, 16, 0, &[1]),
+    ];
+    play_flat(&rt, alloc, 4, &without_overlap)?;
+    let task_not_restored = [
+        Does(Map(0x10000, 0x1000, 0)),
+        Does(Task(1, 2, &[2])),
+        Does(Mbind(0x10000, 0x1000, 0x8002, &[1])),
+        Does(Mems(&[2, 3])),
+        List(1, 16, 0, &[2]),
+        Does(Mems(&[0, 1, 2, 3])),
+        List(1, 16, 0, &[1]),
+        Does(Mbind(0x10000, 0x1000, 0, &[])),
+        List(1, 16, 0, &[0]),
+    ];
+    play_flat(&rt, alloc, 4, &task_not_restored)?;
+    let relative_wraps = [
+        Does(Map(0x10000, 0x1000, 0)),
+        Does(Mems(&[1, 2, 3, 4])),
+        Does(Task(1, 0x4002, &[5])),
+        List(1, 16, 0, &[2]),
+        Refuses(Task(1, 2, &[5]), Refusal::NodesNotAllowed),
+    ];
+    play_flat(&rt, alloc, 6, &relative_wraps)?;
+    Ok(())
+}
+
+#[test]
+fn distances_homes_and_weights(rt: HostRuntime) -> Result<(), Fail> {
+    let alloc = rt.alloc();
+    let limits = limits_of(&rt, 64, 8, 1000);
+    let near = [10, 15, 20, 15, 10, 20, 20, 15, 10];
+    let homes = [
+        Does(Map(0x10000, 0x4000, 0)),
+        Does(Mbind(0x10000, 0x2000, 2, &[0, 1])),
+        Does(Mbind(0x12000, 0x1000, 3, &[0, 1, 2])),
+        Refuses(Home(0x10000, 0x3000, 2), Refusal::NotSupported),
+        Refuses(Home(0x10000, 0x1000, 3), Refusal::NoSuchNode),
+        Does(Home(0x11000, 0x1000, 2)),
+        List(1, 16, 0, &[0, 1]),
+        List(1, 17, 0, &[1, 0]),
+        Ranges(4),
+        Does(Mbind(0x11000, 0x1000, 2, &[0, 1])),
+        Ranges(3),
+        Does(Home(0x13000, 0x2000, 2)),
+        List(1, 19, 0, &[0, 1, 2]),
+        Does(Mbind(0x13000, 0x1000, 5, &[1])),
+        Does(Home(0x13000, 0x1000, 2)),
+        List(1, 19, 0, &[1, 2, 0]),
+        Does(Home(0x20000, 0, 2)),
+        Refuses(Home(0x20000, 0, 3), Refusal::NoSuchNode),
+    ];
+    let mut space = space_of(&rt, alloc, 3, &[0, 1, 2], &near, limits)?;
+    play(&rt, &mut space, &homes);
+    let scopes = [
+        Does(Map(0x10000, 0x3000, 0)),
+        Does(Task(1, 2, &[0, 1])),
+        Does(Mbind(0x11000, 0x1000, 2, &[1, 2])),
+        Does(Mbind(0x12000, 0x1000, 4, &[])),
+        List(1, 16, 2, &[1, 0]),
+        List(1, 17, 0, &[1, 2]),
+        List(1, 18, 2, &[2, 1, 0]),
+        List(2, 16, 1, &[1, 0, 2]),
+        Does(Mbind(0x11000, 0x1000, 0, &[])),
+        List(1, 17, 2, &[1, 0]),
+        Does(Task(1, 0, &[])),
+        List(1, 17, 2, &[2, 1, 0]),
+    ];
+    let mut space = space_of(&rt, alloc, 3, &[0, 1, 2], &near, limits)?;
+    play(&rt, &mut space, &scopes);
+    let without_memory = [
+        Does(Map(0x10000, 0x1000, 0)),
+        List(1, 16, 1, &[0, 2]),
+        List(1, 16, 2, &[2, 0]),
+        NoList(1, 16, 3, PlaceRefusal::BadCpu),
+        Refuses(Mems(&[1]), Refusal::NodesNotAllowed),
+        Refuses(Mems(&[3]), Refusal::NoSuchNode),
+        Does(Mems(&[0, 1])),
+        List(1, 16, 2, &[0]),
+    ];
+    let far = [10, 20, 255, 20, 10, 20, 255, 20, 10];
+    let mut space = space_of(&rt, alloc, 3, &[0, 2], &far, limits)?;
+    play(&rt, &mut space, &without_memory);
+    let weights = [
+        Does(Weight(0, 5)),
+        Does(Weight(1, 2)),
+        Refuses(Weight(2, 1), Refusal::NoSuchNode),
+        Refuses(Weight(0, 0), Refusal::BadWeight),
+        Refuses(Weight(0, 256), Refusal::BadWeight),
+        Does(Map(0x10000, 0x6000, 3)),
+        Does(Task(1, 6, &[0, 1])),
+        Firsts(1, 16, &[0, 0, 1, 1, 0, 0]),
+    ];
+    play_flat(&rt, alloc, 2, &weights)?;
+    Ok(())
+}
+
+#[test]
+fn what_a_space_tells(rt: HostRuntime) -> Result<(), Fail> {
+    let table = [10, 20, 20, 10];
+    let limits = limits_of(&rt, 64, 8, 1000);
+    let mut space = space_of(&rt, rt.alloc(), 2, &[0, 1], &table, limits)?;
+    let bind = spec_of(&rt, 2, &[1]);
+    space.apply_all(&[
+        command_of(&rt, &Map(0x10000, 0x3000, 7)),
+        command_of(&rt, &Map(0x11000, 0x1000, 7)),
+        command_of(&rt, &Mbind(0x11000, 0x1000, 2, &[1])),
+        command_of(&rt, &Task(9, 2, &[1])),
+        command_of(&rt, &Weight(1, 3)),
+        command_of(&rt, &Mems(&[1])),
+    ]);
+    assert_eq!(rt; space.version(), 5);
+    assert_eq!(rt; space.machine().nodes(), 2);
+    assert_eq!(rt; space.allowed(), set_of(&[1]));
+    assert_eq!(rt; space.weights().get(1), 3);
+    assert_eq!(rt; space.task_count(), 1);
+    let (task, policy) = space.task_at(0).ok_or("a task")?;
+    assert_eq!(rt; task, 9);
+    assert_eq!(rt; policy.spec(), bind);
+    assert_eq!(rt; space.task_at(1), None);
+    let own = space.policy_at(1, 17).ok_or("a policy")?;
+    assert_eq!(rt; own.effective(), set_of(&[1]));
+    assert_eq!(rt; space.policy_at(1, 16), None);
+    assert_eq!(rt; space.ranges(), 3);
+    let want = [(16, 1, 7, false), (17, 1, 8, true), (18, 1, 9, false)];
+    for (range, (first, pages, index, has_policy)) in space.range_iter().zip(want) {
+        assert_eq!(rt; range.first, first);
+        assert_eq!(rt; range.pages, pages);
+        assert_eq!(rt; range.index, index);
+        assert_eq!(rt; range.value.policy().is_some(), has_policy);
+    }
+    Ok(())
+}
+
+#[test]
+fn error_numbers(rt: HostRuntime) {
+    let table = [
+        (Refusal::CommandsSpent, Errno::ENoSpc),
+        (Refusal::Unaligned, Errno::EInval),
+        (Refusal::OutOfSpace, Errno::ENoMem),
+        (Refusal::EmptyLength, Errno::EInval),
+        (Refusal::BadOffset, Errno::EInval),
+        (Refusal::Overlap, Errno::EExist),
+        (Refusal::Hole, Errno::EFault),
+        (Refusal::NoSuchNode, Errno::EInval),
+        (Refusal::BadWeight, Errno::EInval),
+        (Refusal::NodesNotAllowed, Errno::EInval),
+        (Refusal::NotSupported, Errno::EOpNotSupp),
+        (Refusal::TooManyTasks, Errno::ENoMem),
+        (Refusal::TooManyRanges, Errno::ENoMem),
+        (Refusal::NoMemory, Errno::ENoMem),
+    ];
+    for (refusal, errno) in table {
+        assert_eq!(rt; refusal.errno(), errno, "{refusal:?}");
+    }
+}
