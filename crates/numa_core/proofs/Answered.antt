@@ -1,0 +1,121 @@
+-- What an answer says of its step.
+use Rattle.std.proofs.Common.{◌≡◌, ℕ, ◌==◌, ◌⊎◌, inl, inr, Bool, true, false, Option, Some, None, Result, Ok, Err, is_some, List, [], ◌∷◌, ◌++◌, refl, sym, ap, ◌∙◌, arith, nat_le, not, is_none, unwrap_or, if◌then◌else◌}
+use Rattle.std.specs.Option.{option_map_or}
+use Rattle.std.proofs.lemmas.Bool.Decides.{nat_tests}
+use Rattle.numa_core.specs.declared.request.Request.{Request}
+use Rattle.numa_core.specs.declared.frame.Frame.{Frame}
+use Rattle.numa_core.specs.declared.placement.Placement.{Placement}
+use Rattle.numa_core.specs.declared.event.Event.{Event}
+use Rattle.numa_core.specs.declared.event.Event.TheVariants.{Accept, Publish, Begin, Look, Try, Give}
+use Rattle.numa_core.specs.declared.event.Reply.{Reply}
+use Rattle.numa_core.specs.declared.event.Reply.TheVariants.{Still, Exhausted, Won}
+use Rattle.numa_core.specs.declared.event.CoreRefusal.{CoreRefusal}
+use Rattle.numa_core.specs.declared.event.CoreRefusal.TheVariants.{NoSuchWorker, Busy, Idle, BadTry, NotOwned, BadCpu, Unmapped}
+use Rattle.numa_core.specs.World.{Setup, Hunt, World, hunt_of, owner_of, is_frame, list_at, current_rank, looked, missed, may_try, begun}
+use Rattle.numa_core.specs.Steps.{first_refusal, refusal_of, reply_of, refused_or, goes_on, placement_of, owns, IsAnswer, IsOutOfMemory}
+use Rattle.numa_core.specs.Runs.{Moment, IsLegalRun}
+
+-- what came earlier is a legal run
+pub legal_before : (s : Setup) (later rest : List Moment) → IsLegalRun s (later ++ rest) → IsLegalRun s rest
+legal_before s [] rest legal = legal
+legal_before s (m ∷ later) rest legal = legal_before s later rest legal.0
+
+not_ok : (event : Event) (reply : Reply) → IsOutOfMemory event (Ok reply) → ⊥
+not_ok (Accept command) reply h = cc
+not_ok Publish reply h = cc
+not_ok (Begin w request) reply h = h
+not_ok (Look w word) reply h = h
+not_ok (Try w frame) reply h = h
+not_ok (Give w frame) reply h = h
+
+same_reply : (a b : Reply) → ◌≡◌ {A = Result Reply CoreRefusal} (Ok a) (Ok b) → a ≡ b
+same_reply a b e = cc
+
+no_refusal : (a : Reply) (b : CoreRefusal) → ◌≡◌ {A = Result Reply CoreRefusal} (Ok a) (Err b) → ⊥
+no_refusal a b e = cc
+
+-- a reply says that nothing refused the event, and is the one that the world gives
+pub replied : (s : Setup) (world : World) (version : ℕ) (event : Event) (reply : Reply) → IsAnswer s world version event (Ok reply) → (refusal_of s world version event ≡ None) × (reply ≡ reply_of s world version event)
+replied s world version event reply answer = go (refusal_of s world version event) answer
+  where
+    go : (o : Option CoreRefusal) → (◌≡◌ {A = Result Reply CoreRefusal} (Ok reply) (refused_or o (reply_of s world version event))) ⊎ ((o ≡ None) × IsOutOfMemory event (Ok reply)) → (o ≡ None) × (reply ≡ reply_of s world version event)
+    go None (inl e) = (refl, same_reply reply (reply_of s world version event) e)
+    go (Some refusal) (inl e) = absurd (no_refusal reply refusal e)
+    go o (inr h) = absurd (not_ok event reply h.1)
+
+not_false : (b : Bool) → not b ≡ false → b ≡ true
+not_false true e = refl
+not_false false e = absurd (cc)
+
+four_rows : (a b c d : Bool) (x y z t : CoreRefusal) → first_refusal ((a, x) ∷ (b, y) ∷ (c, z) ∷ (d, t) ∷ []) ≡ None → (a ≡ false) × (b ≡ false) × (c ≡ false) × (d ≡ false)
+four_rows true b c d x y z t h = absurd (cc)
+four_rows false true c d x y z t h = absurd (cc)
+four_rows false false true d x y z t h = absurd (cc)
+four_rows false false false true x y z t h = absurd (cc)
+four_rows false false false false x y z t h = (refl, refl, refl, refl)
+
+-- where three conditions refuse nothing, none of them holds
+three_rows : (a b c : Bool) (x y z : CoreRefusal) → first_refusal ((a, x) ∷ (b, y) ∷ (c, z) ∷ []) ≡ None → (a ≡ false) × (b ≡ false) × (c ≡ false)
+three_rows true b c x y z h = absurd (cc)
+three_rows false true c x y z h = absurd (cc)
+three_rows false false true x y z h = absurd (cc)
+three_rows false false false x y z h = (refl, refl, refl)
+
+-- a Begin that isn't refused has a list
+pub begin_means : (s : Setup) (world : World) (version w : ℕ) (request : Request) → refusal_of s world version (Begin w request) ≡ None → list_at s.machine world.history version request ≡ Some (begun s world version request).nodes
+begin_means s world version w request h = go (list_at s.machine world.history version request) (four_rows (nat_le s.workers w) (is_some (hunt_of world w)) (nat_le s.machine.nodes request.cpu) (is_none (list_at s.machine world.history version request)) NoSuchWorker Busy BadCpu (Unmapped version) h).3
+  where
+    go : (o : Option (List ℕ)) → is_none o ≡ false → o ≡ Some (unwrap_or o [])
+    go None e = absurd (cc)
+    go (Some nodes) e = refl
+
+-- a Give that isn't refused is by the owner
+pub give_means : (s : Setup) (world : World) (version w : ℕ) (frame : Frame) → refusal_of s world version (Give w frame) ≡ None → owner_of world frame ≡ Some w
+give_means s world version w frame h = go (owner_of world frame) (three_rows (nat_le s.workers w) (is_some (hunt_of world w)) (not (owns world w frame)) NoSuchWorker Busy NotOwned h).2
+  where
+    go : (o : Option ℕ) → not (option_map_or (λ v. v == w) o false) ≡ false → o ≡ Some w
+    go None e = absurd (cc)
+    go (Some v) e = ap Some (same v w e)
+      where
+        same : (v w : ℕ) → not (v == w) ≡ false → v ≡ w
+        same v w e = grind (arith, nat_tests)
+
+-- a Try that isn't refused is of an unmet frame of the current node
+pub try_means : (s : Setup) (world : World) (version w : ℕ) (frame : Frame) (hunt : Hunt) → refusal_of s world version (Try w frame) ≡ None → hunt_of world w ≡ Some hunt → may_try s hunt frame ≡ true
+try_means s world version w frame hunt h is = not_false _ (sym (ap (λ o. not (option_map_or (λ hunt. may_try s hunt frame) o false)) is) ∙ (three_rows (nat_le s.workers w) (is_none (hunt_of world w)) (not (option_map_or (λ hunt. may_try s hunt frame) (hunt_of world w) false)) NoSuchWorker Idle BadTry h).2)
+
+-- two frames are one where the test says so
+pub one_frame : (frame : Frame) (n k : ℕ) → is_frame frame n k ≡ true → (n ≡ frame.node) × (k ≡ frame.number)
+one_frame frame n k h = grind (arith, nat_tests)
+
+goes_on-not_won : (s : Setup) (hunt : Hunt) (placement : Placement) → Won placement ≡ goes_on s hunt → ⊥
+goes_on-not_won s hunt placement = go (current_rank s hunt)
+  where
+    go : (o : Option ℕ) → Won placement ≡ (if is_some o then Still else Exhausted hunt.version) → ⊥
+    go None e = cc
+    go (Some rank) e = cc
+
+-- a reply that won
+pub won_means : (s : Setup) (world : World) (w version : ℕ) (frame : Frame) (placement : Placement) → Won placement ≡ reply_of s world version (Try w frame) → (hunt : Hunt) × (hunt_of world w ≡ Some hunt) × (owner_of world frame ≡ None) × (placement ≡ placement_of s hunt frame)
+won_means s world w version frame placement = go (owner_of world frame) (hunt_of world w)
+  where
+    go : (owner : Option ℕ) (o : Option Hunt) → Won placement ≡ (if is_some owner then option_map_or (λ hunt. goes_on s (missed frame hunt)) o Still else option_map_or (λ hunt. Won (placement_of s hunt frame)) o Still) → (hunt : Hunt) × (o ≡ Some hunt) × (owner ≡ None) × (placement ≡ placement_of s hunt frame)
+    go (Some v) None e = absurd (cc)
+    go (Some v) (Some hunt) e = absurd (goes_on-not_won s (missed frame hunt) placement e)
+    go None None e = absurd (cc)
+    go None (Some hunt) e = (hunt, refl, refl, cc)
+
+-- only a Try wins, and the frame that it tried
+pub won_by_try : (s : Setup) (world : World) (version : ℕ) (event : Event) (placement : Placement) → Won placement ≡ reply_of s world version event → (w : ℕ) × (event ≡ Try w placement.frame)
+won_by_try s world version (Accept command) placement e = absurd (cc)
+won_by_try s world version Publish placement e = absurd (cc)
+won_by_try s world version (Begin w request) placement e = absurd (goes_on-not_won s (begun s world version request) placement e)
+won_by_try s world version (Look w word) placement e = absurd (go (hunt_of world w) e)
+  where
+    go : (o : Option Hunt) → Won placement ≡ option_map_or (λ hunt. goes_on s (looked s world word hunt)) o Still → ⊥
+    go None e = cc
+    go (Some hunt) e = goes_on-not_won s (looked s world word hunt) placement e
+won_by_try s world version (Try w frame) placement e =
+    let win = won_means s world w version frame placement e in
+    (w, ap (λ f. Try w f) (sym (ap (λ (p : Placement). p.frame) win.3)))
+won_by_try s world version (Give w frame) placement e = absurd (cc)

@@ -1,0 +1,3 @@
+pub mod World
+pub mod Steps
+pub mod Runs

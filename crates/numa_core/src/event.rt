@@ -1,0 +1,65 @@
+//! Events, replies and refusals of the core.
+use crate::frame::Frame;
+use crate::placement::Placement;
+use crate::request::Request;
+use numa_space::{Command, Refusal};
+
+/// One atomic step of the core. Workers are numbered from 0. A word is 64 frames of a node: word 0 is the frames 0 to 63,
+/// word 1 the frames 64 to 127, and so on.
+#[derive(Clone, Copy, Debug, PartialEq, Eq)]
+pub enum Event {
+    /// A command is to be accepted.
+    Accept(Command),
+    /// All accepted commands are published.
+    Publish,
+    /// A worker takes a published version, and that version's node list for the request.
+    Begin(u32, Request),
+    /// A worker looks at a word of its current node, the first listed one with a frame that it has not met. Each owned
+    /// frame there counts as met.
+    Look(u32, u32),
+    /// A worker tries a frame of its current node that it has not met. A free frame becomes the worker's; an owned one
+    /// counts as met.
+    Try(u32, Frame),
+    /// A worker gives a frame back.
+    Give(u32, Frame),
+}
+
+/// What an event that isn't refused answers.
+#[derive(Debug, PartialEq, Eq, Drop)]
+pub enum Reply {
+    /// The command was accepted: how many now are.
+    Accepted(u64),
+    /// The commands were published: how many.
+    Published(u64),
+    /// The worker has a current node, and goes on.
+    Still,
+    /// The worker has met every frame of every listed node, and is idle. The version is that of its Begin.
+    Exhausted(u64),
+    /// The frame was free and is the worker's now, and the worker is idle.
+    Won(Placement),
+    /// The frame is free.
+    Given,
+}
+
+/// Why an event was refused, in the order in which the causes are looked for.
+#[derive(Clone, Copy, Debug, PartialEq, Eq)]
+pub enum CoreRefusal {
+    /// The command was refused, for this cause. Want of memory for an Accept is a cause too.
+    Command(Refusal),
+    /// There are not so many workers.
+    NoSuchWorker,
+    /// A Begin or a Give of a worker that is still looking for a frame.
+    Busy,
+    /// A Look or a Try of a worker that looks for no frame.
+    Idle,
+    /// A word that the current node lacks, or a frame that isn't an unmet one of the current node.
+    BadTry,
+    /// A Give of a frame that the worker doesn't own.
+    NotOwned,
+    /// The faulting node is no node of the machine.
+    BadCpu,
+    /// The page isn't mapped in the version that the worker took.
+    Unmapped(u64),
+    /// Memory for a Publish was not to be had.
+    NoMemory,
+}
