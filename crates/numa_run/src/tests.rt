@@ -45,7 +45,7 @@ fn scripts(rt: HostRuntime) -> Result<(), Fail> {
              bad machine NodeCount\nbad machine NoMemoryNode\nlimits ok\nready\nbad state\n\
              bad state\nok 1\nranges 0\nok 2\nrefused TooManyRanges ENOMEM\nranges 1\n",
         ),
-        // Weights, homes, tasks and allowed nodes: the memory policy's worked cases of set_mempolicy(2) and mbind(2).
+        // Homes, weights, changes of the allowed nodes, and refusals of nodes that the machine lacks.
         (
             "machine 4 0-3 8 flat\nmap 0x10000 0x4000 0\nmbind 0x10000 0x1000 bind:1-2\nhome 0x10000 0x1000 2\n\
              place 1 0x10000 0\nhome 0x10000 0x1000 4\ntask 1 weighted:0,3\nweight 3 2\nweight 4 1\n\

@@ -1,22 +1,19 @@
 -- What the changes of a space's parts make of the space.
-use Rattle.std.proofs.Common.{◌≡◌, ◌≢◌, ◌<◌, ◌≤◌, ◌+◌, ◌-◌, ℕ, Bool, true, false, not, ◌&&◌, eqb, Option, Some, None, is_some, Result, Ok, Err, MatchOption, MatchResult, List, [], ◌∷◌, length, refl, sym, ap, ◌∙◌, subst, arith, nat_eq}
-use Rattle.std.specs.Prelude.{if◌then◌else◌, nat_le, nat_lt, ◌==◌}
-use Rattle.std.proofs.lemmas.Bool.{lt-leb, cases_Bool}
-use Rattle.std.proofs.Common.{inl, inr}
+use Rattle.std.proofs.Common.{◌≡◌, ◌<◌, ◌+◌, ◌-◌, ℕ, Bool, true, false, not, ◌&&◌, Option, Some, None, is_some, Result, Ok, Err, List, [], ◌∷◌, length, refl, ap, ◌∙◌, subst, arith}
+use Rattle.std.specs.Prelude.{if◌then◌else◌, nat_le, ◌==◌}
+use Rattle.std.proofs.lemmas.Bool.{lt-leb}
 use Rattle.std.specs.List.{list_any}
 use Rattle.numa_mask.specs.NodeSet.{both, members}
-use Rattle.numa_machine.specs.Machine.{Hardware}
 use Rattle.numa_mode.specs.Policy.{Specification, PolicyRecord, is_default, record_when_set}
 use Rattle.numa_ranges.specs.Runs.{page_at}
 use Rattle.numa_ranges.specs.Maps.{any_page, changed_span, changed_page}
 use Rattle.numa_ranges.specs.declared.run.Run.{Run}
-use Rattle.numa_space.specs.declared.command.Command.{Command}
 use Rattle.numa_space.specs.declared.command.Command.TheVariants.{Mbind, SetTask, SetMems}
 use Rattle.numa_space.specs.declared.refusal.Refusal.{Refusal}
-use Rattle.numa_space.specs.declared.refusal.Refusal.TheVariants.{CommandsSpent, NoMemory, TooManyTasks, NoSuchNode, NodesNotAllowed}
+use Rattle.numa_space.specs.declared.refusal.Refusal.TheVariants.{NoMemory, NoSuchNode, NodesNotAllowed}
 use Rattle.numa_space.specs.Edits.{PageRanges, IsEdit, hole_cause, too_many}
 use Rattle.numa_space.specs.History.{page_of, page_count}
-use Rattle.numa_space.specs.Refusals.{PageMap, bad_span, first_of, when, has_no_node, refusal_in}
+use Rattle.numa_space.specs.Refusals.{PageMap, bad_span, first_of, has_no_node, refusal_in}
 use Rattle.numa_space.specs.Standing.{SpaceState, record_of}
 use Rattle.numa_space.specs.Steps.{IsAnswer, IsNext, scene_in, record_now, rebound}
 

@@ -1,8 +1,7 @@
 -- The nodes of an order that pass a test, one by one, and the nodes that a set's turns choose.
-use Rattle.std.proofs.Common.{zero, suc, slice_get, slice_index, Some, ◌≡◌, ◌≢◌, ◌<◌, ◌≤◌, ◌+◌, ◌*◌, ◌%◌, ◌^◌, ℕ, Bool, true, List, [], ◌∷◌, ◌++◌, length, get_or, drop, filter, drop-cons, add-one, length-append, sum_by, refl, sym, ap, ◌∙◌, subst, arith}
+use Rattle.std.proofs.Common.{zero, suc, slice_get, slice_index, Some, ◌≡◌, ◌<◌, ◌+◌, ◌%◌, ℕ, Bool, true, List, [], ◌∷◌, ◌++◌, length, get_or, drop, filter, drop-cons, add-one, length-append, refl, ap, ◌∙◌, arith}
 use Rattle.std.proofs.lemmas.List.Elements.{All-contains}
 use Rattle.numa_mask.specs.NodeSet.{has, members, weight_of}
-use Rattle.numa_mask.proofs.Images.{weight-some}
 use Rattle.numa_mask.proofs.Sets.{members-have}
 use Rattle.numa_machine.specs.Weights.{interleave_node, total_weight, weighted_node}
 use Rattle.numa_machine.proofs.Blocks.{IsWeightedNode-weighted_node}

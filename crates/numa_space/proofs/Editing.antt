@@ -1,5 +1,5 @@
 -- What a map of pages answers, as a space's refusals.
-use Rattle.std.proofs.Common.{◌≡◌, ℕ, ◌+◌, Bool, true, false, Option, Some, None, Result, Ok, Err, OnOk, OnErr, IfErr, MatchOption, MatchResult, is_some, not, refl, sym, ap, ◌∙◌, subst}
+use Rattle.std.proofs.Common.{◌≡◌, ℕ, Bool, true, false, Option, Some, None, Result, Ok, Err, OnOk, OnErr, IfErr, MatchResult, is_some, not, refl, sym, ap, ◌∙◌, subst}
 use Rattle.std.specs.Prelude.{nat_lt, if◌then◌else◌}
 use Rattle.std.specs.Option.{option_map}
 use Rattle.numa_mode.specs.Policy.{PolicyRecord}
@@ -11,7 +11,7 @@ use Rattle.numa_ranges.specs.Ranges.{Ranges}
 use Rattle.numa_ranges.specs.declared.fault.RangeFault.{RangeFault}
 use Rattle.numa_ranges.specs.declared.fault.RangeFault.TheVariants as fault
 use Rattle.numa_space.specs.declared.refusal.Refusal.{Refusal}
-use Rattle.numa_space.specs.declared.refusal.Refusal.TheVariants.{Overlap, Hole, TooManyRanges, NoMemory}
+use Rattle.numa_space.specs.declared.refusal.Refusal.TheVariants.{Overlap, Hole, TooManyRanges}
 use Rattle.numa_space.specs.Edits.{PageRanges, IsEdit, too_many, overlap_cause, hole_cause, refusal_from}
 use Rattle.numa_space.specs.Refusals.{PageMap, first_of, when}
 use Rattle.numa_space.specs.Same.{same_record}

@@ -1,5 +1,5 @@
 -- What holds of every space holds after each accepted command.
-use Rattle.std.proofs.Common.{◌≡◌, ◌≢◌, ℕ, ◌+◌, ◌-◌, ◌^◌, ◌<◌, ◌≤◌, true, false, not, ◌&&◌, eqb, leb, List, [], ◌∷◌, length, Option, Some, None, is_some, IfSome, Result, Ok, Err, MatchOption, MatchResult, refl, sym, ap, subst, ◌∙◌, arith, inl, inr}
+use Rattle.std.proofs.Common.{◌≡◌, ◌≢◌, ℕ, ◌+◌, ◌-◌, ◌^◌, ◌<◌, ◌≤◌, true, false, not, ◌&&◌, eqb, leb, List, [], ◌∷◌, length, Option, Some, None, is_some, IfSome, Result, Ok, Err, refl, sym, ap, subst, ◌∙◌, arith, inl, inr}
 use Rattle.std.proofs.lemmas.Bool.{cases_Bool, both_ways, cond_both, eq-eqb, leb-false}
 use Rattle.std.specs.Option.{ForSome}
 use Rattle.std.specs.List.{list_any}
@@ -17,7 +17,7 @@ use Rattle.numa_space.specs.Steps.{record_now, homed, rebound, allowed_next, pag
 use Rattle.numa_space.specs.declared.command.Command.{Command}
 use Rattle.numa_space.specs.declared.command.Command.TheVariants.{Map, Unmap, Mbind, SetTask, SetHome, SetWeight, SetMems}
 use Rattle.numa_space.specs.declared.refusal.Refusal.{Refusal}
-use Rattle.numa_space.specs.declared.refusal.Refusal.TheVariants.{CommandsSpent, NoSuchNode, NodesNotAllowed, TooManyTasks, NoMemory}
+use Rattle.numa_space.specs.declared.refusal.Refusal.TheVariants.{CommandsSpent, NoSuchNode, NodesNotAllowed, TooManyTasks}
 use Rattle.numa_space.proofs.Answers.{AnswersBy}
 use Rattle.numa_space.proofs.Refused.{first_of-none, when-none}
 use Rattle.numa_space.proofs.NodeLists.{within-both, within-from_both, small-inside}

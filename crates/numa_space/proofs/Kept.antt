@@ -1,10 +1,9 @@
 -- What holds of every space stays.
-use Rattle.std.proofs.Common.{◌≡◌, ◌<◌, ◌^◌, ℕ, Result, Ok, Err, refl, sym, ap, ◌∙◌, subst, arith, All}
+use Rattle.std.proofs.Common.{◌≡◌, ◌<◌, Result, sym, ap, ◌∙◌, subst, arith, All}
 use Rattle.numa_mask.specs.NodeSet.{members}
 use Rattle.numa_machine.specs.Machine.{Hardware}
 use Rattle.numa_space.specs.Inside.{shown_of, IsKept}
-use Rattle.numa_space.specs.Standing.{SpaceState, IsSound}
-use Rattle.numa_space.specs.Steps.{IsAnswer, IsNext, scene_in}
+use Rattle.numa_space.specs.Steps.{IsAnswer}
 use Rattle.numa_space.specs.Limited.{Bounds}
 use Rattle.numa_space.specs.declared.command.Command.{Command}
 use Rattle.numa_space.specs.declared.refusal.Refusal.{Refusal}

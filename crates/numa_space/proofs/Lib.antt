@@ -1,6 +1,6 @@
 pub mod Editing
 pub mod Moved
-pub mod Tests
+pub mod SameTest
 pub mod Homes
 pub mod Rows
 pub mod RefusalRows

@@ -1,9 +1,8 @@
 -- What a space answers about a page, from what it holds.
-use Rattle.std.proofs.Common.{◌≡◌, ◌<◌, ◌^◌, ℕ, Bool, true, false, List, Option, Some, None, is_some, Result, Ok, Err, MatchResult, IfOk, IfSome, All, refl, sym, ap, ◌∙◌, subst, inl, inr}
-use Rattle.std.proofs.lemmas.Bool.{cases_Bool}
+use Rattle.std.proofs.Common.{◌≡◌, ◌<◌, ℕ, Bool, true, false, List, Some, None, is_some, Result, Ok, Err, MatchResult, IfOk, IfSome, refl, sym, ◌∙◌, subst}
 use Rattle.std.proofs.lemmas.List.Elements.{All-contains}
 use Rattle.std.specs.Prelude.{nat_le, if◌then◌else◌}
-use Rattle.numa_mask.specs.NodeSet.{has, both, members}
+use Rattle.numa_mask.specs.NodeSet.{has, members}
 use Rattle.numa_mask.proofs.Images.{below-has}
 use Rattle.numa_mask.proofs.Sets.{contains-has}
 use Rattle.numa_mode.specs.Policy.{PolicyRecord, is_live}

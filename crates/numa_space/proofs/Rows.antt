@@ -1,5 +1,5 @@
 -- Worked examples: the node lists that the definitions give.
-use Rattle.std.proofs.Common.{◌≡◌, ℕ, ◌^◌, ◌-◌, Option, Some, None, ◌*◌, ◌/◌, ◌%◌, eqb, cond, List, [], ◌∷◌, map, take, replicate, refl}
+use Rattle.std.proofs.Common.{◌≡◌, ℕ, ◌^◌, ◌-◌, Some, None, ◌*◌, ◌/◌, ◌%◌, eqb, cond, List, [], ◌∷◌, map, take, replicate, refl}
 use Rattle.std.specs.List.{flat_map, range_with_len}
 use Rattle.numa_mask.specs.NodeSet.{set_of, members}
 use Rattle.numa_machine.specs.Machine.{Hardware, distance_order}

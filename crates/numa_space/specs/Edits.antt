@@ -1,5 +1,5 @@
 -- What an edit of a space's ranges answers.
-use Rattle.std.specs.Prelude.{◌≡◌, ℕ, ◌-◌, ◌&&◌, Bool, nat_lt, is_some, not, Option, Some, None, Result, Err, List, MatchOption, MatchResult}
+use Rattle.std.specs.Prelude.{◌≡◌, ℕ, ◌-◌, ◌&&◌, Bool, nat_lt, is_some, not, Option, Some, Result, Err, List, MatchOption, MatchResult}
 use Rattle.numa_mode.specs.Policy.{PolicyRecord}
 use Rattle.numa_ranges.specs.Maps.{any_page}
 use Rattle.numa_ranges.specs.Runs.{page_at}
@@ -9,7 +9,7 @@ use Rattle.numa_ranges.specs.declared.fault.RangeFault.{RangeFault}
 use Rattle.numa_ranges.specs.declared.fault.RangeFault.TheVariants as fault
 use Rattle.numa_space.specs.declared.refusal.Refusal.{Refusal}
 use Rattle.numa_space.specs.declared.refusal.Refusal.TheVariants.{Overlap, Hole, TooManyRanges, NoMemory}
-use Rattle.numa_space.specs.Refusals.{PageMap, first_of, when, takes_no_home}
+use Rattle.numa_space.specs.Refusals.{PageMap, when, takes_no_home}
 use Rattle.numa_space.specs.Same.{same_record}
 
 -- the ranges of a space in rising order, and how many there may be

@@ -1,5 +1,5 @@
 -- A history is the list of the accepted commands, the newest first: `command ∷ history` is the history with the command added.
-use Rattle.std.specs.Prelude.{ℕ, ◌+◌, ◌*◌, ◌/◌, Bool, Option, Some, None, List, [], ◌∷◌, if◌then◌else◌}
+use Rattle.std.specs.Prelude.{ℕ, ◌+◌, ◌/◌, Bool, Option, Some, None, List, [], ◌∷◌, if◌then◌else◌}
 use Rattle.std.specs.Option.{option_map}
 use Rattle.numa_ranges.specs.Runs.{in_pages}
 use Rattle.numa_space.specs.declared.command.Command.{Command}

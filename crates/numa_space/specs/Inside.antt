@@ -1,5 +1,5 @@
 -- How a space is kept.
-use Rattle.std.specs.Prelude.{◌≡◌, ◌<◌, ◌^◌, ℕ, All}
+use Rattle.std.specs.Prelude.{◌≡◌, ◌<◌, ◌^◌, All}
 use Rattle.numa_mask.specs.NodeSet.{members}
 use Rattle.numa_space.specs.Standing.{SpaceState, IsSound}
 use Rattle.numa_space.specs.declared.space.Space.TheInside.{Inside}

@@ -1,5 +1,5 @@
 -- How large a space may grow.
-use Rattle.std.specs.Prelude.{ℕ, ◌≤◌, ◌^◌, ◌<◌}
+use Rattle.std.specs.Prelude.{ℕ, ◌≤◌}
 
 pub record Bounds : Type 0 where
   pub max_ranges : ℕ

@@ -1,5 +1,5 @@
 -- The node list of a page: on which nodes its memory is looked for, in which order (set_mempolicy(2), "NUMA Memory Policy").
-use Rattle.std.specs.Prelude.{ℕ, ◌&&◌, not, Bool, Option, Some, None, List, ◌++◌, filter, slice_index, unwrap_or}
+use Rattle.std.specs.Prelude.{ℕ, ◌&&◌, not, Option, Some, None, List, ◌++◌, filter, slice_index, unwrap_or}
 use Rattle.numa_mask.specs.NodeSet.{has, members}
 use Rattle.numa_machine.specs.Machine.{Hardware, distance_order}
 use Rattle.numa_machine.specs.Weights.{interleave_node, weighted_node}

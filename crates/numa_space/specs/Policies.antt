@@ -1,5 +1,5 @@
 -- Which nodes are allowed, and which set each policy has now ("NUMA Memory Policy", memory policies and cpusets).
-use Rattle.std.specs.Prelude.{ℕ, ◌==◌, Bool, true, false, Option, Some, None, List, [], ◌∷◌, ◌++◌, filter, length, not, option_and_then, if◌then◌else◌}
+use Rattle.std.specs.Prelude.{ℕ, ◌==◌, Bool, false, Option, Some, None, List, [], ◌∷◌, ◌++◌, filter, not, option_and_then, if◌then◌else◌}
 use Rattle.numa_mask.specs.NodeSet.{both, remap_set}
 use Rattle.numa_machine.specs.Machine.{Hardware}
 use Rattle.numa_mode.specs.Policy.{Specification, PolicyRecord, is_default, effect_when_set, is_live}

@@ -1,5 +1,5 @@
 -- What a space shows, and which histories it stands for.
-use Rattle.std.specs.Prelude.{◌≡◌, ◌≢◌, ◌≤◌, ◌<◌, ℕ, Bool, true, nat_eq, nat_le, not, is_some, Option, Some, None, IfSome, List, [], ◌∷◌, length, AllPairs, All, if◌then◌else◌, option_and_then}
+use Rattle.std.specs.Prelude.{◌≡◌, ◌≢◌, ◌≤◌, ◌<◌, ℕ, Bool, true, nat_eq, nat_le, is_some, Option, Some, None, List, [], ◌∷◌, length, AllPairs, All, if◌then◌else◌, option_and_then}
 use Rattle.std.specs.Option.{ForSome, option_map_or}
 use Rattle.std.specs.Map.{lookup}
 use Rattle.numa_mask.specs.NodeSet.{has, both}
@@ -15,7 +15,7 @@ use Rattle.numa_space.specs.declared.refusal.PlaceRefusal.TheVariants.{BadCpu, U
 use Rattle.numa_space.specs.Policies.{allowed_nodes, task_record, tasks_of, node_weight, resolved}
 use Rattle.numa_space.specs.Pages.{page_in, is_mapped}
 use Rattle.numa_space.specs.Lists.{Setting, list_for}
-use Rattle.numa_space.specs.Refusals.{Scene, PageMap, refusal_of}
+use Rattle.numa_space.specs.Refusals.{refusal_of}
 
 -- a space: its machine and limits, the number of accepted commands, the allowed nodes, the ranges in rising order, the tasks that have
 -- a policy, and the nodes' weights

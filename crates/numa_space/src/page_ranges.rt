@@ -80,10 +80,8 @@ impl Pages {
         ensures edit { IsEdit (first_of (overlap_cause (page_at self.old.runs) first pages) (too_many self.old.limit (with_span first pages index None (page_at self.old.runs)))) (with_span first pages index None (page_at self.old.runs)) self.old result self.new }
         ensures limit { self.new.limit ≡ self.old.limit }
     {
-        answered(
-            self.map
-                .map_span(first, pages, index, RangeRecord::of(None)),
-        )
+        let none = RangeRecord::of(None);
+        answered(self.map.map_span(first, pages, index, none))
     }
 
     /// Unmaps a span.

@@ -426,32 +426,53 @@ fn distances_homes_and_weights(rt: HostRuntime) -> Result<(), Fail> {
     Ok(())
 }
 
+/// A space after five accepted commands and a refused one among them.
+fn told_space(rt: &impl Abort, alloc: Global) -> Result<Space, AllocError> {
+    let asked = [
+        Map(0x10000, 0x3000, 7),
+        Map(0x11000, 0x1000, 7),
+        Mbind(0x11000, 0x1000, 2, &[1]),
+        Task(9, 2, &[1]),
+        Weight(1, 3),
+        Mems(&[1]),
+    ];
+    let mut commands = Vec::new(alloc);
+    for one in &asked {
+        commands.push(command_of(rt, one))?;
+    }
+    let limits = limits_of(rt, 64, 8, 1000);
+    let mut space = space_of(rt, alloc, 2, &[0, 1], &[10, 20, 20, 10], limits)?;
+    space.apply_all(commands.as_slice());
+    Ok(space)
+}
+
 #[test]
-fn what_a_space_tells(rt: HostRuntime) -> Result<(), Fail> {
-    let table = [10, 20, 20, 10];
-    let limits = limits_of(&rt, 64, 8, 1000);
-    let mut space = space_of(&rt, rt.alloc(), 2, &[0, 1], &table, limits)?;
-    let bind = spec_of(&rt, 2, &[1]);
-    space.apply_all(&[
-        command_of(&rt, &Map(0x10000, 0x3000, 7)),
-        command_of(&rt, &Map(0x11000, 0x1000, 7)),
-        command_of(&rt, &Mbind(0x11000, 0x1000, 2, &[1])),
-        command_of(&rt, &Task(9, 2, &[1])),
-        command_of(&rt, &Weight(1, 3)),
-        command_of(&rt, &Mems(&[1])),
-    ]);
+fn a_list_of_commands(rt: HostRuntime) -> Result<(), Fail> {
+    let space = told_space(&rt, rt.alloc())?;
     assert_eq!(rt; space.version(), 5);
     assert_eq!(rt; space.machine().nodes(), 2);
     assert_eq!(rt; space.allowed(), set_of(&[1]));
     assert_eq!(rt; space.weights().get(1), 3);
+    Ok(())
+}
+
+#[test]
+fn tasks_and_policies(rt: HostRuntime) -> Result<(), Fail> {
+    let space = told_space(&rt, rt.alloc())?;
     assert_eq!(rt; space.task_count(), 1);
     let (task, policy) = space.task_at(0).ok_or("a task")?;
     assert_eq!(rt; task, 9);
-    assert_eq!(rt; policy.spec(), bind);
-    assert_eq!(rt; space.task_at(1), None);
+    assert_eq!(rt; policy.effective(), set_of(&[1]));
+    assert!(rt; space.task_at(1).is_none());
     let own = space.policy_at(1, 17).ok_or("a policy")?;
     assert_eq!(rt; own.effective(), set_of(&[1]));
-    assert_eq!(rt; space.policy_at(1, 16), None);
+    assert!(rt; space.policy_at(1, 16).is_none());
+    Ok(())
+}
+
+#[test]
+fn ranges_one_by_one(rt: HostRuntime) -> Result<(), Fail> {
+    let space = told_space(&rt, rt.alloc())?;
     assert_eq!(rt; space.ranges(), 3);
     let want = [(16, 1, 7, false), (17, 1, 8, true), (18, 1, 9, false)];
     for (range, (first, pages, index, has_policy)) in space.range_iter().zip(want) {

@@ -1,4 +1,4 @@
-use Rattle.std.proofs.Common.{◌≡◌, ◌<◌, ◌++◌, ◌&&◌, not, ℕ, Bool, true, length, filter, get_or, length-append, sym, ap, ◌∙◌, arith, lit<}
+use Rattle.std.proofs.Common.{◌≡◌, ◌<◌, ◌++◌, ◌&&◌, not, ℕ, Bool, true, length, filter, get_or, length-append, sym, ◌∙◌, arith, lit<}
 use Rattle.numa_mask.specs.NodeSet.{has}
 use Rattle.numa_space.proofs.Chosen.{room-next}
 use Rattle.numa_space.proofs.choice.push_others.Goals as goal

@@ -1,7 +1,7 @@
-use Rattle.std.proofs.Common.{◌≡◌, ◌%◌, ◌<◌, ℕ, true, false, Bool, List, [], ◌∷◌, nat_lt, refl, sym, ap, ◌∙◌, subst, arith}
+use Rattle.std.proofs.Common.{◌≡◌, ◌%◌, true, [], ◌∷◌, nat_lt, refl, sym, ap, ◌∙◌, arith}
 use Rattle.std.proofs.lemmas.Bool.{lt-ltb}
 use Rattle.numa_mask.specs.NodeSet.{has, members}
-use Rattle.numa_machine.specs.Weights.{weight_at, total_weight, weighted_node, node_at}
+use Rattle.numa_machine.specs.Weights.{weight_at, weighted_node, node_at}
 use Rattle.numa_space.proofs.Chosen.{weighted-has}
 use Rattle.numa_space.proofs.choice.weighted_node.Goals as goal
 

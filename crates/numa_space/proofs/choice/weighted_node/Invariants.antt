@@ -1,4 +1,4 @@
-use Rattle.std.proofs.Common.{◌≡◌, ◌+◌, sum_by}
+use Rattle.std.proofs.Common.{◌≡◌}
 use Rattle.numa_mask.specs.NodeSet.{members}
 use Rattle.numa_machine.specs.Weights.{weight_at, weighted_node, node_at}
 use Rattle.numa_space.proofs.choice.weighted_node.Given as goal

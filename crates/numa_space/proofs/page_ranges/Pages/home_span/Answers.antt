@@ -1,8 +1,8 @@
-use Rattle.std.proofs.Common.{◌≡◌, ap, ◌∙◌}
+use Rattle.std.proofs.Common.{ap, ◌∙◌}
 use Rattle.numa_ranges.specs.Maps.{changed_span}
 use Rattle.numa_space.specs.Steps.{homed}
 use Rattle.numa_space.specs.contracts.range_record.RangeRecordPartialEq.TheImpl as range_test
-use Rattle.numa_space.proofs.Tests.{range_test-same}
+use Rattle.numa_space.proofs.SameTest.{range_test-same}
 use Rattle.numa_space.proofs.Editing.{count-edit}
 use Rattle.numa_space.proofs.page_ranges.Pages.home_span.Goals as goal
 

@@ -2,8 +2,7 @@ use Rattle.std.proofs.Common.{◌↔◌, Bool, Option, Contains, subst}
 use Rattle.numa_mode.specs.Policy.{PolicyRecord}
 use Rattle.numa_ranges.specs.Counts.{IsRange}
 use Rattle.numa_ranges.specs.Runs.{page_at}
-use Rattle.numa_ranges.specs.declared.run.Run.{Run}
-use Rattle.numa_space.proofs.Tests.{range_test-same}
+use Rattle.numa_space.proofs.SameTest.{range_test-same}
 use Rattle.numa_space.specs.Edits.{PageRanges}
 use Rattle.numa_space.specs.Same.{same_record}
 use Rattle.numa_space.proofs.page_ranges.Pages.iter.Goals as goal

@@ -1,7 +1,7 @@
 use Rattle.std.proofs.Common.{◌∙◌, ap}
 use Rattle.numa_ranges.specs.Counts.{range_count}
 use Rattle.numa_ranges.specs.Runs.{page_at}
-use Rattle.numa_space.proofs.Tests.{range_test-same}
+use Rattle.numa_space.proofs.SameTest.{range_test-same}
 use Rattle.numa_space.specs.Same.{same_record}
 use Rattle.numa_space.specs.Edits.{PageRanges}
 use Rattle.numa_space.proofs.page_ranges.Pages.len.Goals as goal

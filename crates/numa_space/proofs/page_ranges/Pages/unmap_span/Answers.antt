@@ -1,5 +1,5 @@
 use Rattle.numa_space.specs.contracts.range_record.RangeRecordPartialEq.TheImpl as range_test
-use Rattle.numa_space.proofs.Tests.{range_test-same}
+use Rattle.numa_space.proofs.SameTest.{range_test-same}
 use Rattle.numa_ranges.specs.Maps.{without_span}
 use Rattle.numa_space.proofs.Editing.{count-edit}
 use Rattle.numa_space.proofs.page_ranges.Pages.unmap_span.Goals as goal

@@ -1,8 +1,6 @@
-use Rattle.std.proofs.Common.{◌≡◌, ◌↔◌, ℕ, Option, Contains, sym, subst}
-use Rattle.numa_mode.specs.Policy.{PolicyRecord}
+use Rattle.std.proofs.Common.{◌≡◌, ◌↔◌, Contains, subst}
 use Rattle.numa_ranges.specs.Counts.{IsRange}
 use Rattle.numa_ranges.specs.Runs.{page_at}
-use Rattle.numa_ranges.specs.declared.run.Run.{Run}
 use Rattle.numa_space.specs.Pages.{page_in}
 use Rattle.numa_space.specs.Refusals.{PageMap}
 use Rattle.numa_space.specs.Same.{same_record}

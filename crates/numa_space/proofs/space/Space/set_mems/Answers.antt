@@ -1,4 +1,4 @@
-use Rattle.std.proofs.Common.{◌≡◌, ◌+◌, ℕ, Ok, Err, refl, rules, arith, ap, ◌∙◌}
+use Rattle.std.proofs.Common.{◌+◌, Ok, refl, rules}
 use Rattle.numa_space.specs.Inside.{shown_of}
 use Rattle.numa_space.specs.Steps.{IsAnswer}
 use Rattle.numa_space.specs.declared.command.Command.TheVariants.{SetMems}

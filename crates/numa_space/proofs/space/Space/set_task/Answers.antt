@@ -1,4 +1,4 @@
-use Rattle.std.proofs.Common.{Result, OnOk, true≢false, ◌≡◌, ◌+◌, ℕ, Ok, Err, refl, rules, arith, ap, ◌∙◌}
+use Rattle.std.proofs.Common.{Result, OnOk, true≢false, ◌≡◌, ◌+◌, ℕ, Ok, Err, refl, arith, ap, ◌∙◌}
 use Rattle.std.specs.Result.{is_err}
 use Rattle.std.specs.declared.alloc.AllocError.{AllocError}
 use Rattle.numa_space.specs.Inside.{shown_of}

@@ -1,7 +1,6 @@
 -- The test by which a map of pages joins its ranges is `same_record`.
-use Rattle.std.proofs.Common.{◌≡◌, ℕ, Bool, true, false, Option, Some, None, refl, sym, ap, ◌∙◌, subst, inl, inr}
+use Rattle.std.proofs.Common.{◌≡◌, Bool, true, sym, ◌∙◌, subst, inl, inr}
 use Rattle.std.proofs.lemmas.Bool.{cases_Bool}
-use Rattle.numa_mode.specs.Policy.{PolicyRecord}
 use Rattle.numa_space.specs.Same.{same_record}
 use Rattle.numa_space.specs.Exact.{range-exact}
 use Rattle.numa_space.proofs.Same.{same_record-exact, same_record-refl}
