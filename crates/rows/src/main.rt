@@ -8,12 +8,20 @@ use std::process::ExitCode;
 use std::rt::Files;
 use std::{fs, io};
 
-/// The scripts, by the names of their files.
-const NAMES: [&str; 26] = [
+/// The scripts, by the names of their files. Those whose names begin with `example-` are the scripts of the folder
+/// examples/, which the gate compares with these copies.
+const NAMES: [&str; 33] = [
     "bad-lines",
     "default-local-and-task",
     "empty-script",
     "ends",
+    "example-homes",
+    "example-interleaved-range",
+    "example-mbind-of-a-part",
+    "example-nodes-taken-away",
+    "example-static-or-relative",
+    "example-weights",
+    "example-why-refused",
     "first-run",
     "hole",
     "home-nodes",
