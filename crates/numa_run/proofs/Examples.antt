@@ -1,5 +1,5 @@
 -- Worked lines: what the definitions answer, and which state they lead to.
-use Rattle.std.proofs.Common.{◌≡◌, true, false, List, [], ◌∷◌, Some, None, codes, refl}
+use Rattle.std.proofs.Common.{◌≡◌, true, false, [], ◌∷◌, Some, codes, refl}
 use Rattle.std.specs.Fmt.{digits}
 use Rattle.numa_mask.specs.Lists.{item_of, ends_of, digit_of, numeral_of as node_numeral_of}
 use Rattle.numa_mask.specs.NodeSet.{members}
@@ -12,7 +12,7 @@ use Rattle.numa_script.specs.Lines.{line_of, keyword_of, setting_keyword, comman
 use Rattle.numa_script.specs.Machines.{distances_of}
 use Rattle.numa_script.specs.Numbers.{number_of, numeral_of, fitting}
 use Rattle.numa_script.specs.Policies.{policy_of, mode_of, form_of_two, form_of_three}
-use Rattle.numa_run.specs.Answers.{State, start, answer_of, after}
+use Rattle.numa_run.specs.Answers.{State, start, answer_of}
 use Rattle.numa_run.specs.Replies.{reply_of}
 use Rattle.numa_run.specs.States.{usual_bounds}
 use Rattle.numa_run.specs.Texts.{text_of}

@@ -1,9 +1,8 @@
 -- What serving a line of each kind comes to.
-use Rattle.std.specs.Prelude.{◌≡◌, ◌≤◌, ℕ, ◌+◌, nat_le, ◌&&◌, if◌then◌else◌, Bool, true, false, Option, Some, None, List, [], ◌∷◌, length, MatchOption, refl, Result, Ok, Err}
+use Rattle.std.specs.Prelude.{◌≡◌, ◌≤◌, ℕ, ◌+◌, nat_le, ◌&&◌, if◌then◌else◌, Bool, true, false, Option, Some, None, List, [], ◌∷◌, length, MatchOption, refl, Ok, Err}
 use Rattle.std.proofs.Common.{sym, ◌∙◌, ap, subst, arith}
 use Rattle.std.proofs.lemmas.Bool.Decides.{nat_tests}
 use Rattle.numa_mask.specs.declared.list.ListFault.{ListFault}
-use Rattle.numa_machine.specs.Machine.{Hardware}
 use Rattle.numa_machine.specs.declared.fault.MachineFault.{MachineFault}
 use Rattle.numa_space.specs.Limited.{Bounds}
 use Rattle.numa_space.specs.Refusals.{refusal_of}
@@ -18,7 +17,7 @@ use Rattle.numa_script.specs.declared.line.Line.{Line}
 use Rattle.numa_script.specs.declared.line.Line.TheVariants as line
 use Rattle.numa_run.specs.States.{State}
 use Rattle.numa_run.specs.Answers.{after}
-use Rattle.numa_run.specs.Replies.{reply_of, reply_by, first_reply, later_reply, limits_reply, hardware_of, first_fault, ready_unless, machine_reply, machine_of, accepted_unless, command_reply, question_reply, changed}
+use Rattle.numa_run.specs.Replies.{reply_of, reply_by, first_reply, later_reply, limits_reply, hardware_of, first_fault, ready_unless, machine_reply, machine_of, accepted_unless, question_reply, changed}
 use Rattle.numa_run.specs.Standing.{Stands, Serves, IsCarriedOut, history_after}
 use Rattle.numa_run.specs.declared.reply.Reply.{Reply}
 use Rattle.numa_run.specs.declared.reply.Reply.TheVariants.{Silent, BadWords, BadState, LimitsOk, BadLimits, Ready, BadMachine, BadWord, Accepted, Refused, Unanswered, Placed, Ranges}

@@ -1,5 +1,5 @@
 -- What each line of a script is answered, and what it changes. `refused` says whether a growth was refused while the line was served.
-use Rattle.std.specs.Prelude.{ℕ, ◌+◌, ◌==◌, ◌&&◌, ◌||◌, nat_le, nat_lt, Bool, true, false, Option, Some, None, List, [], ◌∷◌, length, if◌then◌else◌, Result, Ok, Err}
+use Rattle.std.specs.Prelude.{ℕ, ◌+◌, ◌==◌, ◌&&◌, ◌||◌, nat_le, nat_lt, Bool, true, false, Option, Some, None, List, ◌∷◌, length, if◌then◌else◌, Result, Ok, Err}
 use Rattle.numa_mask.specs.declared.list.ListFault.{ListFault}
 use Rattle.numa_machine.specs.Machine.{Hardware}
 use Rattle.numa_machine.specs.Faults.{hardware_fault}

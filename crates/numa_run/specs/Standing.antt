@@ -1,5 +1,5 @@
 -- Which states a session stands for.
-use Rattle.std.specs.Prelude.{◌≡◌, ◌+◌, ℕ, Bool, Option, Some, None, List, [], ◌∷◌, length}
+use Rattle.std.specs.Prelude.{◌≡◌, ◌+◌, Bool, Option, Some, None, List, [], ◌∷◌, length}
 use Rattle.numa_space.specs.Limited.{Bounds}
 use Rattle.numa_space.specs.Standing.{SpaceState, StandsFor}
 use Rattle.numa_script.specs.declared.line.Line.{Line}

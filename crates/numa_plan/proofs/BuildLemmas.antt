@@ -1,0 +1,125 @@
+-- What the building calls keep.
+use Rattle.std.proofs.Common.{◌≡◌, ℕ, ◌+◌, ◌<◌, Bool, cond, eq-eqb, Option, Some, None, List, [], ◌∷◌, ◌++◌, length, refl, sym, ap, ◌∙◌, arith, inl, inr}
+use Rattle.std.specs.Prelude.{IsSome, is_some, count_by, unwrap_or, ◌==◌}
+use Rattle.std.proofs.lemmas.Cmp.{nat_cmp_total}
+use Rattle.std.specs.Ordering.{nat_cmp}
+use Rattle.std.specs.BTreeMap.{insert_entry, is_at}
+use Rattle.std.specs.Map.{keys_of, lookup, remove_entry}
+use Rattle.std.proofs.lemmas.List.Sums.{sum_by-append}
+use Rattle.std.proofs.lemmas.Map.Entries.{sum_by-insert_entry, sum_by-remove_entry}
+use Rattle.std.specs.List.Sorted.{IsStrictlySortedBy}
+use Rattle.std.specs.Option.{option_map}
+use Rattle.numa_ranges.specs.declared.run.Run.{Run}
+use Rattle.numa_plan.specs.Rows.{RuleData, HasRows}
+use Rattle.numa_plan.specs.Slots.{slot_at, rule_of_slot, uses_of_slot, rule_in, uses_in, put_slot, used, unused, IsLowestFree}
+use Rattle.numa_plan.specs.Meaning.{number_of, is_number}
+use Rattle.numa_plan.specs.Sound.{IsPlan, uses_of}
+use Rattle.numa_plan.specs.declared.slots.Slot.{Slot}
+use Rattle.numa_plan.specs.declared.slots.Slot.TheVariants.{Free, Taken}
+use Rattle.numa_plan.proofs.SlotLemmas.{same_or_not, put-same, put-other, length-put, rule_in-used, rule_in-unused, length-used, length-unused, uses_in-used, uses_in-unused}
+
+-- a free slot counts no use
+free-unused : (slot : Slot) → rule_of_slot slot ≡ None → uses_of_slot slot ≡ 0
+free-unused Free free = refl
+free-unused (Taken uses rule) free = absurd (let odd : ◌≡◌ {A = Option RuleData} (Some rule) None = free in cc)
+
+-- the lowest free slot is written
+pub keeps_with_rule : (nodes : ℕ) (runs : List (Run (Option ℕ))) (slots : List Slot) (low : ℕ) (tasks : List (ℕ × ℕ)) (local : RuleData) (number : ℕ) (rule : RuleData) → IsPlan nodes runs slots low tasks local → IsLowestFree slots number → HasRows nodes rule
+    → IsPlan nodes runs (put_slot slots number (Taken 0 rule)) (number + 1) tasks local
+keeps_with_rule nodes runs slots low tasks local number rule plan lowest has = record {
+  counted = λ k. elim (same_or_not k number) [
+    | inl e ↦ rw e (ap uses_of_slot here ∙ sym (free-unused (slot_at slots number) lowest.free) ∙ plan.counted number)
+    | inr ne ↦ ap uses_of_slot (there k ne) ∙ plan.counted k
+  ];
+  rows = λ k r is. elim (same_or_not k number) [
+    | inl e ↦
+        let own : rule_in (put_slot slots number (Taken 0 rule)) k ≡ Some rule = rw e (ap rule_of_slot here) in
+        let same : r ≡ rule = cc in
+        rw same has
+    | inr ne ↦ plan.rows k r (sym (ap rule_of_slot (there k ne)) ∙ is)
+  ];
+  local_rows = plan.local_rows;
+  within = omega (arith, (length-put slots number (Taken 0 rule) lowest.within).1);
+  taken_below = λ k lt. elim (same_or_not k number) [
+    | inl e ↦ rw e (ap (λ s. is_some (rule_of_slot s)) here)
+    | inr ne ↦ ap (λ s. is_some (rule_of_slot s)) (there k ne) ∙ lowest.taken_below k (omega arith)
+  ];
+}
+  where
+    here : slot_at (put_slot slots number (Taken 0 rule)) number ≡ Taken 0 rule
+    here = put-same slots number (Taken 0 rule) lowest.within
+
+    there : (k : ℕ) → (k ≡ number → ⊥) → slot_at (put_slot slots number (Taken 0 rule)) k ≡ slot_at slots k
+    there k ne = put-other slots number k (Taken 0 rule) lowest.within ne
+
+-- the rules stay, and the uses are counted anew
+keeps : (nodes : ℕ) (runs runs' : List (Run (Option ℕ))) (slots slots' : List Slot) (low : ℕ) (tasks tasks' : List (ℕ × ℕ)) (local : RuleData) → IsPlan nodes runs slots low tasks local
+    → ((k : ℕ) → rule_in slots' k ≡ rule_in slots k) → length slots' ≡ length slots → ((k : ℕ) → uses_in slots' k ≡ uses_of runs' tasks' k) → IsPlan nodes runs' slots' low tasks' local
+keeps nodes runs runs' slots slots' low tasks tasks' local plan same long counts = record {
+  counted = counts;
+  rows = λ k r is. plan.rows k r (sym (same k) ∙ is);
+  local_rows = plan.local_rows;
+  within = omega (arith, plan.within);
+  taken_below = λ k lt. ap is_some (same k) ∙ plan.taken_below k lt;
+}
+
+-- ---- how many runs and tasks name a number
+
+count-push : {X : Type 0} (p : X → Bool) (xs : List X) (x : X) → count_by p (xs ++ x ∷ []) ≡ count_by p xs + cond (p x) 1 0
+count-push p xs x = omega (arith, sum_by-append (λ x. cond {A = ℕ} (p x) 1 0) xs (x ∷ []))
+
+uses-run : (runs : List (Run (Option ℕ))) (tasks : List (ℕ × ℕ)) (run : Run (Option ℕ)) (number k : ℕ) → run.value ≡ Some number → uses_of (runs ++ run ∷ []) tasks k ≡ uses_of runs tasks k + cond (number == k) 1 0
+uses-run runs tasks run number k is =
+    let own : is_number k run.value ≡ (number == k) = ap (is_number k) is in
+    omega (arith, count-push (λ r. is_number k r.value) runs run ∙ ap (λ b. count_by (λ r. is_number k r.value) runs + cond b 1 0) own)
+
+uses-give : (runs : List (Run (Option ℕ))) (tasks : List (ℕ × ℕ)) (task number k : ℕ) (had : Option ℕ) → IsStrictlySortedBy nat_cmp (keys_of tasks) → had ≡ number_of tasks task
+    → uses_of runs (insert_entry nat_cmp tasks task number) k + unwrap_or (option_map (λ n. cond {A = ℕ} (n == k) 1 0) had) 0 ≡ uses_of runs tasks k + cond (number == k) 1 0
+uses-give runs tasks task number k had sorted is =
+    let sums = sum_by-insert_entry (λ n. cond {A = ℕ} (n == k) 1 0) nat_cmp_total tasks task number sorted in
+    let same : ◌≡◌ {A = ℕ} (unwrap_or (option_map (λ n. cond {A = ℕ} (n == k) 1 0) had) 0) (unwrap_or (option_map (λ n. cond {A = ℕ} (n == k) 1 0) (lookup (is_at (nat_cmp task)) tasks)) 0) = ap (λ (o : Option ℕ). unwrap_or (option_map (λ n. cond {A = ℕ} (n == k) 1 0) o) 0) is in
+    omega (arith, sums, same)
+
+uses-take : (runs : List (Run (Option ℕ))) (tasks : List (ℕ × ℕ)) (task k : ℕ) (had : Option ℕ) → had ≡ number_of tasks task
+    → uses_of runs (remove_entry (is_at (nat_cmp task)) tasks) k + unwrap_or (option_map (λ n. cond {A = ℕ} (n == k) 1 0) had) 0 ≡ uses_of runs tasks k
+uses-take runs tasks task k had is =
+    let sums = sum_by-remove_entry (λ n. cond {A = ℕ} (n == k) 1 0) (is_at (nat_cmp task)) tasks in
+    let same : ◌≡◌ {A = ℕ} (unwrap_or (option_map (λ n. cond {A = ℕ} (n == k) 1 0) had) 0) (unwrap_or (option_map (λ n. cond {A = ℕ} (n == k) 1 0) (lookup (is_at (nat_cmp task)) tasks)) 0) = ap (λ (o : Option ℕ). unwrap_or (option_map (λ n. cond {A = ℕ} (n == k) 1 0) o) 0) is in
+    omega (arith, sums, same)
+
+-- the number of a task's rule is used
+pub task-uses : (runs : List (Run (Option ℕ))) (tasks : List (ℕ × ℕ)) (task number : ℕ) → Some number ≡ number_of tasks task → 0 < uses_of runs tasks number
+task-uses runs tasks task number is =
+    let one : cond {A = ℕ} (number == number) 1 0 ≡ 1 = ap (λ (b : Bool). cond {A = ℕ} b 1 0) (eq-eqb number number refl) in
+    omega (arith, uses-take runs tasks task number (Some number) is, one)
+
+-- ---- the calls
+
+pub keeps_with_run : (nodes : ℕ) (runs : List (Run (Option ℕ))) (slots : List Slot) (low : ℕ) (tasks : List (ℕ × ℕ)) (local : RuleData) (run : Run (Option ℕ)) (number : ℕ) → IsPlan nodes runs slots low tasks local → run.value ≡ Some number → IsSome (rule_in slots number)
+    → IsPlan nodes (runs ++ run ∷ []) (used slots (Some number)) low tasks local
+keeps_with_run nodes runs slots low tasks local run number plan is some =
+    keeps nodes runs (runs ++ run ∷ []) slots (used slots (Some number)) low tasks tasks local plan (rule_in-used slots (Some number)) (length-used slots (Some number)) (λ k.
+    omega (arith, uses_in-used slots number k some, plan.counted k, uses-run runs tasks run number k is))
+
+-- a task gets a rule where it had none
+pub keeps_given : (nodes : ℕ) (runs : List (Run (Option ℕ))) (slots : List Slot) (low : ℕ) (tasks : List (ℕ × ℕ)) (local : RuleData) (task number : ℕ) → IsPlan nodes runs slots low tasks local → IsStrictlySortedBy nat_cmp (keys_of tasks) → None ≡ number_of tasks task → IsSome (rule_in slots number)
+    → IsPlan nodes runs (used slots (Some number)) low (insert_entry nat_cmp tasks task number) local
+keeps_given nodes runs slots low tasks local task number plan sorted is some =
+    keeps nodes runs runs slots (used slots (Some number)) low tasks (insert_entry nat_cmp tasks task number) local plan (rule_in-used slots (Some number)) (length-used slots (Some number)) (λ k.
+    omega (arith, uses_in-used slots number k some, plan.counted k, uses-give runs tasks task number k None sorted is))
+
+-- a task gets a rule in place of another
+pub keeps_changed : (nodes : ℕ) (runs : List (Run (Option ℕ))) (slots : List Slot) (low : ℕ) (tasks : List (ℕ × ℕ)) (local : RuleData) (task number had : ℕ) → IsPlan nodes runs slots low tasks local → IsStrictlySortedBy nat_cmp (keys_of tasks) → Some had ≡ number_of tasks task → IsSome (rule_in slots number)
+    → IsPlan nodes runs (unused (used slots (Some number)) (Some had)) low (insert_entry nat_cmp tasks task number) local
+keeps_changed nodes runs slots low tasks local task number had plan sorted is some =
+    keeps nodes runs runs slots (unused (used slots (Some number)) (Some had)) low tasks (insert_entry nat_cmp tasks task number) local plan
+    (λ k. rule_in-unused (used slots (Some number)) (Some had) k ∙ rule_in-used slots (Some number) k)
+    (length-unused (used slots (Some number)) (Some had) ∙ length-used slots (Some number))
+    (λ k. omega (arith, uses_in-unused (used slots (Some number)) had k, uses_in-used slots number k some, plan.counted k, uses-give runs tasks task number k (Some had) sorted is))
+
+-- a task's rule is taken away
+pub keeps_taken : (nodes : ℕ) (runs : List (Run (Option ℕ))) (slots : List Slot) (low : ℕ) (tasks : List (ℕ × ℕ)) (local : RuleData) (task had : ℕ) → IsPlan nodes runs slots low tasks local → Some had ≡ number_of tasks task
+    → IsPlan nodes runs (unused slots (Some had)) low (remove_entry (is_at (nat_cmp task)) tasks) local
+keeps_taken nodes runs slots low tasks local task had plan is =
+    keeps nodes runs runs slots (unused slots (Some had)) low tasks (remove_entry (is_at (nat_cmp task)) tasks) local plan (rule_in-unused slots (Some had)) (length-unused slots (Some had)) (λ k.
+    omega (arith, uses_in-unused slots had k, plan.counted k, uses-take runs tasks task k (Some had) is))

@@ -1,0 +1,6 @@
+pub mod BuildLemmas
+pub mod CountLemmas
+pub mod FillLemmas
+pub mod RuleLemmas
+pub mod Searching
+pub mod SlotLemmas

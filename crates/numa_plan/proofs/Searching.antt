@@ -1,0 +1,130 @@
+-- A search by halves.
+use Rattle.std.proofs.Common.{◌≡◌, ℕ, zero, suc, ◌+◌, ◌-◌, ◌*◌, ◌/◌, ◌<◌, ◌≤◌, ◌^◌, Option, Some, None, List, [], ◌∷◌, length, get_or, is_some, pow-suc, add-sub_cancel, refl, sym, ap, ◌∙◌, arith}
+use Rattle.std.specs.Prelude.{IsSome}
+use Rattle.std.specs.List.{AllWithin}
+use Rattle.std.proofs.lemmas.List.{get_or_default}
+use Rattle.std.proofs.Math.Nat.{mul-le-mul_left}
+use Rattle.numa_ranges.specs.Runs.{AreApart, end_of, page_at}
+use Rattle.numa_ranges.specs.declared.run.Run.{Run}
+use Rattle.numa_ranges.proofs.Apart.{apart-rising, apart-from, apart-bounds, page_at-last, page_at-none, in_pages-true, in_pages-above}
+use Rattle.numa_plan.specs.Found.{IsPartOf, IsAt}
+use Rattle.numa_plan.specs.declared.runs.Found.{Found}
+
+-- the runs before `low` begin at the page or before it, and those from `high` on behind it; the run before `low` begins `far` before the page
+pub record IsNarrowed (runs : List (Run (Option ℕ))) (page low high far : ℕ) : Type 0 where
+  pub within : low ≤ high
+  pub top : high ≤ length runs
+  pub before : AllWithin (λ run. run.first ≤ page) runs 0 low
+  pub after : AllWithin (λ run. page < run.first) runs high (length runs)
+  pub lies : (d : Run (Option ℕ)) → 0 < low → (get_or runs (low - 1) d).first + far ≡ page
+
+-- so many comparisons from so many runs to those that are left
+pub record IsSparing (old new left runs : ℕ) : Type 0 where
+  pub never_less : old ≤ new
+  pub halved : 2 ^ (new - old) * left ≤ runs
+  pub few : 2 ^ (new - old) ≤ 2 * runs + 1
+
+-- one more comparison, which leaves at most half of the runs
+pub spare : (old new left left' runs : ℕ) → 0 < left → left' ≤ left / 2 → IsSparing old new left runs → IsSparing old (new + 1) left' runs
+spare old new left left' runs some half h =
+    let more : new + 1 - old ≡ suc (new - old) = omega (arith, h.never_less) in
+    let twice : 2 * left' ≤ left = omega arith in
+    record {
+      never_less = omega (arith, h.never_less);
+      halved = rw (more, pow-suc 2 (new - old)) (scaled (2 ^ (new - old)) left left' runs twice h.halved);
+      few = rw (more, pow-suc 2 (new - old)) (doubled (2 ^ (new - old)) left runs some h.halved);
+    }
+  where
+    scaled : (p left left' runs : ℕ) → 2 * left' ≤ left → p * left ≤ runs → p * 2 * left' ≤ runs
+    scaled p left left' runs twice h = grind (arith, mul-le-mul_left p twice)
+
+    doubled : (p left runs : ℕ) → 0 < left → p * left ≤ runs → p * 2 ≤ 2 * runs + 1
+    doubled p left runs some h = grind (arith, mul-le-mul_left p some)
+
+module _ (runs : List (Run (Option ℕ))) (page : ℕ) where
+  pub narrow_start : IsNarrowed runs page 0 (length runs) 0
+  narrow_start = record {
+    within = omega arith;
+    top = omega arith;
+    before = λ k d low high. absurd (omega arith);
+    after = λ k d low high. absurd (omega arith);
+    lies = λ d some. absurd (omega arith);
+  }
+
+  pub narrow_up : (low high far middle far' : ℕ) → AreApart 0 runs → low ≤ middle → middle < high → ((d : Run (Option ℕ)) → (get_or runs middle d).first + far' ≡ page) → IsNarrowed runs page low high far → IsNarrowed runs page (middle + 1) high far'
+  narrow_up low high far middle far' apart ge lt lies h = record {
+    within = omega arith;
+    top = h.top;
+    before = λ k d k_low k_high. omega (arith, apart-rising 0 runs apart k middle d (omega arith) (omega (arith, h.top)), lies d);
+    after = h.after;
+    lies = λ d some. rw (add-sub_cancel middle 1) (lies d);
+  }
+
+  pub narrow_down : (low high far middle : ℕ) → AreApart 0 runs → low ≤ middle → middle < high → ((d : Run (Option ℕ)) → page < (get_or runs middle d).first) → IsNarrowed runs page low high far → IsNarrowed runs page low middle far
+  narrow_down low high far middle apart ge lt above h = record {
+    within = ge;
+    top = omega (arith, h.top);
+    before = h.before;
+    after = λ k d k_low k_high. omega (arith, apart-rising 0 runs apart middle k d k_low k_high, above d);
+    lies = h.lies;
+  }
+
+apart-ends : (from : ℕ) (runs : List (Run (Option ℕ))) → AreApart from runs → (i j : ℕ) (d : Run (Option ℕ)) → i < j → j < length runs → end_of (get_or runs i d) ≤ (get_or runs j d).first
+apart-ends from [] apart i j d lt l = absurd (omega arith)
+apart-ends from (run ∷ runs) apart zero zero d lt l = absurd (omega arith)
+apart-ends from (run ∷ runs) apart zero (suc j) d lt l = apart-from (end_of run) runs j d apart.3 (omega arith)
+apart-ends from (run ∷ runs) apart (suc i) zero d lt l = absurd (omega arith)
+apart-ends from (run ∷ runs) apart (suc i) (suc j) d lt l = apart-ends (end_of run) runs apart.3 i j d (omega arith) (omega arith)
+
+blank : Run (Option ℕ)
+blank = record { first = 0; pages = 0; index = 0; value = None }
+
+pub none_found : (runs : List (Run (Option ℕ))) (page low high far : ℕ) → AreApart 0 runs → low ≡ 0 → high ≤ low → IsNarrowed runs page low high far → page_at runs page ≡ None
+none_found runs page low high far apart is le h = page_at-none 0 runs page apart (λ k d k_low k_high. h.after k d (omega arith) k_high)
+
+-- the run before `low` has the page
+pub part_found : (runs : List (Run (Option ℕ))) (page low high far : ℕ) (found : Found) → AreApart 0 runs → 0 < low → high ≤ low → IsNarrowed runs page low high far → ((d : Run (Option ℕ)) → IsPartOf (get_or runs (low - 1) d) far found) → IsAt runs page found
+part_found runs page low high far found apart some le h part =
+    let run : Run (Option ℕ) = get_or runs (low - 1) blank in
+    let is : run ≡ get_or runs (low - 1) run = get_or_default runs (low - 1) _ _ (omega (arith, h.within, h.top)) in
+    let own : IsPartOf run far found = part blank in
+    let first : run.first + far ≡ page = h.lies blank some in
+    let bounds : (end_of run ≤ 2 ^ 35) × (run.index + run.pages ≤ 2 ^ 36) = apart-bounds 0 runs (low - 1) blank apart (omega (arith, h.within, h.top)) in
+    record {
+      some = own.some;
+      few = omega (arith, own.index, own.left, bounds.1);
+      low = omega (arith, own.left, bounds.0, first);
+      each = λ q short.
+          page_at-last 0 runs (low - 1) (page + q) run apart (omega (arith, h.within, h.top)) is
+          (λ k d k_low k_high. omega (arith, h.before k d k_low (omega arith)))
+          (λ k d k_low k_high. omega (arith, apart-ends 0 runs apart (low - 1) k d (omega arith) k_high, (part d).left, h.lies d some))
+          ∙ rw (in_pages-true run.first run.pages (page + q) (omega (arith, first)) (omega (arith, first, own.left)))
+          (let index : run.index + (page + q - run.first) ≡ found.index + q = omega (arith, own.index, first) in
+          let rule : run.value ≡ found.rule = sym own.rule in
+          cc);
+    }
+
+-- the run before `low` ends before the page
+pub past_found : (runs : List (Run (Option ℕ))) (page low high far : ℕ) → AreApart 0 runs → 0 < low → high ≤ low → IsNarrowed runs page low high far → ((d : Run (Option ℕ)) → (get_or runs (low - 1) d).pages ≤ far) → page_at runs page ≡ None
+past_found runs page low high far apart some le h short =
+    let run : Run (Option ℕ) = get_or runs (low - 1) blank in
+    let is : run ≡ get_or runs (low - 1) run = get_or_default runs (low - 1) _ _ (omega (arith, h.within, h.top)) in
+    let first : run.first + far ≡ page = h.lies blank some in
+    page_at-last 0 runs (low - 1) page run apart (omega (arith, h.within, h.top)) is
+    (λ k d k_low k_high. h.before k d k_low (omega arith))
+    (λ k d k_low k_high. h.after k d (omega arith) k_high)
+    ∙ rw (in_pages-above run.first run.pages page (omega (arith, first, short blank))) refl
+
+-- what a search found, of its page
+pub at_page : (runs : List (Run (Option ℕ))) (page : ℕ) (found : Found) → IsAt runs page found → page_at runs page ≡ Some (found.index, found.rule)
+at_page runs page found h =
+    let e : page + 0 ≡ page = omega arith in
+    let i : found.index + 0 ≡ found.index = omega arith in
+    sym (ap (page_at runs) e) ∙ h.each 0 h.some ∙ ap (λ (n : ℕ). Some (n, found.rule)) i
+
+-- each page as far as the run reaches is mapped
+pub is_mapped : (runs : List (Run (Option ℕ))) (page : ℕ) (found : Found) (q : ℕ) → IsAt runs page found → page ≤ q → q < page + found.left → IsSome (page_at runs q)
+is_mapped runs page found q h low high =
+    let e : page + (q - page) ≡ q = omega arith in
+    let here : page_at runs q ≡ Some (found.index + (q - page), found.rule) = sym (ap (page_at runs) e) ∙ h.each (q - page) (omega arith) in
+    ap is_some here

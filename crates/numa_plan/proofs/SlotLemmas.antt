@@ -1,0 +1,130 @@
+-- Slots of rules.
+use Rattle.std.proofs.Common.{◌≡◌, ℕ, zero, suc, ◌+◌, ◌-◌, ◌<◌, ◌≤◌, true, cond, eq-eqb, Option, Some, None, List, [], ◌∷◌, ◌++◌, length, length-append, get_or, set, refl, sym, ap, subst, ◌∙◌, arith, inl, inr}
+use Rattle.std.specs.Prelude.{IsSome, is_some, ◌⊎◌, ◌==◌}
+use Rattle.std.proofs.lemmas.Bool.{cases_lt, lt-ltb, le-ltb, ne_eqb}
+use Rattle.std.proofs.lemmas.List.{get_or_default, get_or-set_same, get_or-set_other}
+use Rattle.std.proofs.Math.ListN.{length-set}
+use Rattle.numa_plan.specs.Rows.{RuleData}
+use Rattle.numa_plan.specs.Slots.{slot_at, rule_of_slot, uses_of_slot, rule_in, uses_in, put_slot, one_use_more, one_use_less, used, unused, IsLowestFree}
+use Rattle.numa_plan.specs.declared.slots.Slot.{Slot}
+use Rattle.numa_plan.specs.declared.slots.Slot.TheVariants.{Free, Taken}
+
+pub same_or_not : (a b : ℕ) → (a ≡ b) ⊎ (a ≡ b → ⊥)
+same_or_not a b = elim (cases_lt a b) [
+  | inl lt ↦ inr (λ e. absurd (omega arith))
+  | inr ge ↦ elim (cases_lt b a) [ inl gt ↦ inr (λ e. absurd (omega arith)) | inr le ↦ inl (omega arith) ]
+]
+
+-- the slot that stands at a place
+pub slot_at-index : (slots : List Slot) (number : ℕ) (slot : Slot) → number < length slots → slot ≡ get_or slots number slot → slot_at slots number ≡ slot
+slot_at-index slots number slot l is = sym (is ∙ get_or_default slots number slot Free l)
+
+module _ {T : Type 0} where
+  push_same : (xs : List T) (x d : T) → get_or (xs ++ x ∷ []) (length xs) d ≡ x
+  push_same [] x d = refl
+  push_same (y ∷ xs) x d = push_same xs x d
+
+  push_other : (xs : List T) (k : ℕ) (x d : T) → (k ≡ length xs → ⊥) → get_or (xs ++ x ∷ []) k d ≡ get_or xs k d
+  push_other [] zero x d ne = absurd (ne refl)
+  push_other [] (suc k) x d ne = refl
+  push_other (y ∷ xs) zero x d ne = refl
+  push_other (y ∷ xs) (suc k) x d ne = push_other xs k x d (λ e. ne (ap suc e))
+
+-- ---- a slot written
+
+pub put-same : (slots : List Slot) (number : ℕ) (slot : Slot) → number ≤ length slots → slot_at (put_slot slots number slot) number ≡ slot
+put-same slots number slot le =
+    elim (cases_lt number (length slots)) [
+      | inl lt ↦ rw (lt-ltb number (length slots) lt) (get_or-set_same slots number slot Free lt)
+      | inr ge ↦
+          let e : number ≡ length slots = omega arith in
+          rw (le-ltb number (length slots) ge) (subst (λ (k : ℕ). slot_at (slots ++ slot ∷ []) k ≡ slot) (sym e) (push_same slots slot Free))
+    ]
+
+pub put-other : (slots : List Slot) (number k : ℕ) (slot : Slot) → number ≤ length slots → (k ≡ number → ⊥) → slot_at (put_slot slots number slot) k ≡ slot_at slots k
+put-other slots number k slot le ne =
+    elim (cases_lt number (length slots)) [
+      | inl lt ↦ rw (lt-ltb number (length slots) lt) (get_or-set_other slots number k slot Free ne)
+      | inr ge ↦ rw (le-ltb number (length slots) ge) (push_other slots k slot Free (λ e. ne (omega arith)))
+    ]
+
+pub length-put : (slots : List Slot) (number : ℕ) (slot : Slot) → number ≤ length slots → (length slots ≤ length (put_slot slots number slot)) × (number < length (put_slot slots number slot))
+length-put slots number slot le =
+    elim (cases_lt number (length slots)) [
+      | inl lt ↦ rw (lt-ltb number (length slots) lt) (let long = length-set slots number slot in (omega arith, omega arith))
+      | inr ge ↦ rw (le-ltb number (length slots) ge) (let long = length-append slots (slot ∷ []) in (omega arith, omega arith))
+    ]
+
+-- the rule that was written is there, and each that was there is there still
+pub rule_in-put : (slots : List Slot) (number : ℕ) (rule : RuleData) → number ≤ length slots → rule_in (put_slot slots number (Taken 0 rule)) number ≡ Some rule
+rule_in-put slots number rule le = ap rule_of_slot (put-same slots number (Taken 0 rule) le)
+
+pub keeps-put : (slots : List Slot) (number k : ℕ) (rule rule' : RuleData) → IsLowestFree slots number → rule_in slots k ≡ Some rule → rule_in (put_slot slots number (Taken 0 rule')) k ≡ Some rule
+keeps-put slots number k rule rule' lowest has =
+    elim (same_or_not k number) [
+      | inl is ↦ absurd (let odd : ◌≡◌ {A = Option RuleData} None (Some rule) = sym lowest.free ∙ sym (ap (rule_in slots) is) ∙ has in cc)
+      | inr ne ↦ ap rule_of_slot (put-other slots number k (Taken 0 rule') lowest.within ne) ∙ has
+    ]
+
+-- ---- uses
+
+rule-more : (slot : Slot) → rule_of_slot (one_use_more slot) ≡ rule_of_slot slot
+rule-more Free = refl
+rule-more (Taken uses rule) = refl
+
+rule-less : (slot : Slot) → rule_of_slot (one_use_less slot) ≡ rule_of_slot slot
+rule-less Free = refl
+rule-less (Taken uses rule) = refl
+
+uses-more : (slot : Slot) → IsSome (rule_of_slot slot) → uses_of_slot (one_use_more slot) ≡ uses_of_slot slot + 1
+uses-more Free some = absurd (let odd : is_some {T = RuleData} None ≡ true = some in cc)
+uses-more (Taken uses rule) some = refl
+
+uses-less : (slot : Slot) → uses_of_slot (one_use_less slot) ≡ uses_of_slot slot - 1
+uses-less Free = omega arith
+uses-less (Taken uses rule) = refl
+
+-- a slot changed, where a free one stays free
+change-same : (change : Slot → Slot) → change Free ≡ Free → (slots : List Slot) (number : ℕ) → slot_at (set slots number (change (slot_at slots number))) number ≡ change (slot_at slots number)
+change-same change free [] number = sym free
+change-same change free (s ∷ slots) zero = refl
+change-same change free (s ∷ slots) (suc number) = change-same change free slots number
+
+-- one use more or less of a number changes no rule
+pub rule_in-used : (slots : List Slot) (number : Option ℕ) (k : ℕ) → rule_in (used slots number) k ≡ rule_in slots k
+rule_in-used slots None k = refl
+rule_in-used slots (Some number) k =
+    elim (same_or_not k number) [
+      | inl is ↦ rw is (ap rule_of_slot (change-same one_use_more refl slots number) ∙ rule-more (slot_at slots number))
+      | inr ne ↦ ap rule_of_slot (get_or-set_other slots number k (one_use_more (slot_at slots number)) Free ne)
+    ]
+
+pub rule_in-unused : (slots : List Slot) (number : Option ℕ) (k : ℕ) → rule_in (unused slots number) k ≡ rule_in slots k
+rule_in-unused slots None k = refl
+rule_in-unused slots (Some number) k =
+    elim (same_or_not k number) [
+      | inl is ↦ rw is (ap rule_of_slot (change-same one_use_less refl slots number) ∙ rule-less (slot_at slots number))
+      | inr ne ↦ ap rule_of_slot (get_or-set_other slots number k (one_use_less (slot_at slots number)) Free ne)
+    ]
+
+pub length-used : (slots : List Slot) (number : Option ℕ) → length (used slots number) ≡ length slots
+length-used slots None = refl
+length-used slots (Some number) = length-set slots number (one_use_more (slot_at slots number))
+
+pub length-unused : (slots : List Slot) (number : Option ℕ) → length (unused slots number) ≡ length slots
+length-unused slots None = refl
+length-unused slots (Some number) = length-set slots number (one_use_less (slot_at slots number))
+
+pub uses_in-used : (slots : List Slot) (number k : ℕ) → IsSome (rule_in slots number) → uses_in (used slots (Some number)) k ≡ uses_in slots k + cond (number == k) 1 0
+uses_in-used slots number k some =
+    elim (same_or_not k number) [
+      | inl is ↦ rw (is, eq-eqb number number refl) (ap uses_of_slot (change-same one_use_more refl slots number) ∙ uses-more (slot_at slots number) some)
+      | inr ne ↦ rw (ne_eqb number k (λ e. ne (sym e))) (omega (arith, ap uses_of_slot (get_or-set_other slots number k (one_use_more (slot_at slots number)) Free ne)))
+    ]
+
+pub uses_in-unused : (slots : List Slot) (number k : ℕ) → uses_in (unused slots (Some number)) k ≡ uses_in slots k - cond (number == k) 1 0
+uses_in-unused slots number k =
+    elim (same_or_not k number) [
+      | inl is ↦ rw (is, eq-eqb number number refl) (ap uses_of_slot (change-same one_use_less refl slots number) ∙ uses-less (slot_at slots number))
+      | inr ne ↦ rw (ne_eqb number k (λ e. ne (sym e))) (omega (arith, ap uses_of_slot (get_or-set_other slots number k (one_use_less (slot_at slots number)) Free ne)))
+    ]

@@ -1,0 +1,35 @@
+use Rattle.std.proofs.Common.{◌≡◌, ◌≤◌, ℕ, List, Option, replicate, ap, subst, refl, arith}
+use Rattle.std.proofs.lemmas.Simd.{get_or-replicate}
+use Rattle.numa_ranges.specs.declared.run.Run.{Run}
+use Rattle.numa_plan.specs.Found.{IsAt}
+use Rattle.numa_plan.specs.Meaning.{PlanData}
+use Rattle.numa_plan.proofs.FillLemmas.{counted_more, mapped_more, counted_room, counted_none}
+use Rattle.numa_plan.proofs.plan.Plan.counts.Goals as goal
+
+pub loop-todo-init : goal.loop-todo-init
+loop-todo-init c = record {
+  place = refl;
+  low = omega arith;
+  mapped = λ page from to. absurd (omega arith);
+  counted = counted_none c.args.self.now c.args.task c.args.cpu c.args.first (replicate 256 0) (λ node small. get_or-replicate 256 node 0 0 small);
+  long = refl;
+}
+
+pub count-requires-clause-room : goal.count-requires-clause-room
+count-requires-clause-room c =
+    let own : c.self.inside.runs ≡ c.args.self.now.runs = ap (λ (p : PlanData). p.runs) c.self.view_is in
+    let at : IsAt c.args.self.now.runs c.loop-todo.page c.in-Some.found = subst (λ (runs : List (Run (Option ℕ))). IsAt runs c.loop-todo.page c.in-Some.found) own c.in-Some.ensures.found in
+    counted_room c.args.self.now c.args.task c.args.cpu c.args.first c.loop-todo.page c.min-part.result c.loop-todo.counts c.in-Some.found c.loop-todo.invariant.low (omega (arith, c.min-part.ensures)) at c.loop-todo.invariant.counted
+
+pub loop-todo-preserved : goal.loop-todo-preserved
+loop-todo-preserved c =
+    let own : c.self.inside.runs ≡ c.args.self.now.runs = ap (λ (p : PlanData). p.runs) c.self.view_is in
+    let at : IsAt c.args.self.now.runs c.loop-todo.page c.in-Some.found = subst (λ (runs : List (Run (Option ℕ))). IsAt runs c.loop-todo.page c.in-Some.found) own c.in-Some.ensures.found in
+    let short : c.min-part.result ≤ c.in-Some.found.left = omega (arith, c.min-part.ensures) in
+    record {
+      place = omega (arith, c.loop-todo.invariant.place, c.min-part.ensures);
+      low = omega (arith, c.loop-todo.invariant.low);
+      mapped = mapped_more c.args.self.now.runs c.args.first c.loop-todo.page c.min-part.result c.in-Some.found c.loop-todo.invariant.low short at c.loop-todo.invariant.mapped;
+      counted = counted_more c.args.self.now c.args.task c.args.cpu c.args.first c.loop-todo.page c.min-part.result c.loop-todo.counts c.count.new.counts c.in-Some.found c.rule_for.result.now c.loop-todo.invariant.low short at c.rule_for.ensures.is c.loop-todo.invariant.counted c.count.ensures;
+      long = c.count.array_long;
+    }

@@ -1,0 +1,19 @@
+use Rattle.std.proofs.Common.{◌≡◌, ℕ, ◌+◌, ◌-◌, List, Option, length, arith, ap, subst, ◌∙◌, length-drop}
+use Rattle.std.proofs.lemmas.List.{length-take}
+use Rattle.numa_ranges.specs.declared.run.Run.{Run}
+use Rattle.numa_plan.specs.Found.{IsAt}
+use Rattle.numa_plan.specs.Meaning.{PlanData}
+use Rattle.numa_plan.proofs.FillLemmas.{filled_more, put_length}
+use Rattle.numa_plan.proofs.plan.Plan.fill.Goals as goal
+
+pub loop-done-preserved : goal.loop-done-preserved
+loop-done-preserved c =
+    let long : length c.fill.new.out ≡ c.min-count.result = c.fill.auto.out ∙ simp (length-take, length-drop) (omega (arith, c.min-count.ensures)) in
+    let own : c.self.inside.runs ≡ c.args.self.now.runs = ap (λ (p : PlanData). p.runs) c.self.view_is in
+    let here : IsAt c.args.self.now.runs c.loop-done.page c.in-Some.found = subst (λ (runs : List (Run (Option ℕ))). IsAt runs c.loop-done.page c.in-Some.found) own c.in-Some.ensures.found in
+    let at : IsAt c.args.self.now.runs (c.args.first + c.loop-done.done) c.in-Some.found = subst (λ (page : ℕ). IsAt c.args.self.now.runs page c.in-Some.found) c.loop-done.invariant.place here in
+    record {
+      place = omega (arith, c.loop-done.invariant.place);
+      within = rw (put_length c.loop-done.done (c.loop-done.done + c.min-count.result - c.loop-done.done) c.loop-done.out c.fill.new.out (omega arith) (omega (arith, c.min-count.ensures))) (omega (arith, c.min-count.ensures));
+      filled = filled_more c.args.self.now c.args.task c.args.cpu c.args.first c.loop-done.done c.min-count.result c.loop-done.out c.fill.new.out c.in-Some.found c.rule_for.result.now (omega (arith, c.min-count.ensures)) long (omega (arith, c.min-count.ensures)) at c.rule_for.ensures.is c.loop-done.invariant.filled c.fill.ensures;
+    }

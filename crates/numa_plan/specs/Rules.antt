@@ -1,0 +1,21 @@
+-- How a rule is kept.
+use Rattle.std.specs.Prelude.{◌≡◌, ℕ, ◌*◌, ◌<◌, List, length, map, slice_index}
+use Rattle.numa_plan.specs.Rows.{RuleData, Faulting, Fixed, InTurns}
+use Rattle.numa_plan.specs.declared.rule.Body.{Body}
+use Rattle.numa_plan.specs.declared.rule.Body.TheVariants as kept
+
+-- what the parts of a rule say
+abbrev pub data_of : Body → RuleData
+data_of (kept.Faulting width rows) = record { key = Faulting; width = width; rows = rows.items }
+data_of (kept.Fixed rows) = record { key = Fixed; width = length rows.items; rows = rows.items }
+data_of (kept.Turns width rows cycle firsts) = record { key = InTurns cycle.items; width = width; rows = rows.items }
+
+-- the first node of each row, in the order of the cycle
+abbrev pub first_nodes : List ℕ → ℕ → List ℕ → List ℕ
+first_nodes rows width cycle = map (λ number. slice_index rows (number * width)) cycle
+
+-- a cycle isn't empty, and its first nodes stand beside it
+abbrev pub IsRule : Body → Type 0
+IsRule (kept.Faulting width rows) = Unit {0}
+IsRule (kept.Fixed rows) = Unit {0}
+IsRule (kept.Turns width rows cycle firsts) = (0 < length cycle.items) × (firsts ≡ first_nodes rows.items width cycle.items)

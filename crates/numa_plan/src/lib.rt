@@ -1,0 +1,28 @@
+//! A plan: what readers hold to place pages.
+//!
+//! A [`Plan`] answers the list of nodes of any page, for any task and any faulting node, without the space that it was made
+//! of. It keeps runs of pages, each with the number of its rule or none, rules in numbered slots, the number of a rule for
+//! some tasks, and one local rule. A [`Rule`] has rows of nodes, and a key that says which row serves.
+//!
+//! [`Plan::choice`] lends the list of a page. [`Plan::fill`] and [`Plan::counts`] answer for a whole span, run by run: the
+//! first node of each page's list, and how many pages have each node there. None of the three takes memory.
+//!
+//! What the data of a plan mean is told in `specs/Meaning.antt`, what a rule's rows are in `specs/Rows.antt`, and what the
+//! building calls make of the data in `specs/Building.antt`.
+#![tactic(auto)]
+
+mod no_memory;
+mod plan;
+mod rows;
+mod rule;
+mod runs;
+mod slots;
+mod steps;
+mod tally;
+#[cfg(test)]
+mod tests;
+
+pub use no_memory::NoMemory;
+pub use plan::Plan;
+pub use rule::Rule;
+pub use steps::Steps;

@@ -1,0 +1,202 @@
+//! A plan, and what readers ask of it.
+ghost use Rattle.std.specs.Prelude.{◌≡◌, ℕ, ◌+◌, ◌<◌, ◌≤◌, length, Some, None, IfOk, IfErr, OnOk, OnErr, IfSome, MatchOption, EachIndex, slice_index};
+ghost use Rattle.numa_plan.specs.Counted.{FindsQuickly};
+ghost use Rattle.numa_plan.specs.Found.{IsMapped};
+ghost use Rattle.numa_plan.specs.Rows.{HasRows};
+ghost use Rattle.numa_plan.specs.Slots.{rule_in};
+ghost use Rattle.numa_plan.specs.Meaning.{PlanData, planned_list, place_refusal, rule_for, number_for, planned_first, CountsFirsts, RefusesSpan};
+
+mod build;
+
+use crate::rule::Rule;
+use crate::runs::Runs;
+use crate::slots::Slot;
+use crate::steps::Steps;
+use numa_space::PlaceRefusal;
+use std::collections::BTreeMap;
+use std::marker::Model;
+
+/// The lists of nodes of a space's pages: runs of pages, each with the number of its rule or none, rules in numbered slots,
+/// the number of a rule for some tasks, and a local rule.
+///
+/// The list of a page, for a task and a faulting node, is the row that the key of a rule picks by the node and the page's
+/// index: of the rule of the run that has the page; where the run has none, of the task's rule; where the task has none, of
+/// the local rule. A page that no run has has no list.
+#[derive(Drop)]
+pub struct Plan {
+    version: u64,
+    nodes: u32,
+    runs: Runs,
+    slots: Vec<Slot>,
+    lowest_free: usize,
+    tasks: BTreeMap<u32, u32>,
+    local: Rule,
+}
+
+impl Model for Plan {
+    ghost use Rattle.numa_plan.specs.Meaning.{PlanData};
+
+    ghost Value = { PlanData };
+
+    ghost view = { λ a. record { version = a.version; nodes = a.nodes; runs = a.runs; slots = a.slots.items; tasks = a.tasks.entries; local = a.local } };
+
+    ghost use Rattle.numa_plan.specs.Sound.{IsPlan};
+
+    ghost invariant = { λ a. IsPlan a.nodes a.runs a.slots.items a.lowest_free a.tasks.entries a.local };
+}
+
+impl Plan {
+    /// The version of the space that the plan was made of: how many commands the space had accepted.
+    pub fn version(&self) -> u64
+        ensures { result ≡ self.now.version }
+    {
+        self.version
+    }
+
+    /// How many runs the plan has.
+    pub fn run_count(&self) -> usize
+        ensures { result ≡ length self.now.runs }
+    {
+        self.runs.len()
+    }
+
+    /// The list of nodes of a page, for a task and a fault on the node `cpu`, lent by the plan: from 1 to 256 nodes, in the
+    /// order in which memory is looked for on them.
+    ///
+    /// The page is compared with the first pages of at most as many runs as the number of runs has binary digits. `steps`
+    /// counts these comparisons, for contracts alone.
+    ///
+    /// # Errors
+    /// `BadCpu` where `cpu` is none of the plan's nodes; else `Unmapped` where no run has the page.
+    pub fn choice(
+        &self,
+        task: u32,
+        page: u64,
+        cpu: u32,
+        steps: &mut Steps,
+    ) -> Result<&[u8], PlaceRefusal>
+        ensures ok { IfOk result (λ row. (cpu < self.now.nodes) × (planned_list self.now task page cpu ≡ Some row.now)) }
+        ensures sized { IfOk result (λ row. (0 < length row.now) × (length row.now ≤ 256)) }
+        ensures err { IfErr result (λ refusal. place_refusal self.now page cpu ≡ Some refusal) }
+        ensures quick { FindsQuickly steps.old steps.new (length self.now.runs) }
+    {
+        if cpu >= self.nodes {
+            return Err(PlaceRefusal::BadCpu);
+        }
+        let Some(found) = self.runs.find(page, steps) else {
+            return Err(PlaceRefusal::Unmapped);
+        };
+        Ok(self.rule_for(task, found.rule).row(cpu, found.index))
+    }
+
+    /// Writes the first node of each page's list, for the pages of a span from `first` on, as many as `out` has places.
+    ///
+    /// # Errors
+    /// `BadCpu` where `cpu` is none of the plan's nodes, also for a span of no pages; else `Unmapped` where some page of the
+    /// span has no run. The span is judged in full before the first byte is written, so that a refusal leaves `out` as it was.
+    pub fn fill(&self, task: u32, cpu: u32, first: u64, out: &mut [u8]) -> Result<(), PlaceRefusal>
+        ensures ok { OnOk result ((cpu < self.now.nodes) × EachIndex out.new (λ k. planned_first self.now task (first + k) cpu ≡ Some (slice_index out.new k))) }
+        ensures err { IfErr result (λ refusal. RefusesSpan self.now first (length out.old) cpu refusal) }
+        ensures unchanged { OnErr result (out.new ≡ out.old) }
+    {
+        if cpu >= self.nodes {
+            return Err(PlaceRefusal::BadCpu);
+        }
+        if !self.runs.covers(first, out.len() as u64) {
+            return Err(PlaceRefusal::Unmapped);
+        }
+        let mut page = first;
+        let mut done = 0usize;
+        while done < out.len() {
+            let Some(found) = self.runs.find(page, &mut Steps::new()) else {
+                unreachable!()
+            };
+            let count = found.left.min((out.len() - done) as u64);
+            let end = done + count as usize;
+            self.rule_for(task, found.rule)
+                .fill(cpu, found.index, &mut out[done..end]);
+            page += count;
+            done = end;
+        }
+        Ok(())
+    }
+
+    /// How many pages of a span have each node as the first of their list, for `pages` pages from `first` on. The time grows
+    /// with the runs of the span and the cycles of their rules, and not with its pages.
+    ///
+    /// # Errors
+    /// `BadCpu` where `cpu` is none of the plan's nodes, also for a span of no pages; else `Unmapped` where some page of the
+    /// span has no run.
+    pub fn counts(
+        &self,
+        task: u32,
+        cpu: u32,
+        first: u64,
+        pages: u64,
+    ) -> Result<[u64; 256], PlaceRefusal>
+        ensures ok { IfOk result (λ counts. (cpu < self.now.nodes) × IsMapped self.now.runs first pages × CountsFirsts self.now task cpu first pages counts) }
+        ensures err { IfErr result (λ refusal. RefusesSpan self.now first pages cpu refusal) }
+    {
+        if cpu >= self.nodes {
+            return Err(PlaceRefusal::BadCpu);
+        }
+        let mut counts = [0u64; 256];
+        let mut page = first;
+        let mut todo = pages;
+        while todo > 0 {
+            let Some(found) = self.runs.find(page, &mut Steps::new()) else {
+                return Err(PlaceRefusal::Unmapped);
+            };
+            let part = found.left.min(todo);
+            self.rule_for(task, found.rule)
+                .count(cpu, found.index, part, &mut counts);
+            page += part;
+            todo -= part;
+        }
+        Ok(counts)
+    }
+
+    /// The rule in a slot.
+    fn rule_in(&self, number: u32) -> Option<&Rule>
+        ensures is { MatchOption result (rule_in self.now.slots number ≡ None) (λ rule. rule_in self.now.slots number ≡ Some rule.now) }
+        ensures rows { IfSome result (λ rule. HasRows self.now.nodes rule.now) }
+    {
+        if number as usize >= self.slots.len() {
+            return None;
+        }
+        match &self.slots[number as usize] {
+            Slot::Taken { rule, .. } => Some(rule),
+            Slot::Free => None,
+        }
+    }
+
+    /// The number of a run's rule, and of the task's where the run has none.
+    fn number_for(&self, task: u32, number: Option<u32>) -> Option<u32>
+        ensures { result ≡ number_for self.now.tasks task number }
+    {
+        match number {
+            Some(number) => Some(number),
+            None => self.tasks.get(&task).copied(),
+        }
+    }
+
+    /// The rule that serves, which has its rows.
+    fn rule_for(&self, task: u32, number: Option<u32>) -> &Rule
+        ensures is { result.now ≡ rule_for self.now task number }
+        ensures rows { HasRows self.now.nodes result.now }
+    {
+        let Some(number) = self.number_for(task, number) else {
+            return &self.local;
+        };
+        match self.rule_in(number) {
+            Some(rule) => rule,
+            None => &self.local,
+        }
+    }
+}
+
+const _: () = prove!(size_of::<numa_ranges::Run<Option<u32>>>() == 32);
+
+const _: () = prove!(size_of::<Steps>() == 0);
+
+const _: () = prove!(size_of::<Slot>() == 96);

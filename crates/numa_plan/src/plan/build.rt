@@ -1,0 +1,138 @@
+//! How a plan is built, by its compiler.
+ghost use Rattle.std.specs.Prelude.{◌≡◌, ◌≢◌, ℕ, ◌+◌, ◌<◌, ◌≤◌, ◌^◌, ◌-◌, length, None, Some, IsSome, IfOk, OnOk, OnErr, [], ◌∷◌, ◌++◌};
+ghost use Rattle.std.specs.Option.{ForSome};
+ghost use Rattle.numa_ranges.specs.Runs.{AreApart};
+ghost use Rattle.numa_plan.specs.Counted.{one_rule, one_run};
+ghost use Rattle.numa_plan.specs.Rows.{HasRows};
+ghost use Rattle.numa_plan.specs.Meaning.{number_of};
+ghost use Rattle.numa_plan.specs.Slots.{rule_in, IsLowestFree};
+ghost use Rattle.numa_plan.specs.Building.{empty_plan, with_rule, with_run, with_task};
+
+use crate::no_memory::NoMemory;
+use crate::plan::Plan;
+use crate::rule::Rule;
+use crate::runs::Runs;
+use crate::slots::{leave_rule, lowest_free, put_rule, use_rule};
+use crate::steps::Steps;
+use numa_ranges::Run;
+use std::alloc::Global;
+use std::collections::BTreeMap;
+
+impl Plan {
+    /// A plan for a machine of this many nodes, of version 0, without runs, rules in slots and tasks. The local rule has a
+    /// row for each of the nodes. Takes no memory.
+    pub fn new(alloc: Global, nodes: u32, local: Rule) -> Plan
+        requires { HasRows nodes local }
+        ensures { result ≡ empty_plan nodes local }
+    {
+        Plan {
+            version: 0,
+            nodes,
+            runs: Runs::new(alloc),
+            slots: Vec::new(alloc),
+            lowest_free: 0,
+            tasks: BTreeMap::new(alloc),
+            local,
+        }
+    }
+
+    /// Writes a rule, with a row for each of the plan's nodes at each index, into the lowest free slot, or behind the others
+    /// where none is free. Answers the slot's number. No run and no task uses the rule yet.
+    ///
+    /// # Errors
+    /// `NoMemory` where there is none for a slot more, or no number below 2^32 for it; the plan is as it was.
+    pub fn add_rule(&mut self, rule: Rule, steps: &mut Steps) -> Result<u32, NoMemory>
+        requires { HasRows self.old.nodes rule }
+        ensures ok { IfOk result (λ number. IsLowestFree self.old.slots number × (self.new ≡ with_rule self.old number rule) × (steps.new ≡ one_rule steps.old)) }
+        ensures err { OnErr result ((self.new ≡ self.old) × (steps.new ≡ steps.old)) }
+    {
+        let place = lowest_free(&self.slots, self.lowest_free);
+        let Ok(number) = u32::try_from(place) else {
+            return Err(NoMemory);
+        };
+        put_rule(&mut self.slots, place, rule)?;
+        self.lowest_free = place + 1;
+        steps.rule_written();
+        Ok(number)
+    }
+
+    /// Adds a run behind the others. It begins where they end or later, has a page, ends below page 2^35 and has indexes below
+    /// 2^36, and its rule, if it names one, is there.
+    ///
+    /// # Errors
+    /// `NoMemory` where there is none for a run more; the plan is as it was.
+    pub fn push_run(&mut self, run: Run<Option<u32>>, steps: &mut Steps) -> Result<(), NoMemory>
+        requires apart { AreApart 0 (self.old.runs ++ run ∷ []) }
+        requires named { ForSome run.value (λ number. IsSome (rule_in self.old.slots number)) }
+        requires few { length self.old.runs + length self.old.tasks < 2 ^ 32 - 1 }
+        ensures ok { OnOk result ((self.new ≡ with_run self.old run) × (steps.new ≡ one_run steps.old)) }
+        ensures err { OnErr result ((self.new ≡ self.old) × (steps.new ≡ steps.old)) }
+    {
+        let named = run.value;
+        self.runs.push(run, steps)?;
+        if let Some(number) = named {
+            use_rule(&mut self.slots, number);
+        }
+        Ok(())
+    }
+
+    /// Gives a task the rule of this number, which is there, in place of the one that it had; with None the task has no rule
+    /// of its own any more. Writes no run and no rule.
+    ///
+    /// # Errors
+    /// `NoMemory` where there is none for a task more; the plan is as it was.
+    pub fn set_task(&mut self, task: u32, number: Option<u32>) -> Result<(), NoMemory>
+        requires named { ForSome number (λ number. IsSome (rule_in self.old.slots number)) }
+        requires few { length self.old.runs + length self.old.tasks < 2 ^ 32 - 1 }
+        ensures ok { OnOk result (self.new ≡ with_task self.old task number) }
+        ensures given { OnOk result (number_of self.new.tasks task ≡ number) }
+        ensures others { OnOk result ((other : ℕ) → other ≢ task → number_of self.new.tasks other ≡ number_of self.old.tasks other) }
+        ensures sized { OnOk result (length self.new.tasks ≤ length self.old.tasks + 1) }
+        ensures err { OnErr result (self.new ≡ self.old) }
+    {
+        match number {
+            Some(number) => self.give_rule(task, number),
+            None => {
+                self.take_rule(task);
+                Ok(())
+            }
+        }
+    }
+
+    /// Gives a task a rule, in place of the one that it had.
+    fn give_rule(&mut self, task: u32, number: u32) -> Result<(), NoMemory>
+        requires named { IsSome (rule_in self.old.slots number) }
+        requires few { length self.old.runs + length self.old.tasks < 2 ^ 32 - 1 }
+        ensures ok { OnOk result (self.new ≡ with_task self.old task (Some number)) }
+        ensures given { OnOk result (number_of self.new.tasks task ≡ Some number) }
+        ensures others { OnOk result ((other : ℕ) → other ≢ task → number_of self.new.tasks other ≡ number_of self.old.tasks other) }
+        ensures sized { OnOk result (length self.new.tasks ≤ length self.old.tasks + 1) }
+        ensures err { OnErr result (self.new ≡ self.old) }
+    {
+        let had = self.tasks.insert(task, number)?;
+        use_rule(&mut self.slots, number);
+        if let Some(had) = had {
+            leave_rule(&mut self.slots, had);
+        }
+        Ok(())
+    }
+
+    /// Takes a task's rule away, if it has one.
+    fn take_rule(&mut self, task: u32)
+        ensures ok { self.new ≡ with_task self.old task None }
+        ensures given { number_of self.new.tasks task ≡ None }
+        ensures others { (other : ℕ) → other ≢ task → number_of self.new.tasks other ≡ number_of self.old.tasks other }
+        ensures sized { length self.new.tasks ≤ length self.old.tasks + 1 }
+    {
+        if let Some(had) = self.tasks.remove(&task) {
+            leave_rule(&mut self.slots, had);
+        }
+    }
+
+    /// Sets the version.
+    pub fn set_version(&mut self, version: u64)
+        ensures { self.new ≡ record self.old { version = version } }
+    {
+        self.version = version;
+    }
+}

@@ -1,0 +1,43 @@
+//! Rows of nodes, one behind another.
+ghost use Rattle.std.specs.Prelude.{◌≡◌, ◌+◌, ◌*◌, ◌<◌, ◌≤◌, length, slice_index, slice_range, IfOk};
+ghost use Rattle.numa_plan.specs.Rules.{first_nodes};
+
+use crate::no_memory::NoMemory;
+use numa_lanes::Cycle;
+use std::alloc::Global;
+
+/// The row of this number, of rows of `width` nodes.
+pub(crate) fn row_at(rows: &[u8], width: u32, number: usize) -> &[u8]
+    requires { number * width + width ≤ length rows.now }
+    ensures { result.now ≡ slice_range rows.now (number * width) (number * width + width) }
+{
+    let width = width as usize;
+    &rows[number * width..number * width + width]
+}
+
+/// The first node of the row of this number; 0 where there is no such row.
+pub(crate) fn first_at(rows: &[u8], width: u32, number: u8) -> u8
+    ensures { result ≡ slice_index rows.now (number * width) }
+{
+    rows.get(usize::from(number) * width as usize)
+        .copied()
+        .unwrap_or(0)
+}
+
+/// The cycle of the first nodes of the rows that stand in a cycle.
+pub(crate) fn first_cycle(
+    alloc: Global,
+    width: u32,
+    rows: &[u8],
+    cycle: &[u8],
+) -> Result<Cycle, NoMemory>
+    requires { 0 < length cycle.now }
+    ensures { IfOk result (λ firsts. firsts ≡ first_nodes rows.now width cycle.now) }
+{
+    let mut firsts = Vec::with_capacity(alloc, cycle.len())?;
+    for number in cycle {
+        firsts.push(first_at(rows, width, *number))?;
+    }
+    let firsts = Cycle::new(alloc, &firsts)?;
+    Ok(firsts)
+}

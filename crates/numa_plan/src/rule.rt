@@ -1,0 +1,143 @@
+//! Rules: rows of nodes, and which of them serves a page.
+ghost use Rattle.std.specs.Prelude.{◌≡◌, ℕ, ◌+◌, ◌*◌, ◌<◌, ◌^◌, ◌==◌, length, ◌≤◌, slice_index, EachIndex, IfOk};
+ghost use Rattle.numa_ranges.specs.Counts.{count_pages};
+ghost use Rattle.numa_plan.specs.Rows.{row_number, row_of, first_of, HasRow, Faulting, Fixed, InTurns};
+
+use crate::no_memory::NoMemory;
+use crate::rows::{first_cycle, row_at};
+use crate::tally::add_turns;
+use numa_lanes::{Cycle, fill_cycle, fill_one};
+use std::alloc::Global;
+use std::marker::Model;
+
+/// Which row serves, and the rows, of `width` nodes each, one behind another.
+#[derive(Drop)]
+enum Body {
+    /// The row of the faulting node.
+    Faulting {
+        width: u32,
+        rows: Vec<u8>,
+    },
+    /// The only row.
+    Fixed {
+        rows: Vec<u8>,
+    },
+    /// The row whose number stands in the cycle at the page's index modulo the cycle's length. `firsts` has the first node
+    /// of the row at each of the cycle's places.
+    Turns {
+        width: u32,
+        rows: Vec<u8>,
+        cycle: Vec<u8>,
+        firsts: Cycle,
+    },
+}
+
+/// Rows of nodes, and a key that says which of them serves a page.
+#[derive(Drop)]
+pub struct Rule {
+    body: Body,
+}
+
+impl Model for Rule {
+    ghost use Rattle.numa_plan.specs.Rows.{RuleData};
+
+    ghost Value = { RuleData };
+
+    ghost use Rattle.numa_plan.specs.Rules.{data_of, IsRule};
+
+    ghost view = { λ a. data_of a.body };
+
+    ghost invariant = { λ a. IsRule a.body };
+}
+
+impl Rule {
+    /// A rule with a row for each faulting node, from node 0 on: `rows` has them one behind another, `width` nodes each.
+    pub fn faulting(width: u32, rows: Vec<u8>) -> Rule
+        ensures { result ≡ record { key = Faulting; width = width; rows = rows.items } }
+    {
+        Rule {
+            body: Body::Faulting { width, rows },
+        }
+    }
+
+    /// A rule with one row.
+    pub fn fixed(row: Vec<u8>) -> Rule
+        ensures { result ≡ record { key = Fixed; width = length row.items; rows = row.items } }
+    {
+        Rule {
+            body: Body::Fixed { rows: row },
+        }
+    }
+
+    /// A rule whose rows serve in turns: a page of index i gets the row whose number is entry i modulo the length of
+    /// `cycle`. `rows` has the rows one behind another, `width` nodes each.
+    ///
+    /// # Errors
+    /// `NoMemory` where there is none for the first nodes of the rows, which are kept in the order of the cycle.
+    pub fn turns(alloc: Global, width: u32, rows: Vec<u8>, cycle: Vec<u8>) -> Result<Rule, NoMemory>
+        requires { 0 < length cycle.items }
+        ensures { IfOk result (λ rule. rule ≡ record { key = InTurns cycle.items; width = width; rows = rows.items }) }
+    {
+        let firsts = first_cycle(alloc, width, &rows, &cycle)?;
+        Ok(Rule {
+            body: Body::Turns {
+                width,
+                rows,
+                cycle,
+                firsts,
+            },
+        })
+    }
+
+    /// The row that serves a page of this index, for a fault on this node.
+    pub(crate) fn row(&self, cpu: u32, index: u64) -> &[u8]
+        requires { HasRow self.now (row_number self.now cpu index) }
+        ensures is { result.now ≡ row_of self.now cpu index }
+        ensures sized { (0 < length result.now) × (length result.now ≤ 256) }
+    {
+        match &self.body {
+            Body::Faulting { width, rows } => row_at(rows, *width, cpu as usize),
+            Body::Fixed { rows } => rows,
+            Body::Turns {
+                width,
+                rows,
+                cycle,
+                ..
+            } => {
+                let turn = (index % cycle.len() as u64) as usize;
+                row_at(rows, *width, usize::from(cycle[turn]))
+            }
+        }
+    }
+
+    /// Writes the first node of the row that serves each of the indexes from this one on.
+    pub(crate) fn fill(&self, cpu: u32, index: u64, out: &mut [u8])
+        requires rows { (k : ℕ) → HasRow self.now (row_number self.now cpu k) }
+        requires index { index < 2 ^ 36 }
+        ensures { EachIndex out.new (λ k. slice_index out.new k ≡ first_of self.now cpu (index + k)) }
+    {
+        match &self.body {
+            Body::Turns { firsts, .. } => fill_cycle(firsts, index, out),
+            Body::Faulting { .. } => fill_one(self.row(cpu, index)[0], out),
+            Body::Fixed { .. } => fill_one(self.row(cpu, index)[0], out),
+        }
+    }
+
+    /// Adds to each node's count the pages whose row begins with the node, for so many pages with the indexes from this one on.
+    pub(crate) fn count(&self, cpu: u32, index: u64, pages: u64, counts: &mut [u64; 256])
+        requires rows { (k : ℕ) → HasRow self.now (row_number self.now cpu k) }
+        requires room { (node : ℕ) → node < 256 → slice_index counts.old node + pages < 2 ^ 64 }
+        ensures { (node : ℕ) → node < 256 → slice_index counts.new node ≡ slice_index counts.old node + count_pages (λ k. first_of self.now cpu k == node) index pages }
+    {
+        match &self.body {
+            Body::Turns {
+                width,
+                rows,
+                cycle,
+                ..
+            } => add_turns(rows, *width, cycle, index, pages, counts),
+            Body::Faulting { .. } => counts[usize::from(self.row(cpu, index)[0])] += pages,
+            Body::Fixed { .. } => counts[usize::from(self.row(cpu, index)[0])] += pages,
+        }
+    }
+}

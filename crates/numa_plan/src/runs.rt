@@ -1,0 +1,157 @@
+//! The runs of a plan, in rising order.
+ghost use Rattle.std.specs.Prelude.{◌≡◌, ℕ, ◌+◌, ◌-◌, ◌<◌, ◌≤◌, ◌^◌, List, [], ◌∷◌, ◌++◌, length, slice_index_or, MatchOption, Option, OnOk, OnErr, Some, None, IsSome};
+ghost use Rattle.std.specs.Bool.{OnTrue, OnFalse};
+ghost use Rattle.numa_ranges.specs.Runs.{AreApart, end_of, page_at};
+ghost use Rattle.numa_ranges.specs.declared.run.Run.{Run};
+ghost use Rattle.numa_plan.specs.Counted.{one_comparison, one_run, FindsQuickly};
+ghost use Rattle.numa_plan.specs.Found.{IsFound, IsPartOf, IsMapped, HasHole};
+
+use crate::no_memory::NoMemory;
+use crate::steps::Steps;
+use numa_ranges::Run;
+use std::alloc::Global;
+use std::marker::Model;
+
+/// What a run says of a page: its index, the number of its rule (none: the task's rule), and how many pages the run has from
+/// it on.
+#[derive(Clone, Copy, Debug, PartialEq, Eq)]
+pub(crate) struct Found {
+    pub(crate) index: u64,
+    pub(crate) rule: Option<u32>,
+    pub(crate) left: u64,
+}
+
+/// Runs of pages, in rising order and apart, each with the number of its rule or none.
+#[derive(Drop)]
+pub(crate) struct Runs {
+    items: Vec<Run<Option<u32>>>,
+}
+
+impl Model for Runs {
+    ghost use Rattle.std.specs.Prelude.{List, ℕ, Option};
+    ghost use Rattle.numa_ranges.specs.declared.run.Run.{Run};
+    ghost use Rattle.numa_ranges.specs.Runs.{AreApart};
+
+    ghost Value = { List (Run (Option ℕ)) };
+
+    ghost view = { λ a. a.items.items };
+
+    ghost invariant = { λ a. AreApart 0 a.items.items };
+}
+
+impl Runs {
+    /// No runs.
+    pub(crate) fn new(alloc: Global) -> Runs
+        ensures { result ≡ [] }
+    {
+        Runs {
+            items: Vec::new(alloc),
+        }
+    }
+
+    /// How many runs there are.
+    pub(crate) fn len(&self) -> usize
+        ensures count { result ≡ length self.now }
+        ensures apart { AreApart 0 self.now }
+    {
+        self.items.len()
+    }
+
+    /// How far a page lies behind the first page of a run; none where it lies before it. Nothing else reads a run's first page.
+    fn behind_first(&self, place: usize, page: u64, steps: &mut Steps) -> Option<u64>
+        requires { place < length self.now }
+        ensures counted { steps.new ≡ one_comparison steps.old }
+        ensures far { (d : Run (Option ℕ)) → MatchOption result (page < (slice_index_or self.now place d).first) (λ far. (slice_index_or self.now place d).first + far ≡ page) }
+    {
+        steps.compared();
+        let first = self.items[place].first;
+        if page < first {
+            None
+        } else {
+            Some(page - first)
+        }
+    }
+
+    /// What a run says of the page that lies so far behind its first page; none where the run is shorter.
+    fn found_at(&self, place: usize, far: u64) -> Option<Found>
+        requires { place < length self.now }
+        ensures { (d : Run (Option ℕ)) → MatchOption result ((slice_index_or self.now place d).pages ≤ far) (λ found. IsPartOf (slice_index_or self.now place d) far found) }
+    {
+        let run = &self.items[place];
+        if far < run.pages {
+            Some(Found {
+                index: run.index + far,
+                rule: run.value,
+                left: run.pages - far,
+            })
+        } else {
+            None
+        }
+    }
+
+    /// What the runs say of a page.
+    pub(crate) fn find(&self, page: u64, steps: &mut Steps) -> Option<Found>
+        ensures found { IsFound self.now page result }
+        ensures quick { FindsQuickly steps.old steps.new (length self.now) }
+    {
+        let mut low = 0usize;
+        let mut high = self.len();
+        let mut far = 0u64;
+        while low < high {
+            let middle = low + (high - low) / 2;
+            match self.behind_first(middle, page, steps) {
+                Some(distance) => {
+                    far = distance;
+                    low = middle + 1;
+                }
+                None => high = middle,
+            }
+        }
+        if low == 0 {
+            return None;
+        }
+        self.found_at(low - 1, far)
+    }
+
+    /// Whether each page of the span is mapped.
+    pub(crate) fn covers(&self, first: u64, pages: u64) -> bool
+        ensures all { OnTrue result (IsMapped self.now first pages) }
+        ensures hole { OnFalse result (HasHole self.now first pages) }
+    {
+        let mut page = first;
+        let mut todo = pages;
+        while todo > 0 {
+            let Some(found) = self.find(page, &mut Steps::new()) else {
+                return false;
+            };
+            if todo <= found.left {
+                return true;
+            }
+            page += found.left;
+            todo -= found.left;
+        }
+        true
+    }
+
+    /// Adds a run behind the others.
+    pub(crate) fn push(&mut self, run: Run<Option<u32>>, steps: &mut Steps) -> Result<(), NoMemory>
+        requires { AreApart 0 (self.old ++ run ∷ []) }
+        ensures ok { OnOk result ((self.new ≡ self.old ++ run ∷ []) × (steps.new ≡ one_run steps.old)) }
+        ensures err { OnErr result ((self.new ≡ self.old) × (steps.new ≡ steps.old)) }
+    {
+        let Run {
+            first,
+            pages,
+            index,
+            value,
+        } = run;
+        self.items.push(Run {
+            first,
+            pages,
+            index,
+            value,
+        })?;
+        steps.run_written();
+        Ok(())
+    }
+}

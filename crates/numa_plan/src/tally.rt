@@ -1,0 +1,66 @@
+//! Counts of the pages that rows in turns serve.
+ghost use Rattle.std.specs.Prelude.{◌≡◌, ℕ, ◌+◌, ◌*◌, ◌%◌, ◌^◌, ◌<◌, ◌≤◌, ◌==◌, length, slice_index};
+ghost use Rattle.numa_lanes.specs.Spans.{counted};
+ghost use Rattle.numa_ranges.specs.Counts.{count_pages};
+ghost use Rattle.numa_plan.specs.Rules.{first_nodes};
+
+use crate::rows::first_at;
+
+/// Adds to each node's count the pages whose row begins with the node, where so many pages from an index on take the rows of
+/// a cycle in turn: whole rounds of the cycle by multiplication, and the rest place by place.
+pub(crate) fn add_turns(
+    rows: &[u8],
+    width: u32,
+    cycle: &[u8],
+    index: u64,
+    pages: u64,
+    counts: &mut [u64; 256],
+)
+    requires some { 0 < length cycle.now }
+    requires room { (node : ℕ) → node < 256 → slice_index counts.old node + pages < 2 ^ 64 }
+    ensures { (node : ℕ) → node < 256 → slice_index counts.new node ≡ slice_index counts.old node + count_pages (λ turn. slice_index (first_nodes rows.now width cycle.now) (turn % length cycle.now) == node) index pages }
+{
+    let length = cycle.len() as u64;
+    add_places(rows, width, cycle, pages / length, counts);
+    let start = (index % length) as usize;
+    let rest = (pages % length) as usize;
+    add_rest(rows, width, cycle, start, rest, counts);
+}
+
+/// Adds to each node's count the pages whose row begins with the node, where fewer pages than a round take the rows of a
+/// cycle in turn, from this place of the cycle on.
+fn add_rest(
+    rows: &[u8],
+    width: u32,
+    cycle: &[u8],
+    start: usize,
+    pages: usize,
+    counts: &mut [u64; 256],
+)
+    requires start { start < length cycle.now }
+    requires pages { pages < length cycle.now }
+    requires room { (node : ℕ) → node < 256 → slice_index counts.old node + pages < 2 ^ 64 }
+    ensures { (node : ℕ) → node < 256 → slice_index counts.new node ≡ slice_index counts.old node + count_pages (λ turn. slice_index (first_nodes rows.now width cycle.now) (turn % length cycle.now) == node) start pages }
+{
+    let length = cycle.len();
+    if pages <= length - start {
+        add_places(rows, width, &cycle[start..start + pages], 1, counts);
+    } else {
+        let begun = pages - (length - start);
+        add_places(rows, width, &cycle[start..], 1, counts);
+        add_places(rows, width, &cycle[..begun], 1, counts);
+    }
+}
+
+/// Adds so many pages for each of these rows to the count of the row's first node.
+fn add_places(rows: &[u8], width: u32, numbers: &[u8], pages: u64, counts: &mut [u64; 256])
+    requires { (node : ℕ) → node < 256 → slice_index counts.old node + pages * counted node (first_nodes rows.now width numbers.now) < 2 ^ 64 }
+    ensures { (node : ℕ) → node < 256 → slice_index counts.new node ≡ slice_index counts.old node + pages * counted node (first_nodes rows.now width numbers.now) }
+{
+    if pages == 0 {
+        return;
+    }
+    for number in numbers {
+        counts[usize::from(first_at(rows, width, *number))] += pages;
+    }
+}
