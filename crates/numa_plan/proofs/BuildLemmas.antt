@@ -1,18 +1,20 @@
 -- What the building calls keep.
-use Rattle.std.proofs.Common.{◌≡◌, ℕ, ◌+◌, ◌<◌, Bool, cond, eq-eqb, Option, Some, None, List, [], ◌∷◌, ◌++◌, length, refl, sym, ap, ◌∙◌, arith, inl, inr}
-use Rattle.std.specs.Prelude.{IsSome, is_some, count_by, unwrap_or, ◌==◌}
+use Rattle.std.proofs.Common.{◌≡◌, ℕ, ◌+◌, ◌-◌, ◌<◌, Bool, true, false, cond, eq-eqb, Option, Some, None, List, [], ◌∷◌, ◌++◌, length, refl, sym, ap, ◌∙◌, arith, inl, inr}
+use Rattle.std.specs.Prelude.{IsSome, is_some, count_by, unwrap_or, option_and_then, ◌==◌, if◌then◌else◌}
 use Rattle.std.proofs.lemmas.Cmp.{nat_cmp_total}
 use Rattle.std.specs.Ordering.{nat_cmp}
 use Rattle.std.specs.BTreeMap.{insert_entry, is_at}
 use Rattle.std.specs.Map.{keys_of, lookup, remove_entry}
-use Rattle.std.proofs.lemmas.List.Sums.{sum_by-append}
+use Rattle.std.proofs.lemmas.List.Sums.{sum_by-append, sum_by-cons}
 use Rattle.std.proofs.lemmas.Map.Entries.{sum_by-insert_entry, sum_by-remove_entry}
 use Rattle.std.specs.List.Sorted.{IsStrictlySortedBy}
 use Rattle.std.specs.Option.{option_map}
+use Rattle.numa_ranges.specs.Runs.{page_at, in_pages}
 use Rattle.numa_ranges.specs.declared.run.Run.{Run}
-use Rattle.numa_plan.specs.Rows.{RuleData, HasRows}
+use Rattle.numa_plan.specs.Rows.{RuleData, HasRows, row_of}
 use Rattle.numa_plan.specs.Slots.{slot_at, rule_of_slot, uses_of_slot, rule_in, uses_in, put_slot, used, unused, IsLowestFree}
-use Rattle.numa_plan.specs.Meaning.{number_of, is_number}
+use Rattle.numa_plan.specs.Meaning.{PlanData, number_of, number_for, rule_for, planned_list, is_number}
+use Rattle.numa_plan.specs.Building.{with_rule}
 use Rattle.numa_plan.specs.Sound.{IsPlan, uses_of}
 use Rattle.numa_plan.specs.declared.slots.Slot.{Slot}
 use Rattle.numa_plan.specs.declared.slots.Slot.TheVariants.{Free, Taken}
@@ -123,3 +125,47 @@ pub keeps_taken : (nodes : ℕ) (runs : List (Run (Option ℕ))) (slots : List S
 keeps_taken nodes runs slots low tasks local task had plan is =
     keeps nodes runs runs slots (unused slots (Some had)) low tasks (remove_entry (is_at (nat_cmp task)) tasks) local plan (rule_in-unused slots (Some had)) (length-unused slots (Some had)) (λ k.
     omega (arith, uses_in-unused slots had k, plan.counted k, uses-take runs tasks task k (Some had) is))
+
+-- ---- a new rule changes no list
+
+-- the number that a page's run names is named by a run
+page_at-names : (runs : List (Run (Option ℕ))) (page index number : ℕ) → page_at runs page ≡ Some (index, Some number) → 0 < count_by (λ run. is_number number run.value) runs
+page_at-names [] page index number is = absurd (let odd : ◌≡◌ {A = Option (ℕ × Option ℕ)} None (Some (index, Some number)) = is in cc)
+page_at-names (run ∷ runs) page index number is = go (in_pages run.first run.pages page) (λ e. page_at-names runs page index number e) is
+  where
+    all : count_by (λ run. is_number number run.value) (run ∷ runs) ≡ cond (is_number number run.value) 1 0 + count_by (λ run. is_number number run.value) runs
+    all = sum_by-cons (λ (run : Run (Option ℕ)). cond {A = ℕ} (is_number number run.value) 1 0) run runs
+
+    go : (b : Bool) → (page_at runs page ≡ Some (index, Some number) → 0 < count_by (λ run. is_number number run.value) runs) → ◌≡◌ {A = Option (ℕ × Option ℕ)} (if b then Some (run.index + (page - run.first), run.value) else page_at runs page) (Some (index, Some number)) → 0 < count_by (λ run. is_number number run.value) (run ∷ runs)
+    go true later e =
+        let value : run.value ≡ Some number = ap (option_and_then (λ (p : ℕ × Option ℕ). p.1)) e in
+        let one : cond {A = ℕ} (is_number number run.value) 1 0 ≡ 1 = ap (λ (v : Option ℕ). cond {A = ℕ} (is_number number v) 1 0) value ∙ ap (λ (b : Bool). cond {A = ℕ} b 1 0) (eq-eqb number number refl) in
+        omega (arith, all, one)
+    go false later e = omega (arith, all, later e)
+
+-- the number that serves a page for a task is used
+served-uses : (runs : List (Run (Option ℕ))) (tasks : List (ℕ × ℕ)) (task page index number : ℕ) (value : Option ℕ) → page_at runs page ≡ Some (index, value) → number_for tasks task value ≡ Some number → 0 < uses_of runs tasks number
+served-uses runs tasks task page index number None is named = task-uses runs tasks task number (sym named)
+served-uses runs tasks task page index number (Some own) is named = omega (arith, page_at-names runs page index number (is ∙ ap (λ (v : Option ℕ). Some (index, v)) named))
+
+-- the lowest free slot serves no page, so that a rule written there changes no list
+pub lists-with_rule : (plan : PlanData) (low number : ℕ) (rule : RuleData) → IsPlan plan.nodes plan.runs plan.slots low plan.tasks plan.local → IsLowestFree plan.slots number
+    → (task page cpu : ℕ) → planned_list (with_rule plan number rule) task page cpu ≡ planned_list plan task page cpu
+lists-with_rule plan low number rule sound lowest task page cpu = go (page_at plan.runs page) refl
+  where
+    kept : (named : ℕ) → 0 < uses_of plan.runs plan.tasks named → rule_in (put_slot plan.slots number (Taken 0 rule)) named ≡ rule_in plan.slots named
+    kept named some =
+        ap rule_of_slot (put-other plan.slots number named (Taken 0 rule) lowest.within (λ is.
+        let none : uses_in plan.slots named ≡ 0 = ap (uses_in plan.slots) is ∙ free-unused (slot_at plan.slots number) lowest.free in
+        absurd (omega (arith, sound.counted named, none))))
+
+    serves : (o : Option ℕ) → ((named : ℕ) → o ≡ Some named → 0 < uses_of plan.runs plan.tasks named) → option_and_then (rule_in (put_slot plan.slots number (Taken 0 rule))) o ≡ option_and_then (rule_in plan.slots) o
+    serves None some = refl
+    serves (Some named) some = kept named (some named refl)
+
+    go : (o : Option (ℕ × Option ℕ)) → page_at plan.runs page ≡ o
+        → option_map (λ at. row_of (rule_for (with_rule plan number rule) task at.1) cpu at.0) o ≡ option_map (λ at. row_of (rule_for plan task at.1) cpu at.0) o
+    go None is = refl
+    go (Some at) is =
+        ap (λ (o : Option RuleData). Some (row_of (unwrap_or o plan.local) cpu at.0))
+        (serves (number_for plan.tasks task at.1) (λ named here. served-uses plan.runs plan.tasks task page at.0 named at.1 is here))

@@ -6,3 +6,4 @@ pub mod Rows
 pub mod Rules
 pub mod Slots
 pub mod Sound
+pub mod Tally

@@ -1,5 +1,6 @@
 -- How a rule is kept.
-use Rattle.std.specs.Prelude.{◌≡◌, ℕ, ◌*◌, ◌<◌, List, length, map, slice_index}
+use Rattle.std.specs.Prelude.{◌≡◌, ℕ, ◌*◌, ◌%◌, ◌<◌, ◌==◌, List, length, map, slice_index}
+use Rattle.numa_ranges.specs.Counts.{count_pages}
 use Rattle.numa_plan.specs.Rows.{RuleData, Faulting, Fixed, InTurns}
 use Rattle.numa_plan.specs.declared.rule.Body.{Body}
 use Rattle.numa_plan.specs.declared.rule.Body.TheVariants as kept
@@ -19,3 +20,7 @@ abbrev pub IsRule : Body → Type 0
 IsRule (kept.Faulting width rows) = Unit {0}
 IsRule (kept.Fixed rows) = Unit {0}
 IsRule (kept.Turns width rows cycle firsts) = (0 < length cycle.items) × (firsts ≡ first_nodes rows.items width cycle.items)
+
+-- how many of so many turns, from one on, have a row that begins with the node
+abbrev pub turns_on : List ℕ → ℕ → List ℕ → ℕ → ℕ → ℕ → ℕ
+turns_on rows width cycle start turns node = count_pages (λ turn. slice_index (first_nodes rows width cycle) (turn % length cycle) == node) start turns

@@ -75,7 +75,8 @@ impl Plan {
         cpu: u32,
         steps: &mut Steps,
     ) -> Result<&[u8], PlaceRefusal>
-        ensures ok { IfOk result (λ row. (cpu < self.now.nodes) × (planned_list self.now task page cpu ≡ Some row.now)) }
+        ensures ok { IfOk result (λ row. (cpu < self.now.nodes)
+            × (planned_list self.now task page cpu ≡ Some row.now)) }
         ensures sized { IfOk result (λ row. (0 < length row.now) × (length row.now ≤ 256)) }
         ensures err { IfErr result (λ refusal. place_refusal self.now page cpu ≡ Some refusal) }
         ensures quick { FindsQuickly steps.old steps.new (length self.now.runs) }
@@ -95,7 +96,8 @@ impl Plan {
     /// `BadCpu` where `cpu` is none of the plan's nodes, also for a span of no pages; else `Unmapped` where some page of the
     /// span has no run. The span is judged in full before the first byte is written, so that a refusal leaves `out` as it was.
     pub fn fill(&self, task: u32, cpu: u32, first: u64, out: &mut [u8]) -> Result<(), PlaceRefusal>
-        ensures ok { OnOk result ((cpu < self.now.nodes) × EachIndex out.new (λ k. planned_first self.now task (first + k) cpu ≡ Some (slice_index out.new k))) }
+        ensures ok { OnOk result ((cpu < self.now.nodes)
+            × EachIndex out.new (λ k. planned_first self.now task (first + k) cpu ≡ Some (slice_index out.new k))) }
         ensures err { IfErr result (λ refusal. RefusesSpan self.now first (length out.old) cpu refusal) }
         ensures unchanged { OnErr result (out.new ≡ out.old) }
     {
@@ -134,7 +136,8 @@ impl Plan {
         first: u64,
         pages: u64,
     ) -> Result<[u64; 256], PlaceRefusal>
-        ensures ok { IfOk result (λ counts. (cpu < self.now.nodes) × IsMapped self.now.runs first pages × CountsFirsts self.now task cpu first pages counts) }
+        ensures ok { IfOk result (λ counts. (cpu < self.now.nodes) × IsMapped self.now.runs first pages
+            × CountsFirsts self.now task cpu first pages counts) }
         ensures err { IfErr result (λ refusal. RefusesSpan self.now first pages cpu refusal) }
     {
         if cpu >= self.nodes {
@@ -158,7 +161,8 @@ impl Plan {
 
     /// The rule in a slot.
     fn rule_in(&self, number: u32) -> Option<&Rule>
-        ensures is { MatchOption result (rule_in self.now.slots number ≡ None) (λ rule. rule_in self.now.slots number ≡ Some rule.now) }
+        ensures is { MatchOption result (rule_in self.now.slots number ≡ None)
+            (λ rule. rule_in self.now.slots number ≡ Some rule.now) }
         ensures rows { IfSome result (λ rule. HasRows self.now.nodes rule.now) }
     {
         if number as usize >= self.slots.len() {

@@ -1,6 +1,7 @@
 //! Rules: rows of nodes, and which of them serves a page.
 ghost use Rattle.std.specs.Prelude.{◌≡◌, ℕ, ◌+◌, ◌*◌, ◌<◌, ◌^◌, ◌==◌, length, ◌≤◌, slice_index, EachIndex, IfOk};
 ghost use Rattle.numa_ranges.specs.Counts.{count_pages};
+ghost use Rattle.numa_plan.specs.Tally.{Adds, HasRoom};
 ghost use Rattle.numa_plan.specs.Rows.{row_number, row_of, first_of, HasRow, Faulting, Fixed, InTurns};
 
 use crate::no_memory::NoMemory;
@@ -126,8 +127,8 @@ impl Rule {
     /// Adds to each node's count the pages whose row begins with the node, for so many pages with the indexes from this one on.
     pub(crate) fn count(&self, cpu: u32, index: u64, pages: u64, counts: &mut [u64; 256])
         requires rows { (k : ℕ) → HasRow self.now (row_number self.now cpu k) }
-        requires room { (node : ℕ) → node < 256 → slice_index counts.old node + pages < 2 ^ 64 }
-        ensures { (node : ℕ) → node < 256 → slice_index counts.new node ≡ slice_index counts.old node + count_pages (λ k. first_of self.now cpu k == node) index pages }
+        requires room { HasRoom counts.old (λ _. pages) }
+        ensures { Adds counts.old counts.new (λ node. count_pages (λ k. first_of self.now cpu k == node) index pages) }
     {
         match &self.body {
             Body::Turns {

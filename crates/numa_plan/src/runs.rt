@@ -61,7 +61,8 @@ impl Runs {
     fn behind_first(&self, place: usize, page: u64, steps: &mut Steps) -> Option<u64>
         requires { place < length self.now }
         ensures counted { steps.new ≡ one_comparison steps.old }
-        ensures far { (d : Run (Option ℕ)) → MatchOption result (page < (slice_index_or self.now place d).first) (λ far. (slice_index_or self.now place d).first + far ≡ page) }
+        ensures far { (d : Run (Option ℕ)) → MatchOption result (page < (slice_index_or self.now place d).first)
+            (λ far. (slice_index_or self.now place d).first + far ≡ page) }
     {
         steps.compared();
         let first = self.items[place].first;
@@ -75,7 +76,8 @@ impl Runs {
     /// What a run says of the page that lies so far behind its first page; none where the run is shorter.
     fn found_at(&self, place: usize, far: u64) -> Option<Found>
         requires { place < length self.now }
-        ensures { (d : Run (Option ℕ)) → MatchOption result ((slice_index_or self.now place d).pages ≤ far) (λ found. IsPartOf (slice_index_or self.now place d) far found) }
+        ensures { (d : Run (Option ℕ)) → MatchOption result ((slice_index_or self.now place d).pages ≤ far)
+            (λ found. IsPartOf (slice_index_or self.now place d) far found) }
     {
         let run = &self.items[place];
         if far < run.pages {

@@ -1,8 +1,8 @@
 //! Counts of the pages that rows in turns serve.
-ghost use Rattle.std.specs.Prelude.{◌≡◌, ℕ, ◌+◌, ◌*◌, ◌%◌, ◌^◌, ◌<◌, ◌≤◌, ◌==◌, length, slice_index};
+ghost use Rattle.std.specs.Prelude.{◌*◌, ◌<◌, length};
 ghost use Rattle.numa_lanes.specs.Spans.{counted};
-ghost use Rattle.numa_ranges.specs.Counts.{count_pages};
-ghost use Rattle.numa_plan.specs.Rules.{first_nodes};
+ghost use Rattle.numa_plan.specs.Rules.{first_nodes, turns_on};
+ghost use Rattle.numa_plan.specs.Tally.{Adds, HasRoom};
 
 use crate::rows::first_at;
 
@@ -17,8 +17,8 @@ pub(crate) fn add_turns(
     counts: &mut [u64; 256],
 )
     requires some { 0 < length cycle.now }
-    requires room { (node : ℕ) → node < 256 → slice_index counts.old node + pages < 2 ^ 64 }
-    ensures { (node : ℕ) → node < 256 → slice_index counts.new node ≡ slice_index counts.old node + count_pages (λ turn. slice_index (first_nodes rows.now width cycle.now) (turn % length cycle.now) == node) index pages }
+    requires room { HasRoom counts.old (λ _. pages) }
+    ensures { Adds counts.old counts.new (turns_on rows.now width cycle.now index pages) }
 {
     let length = cycle.len() as u64;
     add_places(rows, width, cycle, pages / length, counts);
@@ -39,8 +39,8 @@ fn add_rest(
 )
     requires start { start < length cycle.now }
     requires pages { pages < length cycle.now }
-    requires room { (node : ℕ) → node < 256 → slice_index counts.old node + pages < 2 ^ 64 }
-    ensures { (node : ℕ) → node < 256 → slice_index counts.new node ≡ slice_index counts.old node + count_pages (λ turn. slice_index (first_nodes rows.now width cycle.now) (turn % length cycle.now) == node) start pages }
+    requires room { HasRoom counts.old (λ _. pages) }
+    ensures { Adds counts.old counts.new (turns_on rows.now width cycle.now start pages) }
 {
     let length = cycle.len();
     if pages <= length - start {
@@ -54,8 +54,8 @@ fn add_rest(
 
 /// Adds so many pages for each of these rows to the count of the row's first node.
 fn add_places(rows: &[u8], width: u32, numbers: &[u8], pages: u64, counts: &mut [u64; 256])
-    requires { (node : ℕ) → node < 256 → slice_index counts.old node + pages * counted node (first_nodes rows.now width numbers.now) < 2 ^ 64 }
-    ensures { (node : ℕ) → node < 256 → slice_index counts.new node ≡ slice_index counts.old node + pages * counted node (first_nodes rows.now width numbers.now) }
+    requires { HasRoom counts.old (λ node. pages * counted node (first_nodes rows.now width numbers.now)) }
+    ensures { Adds counts.old counts.new (λ node. pages * counted node (first_nodes rows.now width numbers.now)) }
 {
     if pages == 0 {
         return;

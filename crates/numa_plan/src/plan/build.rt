@@ -4,7 +4,7 @@ ghost use Rattle.std.specs.Option.{ForSome};
 ghost use Rattle.numa_ranges.specs.Runs.{AreApart};
 ghost use Rattle.numa_plan.specs.Counted.{one_rule, one_run};
 ghost use Rattle.numa_plan.specs.Rows.{HasRows};
-ghost use Rattle.numa_plan.specs.Meaning.{number_of};
+ghost use Rattle.numa_plan.specs.Meaning.{number_of, planned_list};
 ghost use Rattle.numa_plan.specs.Slots.{rule_in, IsLowestFree};
 ghost use Rattle.numa_plan.specs.Building.{empty_plan, with_rule, with_run, with_task};
 
@@ -37,13 +37,16 @@ impl Plan {
     }
 
     /// Writes a rule, with a row for each of the plan's nodes at each index, into the lowest free slot, or behind the others
-    /// where none is free. Answers the slot's number. No run and no task uses the rule yet.
+    /// where none is free. Answers the slot's number. No run and no task uses the rule yet, so that no list changes.
     ///
     /// # Errors
     /// `NoMemory` where there is none for a slot more, or no number below 2^32 for it; the plan is as it was.
     pub fn add_rule(&mut self, rule: Rule, steps: &mut Steps) -> Result<u32, NoMemory>
         requires { HasRows self.old.nodes rule }
-        ensures ok { IfOk result (λ number. IsLowestFree self.old.slots number × (self.new ≡ with_rule self.old number rule) × (steps.new ≡ one_rule steps.old)) }
+        ensures ok { IfOk result (λ number. IsLowestFree self.old.slots number
+            × (self.new ≡ with_rule self.old number rule) × (steps.new ≡ one_rule steps.old)) }
+        ensures lists { OnOk result ((task page cpu : ℕ)
+            → planned_list self.new task page cpu ≡ planned_list self.old task page cpu) }
         ensures err { OnErr result ((self.new ≡ self.old) × (steps.new ≡ steps.old)) }
     {
         let place = lowest_free(&self.slots, self.lowest_free);
@@ -86,7 +89,8 @@ impl Plan {
         requires few { length self.old.runs + length self.old.tasks < 2 ^ 32 - 1 }
         ensures ok { OnOk result (self.new ≡ with_task self.old task number) }
         ensures given { OnOk result (number_of self.new.tasks task ≡ number) }
-        ensures others { OnOk result ((other : ℕ) → other ≢ task → number_of self.new.tasks other ≡ number_of self.old.tasks other) }
+        ensures others { OnOk result ((other : ℕ) → other ≢ task
+            → number_of self.new.tasks other ≡ number_of self.old.tasks other) }
         ensures sized { OnOk result (length self.new.tasks ≤ length self.old.tasks + 1) }
         ensures err { OnErr result (self.new ≡ self.old) }
     {
@@ -105,7 +109,8 @@ impl Plan {
         requires few { length self.old.runs + length self.old.tasks < 2 ^ 32 - 1 }
         ensures ok { OnOk result (self.new ≡ with_task self.old task (Some number)) }
         ensures given { OnOk result (number_of self.new.tasks task ≡ Some number) }
-        ensures others { OnOk result ((other : ℕ) → other ≢ task → number_of self.new.tasks other ≡ number_of self.old.tasks other) }
+        ensures others { OnOk result ((other : ℕ) → other ≢ task
+            → number_of self.new.tasks other ≡ number_of self.old.tasks other) }
         ensures sized { OnOk result (length self.new.tasks ≤ length self.old.tasks + 1) }
         ensures err { OnErr result (self.new ≡ self.old) }
     {
@@ -121,7 +126,8 @@ impl Plan {
     fn take_rule(&mut self, task: u32)
         ensures ok { self.new ≡ with_task self.old task None }
         ensures given { number_of self.new.tasks task ≡ None }
-        ensures others { (other : ℕ) → other ≢ task → number_of self.new.tasks other ≡ number_of self.old.tasks other }
+        ensures others { (other : ℕ) → other ≢ task
+            → number_of self.new.tasks other ≡ number_of self.old.tasks other }
         ensures sized { length self.new.tasks ≤ length self.old.tasks + 1 }
     {
         if let Some(had) = self.tasks.remove(&task) {

@@ -1,6 +1,7 @@
-use Rattle.std.proofs.Common.{ap}
-use Rattle.numa_plan.specs.Meaning.{PlanData}
-use Rattle.numa_plan.proofs.BuildLemmas.{keeps_with_rule}
+use Rattle.std.proofs.Common.{List, ap, ◌∙◌}
+use Rattle.numa_plan.specs.Meaning.{PlanData, planned_list}
+use Rattle.numa_plan.specs.declared.slots.Slot.{Slot}
+use Rattle.numa_plan.proofs.BuildLemmas.{keeps_with_rule, lists-with_rule}
 use Rattle.numa_plan.proofs.plan.Plan.add_rule.Goals as goal
 
 pub invariant_of-self-2 : goal.invariant_of-self-2
@@ -8,3 +9,10 @@ invariant_of-self-2 c =
     rw c.in_ok-put_rule.ensures.ok
     (keeps_with_rule c.self.inside.nodes c.self.inside.runs c.self.inside.slots.items c.self.inside.lowest_free c.self.inside.tasks.entries c.self.inside.local c.lowest_free-place.result c.args.rule c.self.invariant c.lowest_free-place.ensures
     (rw (ap (λ (p : PlanData). p.nodes) c.self.view_is) c.requires))
+
+pub returns-clause-lists : goal.returns-clause-lists
+returns-clause-lists c task page cpu =
+    let plan : PlanData = record { version = c.self.inside.version; nodes = c.self.inside.nodes; runs = c.self.inside.runs; slots = c.self.inside.slots.items; tasks = c.self.inside.tasks.entries; local = c.self.inside.local } in
+    ap (λ (slots : List Slot). planned_list (record plan { slots = slots }) task page cpu) c.in_ok-put_rule.ensures.ok
+    ∙ lists-with_rule plan c.self.inside.lowest_free c.lowest_free-place.result c.args.rule c.self.invariant c.lowest_free-place.ensures task page cpu
+    ∙ ap (λ (p : PlanData). planned_list p task page cpu) c.self.view_is
