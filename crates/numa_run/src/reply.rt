@@ -56,7 +56,7 @@ pub enum Reply {
     BadMachine(MachineFault),
     /// A list of nodes or a policy is faulty.
     BadWord(WordFault),
-    /// The command is accepted, as the so manieth.
+    /// The command is accepted: how many are now.
     Accepted(u64),
     /// The command is refused.
     Refused(Refusal),
