@@ -47,7 +47,8 @@ not_false : (b : Bool) → not b ≡ false → b ≡ true
 not_false true e = refl
 not_false false e = absurd (cc)
 
-four_rows : (a b c d : Bool) (x y z t : CoreRefusal) → first_refusal ((a, x) ∷ (b, y) ∷ (c, z) ∷ (d, t) ∷ []) ≡ None → (a ≡ false) × (b ≡ false) × (c ≡ false) × (d ≡ false)
+-- where four conditions refuse nothing, none of them holds
+pub four_rows : (a b c d : Bool) (x y z t : CoreRefusal) → first_refusal ((a, x) ∷ (b, y) ∷ (c, z) ∷ (d, t) ∷ []) ≡ None → (a ≡ false) × (b ≡ false) × (c ≡ false) × (d ≡ false)
 four_rows true b c d x y z t h = absurd (cc)
 four_rows false true c d x y z t h = absurd (cc)
 four_rows false false true d x y z t h = absurd (cc)

@@ -6,3 +6,17 @@ pub mod Tracking
 pub mod Placing
 pub mod Exhausting
 pub mod Rows
+pub mod InARow
+pub mod Cursors
+pub mod Seating
+pub mod CoreSteps
+pub mod TouchRows
+pub mod TouchLowest
+pub mod TouchSteps
+pub mod TouchLaw
+pub mod TouchRuns
+pub mod TouchFinds
+pub mod TouchJudged
+pub mod TouchStands
+pub mod TouchTaken
+pub mod TouchEnds

@@ -23,11 +23,11 @@ use Rattle.numa_core.specs.Steps.{answer_of, world_after}
 -- ---- how a row is told
 
 -- four workers on a machine
-abbrev four_on : Hardware → Setup
+abbrev pub four_on : Hardware → Setup
 four_on machine = record { machine = machine; bounds = record { max_ranges = 64; max_tasks = 64; max_commands = 64 }; workers = 4 }
 
 -- a machine whose nodes are as far from each other, with these frames
-abbrev with_frames : List ℕ → Hardware
+abbrev pub with_frames : List ℕ → Hardware
 with_frames frames = record (flat (length frames)) { frames = frames }
 
 -- the world in which these commands were accepted, the newest first
@@ -45,14 +45,14 @@ taking version [] = []
 taking version (event ∷ events) = (event, version) ∷ taking version events
 
 -- a fault of a task on a page, on node 0
-abbrev fault : ℕ → ℕ → Request
+abbrev pub fault : ℕ → ℕ → Request
 fault task page = record { task = task; page = page; cpu = 0 }
 
-abbrev frame : ℕ → ℕ → Frame
+abbrev pub frame : ℕ → ℕ → Frame
 frame node number = record { node = node; number = number }
 
 -- the reply of a win
-abbrev won : ℕ → ℕ → ℕ → ℕ → ℕ → ℕ → Result Reply CoreRefusal
+abbrev pub won : ℕ → ℕ → ℕ → ℕ → ℕ → ℕ → Result Reply CoreRefusal
 won version task page node number rank = Ok (Won (record { version = version; task = task; page = page; node = node; frame = frame node number; rank = rank }))
 
 -- ---- versions: nothing is mapped in version 0, and publishing twice publishes once

@@ -1,3 +1,10 @@
 pub mod World
 pub mod Steps
 pub mod Runs
+pub mod Standing
+pub mod Touching
+pub mod Places
+pub mod Seats
+pub mod Kept
+pub mod Judging
+pub mod Hints

@@ -5,11 +5,20 @@
 
 pub mod event;
 pub mod frame;
+mod judging;
 pub mod law;
 pub mod placement;
+mod places;
 pub mod request;
+pub mod running;
+mod seat;
+mod state;
+mod tables;
+mod touching;
 
 pub use event::{CoreRefusal, Event, Reply};
 pub use frame::Frame;
+pub use numa_plan::NoMemory;
 pub use placement::Placement;
 pub use request::Request;
+pub use running::Core;

@@ -17,13 +17,16 @@
 //! No call takes memory.
 ghost use Rattle.std.specs.Prelude.{count_ones, ◌≡◌, ◌≢◌, ◌==◌, ◌+◌, ◌-◌, ◌<◌, ◌≤◌, ◌%◌, ◌^◌, ◌↔◌, ℕ, true, false, IsTrue, IsSome, IfSome, List, [], length, nat_lt, Some, None, if◌then◌else◌};
 ghost use Rattle.std.specs.List.{sum_by};
-ghost use Rattle.std.specs.Cmp.Rules.{comparing};
+ghost use Rattle.std.specs.Cmp.Rules.{comparing, hashing};
+ghost use Rattle.std.specs.Hash as fed;
 ghost use Rattle.std.proofs.Common.{rules};
+ghost use Rattle.numa_mask.specs.Words.{words_of};
 ghost use Rattle.numa_mask.specs.NodeSet.{has, members, weight_of, nth_member, ordinal_of, with_node, both, fold_set, onto_set, moved, remap_set};
 
 use crate::node::NodeId;
 use crate::nodes::Nodes;
 use crate::ranked::Ranked;
+use std::hash::{Hash, Hasher};
 use std::marker::Model;
 
 /// A set of nodes from 0 to 255. Two sets are equal where they have the same members.
@@ -61,6 +64,16 @@ impl PartialEq for NodeMask {
 
 impl Eq for NodeMask {
     ghost laws = { Prim.search (comparing, rules) };
+}
+
+impl Hash for NodeMask {
+    ghost hash_input = { λ set. fed.slice fed.u64 (words_of set) };
+
+    ghost respects_eq = { Prim.search (hashing, rules) };
+
+    fn hash<H: Hasher>(&self, state: &mut H) {
+        self.words.hash(state);
+    }
 }
 
 /// How many bits of a few words are 1.

@@ -7,7 +7,7 @@ use crate::flags::PolicyFlags;
 
 /// A mode of set_mempolicy(2), in the order of its number there: `Default` is `MPOL_DEFAULT`, 0, and `WeightedInterleave`
 /// is `MPOL_WEIGHTED_INTERLEAVE`, 6.
-#[derive(Clone, Copy, Debug, PartialEq, Eq)]
+#[derive(Clone, Copy, Debug, PartialEq, Eq, Hash)]
 pub enum Mode {
     /// No policy of its own.
     Default,
@@ -73,7 +73,7 @@ impl Mode {
 }
 
 /// How the nodes of a specification are read once the allowed nodes are known.
-#[derive(Clone, Copy, Debug, PartialEq, Eq)]
+#[derive(Clone, Copy, Debug, PartialEq, Eq, Hash)]
 pub enum NodeFlag {
     /// Nodes by their number, which then move with the allowed nodes.
     Plain,

@@ -16,7 +16,7 @@ pub struct NodesNotAllowed;
 /// A policy as it stands: its specification, its effective set, and the home node that its range was given.
 ///
 /// Two records are equal where all three are; the nodes that were asked for count, allowed or not.
-#[derive(Clone, Copy, Debug, PartialEq, Eq)]
+#[derive(Clone, Copy, Debug, PartialEq, Eq, Hash)]
 pub struct Record {
     spec: PolicySpec,
     effective: NodeMask,

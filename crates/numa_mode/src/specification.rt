@@ -26,7 +26,7 @@ pub enum SpecFault {
 }
 
 /// A policy as it was asked for: a mode, what a flag says of the nodes, and the nodes.
-#[derive(Clone, Copy, Debug, PartialEq, Eq)]
+#[derive(Clone, Copy, Debug, PartialEq, Eq, Hash)]
 pub struct PolicySpec {
     mode: Mode,
     flag: NodeFlag,

@@ -1,6 +1,7 @@
 pub mod BuildLemmas
 pub mod CountLemmas
 pub mod FillLemmas
+pub mod RowLemmas
 pub mod RuleLemmas
 pub mod Searching
 pub mod SlotLemmas

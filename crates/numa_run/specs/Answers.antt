@@ -1,13 +1,11 @@
 -- The bytes that a line is answered, and the state after it.
 use Rattle.std.specs.Prelude.{ℕ, Bool, List}
 use Rattle.numa_script.specs.declared.line.Line.{Line}
-use Rattle.numa_run.specs.Replies.{reply_of, changed}
-use Rattle.numa_run.specs.States.{State}
-use Rattle.numa_run.specs.Texts.{text_of}
+use Rattle.numa_run.specs.Replies.{served}
 pub use Rattle.numa_run.specs.States.{State, start}
 
 abbrev pub answer_of : Bool → State → Line → List ℕ
-answer_of refused state said = text_of (reply_of refused state said)
+answer_of refused state said = (served refused state said).answer
 
-unfoldable pub after : Bool → State → Line → State
-after refused state said = changed (reply_of refused state said) said state
+abbrev pub after : Bool → State → Line → State
+after refused state said = (served refused state said).state

@@ -1,5 +1,9 @@
 pub mod States
-pub mod Replies
 pub mod Texts
+pub mod Machines
+pub mod Work
+pub mod Ranges
+pub mod Questions
+pub mod Replies
 pub mod Answers
 pub mod Standing

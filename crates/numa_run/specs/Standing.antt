@@ -1,34 +1,40 @@
 -- Which states a session stands for.
-use Rattle.std.specs.Prelude.{◌≡◌, ◌+◌, Bool, Option, Some, None, List, [], ◌∷◌, length}
+use Rattle.std.specs.Prelude.{◌≡◌, ℕ, Bool, Option, Some, None, List, []}
+use Rattle.std.specs.Option.{ForSome}
 use Rattle.numa_space.specs.Limited.{Bounds}
-use Rattle.numa_space.specs.Standing.{SpaceState, StandsFor}
+use Rattle.numa_compile.specs.Standing.{PlanStandsFor}
+use Rattle.numa_core.specs.Standing.{CoreStandsFor, setup_of}
 use Rattle.numa_script.specs.declared.line.Line.{Line}
-use Rattle.numa_run.specs.Answers.{State, after}
-use Rattle.numa_space.specs.Refusals.{refusal_of}
-use Rattle.numa_space.specs.declared.command.Command.{Command}
-use Rattle.numa_run.specs.Replies.{reply_of, accepted_unless}
+use Rattle.numa_run.specs.Answers.{answer_of, after}
+use Rattle.numa_run.specs.States.{State}
+use Rattle.numa_run.specs.Work.{Outcome}
 use Rattle.numa_run.specs.declared.reply.Reply.{Reply}
-use Rattle.numa_run.specs.declared.reply.Reply.TheVariants.{Accepted}
+use Rattle.numa_run.specs.declared.running.Running.{Running}
 
--- without a space: the limits are those of the machine to come; with one: its machine and limits, and its history
-abbrev pub Stands : Bounds → Option SpaceState → State → Type 0
-Stands limits None state = (state.bounds ≡ limits) × (state.machine ≡ None) × (state.history ≡ [])
-Stands limits (Some space) state = (state.bounds ≡ space.bounds) × (state.machine ≡ Some space.machine) × StandsFor space state.history
+-- a running machine stands for the state: its machine and limits are the state's, the core stands for the world, the same pages are
+-- placed, and a plan that is kept stands for all accepted commands
+pub record RunsAs (running : Running) (state : State) : Type 0 where
+  pub bounds : state.bounds ≡ (setup_of running.core).bounds
+  pub machine : state.machine ≡ Some (setup_of running.core).machine
+  pub workers : (setup_of running.core).workers ≡ 4
+  pub world : CoreStandsFor running.core state.world
+  pub resident : running.resident ≡ state.resident
+  pub plan : ForSome running.plan (λ plan. PlanStandsFor (setup_of running.core).machine plan state.world.history)
 
--- the line was answered as the state wants, and the state after it is reached
-abbrev pub Serves : Bounds → Option SpaceState → Line → Reply → Bounds → Option SpaceState → Type 0
-Serves limits space said reply limits_then space_then =
-    (state : State) → Stands limits space state → (refused : Bool) × (reply ≡ reply_of refused state said) × Stands limits_then space_then (after refused state said)
+-- without a running machine the limits are those of the machine to come
+abbrev pub Stands : Bounds → Option Running → State → Type 0
+Stands limits None state = (state.bounds ≡ limits) × (state.machine ≡ None)
+Stands limits (Some running) state = RunsAs running state
 
--- ---- commands
+-- the state, with what the line made of its world and placed pages
+abbrev pub state_with : State → Outcome → State
+state_with state outcome = record state { world = outcome.world; resident = outcome.resident }
 
-abbrev pub history_after : Reply → Command → List Command → List Command
-history_after (Accepted version) command history = command ∷ history
-history_after _ command history = history
+-- the line was answered as the definition says, and the state that it says is reached
+abbrev pub Does : Running → Reply → Running → (Bool → State → Outcome) → Type 0
+Does old answer new outcome = (state : State) → RunsAs old state → (refused : Bool) × (answer ≡ (outcome refused state).reply) × RunsAs new (state_with state (outcome refused state))
 
--- the command was answered as the history wants, and the space stands for the history after it
-abbrev pub IsCarriedOut : SpaceState → Command → Reply → SpaceState → Type 0
-IsCarriedOut old command reply new =
-    (history : List Command) → StandsFor old history → (refused : Bool)
-    × (reply ≡ accepted_unless (refusal_of old.machine old.bounds history command) refused (length history + 1))
-    × StandsFor new (history_after reply command history)
+-- the line was answered as the definition says, and the state that it says is reached
+abbrev pub Serves : Bounds → Option Running → Line → List ℕ → Bounds → Option Running → Type 0
+Serves limits running said answer limits_then running_then =
+    (state : State) → Stands limits running state → (refused : Bool) × (answer ≡ answer_of refused state said) × Stands limits_then running_then (after refused state said)

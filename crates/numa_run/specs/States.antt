@@ -1,14 +1,16 @@
 -- What the lines of a script so far have brought about.
-use Rattle.std.specs.Prelude.{Option, None, List, []}
+use Rattle.std.specs.Prelude.{ℕ, Option, None, List, []}
 use Rattle.numa_machine.specs.Machine.{Hardware}
 use Rattle.numa_space.specs.Limited.{Bounds}
-use Rattle.numa_space.specs.declared.command.Command.{Command}
+use Rattle.numa_core.specs.World.{Setup, World, opening}
+use Rattle.numa_maps.specs.Residents.{Kept}
 
--- the limits, the machine once it is ready, and the accepted commands, the newest first
+-- the limits; the machine, once it is ready; the core's world, with the accepted commands; and the pages that `touch` has placed
 pub record State : Type 0 where
   pub bounds : Bounds
   pub machine : Option Hardware
-  pub history : List Command
+  pub world : World
+  pub resident : Kept
 
 -- the limits where no line gives others
 abbrev pub usual_bounds : Bounds
@@ -16,4 +18,8 @@ usual_bounds = record { max_ranges = 65536; max_tasks = 1024; max_commands = 429
 
 -- before the first line
 abbrev pub start : State
-start = record { bounds = usual_bounds; machine = None; history = [] }
+start = record { bounds = usual_bounds; machine = None; world = opening; resident = [] }
+
+-- a core has 4 workers
+abbrev pub setup_with : Hardware → Bounds → Setup
+setup_with machine bounds = record { machine = machine; bounds = bounds; workers = 4 }

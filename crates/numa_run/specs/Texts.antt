@@ -13,8 +13,11 @@ use Rattle.numa_space.specs.declared.refusal.Refusal.{Refusal}
 use Rattle.numa_space.specs.declared.refusal.Refusal.TheVariants as refusal
 use Rattle.numa_space.specs.declared.refusal.PlaceRefusal.{PlaceRefusal}
 use Rattle.numa_space.specs.declared.refusal.PlaceRefusal.TheVariants as place
+use Rattle.numa_core.specs.declared.event.CoreRefusal.{CoreRefusal}
+use Rattle.numa_core.specs.declared.event.CoreRefusal.TheVariants as core
 use Rattle.numa_script.specs.declared.policy.WordFault.{WordFault}
 use Rattle.numa_script.specs.declared.policy.WordFault.TheVariants as word
+use Rattle.numa_run.specs.declared.reply.Win.{Win}
 use Rattle.numa_run.specs.declared.reply.Reply.{Reply}
 use Rattle.numa_run.specs.declared.reply.Reply.TheVariants as reply
 
@@ -69,15 +72,36 @@ abbrev pub place_name : PlaceRefusal → List ℕ
 place_name place.BadCpu = codes "BadCpu"
 place_name place.Unmapped = codes "Unmapped"
 
+-- why an event was refused: a command's refusal with its error number
+abbrev pub cause_name : CoreRefusal → List ℕ
+cause_name (core.Command cause) = refusal_name cause ++ codes " " ++ errno_name (errno_of cause)
+cause_name core.NoSuchWorker = codes "NoSuchWorker"
+cause_name core.Busy = codes "Busy"
+cause_name core.Idle = codes "Idle"
+cause_name core.BadTry = codes "BadTry"
+cause_name core.NotOwned = codes "NotOwned"
+cause_name core.BadCpu = codes "BadCpu"
+cause_name (core.Unmapped version) = codes "Unmapped"
+cause_name core.NoMemory = codes "NoMemory"
+
 -- ---- answers
 
 abbrev pub word_text : WordFault → List ℕ
 word_text (word.List fault) = codes "bad list " ++ list_name fault
 word_text (word.Policy fault) = codes "bad policy " ++ policy_name fault
 
--- a space, and the number of a node
-abbrev pub node_text : ℕ → List ℕ
-node_text node = 32 ∷ decimal node
+-- nodes, each after a space
+abbrev pub nodes_text : List ℕ → List ℕ
+nodes_text nodes = flat_map (λ node. 32 ∷ decimal node) nodes
+
+abbrev pub refused_text : List ℕ → List ℕ
+refused_text name = codes "refused " ++ name ++ codes "\n"
+
+abbrev pub frame_text : ℕ → ℕ → List ℕ
+frame_text node number = codes " node " ++ decimal node ++ codes " frame " ++ decimal number
+
+abbrev pub win_line : Win → List ℕ
+win_line win = codes "won v" ++ decimal win.version ++ frame_text win.node win.frame ++ codes " rank " ++ decimal win.rank ++ codes "\n"
 
 -- the line that a reply is written as
 unfoldable pub text_of : Reply → List ℕ
@@ -90,7 +114,10 @@ text_of reply.Ready = codes "ready\n"
 text_of (reply.BadMachine fault) = codes "bad machine " ++ machine_name fault ++ codes "\n"
 text_of (reply.BadWord fault) = word_text fault ++ codes "\n"
 text_of (reply.Accepted version) = codes "ok " ++ decimal version ++ codes "\n"
-text_of (reply.Refused cause) = codes "refused " ++ refusal_name cause ++ codes " " ++ errno_name (errno_of cause) ++ codes "\n"
-text_of (reply.Unanswered cause) = codes "refused " ++ place_name cause ++ codes "\n"
-text_of (reply.Placed version nodes) = codes "v" ++ decimal version ++ codes ":" ++ flat_map node_text nodes ++ codes "\n"
-text_of (reply.Ranges count) = codes "ranges " ++ decimal count ++ codes "\n"
+text_of (reply.Published version) = codes "published " ++ decimal version ++ codes "\n"
+text_of reply.Still = codes "still\n"
+text_of (reply.Exhausted version) = codes "exhausted v" ++ decimal version ++ codes "\n"
+text_of (reply.Won win) = win_line win
+text_of reply.Given = codes "given\n"
+text_of (reply.Back frame) = codes "back" ++ frame_text frame.node frame.number ++ codes "\n"
+text_of (reply.Refused cause) = refused_text (cause_name cause)

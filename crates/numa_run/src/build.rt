@@ -1,6 +1,6 @@
 //! The machine that a line describes.
 ghost use Rattle.std.specs.Prelude.{◌≡◌, Bool, None, Some, IfOk, IfErr, false};
-ghost use Rattle.numa_run.specs.Replies.{first_fault, hardware_from};
+ghost use Rattle.numa_run.specs.Machines.{first_fault, hardware_from};
 
 use numa_machine::{Machine, MachineFault};
 use numa_mask::NodeMask;

@@ -1,44 +1,20 @@
 //! What a line is answered.
-use arrayvec::ArrayVec;
+use numa_core::{CoreRefusal, Frame};
 use numa_machine::MachineFault;
 use numa_script::WordFault;
-use numa_space::{PlaceRefusal, Refusal};
-use std::marker::Model;
 
-/// The nodes on which memory is looked for, in this order.
-#[derive(Drop)]
-pub struct NodeList {
-    nodes: ArrayVec<u8, 256>,
+/// A frame that was won: the version of the list of nodes that led to it, its node, its number on that node, and the node's
+/// place in the list, from 0.
+#[derive(Clone, Copy, Debug, PartialEq, Eq)]
+pub struct Win {
+    pub version: u64,
+    pub node: u8,
+    pub frame: u16,
+    pub rank: u32,
 }
 
-impl Model for NodeList {
-    ghost use Rattle.std.specs.Prelude.{ℕ, List};
-
-    ghost Value = { List ℕ };
-
-    ghost view = { λ a. a.nodes.items };
-}
-
-impl NodeList {
-    ghost use Rattle.std.specs.Prelude.{◌≡◌};
-
-    /// A list of these nodes.
-    pub fn new(nodes: ArrayVec<u8, 256>) -> NodeList
-        ensures { result ≡ nodes.items }
-    {
-        NodeList { nodes }
-    }
-
-    /// The nodes.
-    pub fn nodes(&self) -> &[u8]
-        ensures { result.now ≡ self.now }
-    {
-        self.nodes.as_slice()
-    }
-}
-
-/// What a line is answered.
-#[derive(Drop)]
+/// What a line is answered that is neither a question nor `maps`.
+#[derive(Clone, Copy, Debug, PartialEq, Eq)]
 pub enum Reply {
     /// Nothing: the line is empty or a comment.
     Silent,
@@ -58,12 +34,18 @@ pub enum Reply {
     BadWord(WordFault),
     /// The command is accepted: how many are now.
     Accepted(u64),
-    /// The command is refused.
-    Refused(Refusal),
-    /// The question is refused.
-    Unanswered(PlaceRefusal),
-    /// How many commands were accepted, and the nodes of the page.
-    Placed(u64, NodeList),
-    /// How many ranges there are.
-    Ranges(u64),
+    /// The commands are published: how many.
+    Published(u64),
+    /// The worker has a current node, and goes on.
+    Still,
+    /// The worker has met every frame of every listed node, and is idle. The version is that of its Begin.
+    Exhausted(u64),
+    /// The frame was free and is the worker's now.
+    Won(Win),
+    /// The frame is free.
+    Given,
+    /// The page has a placement already, and the frame that was won is free again.
+    Back(Frame),
+    /// The command or the worker's step is refused.
+    Refused(CoreRefusal),
 }

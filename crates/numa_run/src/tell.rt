@@ -1,14 +1,17 @@
-//! Replies as text.
-ghost use Rattle.std.specs.Prelude.{◌≡◌, ℕ, ◌+◌, ◌≤◌, ◌++◌, List, Option, length, decimal, codes, flat_map};
+//! Replies and answers as text.
+ghost use Rattle.std.specs.Prelude.{◌≡◌, ℕ, ◌+◌, ◌≤◌, ◌++◌, List, Option, length, decimal, codes, flat_map, slice_index};
 ghost use Rattle.numa_script.specs.Watching.{has_failed};
 ghost use Rattle.numa_script.specs.Written.{Adds};
 ghost use Rattle.numa_space.specs.Errors.{errno_of};
-ghost use Rattle.numa_run.specs.Texts.{text_of, node_text, refusal_name, errno_name, word_text};
+ghost use Rattle.numa_maps.specs.Listing.{node_text as count_of_node, nodes_text as counts_text};
+ghost use Rattle.numa_run.specs.Questions.{counts_line, nodes_line};
+ghost use Rattle.numa_run.specs.Texts.{text_of, nodes_text, refused_text, cause_name, place_name, refusal_name, errno_name, frame_text, win_line, word_text};
 
 use crate::names::{errno_name, list_name, machine_name, place_name, policy_name, refusal_name};
-use crate::reply::Reply;
+use crate::reply::{Reply, Win};
+use numa_core::{CoreRefusal, Frame};
 use numa_script::{Gathered, Watched, WordFault};
-use numa_space::Refusal;
+use numa_space::{PlaceRefusal, Refusal};
 use std::io::Write;
 
 /// Says two texts as a line.
@@ -22,8 +25,22 @@ fn say_line<W: Write>(gathered: &mut Gathered, output: &mut Watched<W>, text: &[
     gathered.say(output, b"\n");
 }
 
+/// Says a text and a number.
+fn say_number<W: Write>(gathered: &mut Gathered, output: &mut Watched<W>, text: &[u8], number: u64)
+    requires { length text.now ≤ 32 }
+    ensures { Adds (W.contents output.old.inner) (has_failed output.old) gathered.old (W.contents output.new.inner) (has_failed output.new) gathered.new (text.now ++ decimal number) }
+{
+    gathered.say(output, text);
+    gathered.say_number(output, number);
+}
+
 /// Says a text and a number as a line.
-fn say_count<W: Write>(gathered: &mut Gathered, output: &mut Watched<W>, text: &[u8], count: u64)
+pub(crate) fn say_count<W: Write>(
+    gathered: &mut Gathered,
+    output: &mut Watched<W>,
+    text: &[u8],
+    count: u64,
+)
     requires { length text.now ≤ 32 }
     ensures { Adds (W.contents output.old.inner) (has_failed output.old) gathered.old (W.contents output.new.inner) (has_failed output.new) gathered.new (text.now ++ decimal count ++ codes "\n") }
 {
@@ -42,6 +59,32 @@ fn say_word_fault<W: Write>(gathered: &mut Gathered, output: &mut Watched<W>, fa
     }
 }
 
+/// Says a refusal without an error number.
+fn say_refused<W: Write>(gathered: &mut Gathered, output: &mut Watched<W>, name: &[u8])
+    requires { length name.now ≤ 32 }
+    ensures { Adds (W.contents output.old.inner) (has_failed output.old) gathered.old (W.contents output.new.inner) (has_failed output.new) gathered.new (refused_text name.now) }
+{
+    say_line(gathered, output, b"refused ", name);
+}
+
+/// Says that memory was wanting.
+pub(crate) fn say_starved<W: Write>(gathered: &mut Gathered, output: &mut Watched<W>)
+    ensures { Adds (W.contents output.old.inner) (has_failed output.old) gathered.old (W.contents output.new.inner) (has_failed output.new) gathered.new (refused_text (codes "NoMemory")) }
+{
+    say_refused(gathered, output, b"NoMemory");
+}
+
+/// Says a question's refusal.
+pub(crate) fn say_place_refusal<W: Write>(
+    gathered: &mut Gathered,
+    output: &mut Watched<W>,
+    refusal: PlaceRefusal,
+)
+    ensures { Adds (W.contents output.old.inner) (has_failed output.old) gathered.old (W.contents output.new.inner) (has_failed output.new) gathered.new (refused_text (place_name refusal)) }
+{
+    say_refused(gathered, output, place_name(refusal));
+}
+
 /// Says a command's refusal.
 fn say_refusal<W: Write>(gathered: &mut Gathered, output: &mut Watched<W>, refusal: Refusal)
     ensures { Adds (W.contents output.old.inner) (has_failed output.old) gathered.old (W.contents output.new.inner) (has_failed output.new) gathered.new
@@ -52,9 +95,60 @@ fn say_refusal<W: Write>(gathered: &mut Gathered, output: &mut Watched<W>, refus
     say_line(gathered, output, b" ", errno_name(refusal.errno()));
 }
 
+/// Says why a command or a worker's step is refused.
+fn say_cause<W: Write>(gathered: &mut Gathered, output: &mut Watched<W>, cause: CoreRefusal)
+    ensures { Adds (W.contents output.old.inner) (has_failed output.old) gathered.old (W.contents output.new.inner) (has_failed output.new) gathered.new (refused_text (cause_name cause)) }
+{
+    match cause {
+        CoreRefusal::Command(refusal) => say_refusal(gathered, output, refusal),
+        CoreRefusal::NoSuchWorker => say_refused(gathered, output, b"NoSuchWorker"),
+        CoreRefusal::Busy => say_refused(gathered, output, b"Busy"),
+        CoreRefusal::Idle => say_refused(gathered, output, b"Idle"),
+        CoreRefusal::BadTry => say_refused(gathered, output, b"BadTry"),
+        CoreRefusal::NotOwned => say_refused(gathered, output, b"NotOwned"),
+        CoreRefusal::BadCpu => say_refused(gathered, output, b"BadCpu"),
+        CoreRefusal::Unmapped(_) => say_refused(gathered, output, b"Unmapped"),
+        CoreRefusal::NoMemory => say_refused(gathered, output, b"NoMemory"),
+    }
+}
+
+/// Says a frame: its node, and its number on that node.
+fn say_frame<W: Write>(gathered: &mut Gathered, output: &mut Watched<W>, node: u8, number: u16)
+    ensures { Adds (W.contents output.old.inner) (has_failed output.old) gathered.old (W.contents output.new.inner) (has_failed output.new) gathered.new (frame_text node number) }
+{
+    say_number(gathered, output, b" node ", u64::from(node));
+    say_number(gathered, output, b" frame ", u64::from(number));
+}
+
+/// Says a frame that was won.
+fn say_win<W: Write>(gathered: &mut Gathered, output: &mut Watched<W>, win: &Win)
+    ensures { Adds (W.contents output.old.inner) (has_failed output.old) gathered.old (W.contents output.new.inner) (has_failed output.new) gathered.new (win_line win.now) }
+{
+    say_number(gathered, output, b"won v", win.version);
+    say_frame(gathered, output, win.node, win.frame);
+    say_count(gathered, output, b" rank ", u64::from(win.rank));
+}
+
+/// Says a frame that was given back.
+fn say_back<W: Write>(gathered: &mut Gathered, output: &mut Watched<W>, frame: Frame)
+    ensures { Adds (W.contents output.old.inner) (has_failed output.old) gathered.old (W.contents output.new.inner) (has_failed output.new) gathered.new (codes "back" ++ frame_text frame.node frame.number ++ codes "\n") }
+{
+    gathered.say(output, b"back");
+    say_frame(gathered, output, frame.node, frame.number);
+    gathered.say(output, b"\n");
+}
+
+/// Says a version, as answers to questions begin.
+fn say_version<W: Write>(gathered: &mut Gathered, output: &mut Watched<W>, version: u64)
+    ensures { Adds (W.contents output.old.inner) (has_failed output.old) gathered.old (W.contents output.new.inner) (has_failed output.new) gathered.new (codes "v" ++ decimal version ++ codes ":") }
+{
+    say_number(gathered, output, b"v", version);
+    gathered.say(output, b":");
+}
+
 /// Says nodes, each after a space.
-fn say_nodes<W: Write>(gathered: &mut Gathered, output: &mut Watched<W>, nodes: &[u8])
-    ensures { Adds (W.contents output.old.inner) (has_failed output.old) gathered.old (W.contents output.new.inner) (has_failed output.new) gathered.new (flat_map node_text nodes.now) }
+fn say_each_node<W: Write>(gathered: &mut Gathered, output: &mut Watched<W>, nodes: &[u8])
+    ensures { Adds (W.contents output.old.inner) (has_failed output.old) gathered.old (W.contents output.new.inner) (has_failed output.new) gathered.new (nodes_text nodes.now) }
 {
     for node in nodes {
         gathered.say(output, b" ");
@@ -62,20 +156,50 @@ fn say_nodes<W: Write>(gathered: &mut Gathered, output: &mut Watched<W>, nodes: 
     }
 }
 
-/// Says the nodes of a page.
-fn say_placed<W: Write>(
+/// Says the nodes of a page, or of pages.
+pub(crate) fn say_nodes<W: Write>(
     gathered: &mut Gathered,
     output: &mut Watched<W>,
     version: u64,
     nodes: &[u8],
 )
-    ensures { Adds (W.contents output.old.inner) (has_failed output.old) gathered.old (W.contents output.new.inner) (has_failed output.new) gathered.new
-        (codes "v" ++ decimal version ++ codes ":" ++ flat_map node_text nodes.now ++ codes "\n") }
+    ensures { Adds (W.contents output.old.inner) (has_failed output.old) gathered.old (W.contents output.new.inner) (has_failed output.new) gathered.new (nodes_line version nodes.now) }
 {
-    gathered.say(output, b"v");
-    gathered.say_number(output, version);
-    gathered.say(output, b":");
-    say_nodes(gathered, output, nodes);
+    say_version(gathered, output, version);
+    say_each_node(gathered, output, nodes);
+    gathered.say(output, b"\n");
+}
+
+/// Says a node and its pages, where it has some.
+fn say_count_of<W: Write>(gathered: &mut Gathered, output: &mut Watched<W>, node: usize, pages: u64)
+    ensures { Adds (W.contents output.old.inner) (has_failed output.old) gathered.old (W.contents output.new.inner) (has_failed output.new) gathered.new (count_of_node node pages) }
+{
+    if pages > 0 {
+        say_number(gathered, output, b" N", node as u64);
+        say_number(gathered, output, b"=", pages);
+    }
+}
+
+/// Says each node that has pages, the lowest first.
+fn say_each_count<W: Write>(gathered: &mut Gathered, output: &mut Watched<W>, pages: &[u64; 256])
+    ensures { Adds (W.contents output.old.inner) (has_failed output.old) gathered.old (W.contents output.new.inner) (has_failed output.new) gathered.new (counts_text (λ node. slice_index pages.now node)) }
+{
+    for node in 0..256 {
+        say_count_of(gathered, output, node, pages[node]);
+    }
+}
+
+/// Says how many pages each node has, where it has some.
+pub(crate) fn say_counts<W: Write>(
+    gathered: &mut Gathered,
+    output: &mut Watched<W>,
+    version: u64,
+    pages: &[u64; 256],
+)
+    ensures { Adds (W.contents output.old.inner) (has_failed output.old) gathered.old (W.contents output.new.inner) (has_failed output.new) gathered.new (counts_line version (λ node. slice_index pages.now node)) }
+{
+    say_version(gathered, output, version);
+    say_each_count(gathered, output, pages);
     gathered.say(output, b"\n");
 }
 
@@ -96,11 +220,12 @@ pub(crate) fn tell<W: Write>(gathered: &mut Gathered, output: &mut Watched<W>, r
         }
         Reply::BadWord(fault) => say_word_fault(gathered, output, *fault),
         Reply::Accepted(version) => say_count(gathered, output, b"ok ", *version),
-        Reply::Refused(refusal) => say_refusal(gathered, output, *refusal),
-        Reply::Unanswered(refusal) => {
-            say_line(gathered, output, b"refused ", place_name(*refusal))
-        }
-        Reply::Placed(version, nodes) => say_placed(gathered, output, *version, nodes.nodes()),
-        Reply::Ranges(count) => say_count(gathered, output, b"ranges ", *count),
+        Reply::Published(version) => say_count(gathered, output, b"published ", *version),
+        Reply::Still => gathered.say(output, b"still\n"),
+        Reply::Exhausted(version) => say_count(gathered, output, b"exhausted v", *version),
+        Reply::Won(win) => say_win(gathered, output, win),
+        Reply::Given => gathered.say(output, b"given\n"),
+        Reply::Back(frame) => say_back(gathered, output, *frame),
+        Reply::Refused(cause) => say_cause(gathered, output, *cause),
     }
 }

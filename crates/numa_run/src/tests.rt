@@ -45,6 +45,35 @@ fn scripts(rt: HostRuntime) -> Result<(), Fail> {
              bad machine NodeCount\nbad machine NoMemoryNode\nlimits ok\nready\nbad state\n\
              bad state\nok 1\nranges 0\nok 2\nrefused TooManyRanges ENOMEM\nranges 1\n",
         ),
+        // Spans and counts, by all commands, published or not.
+        (
+            "machine 2 0-1 8 flat\nmap 0x10000 0x4000 0\ntask 1 interleave:0-1\nmbind 0x13000 0x1000 bind:1\n\
+             span 1 0x10000 4 0\nspan 1 0x13fff 1 0\nspan 1 0x10000 5 0\nspan 1 0x90000 0 0\nspan 1 0x90000 1 2\n\
+             counts 1 0x10000 4 0\ncounts 1 0x13000 1 0\ncounts 1 0x90000 0 1\ncounts 1 0x13000 2 1\nweight 0 3\n\
+             place 1 0x11000 0\n",
+            "ready\nok 1\nok 2\nok 3\nv3: 0 1 0 1\nv3: 1\nrefused Unmapped\nv3:\nrefused BadCpu\n\
+             v3: N0=2 N1=2\nv3: N1=1\nv3:\nrefused Unmapped\nok 4\nv4: 1 0\n",
+        ),
+        // Two workers and a frame that both want.
+        (
+            "machine 2 0-1 1 flat\nmap 0x10000 0x2000 0\npublish\nbegin 0 1 0x10000 0\nbegin 1 1 0x11000 0\n\
+             look 0 0\nlook 1 0\ntry 0 0 0\ntry 1 0 0\ntry 1 0 0\ntry 1 1 0\ngive 0 1 0\ngive 0 0 0\nlook 0 0\n\
+             begin 4 1 0x10000 0\n",
+            "ready\nok 1\npublished 1\nstill\nstill\nstill\nstill\nwon v1 node 0 frame 0 rank 0\nstill\n\
+             refused BadTry\nwon v1 node 1 frame 0 rank 1\nrefused NotOwned\ngiven\nrefused Idle\n\
+             refused NoSuchWorker\n",
+        ),
+        // Pages that are placed, listed and given back.
+        (
+            "machine 4 0-3 8 flat\nmap 0x10000 0xa000 0\ntask 1 interleave:0-3\nmbind 0x13000 0x3000 bind:2\n\
+             publish\ntouch 0 1 0x10000 0\ntouch 0 1 0x11000 0\ntouch 0 1 0x14000 0\nmaps 1\n\
+             touch 1 1 0x11000 0\ntouch 0 1 0x19000 0\nrelease 0 0x11000\nrelease 0 0x11000\n",
+            "ready\nok 1\nok 2\nok 3\npublished 3\nwon v3 node 0 frame 0 rank 0\n\
+             won v3 node 1 frame 0 rank 0\nwon v3 node 2 frame 0 rank 0\n\
+             00010000 interleave:0-3 anon=2 N0=1 N1=1 kernelpagesize_kB=4\n\
+             00013000 bind:2 anon=1 N2=1 kernelpagesize_kB=4\n00016000 interleave:0-3\n\
+             back node 1 frame 1\nwon v3 node 1 frame 1 rank 0\ngiven\nrefused NotOwned\n",
+        ),
         // Homes, weights, changes of the allowed nodes, and refusals of nodes that the machine lacks.
         (
             "machine 4 0-3 8 flat\nmap 0x10000 0x4000 0\nmbind 0x10000 0x1000 bind:1-2\nhome 0x10000 0x1000 2\n\

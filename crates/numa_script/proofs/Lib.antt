@@ -9,3 +9,4 @@ pub mod Saying
 pub mod Sessions
 pub mod Splits
 pub mod Splitting
+pub mod Worked

@@ -7,5 +7,6 @@ pub mod Policies
 pub mod Present
 pub mod Session
 pub mod Split
-pub mod Watching
+pub mod Workers
 pub mod Written
+pub use Rattle.numa_maps.specs.Watching

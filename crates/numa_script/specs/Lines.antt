@@ -8,10 +8,11 @@ use Rattle.numa_mode.specs.Policy.{Specification}
 use Rattle.numa_space.specs.declared.command.Command.{Command}
 use Rattle.numa_space.specs.declared.command.Command.TheVariants as command
 use Rattle.numa_script.specs.Parts.{words_of}
-use Rattle.numa_script.specs.Present.{with_two, with_three}
-use Rattle.numa_script.specs.Numbers.{number_of, small_of}
+use Rattle.numa_script.specs.Present.{with_two, with_three, with_four}
+use Rattle.numa_script.specs.Numbers.{number_of, small_of, span_pages_of}
 use Rattle.numa_script.specs.Machines.{frames_of, distances_of}
 use Rattle.numa_script.specs.Policies.{policy_of}
+use Rattle.numa_script.specs.Workers.{publish_work, begin_work, look_work, try_work, give_work, touch_work, release_work}
 use Rattle.numa_script.specs.declared.policy.WordFault.{WordFault}
 use Rattle.numa_script.specs.declared.policy.WordFault.TheVariants as fault
 use Rattle.numa_script.specs.declared.keyword.Keyword.{Keyword}
@@ -42,12 +43,26 @@ command_keyword first =
 unfoldable pub question_keyword : List ℕ → Option Keyword
 question_keyword first =
     if bytes_eq first (codes "place") then Some keyword.Place
+    else if bytes_eq first (codes "span") then Some keyword.Span
+    else if bytes_eq first (codes "counts") then Some keyword.Counts
     else if bytes_eq first (codes "ranges") then Some keyword.Ranges
+    else if bytes_eq first (codes "maps") then Some keyword.Maps
+    else None
+
+unfoldable pub work_keyword : List ℕ → Option Keyword
+work_keyword first =
+    if bytes_eq first (codes "publish") then Some keyword.Publish
+    else if bytes_eq first (codes "begin") then Some keyword.Begin
+    else if bytes_eq first (codes "look") then Some keyword.Look
+    else if bytes_eq first (codes "try") then Some keyword.Try
+    else if bytes_eq first (codes "give") then Some keyword.Give
+    else if bytes_eq first (codes "touch") then Some keyword.Touch
+    else if bytes_eq first (codes "release") then Some keyword.Release
     else None
 
 -- what a first word asks for
 unfoldable pub keyword_of : List ℕ → Option Keyword
-keyword_of first = option_or (question_keyword first) (option_or (command_keyword first) (setting_keyword first))
+keyword_of first = option_or (work_keyword first) (option_or (question_keyword first) (option_or (command_keyword first) (setting_keyword first)))
 
 -- ---- the words after the first
 
@@ -111,10 +126,27 @@ abbrev pub place_line : List (List ℕ) → Option Line
 place_line (task ∷ address ∷ cpu ∷ []) = with_three (λ t a c. line.Question (question.Place t a c)) (small_of task) (number_of address) (small_of cpu)
 place_line _ = None
 
+-- span TASK ADDR PAGES CPU
+abbrev pub span_line : List (List ℕ) → Option Line
+span_line (task ∷ address ∷ pages ∷ cpu ∷ []) =
+    with_four (λ t a p c. line.Question (question.Span t a p c)) (small_of task) (number_of address) (span_pages_of pages) (small_of cpu)
+span_line _ = None
+
+-- counts TASK ADDR PAGES CPU
+abbrev pub counts_line : List (List ℕ) → Option Line
+counts_line (task ∷ address ∷ pages ∷ cpu ∷ []) =
+    with_four (λ t a p c. line.Question (question.Counts t a p c)) (small_of task) (number_of address) (number_of pages) (small_of cpu)
+counts_line _ = None
+
 -- ranges
 abbrev pub ranges_line : List (List ℕ) → Option Line
 ranges_line [] = Some (line.Question question.Ranges)
 ranges_line _ = None
+
+-- maps TASK
+abbrev pub maps_line : List (List ℕ) → Option Line
+maps_line (task ∷ []) = option_map line.Maps (small_of task)
+maps_line _ = None
 
 abbrev pub line_after : Keyword → List (List ℕ) → Option Line
 line_after keyword.Limits words = limits_line words
@@ -127,7 +159,17 @@ line_after keyword.Task words = task_line words
 line_after keyword.Weight words = weight_line words
 line_after keyword.Mems words = mems_line words
 line_after keyword.Place words = place_line words
+line_after keyword.Span words = span_line words
+line_after keyword.Counts words = counts_line words
 line_after keyword.Ranges words = ranges_line words
+line_after keyword.Maps words = maps_line words
+line_after keyword.Publish words = option_map line.Work (publish_work words)
+line_after keyword.Begin words = option_map line.Work (begin_work words)
+line_after keyword.Look words = option_map line.Work (look_work words)
+line_after keyword.Try words = option_map line.Work (try_work words)
+line_after keyword.Give words = option_map line.Work (give_work words)
+line_after keyword.Touch words = option_map line.Work (touch_work words)
+line_after keyword.Release words = option_map line.Work (release_work words)
 
 -- ---- lines
 

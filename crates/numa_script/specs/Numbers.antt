@@ -1,9 +1,10 @@
 -- Numbers, as words of a script.
-use Rattle.std.specs.Prelude.{◌≡◌, ℕ, ◌^◌, ◌<◌, ◌≤◌, ◌⊎◌, ◌++◌, ◌==◌, true, List, length, take, drop, codes, nat_lt, if◌then◌else◌, Option, Some, None}
+use Rattle.std.specs.Prelude.{◌≡◌, ℕ, ◌^◌, ◌/◌, ◌<◌, ◌≤◌, ◌⊎◌, ◌++◌, ◌==◌, true, List, length, take, drop, codes, nat_lt, if◌then◌else◌, Option, Some, None}
 use Rattle.std.specs.Char.{is_digit, digit_value}
 use Rattle.std.specs.List.{list_all}
 use Rattle.std.specs.Str.{bytes_eq}
 use Rattle.std.specs.Str.Parse.{digits_value}
+use Rattle.std.specs.Option.{option_map}
 
 -- 1 to `most` digits in the radix, and the number that they write
 abbrev pub IsNumeral : ℕ → ℕ → List ℕ → ℕ → Type 0
@@ -45,3 +46,18 @@ small_of word = below (2 ^ 32) (number_of word)
 -- the number of an item of a list of numbers: 1 to 10 decimal digits, below 2^32
 abbrev pub item_of : List ℕ → Option ℕ
 item_of item = below (2 ^ 32) (numeral_of 10 10 item)
+
+-- the page of an address in bytes: a page has 4,096
+abbrev pub page_of : List ℕ → Option ℕ
+page_of word = option_map (λ address. address / 4096) (number_of word)
+
+-- the number of a node, and that of one of its frames
+abbrev pub node_of : List ℕ → Option ℕ
+node_of word = below 256 (number_of word)
+
+abbrev pub frame_number_of : List ℕ → Option ℕ
+frame_number_of word = below 65536 (number_of word)
+
+-- how many pages a span has: at most 65,536
+abbrev pub span_pages_of : List ℕ → Option ℕ
+span_pages_of word = below 65537 (number_of word)

@@ -13,6 +13,13 @@ with_three f (Some a) None c = None
 with_three f (Some a) (Some b) None = None
 with_three f (Some a) (Some b) (Some c) = Some (f a b c)
 
+abbrev pub with_four : {A B C D E : Type 0} → (A → B → C → D → E) → Option A → Option B → Option C → Option D → Option E
+with_four f None b c d = None
+with_four f (Some a) None c d = None
+with_four f (Some a) (Some b) None d = None
+with_four f (Some a) (Some b) (Some c) None = None
+with_four f (Some a) (Some b) (Some c) (Some d) = Some (f a b c d)
+
 -- what the function gives for each element, where it gives something for each
 abbrev pub each_of : {A B : Type 0} → (A → Option B) → List A → Option (List B)
 each_of f [] = Some []

@@ -1,10 +1,7 @@
 -- What was handed to a writer.
 use Rattle.std.specs.Prelude.{◌≡◌, ℕ, ◌++◌, List, Option, Bool, true, false}
 use Rattle.std.specs.Io.KnownBytes.{Appends}
-
--- some front of the bytes was appended
-abbrev pub AppendsFront : Option (List ℕ) → Option (List ℕ) → List ℕ → Type 0
-AppendsFront old new bs = (front rest : List ℕ) × Appends old new front × (bs ≡ front ++ rest)
+pub use Rattle.numa_maps.specs.Written.{AppendsFront}
 
 -- What was said since `start` is written, but for the bytes that are held; once a write has failed, some front of it is.
 abbrev pub Says : Option (List ℕ) → Option (List ℕ) → Bool → List ℕ → List ℕ → Type 0

@@ -7,7 +7,7 @@ use crate::gathered::Gathered;
 use crate::line::parse;
 use crate::open_line::OpenLine;
 use crate::serve::Serve;
-use crate::watched::{CallFailed, Watched};
+use numa_maps::{CallFailed, Watched};
 use std::alloc::{AllocError, Global};
 use std::io::Write;
 
@@ -75,11 +75,7 @@ impl<S: Serve + Drop> Engine<S> {
         ensures ok { OnOk result (has_failed output.new ≡ false) }
         ensures err { OnErr result (has_failed output.new ≡ true) }
     {
-        self.gathered.flush(output);
-        if output.failed() {
-            return Err(CallFailed);
-        }
-        Ok(())
+        self.gathered.hand_over(output)
     }
 
     /// Takes some bytes, and hands over the answers of the lines that end in them.

@@ -1,10 +1,10 @@
 //! Answers on their way to a writer.
-ghost use Rattle.std.specs.Prelude.{◌≡◌, ℕ, ◌+◌, ◌≤◌, ◌++◌, [], List, Option, length, decimal, IfOk};
+ghost use Rattle.std.specs.Prelude.{◌≡◌, ℕ, ◌+◌, ◌≤◌, ◌++◌, [], List, Option, length, decimal, IfOk, OnOk, OnErr, true, false};
 ghost use Rattle.numa_script.specs.Written.{Adds, StillSays};
 ghost use Rattle.numa_script.specs.Watching.{has_failed};
 
-use crate::watched::Watched;
 use itoa::Buffer;
+use numa_maps::{CallFailed, Watched};
 use std::alloc::{AllocError, Global};
 use std::io::Write;
 use std::marker::Model;
@@ -48,6 +48,24 @@ impl Gathered {
         }
         let _ = output.put(self.bytes.as_slice());
         self.bytes.clear();
+    }
+
+    /// Hands what is gathered to the writer. After that a text may be put to the writer itself, so that nothing that was said
+    /// before comes behind it.
+    ///
+    /// # Errors
+    /// `CallFailed` where this or an earlier write failed. Then nothing more is to be written.
+    pub fn hand_over<W: Write>(&mut self, output: &mut Watched<W>) -> Result<(), CallFailed>
+        ensures says { StillSays (W.contents output.old.inner) (has_failed output.old) self.old (W.contents output.new.inner) (has_failed output.new) self.new }
+        ensures empty { self.new ≡ [] }
+        ensures ok { OnOk result (has_failed output.new ≡ false) }
+        ensures err { OnErr result (has_failed output.new ≡ true) }
+    {
+        self.flush(output);
+        if output.failed() {
+            return Err(CallFailed);
+        }
+        Ok(())
     }
 
     /// Makes room for so many bytes.

@@ -1,6 +1,6 @@
 //! The first words of lines.
 ghost use Rattle.std.specs.Prelude.{◌≡◌, ℕ, Option};
-ghost use Rattle.numa_script.specs.Lines.{setting_keyword, command_keyword, question_keyword, keyword_of};
+ghost use Rattle.numa_script.specs.Lines.{setting_keyword, command_keyword, question_keyword, work_keyword, keyword_of};
 
 /// What the first word of a line asks for.
 #[derive(Clone, Copy, Debug, PartialEq, Eq)]
@@ -25,8 +25,28 @@ pub enum Keyword {
     Mems,
     /// `place`
     Place,
+    /// `span`
+    Span,
+    /// `counts`
+    Counts,
     /// `ranges`
     Ranges,
+    /// `maps`
+    Maps,
+    /// `publish`
+    Publish,
+    /// `begin`
+    Begin,
+    /// `look`
+    Look,
+    /// `try`
+    Try,
+    /// `give`
+    Give,
+    /// `touch`
+    Touch,
+    /// `release`
+    Release,
 }
 
 /// A first word that sets up a machine.
@@ -80,8 +100,46 @@ fn read_question(first: &[u8]) -> Option<Keyword>
     if first == b"place".as_slice() {
         return Some(Keyword::Place);
     }
+    if first == b"span".as_slice() {
+        return Some(Keyword::Span);
+    }
+    if first == b"counts".as_slice() {
+        return Some(Keyword::Counts);
+    }
     if first == b"ranges".as_slice() {
         return Some(Keyword::Ranges);
+    }
+    if first == b"maps".as_slice() {
+        return Some(Keyword::Maps);
+    }
+    None
+}
+
+/// A first word that has to do with workers.
+#[tactic(auto, unfolding(crate::specs::Lines::work_keyword))]
+fn read_work(first: &[u8]) -> Option<Keyword>
+    ensures { result ≡ work_keyword first.now }
+{
+    if first == b"publish".as_slice() {
+        return Some(Keyword::Publish);
+    }
+    if first == b"begin".as_slice() {
+        return Some(Keyword::Begin);
+    }
+    if first == b"look".as_slice() {
+        return Some(Keyword::Look);
+    }
+    if first == b"try".as_slice() {
+        return Some(Keyword::Try);
+    }
+    if first == b"give".as_slice() {
+        return Some(Keyword::Give);
+    }
+    if first == b"touch".as_slice() {
+        return Some(Keyword::Touch);
+    }
+    if first == b"release".as_slice() {
+        return Some(Keyword::Release);
     }
     None
 }
@@ -91,7 +149,8 @@ fn read_question(first: &[u8]) -> Option<Keyword>
 pub fn read_keyword(first: &[u8]) -> Option<Keyword>
     ensures { result ≡ keyword_of first.now }
 {
-    read_question(first)
+    read_work(first)
+        .or(read_question(first))
         .or(read_command(first))
         .or(read_setting(first))
 }

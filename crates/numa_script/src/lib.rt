@@ -5,6 +5,8 @@ mod engine;
 pub mod gathered;
 pub mod keyword;
 pub mod line;
+#[cfg(test)]
+mod line_tests;
 pub mod machine;
 pub mod number;
 mod open_line;
@@ -14,11 +16,12 @@ pub mod run;
 pub mod serve;
 #[cfg(test)]
 mod tests;
-pub mod watched;
+pub mod work;
 
 pub use gathered::Gathered;
 pub use line::{Line, MachineLine, Question};
+pub use numa_maps::{CallFailed, Watched};
 pub use policy::WordFault;
 pub use run::{RunFault, serve_script};
 pub use serve::Serve;
-pub use watched::{CallFailed, Watched};
+pub use work::Work;

@@ -1,12 +1,13 @@
 //! What a line of a script says.
 ghost use Rattle.std.specs.Prelude.{◌≡◌, ◌==◌, ◌+◌, ◌≤◌, ◌<◌, ℕ, List, length, Option};
-ghost use Rattle.numa_script.specs.Lines.{limits_line, machine_line, map_line, unmap_line, mbind_line, home_line, task_line, weight_line, mems_line, place_line, ranges_line, line_after, words_line, is_silent, line_of};
+ghost use Rattle.numa_script.specs.Lines.{limits_line, machine_line, map_line, unmap_line, mbind_line, home_line, task_line, weight_line, mems_line, place_line, span_line, counts_line, ranges_line, maps_line, line_after, words_line, is_silent, line_of};
 
 use crate::keyword::{Keyword, read_keyword};
 use crate::machine::{Distances, Frames};
-use crate::number::{number, small};
+use crate::number::{number, small, span_pages};
 use crate::parts::{Parts, words};
 use crate::policy::{WordFault, read_policy};
+use crate::work::{Work, begin, give, look, publish, release, touch, try_frame};
 use numa_mask::{ListFault, NodeMask, read_list};
 use numa_space::Command;
 
@@ -30,7 +31,26 @@ pub struct MachineLine<'a> {
 #[derive(Clone, Copy, Debug, PartialEq, Eq)]
 pub enum Question {
     /// The nodes for the page of an address, in bytes, that the task first touches on a CPU of the node `cpu`.
-    Place { task: u32, address: u64, cpu: u32 },
+    Place {
+        task: u32,
+        address: u64,
+        cpu: u32,
+    },
+    /// The node for each page of a span, its first, when the task first touches it on a CPU of the node `cpu`. The span
+    /// begins at the page of an address, in bytes, and has so many pages, at most 65,536.
+    Span {
+        task: u32,
+        address: u64,
+        pages: u32,
+        cpu: u32,
+    },
+    /// How many pages of a span each node would get. The span is as that of `Span`, but of any length, in pages.
+    Counts {
+        task: u32,
+        address: u64,
+        pages: u64,
+        cpu: u32,
+    },
     /// How many ranges there are.
     Ranges,
 }
@@ -55,6 +75,10 @@ pub enum Line<'a> {
     Command(Result<Command, WordFault>),
     /// A question.
     Question(Question),
+    /// The ranges, with their policies for the task and the pages that are placed.
+    Maps(u32),
+    /// Something that workers have to do with.
+    Work(Work),
 }
 
 /// Whether the line is empty or a comment.
@@ -205,6 +229,38 @@ fn place(mut words: Parts) -> Option<Line>
     }))
 }
 
+/// `span TASK ADDR PAGES CPU`
+fn span(mut words: Parts) -> Option<Line>
+    ensures { result ≡ span_line words.entry }
+{
+    let task = words.next()?;
+    let address = words.next()?;
+    let pages = words.next()?;
+    let cpu = words.only()?;
+    Some(Line::Question(Question::Span {
+        task: small(task)?,
+        address: number(address)?,
+        pages: span_pages(pages)?,
+        cpu: small(cpu)?,
+    }))
+}
+
+/// `counts TASK ADDR PAGES CPU`
+fn counts(mut words: Parts) -> Option<Line>
+    ensures { result ≡ counts_line words.entry }
+{
+    let task = words.next()?;
+    let address = words.next()?;
+    let pages = words.next()?;
+    let cpu = words.only()?;
+    Some(Line::Question(Question::Counts {
+        task: small(task)?,
+        address: number(address)?,
+        pages: number(pages)?,
+        cpu: small(cpu)?,
+    }))
+}
+
 /// `ranges`
 fn ranges(mut words: Parts) -> Option<Line>
     ensures { result ≡ ranges_line words.entry }
@@ -213,6 +269,14 @@ fn ranges(mut words: Parts) -> Option<Line>
         None => Some(Line::Question(Question::Ranges)),
         Some(_) => None,
     }
+}
+
+/// `maps TASK`
+fn maps(words: Parts) -> Option<Line>
+    ensures { result ≡ maps_line words.entry }
+{
+    let task = words.only()?;
+    Some(Line::Maps(small(task)?))
 }
 
 /// The line that the words after the first write.
@@ -230,7 +294,17 @@ fn line_after(keyword: Keyword, words: Parts) -> Option<Line>
         Keyword::Weight => weight(words),
         Keyword::Mems => mems(words),
         Keyword::Place => place(words),
+        Keyword::Span => span(words),
+        Keyword::Counts => counts(words),
         Keyword::Ranges => ranges(words),
+        Keyword::Maps => maps(words),
+        Keyword::Publish => Some(Line::Work(publish(words)?)),
+        Keyword::Begin => Some(Line::Work(begin(words)?)),
+        Keyword::Look => Some(Line::Work(look(words)?)),
+        Keyword::Try => Some(Line::Work(try_frame(words)?)),
+        Keyword::Give => Some(Line::Work(give(words)?)),
+        Keyword::Touch => Some(Line::Work(touch(words)?)),
+        Keyword::Release => Some(Line::Work(release(words)?)),
     }
 }
 

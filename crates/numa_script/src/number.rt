@@ -1,6 +1,6 @@
 //! Numbers, as words of a script.
 ghost use Rattle.std.specs.Prelude.{◌≡◌, ℕ, ◌+◌, ◌*◌, ◌^◌, ◌<◌, ◌≤◌, List, MatchOption, IfSome};
-ghost use Rattle.numa_script.specs.Numbers.{digit_of, fitting, numeral_of, number_of, small_of, item_of, below, IsNumber};
+ghost use Rattle.numa_script.specs.Numbers.{digit_of, fitting, numeral_of, number_of, small_of, item_of, page_of, node_of, frame_number_of, span_pages_of, below, IsNumber};
 
 /// The digit that a byte is in the radix.
 #[tactic(auto, unfolding(crate::specs::Numbers::digit_of))]
@@ -77,4 +77,39 @@ pub fn distance(item: &[u8]) -> Option<u8>
 {
     let n = small_item(item)?;
     u8::try_from(n).ok()
+}
+
+/// The page of an address, which is in bytes: the address divided by 4,096.
+pub fn page(word: &[u8]) -> Option<u64>
+    ensures { result ≡ page_of word.now }
+{
+    let address = number(word)?;
+    Some(address / 4096)
+}
+
+/// The number of a node, where it is below 256.
+pub fn node(word: &[u8]) -> Option<u8>
+    ensures { result ≡ node_of word.now }
+{
+    let node = number(word)?;
+    u8::try_from(node).ok()
+}
+
+/// The number of a frame of a node, where it is below 65,536.
+pub fn frame_number(word: &[u8]) -> Option<u16>
+    ensures { result ≡ frame_number_of word.now }
+{
+    let frame = number(word)?;
+    u16::try_from(frame).ok()
+}
+
+/// The pages of a span, where they are at most 65,536.
+pub fn span_pages(word: &[u8]) -> Option<u32>
+    ensures { result ≡ span_pages_of word.now }
+{
+    let pages = number(word)?;
+    if pages > 65536 {
+        return None;
+    }
+    u32::try_from(pages).ok()
 }

@@ -8,7 +8,7 @@ ghost use Rattle.numa_script.specs.Written.{AppendsFront};
 
 use crate::engine::Engine;
 use crate::serve::Serve;
-use crate::watched::Watched;
+use numa_maps::Watched;
 use std::alloc::Global;
 use std::io::{Read, Write};
 use thiserror::Error;

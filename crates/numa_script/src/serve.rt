@@ -6,7 +6,7 @@ ghost use Rattle.numa_script.specs.declared.line.Line.{Line};
 
 use crate::gathered::Gathered;
 use crate::line::Line;
-use crate::watched::Watched;
+use numa_maps::Watched;
 use std::alloc::Global;
 use std::io::Write;
 

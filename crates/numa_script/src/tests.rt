@@ -1,163 +1,18 @@
+ghost use Rattle.std.specs.Prelude.{codes};
+ghost use Rattle.numa_script.specs.Written.{Adds};
+ghost use Rattle.numa_script.specs.Watching.{has_failed};
+
 use crate::gathered::Gathered;
 use crate::line::{Line, parse};
 use crate::run::{RunFault, serve_script};
 use crate::serve::Serve;
-use crate::watched::Watched;
+use numa_maps::Watched;
 use numa_mask::{NodeId, NodeMask};
-use std::alloc::{AllocError, Global};
+use std::alloc::Global;
 use std::cell::Cell;
 use std::io;
 use std::io::{Read, Write};
 use std::test::Fail;
-
-// What a line says, by its kind, and by its fault or its numbers.
-fn shown(alloc: Global, line: &[u8]) -> Result<String, AllocError> {
-    match parse(line) {
-        Line::Silent => format!(in alloc; "silent"),
-        Line::Malformed => format!(in alloc; "bad words"),
-        Line::Limits {
-            ranges,
-            tasks,
-            commands,
-        } => format!(in alloc; "limits {ranges} {tasks} {commands}"),
-        Line::Machine(machine) => {
-            let nodes = machine.nodes;
-            match &machine.memory {
-                Ok(_) => format!(in alloc; "machine {nodes}"),
-                Err(fault) => format!(in alloc; "machine {nodes} {fault:?}"),
-            }
-        }
-        Line::Command(Ok(command)) => format!(in alloc; "{command:?}"),
-        Line::Command(Err(fault)) => format!(in alloc; "{fault:?}"),
-        Line::Question(question) => format!(in alloc; "{question:?}"),
-    }
-}
-
-#[test]
-fn lines(rt: HostRuntime) -> Result<(), Fail> {
-    let rows: [(&str, &str); 41] = [
-        ("", "silent"),
-        ("# map 1 2 3", "silent"),
-        ("\r", "bad words"),
-        ("unknown", "bad words"),
-        ("ranges", "Ranges"),
-        ("ranges ", "bad words"),
-        (" ranges", "bad words"),
-        ("Ranges", "bad words"),
-        ("limits 65537 1 0x10", "limits 65537 1 16"),
-        ("limits 4294967296 1 1", "bad words"),
-        ("limits 1 1", "bad words"),
-        ("machine 0x2 0-1 8 flat", "machine 2"),
-        ("machine 2 0-1 8,0 10,20;20,10", "machine 2"),
-        ("machine 2 0-x 8 flat", "machine 2 BadDigit"),
-        ("machine 2 0-x 8 10,256", "bad words"),
-        ("machine 2 0-1 8, flat", "bad words"),
-        ("machine 2 0-1 0x8 flat", "bad words"),
-        ("machine 2 0-1 4294967296 flat", "bad words"),
-        ("machine 2 0-1 00000000008 flat", "bad words"),
-        ("machine 2 0-1 8 Flat", "bad words"),
-        (
-            "map 0x10000 0x2000 0",
-            "Map { start: 65536, length: 8192, offset: 0 }",
-        ),
-        (
-            "map 0xFFFFFFFFFFFFFFFF 18446744073709551615 0",
-            "Map { start: 18446744073709551615, length: 18446744073709551615, offset: 0 }",
-        ),
-        ("map 18446744073709551616 1 0", "bad words"),
-        ("map 0x00000000000010000 1 0", "bad words"),
-        ("map 0x 1 0", "bad words"),
-        ("map 0X1 1 0", "bad words"),
-        ("map -1 1 0", "bad words"),
-        ("map 1 1 0 0", "bad words"),
-        (
-            "unmap 0x11000 0x1000",
-            "Unmap { start: 69632, length: 4096 }",
-        ),
-        ("mbind 0 0 bind:", "List(Empty)"),
-        ("mbind 0 bind:1", "bad words"),
-        (
-            "home 0x1000 4096 4294967295",
-            "SetHome { start: 4096, length: 4096, node: 4294967295 }",
-        ),
-        ("home 0 0 4294967296", "bad words"),
-        ("task 1 huge:0", "Policy(UnknownMode)"),
-        ("task 4294967296 huge:0", "bad words"),
-        ("weight 0 256", "SetWeight { node: 0, weight: 256 }"),
-        ("mems 3-1", "List(BackRange)"),
-        ("mems 0,,1", "List(Empty)"),
-        ("mems", "bad words"),
-        (
-            "place 1 0x10000 0",
-            "Place { task: 1, address: 65536, cpu: 0 }",
-        ),
-        ("place 1  0 0", "bad words"),
-    ];
-    for (line, want) in rows {
-        let got = shown(rt.alloc(), line.as_bytes())?;
-        assert_eq!(rt; got.as_str(), want, "{line}");
-    }
-    Ok(())
-}
-
-#[test]
-fn policies(rt: HostRuntime) -> Result<(), Fail> {
-    let rows: [(&str, &str); 17] = [
-        ("task 1 default", "mode: Default, flag: Plain"),
-        (
-            "task 1 prefer=relative:1",
-            "mode: Preferred, flag: Relative",
-        ),
-        ("task 1 prefer", "mode: Local, flag: Plain"),
-        ("task 1 bind=static:0", "mode: Bind, flag: Static"),
-        ("task 1 interleave:0-1", "mode: Interleave, flag: Plain"),
-        ("task 1 local", "mode: Local, flag: Plain"),
-        ("task 1 many:0", "mode: PreferredMany, flag: Plain"),
-        ("task 1 weighted:0", "mode: WeightedInterleave, flag: Plain"),
-        ("task 1 local:", "List(Empty)"),
-        ("task 1 local:0", "Policy(NodesForbidden)"),
-        ("task 1 local=static", "Policy(FlagsForbidden)"),
-        ("task 1 bind", "Policy(NodesMissing)"),
-        ("task 1 bind=static=relative:x", "List(BadDigit)"),
-        ("task 1 local=static=relative:0", "Policy(BothFlags)"),
-        ("task 1 bind=relative=static:0", "Policy(UnknownMode)"),
-        ("task 1 bind=static=static:0", "Policy(UnknownMode)"),
-        ("task 1 local\r", "Policy(UnknownMode)"),
-    ];
-    for (line, want) in rows {
-        let got = shown(rt.alloc(), line.as_bytes())?;
-        assert!(rt; got.as_str().contains(want), "{line}: {got}");
-    }
-    Ok(())
-}
-
-// A machine line of so many bytes.
-fn long_line(alloc: Global, bytes: usize) -> Result<Vec<u8>, AllocError> {
-    let mut line = Vec::new(alloc);
-    line.extend_from_slice(b"machine 1 0 1")?;
-    for place in 0..bytes.saturating_sub(18) {
-        line.push(if place % 2 == 0 { b',' } else { b'1' })?;
-    }
-    line.extend_from_slice(b" flat")?;
-    Ok(line)
-}
-
-#[test]
-fn long_lines(rt: HostRuntime) -> Result<(), Fail> {
-    for (bytes, want) in [(4096, "machine 1"), (4098, "bad words")] {
-        let line = long_line(rt.alloc(), bytes)?;
-        assert_eq!(rt; line.len(), bytes);
-        let got = shown(rt.alloc(), line.as_slice())?;
-        assert_eq!(rt; got.as_str(), want, "{bytes}");
-    }
-    let mut comment = vec![in rt.alloc(); b'#'; 5000]?;
-    let got = shown(rt.alloc(), comment.as_slice())?;
-    assert_eq!(rt; got.as_str(), "silent");
-    comment.insert(0, b' ')?;
-    let got = shown(rt.alloc(), comment.as_slice())?;
-    assert_eq!(rt; got.as_str(), "bad words");
-    Ok(())
-}
 
 #[test]
 fn fault_texts(rt: HostRuntime) -> Result<(), Fail> {
@@ -243,6 +98,58 @@ impl Serve for InTurn {
         }
         self.odd = !self.odd;
     }
+}
+
+// Answers each line by `a` and then, past what is gathered, `b`.
+#[derive(Drop)]
+struct Straight;
+
+impl Straight {
+    // Says `b` to the writer itself.
+    #[tactic(auto, using(crate::proofs::Adding::past_failed, crate::proofs::Adding::past_put))]
+    fn put_past<W: Write>(gathered: &mut Gathered, output: &mut Watched<W>)
+        ensures { Adds (W.contents output.old.inner) (has_failed output.old) gathered.old (W.contents output.new.inner) (has_failed output.new) gathered.new (codes "b\n") }
+    {
+        if gathered.hand_over(output).is_err() {
+            return;
+        }
+        let _ = output.put(b"b\n");
+    }
+}
+
+impl Serve for Straight {
+    ghost use Rattle.std.specs.Prelude.{List, ◌++◌, codes};
+
+    ghost State = { Unit {0} };
+
+    ghost start = { tt };
+
+    ghost stands_for = { λ server state. Unit {0} };
+
+    ghost answer_of = { λ refused state line. codes "a\n" ++ codes "b\n" };
+
+    ghost after = { λ refused state line. state };
+
+    fn serve<W: Write>(
+        &mut self,
+        _alloc: Global,
+        _line: Line<'_>,
+        gathered: &mut Gathered,
+        output: &mut Watched<W>,
+    ) {
+        gathered.say(output, b"a\n");
+        Straight::put_past(gathered, output);
+    }
+}
+
+#[test]
+fn straight_answers_come_in_turn(rt: HostRuntime) -> Result<(), Fail> {
+    let mut input = Watched::new(b"x\ny".as_slice());
+    let mut output = Watched::new(Vec::new(rt.alloc()));
+    let result = serve_script(rt.alloc(), Straight, &mut input, &mut output);
+    assert_eq!(rt; result, Ok(()));
+    assert_eq!(rt; output.inner.as_slice(), b"a\nb\na\nb\n".as_slice());
+    Ok(())
 }
 
 #[test]

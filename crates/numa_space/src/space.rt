@@ -10,7 +10,7 @@ ghost use Rattle.numa_space.specs.Policies.{task_record};
 ghost use Rattle.numa_space.specs.Pages.{page_in};
 ghost use Rattle.numa_space.specs.Refusals.{refusal_of, range_count_of};
 ghost use Rattle.numa_space.specs.Same.{same_record};
-ghost use Rattle.numa_space.specs.Standing.{SpaceState, StandsFor, accepted_of, record_of};
+ghost use Rattle.numa_space.specs.Standing.{IsSound, SpaceState, StandsFor, accepted_of, record_of};
 ghost use Rattle.numa_space.specs.Steps.{IsAnswer};
 
 use crate::command::Command;
@@ -119,6 +119,7 @@ impl Space {
     pub fn allowed(&self) -> NodeMask
         ensures allowed { result ≡ self.now.allowed }
         ensures some { result ≢ 0 }
+        ensures sound { IsSound self.now }
     {
         self.allowed
     }
@@ -137,8 +138,9 @@ impl Space {
         ensures count { result ≡ range_count same_record (page_at self.now.ranges) }
         ensures meaning { (history : List Command) → StandsFor self.now history → result ≡ range_count_of self.now.machine history }
         ensures limit { result ≤ self.now.bounds.max_ranges }
+        ensures at_most { result ≤ 65536 }
     {
-        let _ = &self.allowed;
+        let _ = self.limits.max_ranges();
         self.pages.len()
     }
 
@@ -158,8 +160,10 @@ impl Space {
     pub fn task_count(&self) -> usize
         ensures tasks { result ≡ length self.now.tasks }
         ensures limit { result ≤ self.now.bounds.max_tasks }
+        ensures at_most { result ≤ 1024 }
         ensures each_once { AllPairs (λ earlier later. earlier.0 ≢ later.0) self.now.tasks }
     {
+        let _ = self.limits.max_tasks();
         self.tasks.len()
     }
 

@@ -4,11 +4,27 @@ use clap::error::ErrorKind;
 use clap::{Command, Error};
 use std::alloc::{AllocError, Global};
 
+/// What the help of the program says.
+const PROGRAM: &str = "Says where Linux would place memory under NUMA memory policies: which nodes a page may come from, in \
+which order, and which frame each fault gets.";
+
+/// What the help of `run` says in full.
+const RUN: &str = "Answers a script. The script is read from standard input, and its answers are written to standard output: one \
+line for each line of the script, but none for an empty line or a comment, and for `maps` one for each range.";
+
+/// What stands at the end of both helps.
+const MORE: &str = "Example:\n  numaplan run < examples/first-run.numaplan\n\nThe language of scripts is told in docs/SCRIPT.md of \
+the repository.";
+
 /// The commands that the program knows.
 fn command<'a>(alloc: Global) -> Result<Command<'a>, AllocError> {
-    let run = Command::new(alloc, "run").about("answers the script on standard input");
+    let run = Command::new(alloc, "run")
+        .about("Answers the script on standard input")
+        .long_about(RUN)
+        .after_help(MORE);
     Command::new(alloc, "numaplan")
-        .about("compiles NUMA memory policies into placement plans")
+        .about(PROGRAM)
+        .after_help(MORE)
         .subcommand_required(true)
         .arg_required_else_help(true)
         .disable_help_subcommand(true)

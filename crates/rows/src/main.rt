@@ -10,7 +10,7 @@ use std::{fs, io};
 
 /// The scripts, by the names of their files. Those whose names begin with `example-` are the scripts of the folder
 /// examples/, which the gate compares with these copies.
-const NAMES: [&str; 33] = [
+const NAMES: [&str; 44] = [
     "bad-lines",
     "default-local-and-task",
     "empty-script",
@@ -19,21 +19,30 @@ const NAMES: [&str; 33] = [
     "example-interleaved-range",
     "example-mbind-of-a-part",
     "example-nodes-taken-away",
+    "example-published-versions",
     "example-static-or-relative",
+    "example-touch-and-release",
+    "example-two-workers",
     "example-weights",
     "example-why-refused",
+    "exhausted",
     "first-run",
     "hole",
     "home-nodes",
     "hostile-words",
     "indexes-apart",
     "interleave-after-node-change",
+    "lane-lengths",
     "limits",
     "long-lines",
     "many-nodes",
+    "maps",
+    "maps-back-and-release",
     "node-without-memory",
+    "one-frame-two-workers",
     "plain-bind-not-restored",
     "plain-set-not-restored",
+    "policy-texts",
     "range-limit",
     "relative-after-node-change",
     "relative-mask-wraps",
@@ -42,8 +51,10 @@ const NAMES: [&str; 33] = [
     "static-without-overlap",
     "task-set-not-restored",
     "too-many-nodes",
+    "versions",
     "weights",
     "weights-by-place",
+    "word-borders",
 ];
 
 /// The answers to a script; none where its run ended early.
@@ -56,18 +67,6 @@ fn answers(alloc: Global, script: &[u8]) -> Option<Vec<u8>> {
     }
 }
 
-/// Whether an answer is as wanted: the same, or, where ` ..` ends what is wanted, the same up to there, and then nothing or
-/// more words.
-fn is_wanted(answer: &[u8], wanted: &[u8]) -> bool {
-    match wanted.strip_suffix(b" ..".as_slice()) {
-        None => answer == wanted,
-        Some(front) => match answer.strip_prefix(front) {
-            None => false,
-            Some(rest) => rest.is_empty() || rest.starts_with(b" "),
-        },
-    }
-}
-
 /// The number of the first answer that is not as wanted, counted from 1; none where all are, and there are as many.
 fn first_difference(answers: &[u8], wanted: &[u8]) -> Option<u64> {
     let mut answers = answers.split(|byte| *byte == b'\n');
@@ -75,7 +74,7 @@ fn first_difference(answers: &[u8], wanted: &[u8]) -> Option<u64> {
     for wanted in wanted.split(|byte| *byte == b'\n') {
         line = line.saturating_add(1);
         match answers.next() {
-            Some(answer) if is_wanted(answer, wanted) => {}
+            Some(answer) if answer == wanted => {}
             _ => return Some(line),
         }
     }

@@ -1,16 +1,22 @@
-use Rattle.numa_run.proofs.Serving.{first_same}
+use Rattle.numa_run.proofs.LineLemmas.{first_same}
 use Rattle.std.proofs.Common.{refl, false}
 use Rattle.numa_run.specs.declared.reply.Reply.TheVariants as reply
 use Rattle.numa_run.proofs.session.Session.serve_first.Goals as goal
 
 pub returns-in-Silent : goal.returns-in-Silent
-returns-in-Silent c = rw (c.in-Silent.is, c.requires) (first_same c.args.self.now.limits _ reply.Silent false refl (λ state. refl))
+returns-in-Silent c = rw (c.in-Silent.is, c.requires) (first_same c.args.self.now.limits _ reply.Silent false (λ state. refl))
 
 pub returns-in-Malformed : goal.returns-in-Malformed
-returns-in-Malformed c = rw (c.in-Malformed.is, c.requires) (first_same c.args.self.now.limits _ reply.BadWords false refl (λ state. refl))
+returns-in-Malformed c = rw (c.in-Malformed.is, c.requires) (first_same c.args.self.now.limits _ reply.BadWords false (λ state. refl))
 
 pub returns-in-Command : goal.returns-in-Command
-returns-in-Command c = rw (c.in-Command.is, c.requires) (first_same c.args.self.now.limits _ reply.BadState false refl (λ state. refl))
+returns-in-Command c = rw (c.in-Command.is, c.requires) (first_same c.args.self.now.limits _ reply.BadState false (λ state. refl))
 
 pub returns-in-Question : goal.returns-in-Question
-returns-in-Question c = rw (c.in-Question.is, c.requires) (first_same c.args.self.now.limits _ reply.BadState false refl (λ state. refl))
+returns-in-Question c = rw (c.in-Question.is, c.requires) (first_same c.args.self.now.limits _ reply.BadState false (λ state. refl))
+
+pub returns-in-Maps : goal.returns-in-Maps
+returns-in-Maps c = rw (c.in-Maps.is, c.requires) (first_same c.args.self.now.limits _ reply.BadState false (λ state. refl))
+
+pub returns-in-Work : goal.returns-in-Work
+returns-in-Work c = rw (c.in-Work.is, c.requires) (first_same c.args.self.now.limits _ reply.BadState false (λ state. refl))

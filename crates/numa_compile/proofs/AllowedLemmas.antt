@@ -1,0 +1,32 @@
+-- Sets of allowed nodes.
+use Rattle.std.proofs.Common.{◌≡◌, ◌≢◌, ℕ, ◌^◌, ◌<◌, true, false, not, eqb, get_or, All, inl, inr}
+use Rattle.std.proofs.lemmas.Bool.{both_ways, eq-eqb, not-true, or_cases}
+use Rattle.std.proofs.lemmas.List.Elements.{All-contains}
+use Rattle.numa_mask.specs.NodeSet.{has, both, members}
+use Rattle.numa_mask.proofs.Images.{below-has}
+use Rattle.numa_mask.proofs.Sets.{contains-has, members-have}
+use Rattle.numa_mode.specs.Policy.{PolicyRecord, is_live, is_local_mode}
+use Rattle.numa_space.specs.Standing.{SpaceState}
+use Rattle.numa_space.proofs.NodeLists.{within-from_both, small-inside}
+use Rattle.numa_compile.specs.Rules.{IsReady}
+
+-- a set of allowed nodes is one of nodes below 256
+pub allowed-small : (space : SpaceState) (set : ℕ) → IsReady space → both set space.allowed ≡ set → set < 2 ^ 256
+allowed-small space set ready inside = small-inside set space.allowed inside (small-inside space.allowed space.machine.memory ready.sound.allowed_memory ready.memory)
+
+-- its members are nodes of the machine
+pub node-low : (space : SpaceState) (set node : ℕ) → IsReady space → both set space.allowed ≡ set → has set node ≡ true → node < space.machine.nodes
+node-low space set node ready inside member =
+    let in_memory : has space.machine.memory node ≡ true = within-from_both space.allowed space.machine.memory ready.sound.allowed_memory node (within-from_both set space.allowed inside node member) in
+    All-contains (λ n. n < space.machine.nodes) (members space.machine.memory) node ready.of_the_machine (contains-has space.machine.memory node (below-has set node (allowed-small space set ready inside) member) in_memory)
+
+pub members-low : (space : SpaceState) (set : ℕ) → IsReady space → both set space.allowed ≡ set → All (λ node. node < space.machine.nodes) (members set)
+members-low space set ready inside k d lt = node-low space set (get_or (members set) k d) ready inside (members-have set k d lt)
+
+-- a live policy of another mode than local has a node
+pub filled : (r : PolicyRecord) → is_live r ≡ true → is_local_mode r.spec.mode ≡ false → r.effective ≢ 0
+filled r live local none =
+    elim (or_cases (not (eqb r.effective 0)) (is_local_mode r.spec.mode) live) [
+      | inl some ↦ both_ways (eqb r.effective 0) (not-true (eqb r.effective 0) some) (eq-eqb r.effective 0 none)
+      | inr t ↦ both_ways (is_local_mode r.spec.mode) local t
+    ]

@@ -1,0 +1,15 @@
+pub mod AllowedLemmas
+pub mod CompileSteps
+pub mod CopyLemmas
+pub mod Meaning
+pub mod PlanLemmas
+pub mod RangeLemmas
+pub mod Replies
+pub mod RowLemmas
+pub mod RowSteps
+pub mod RuleSteps
+pub mod SeenLemmas
+pub mod ServeLemmas
+pub mod Soundness
+pub mod TurnLemmas
+pub mod Widths

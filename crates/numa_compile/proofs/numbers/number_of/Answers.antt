@@ -1,0 +1,27 @@
+use Rattle.std.proofs.Common.{◌≡◌, ◌++◌, ◌∷◌, [], List, rules, sym, subst, slice_get, Some}
+use Rattle.numa_mode.specs.Policy.{PolicyRecord}
+use Rattle.numa_space.specs.Standing.{setting_in}
+use Rattle.numa_plan.specs.Meaning.{PlanData}
+use Rattle.numa_plan.specs.Building.{with_rule}
+use Rattle.numa_compile.specs.Copies.{Serves}
+use Rattle.numa_compile.proofs.ServeLemmas.{serves-rule}
+use Rattle.numa_compile.proofs.SeenLemmas.{stored-is}
+use Rattle.numa_compile.proofs.numbers.number_of.Goals as goal
+
+pub returns-in_ok-add_rule-clause-number : goal.returns-in_ok-add_rule-clause-number
+returns-in_ok-add_rule-clause-number c =
+    let same : c.in_ok-place.place ≡ c.in-Ok.number = search rules in
+    subst (λ place. slice_get c.insert_full.new.self.keys place ≡ Some c.args.policy) same (stored-is c.insert_full.new.self.keys c.in_ok-place.place c.args.policy c.in_ok-place.ensures.stored)
+
+pub returns-in_ok-add_rule-clause-serves : goal.returns-in_ok-add_rule-clause-serves
+returns-in_ok-add_rule-clause-serves c =
+    let keys : c.insert_full.new.self.keys ≡ c.args.records.now.keys ++ c.args.policy ∷ [] = search rules in
+    let serves : Serves (setting_in c.args.space.now) (with_rule c.args.plan.now c.in_ok-add_rule.field-0 c.in_ok-rule.rule) (c.args.records.now.keys ++ c.args.policy ∷ []) =
+    (serves-rule (setting_in c.args.space.now) c.args.plan.now c.in_ok-add_rule.field-0 c.in_ok-rule.rule c.args.policy c.args.records.now.keys c.requires.serves c.in_ok-add_rule.ensures.ok.0 (λ cpu index lt. (c.in_ok-rule.ensures cpu index lt).1)).1 in
+    subst (λ (ks : List PolicyRecord). Serves (setting_in c.args.space.now) c.add_rule.new.self ks) (sym keys)
+    (subst (λ (p : PlanData). Serves (setting_in c.args.space.now) p (c.args.records.now.keys ++ c.args.policy ∷ [])) (sym c.in_ok-add_rule.ensures.ok.1) serves)
+
+pub returns-else-is_new-clause-number : goal.returns-else-is_new-clause-number
+returns-else-is_new-clause-number c =
+    let same : c.in_ok-place.place ≡ c.in-Ok.number = search rules in
+    subst (λ place. slice_get c.insert_full.new.self.keys place ≡ Some c.args.policy) same (stored-is c.insert_full.new.self.keys c.in_ok-place.place c.args.policy c.in_ok-place.ensures.stored)

@@ -1,0 +1,5 @@
+pub mod Standing
+pub mod Sharing
+pub mod Rules
+pub mod Copies
+pub mod Spans

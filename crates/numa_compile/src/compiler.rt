@@ -1,0 +1,127 @@
+//! Compiling.
+ghost use Rattle.std.specs.Prelude.{◌≡◌, ℕ, ◌+◌, ◌-◌, ◌^◌, ◌<◌, ◌≤◌, IfOk, OnOk, List, Bool, [], length};
+ghost use Rattle.std.specs.Option.{ForSome};
+ghost use Rattle.numa_ranges.specs.Runs.{AreApart};
+ghost use Rattle.numa_plan.specs.Meaning.{planned_list};
+ghost use Rattle.numa_space.specs.declared.command.Command.{Command};
+ghost use Rattle.numa_space.specs.Standing.{StandsFor, IsNodeList, accepted_of};
+ghost use Rattle.numa_compile.specs.Copies.{AreCopies, HasTasks, IsUnderWay};
+ghost use Rattle.numa_compile.specs.Rules.{IsReady};
+ghost use Rattle.numa_compile.specs.Standing.{IsPlanOf, PlanStandsFor};
+ghost use Rattle.numa_compile.specs.Sharing.{SharesRules};
+
+use crate::numbers::number_for;
+use crate::rules::local_rule;
+use indexmap::IndexSet;
+use numa_machine::Machine;
+use numa_mode::Record;
+use numa_plan::{NoMemory, Plan, Steps};
+use numa_ranges::Run;
+use numa_space::{Command, Limits, RangeRecord, Space};
+use std::alloc::Global;
+
+/// Looks at what holds of every space and its machine.
+fn survey(space: &Space)
+    ensures ready { IsReady space.now }
+    ensures ranges { length space.now.ranges ≤ 65536 }
+    ensures tasks { length space.now.tasks ≤ 1024 }
+{
+    let machine = space.machine();
+    let _ = machine.nodes();
+    let _ = machine.memory().weight();
+    let _ = space.allowed();
+    let _ = space.ranges();
+    let _ = space.task_count();
+}
+
+/// Adds a run for each range of the space, in order.
+fn add_runs(
+    alloc: Global,
+    space: &Space,
+    ranges: &[Run<RangeRecord>],
+    plan: &mut Plan,
+    records: &mut IndexSet<Record>,
+) -> Result<(), NoMemory>
+    requires ready { IsReady space.now }
+    requires ranges { ranges.now ≡ space.now.ranges }
+    requires apart { AreApart 0 ranges.now }
+    requires few { length ranges.now < 2 ^ 31 }
+    requires under_way { IsUnderWay space.now plan.old records.old.keys }
+    requires runs { plan.old.runs ≡ [] }
+    requires tasks { plan.old.tasks ≡ [] }
+    ensures under_way { OnOk result (IsUnderWay space.now plan.new records.new.keys) }
+    ensures copies { OnOk result (AreCopies records.new.keys ranges.now plan.new.runs) }
+    ensures tasks { OnOk result (plan.new.tasks ≡ []) }
+{
+    for range in ranges {
+        let value = number_for(alloc, space, range.value.policy(), plan, records)?;
+        let run = Run {
+            first: range.first,
+            pages: range.pages,
+            index: range.index,
+            value,
+        };
+        plan.push_run(run, &mut Steps::new())?;
+    }
+    Ok(())
+}
+
+/// Gives each task that has a live policy its rule.
+fn set_tasks(
+    alloc: Global,
+    space: &Space,
+    plan: &mut Plan,
+    records: &mut IndexSet<Record>,
+) -> Result<(), NoMemory>
+    requires ready { IsReady space.now }
+    requires few { length plan.old.runs + length space.now.tasks < 2 ^ 32 - 1 }
+    requires under_way { IsUnderWay space.now plan.old records.old.keys }
+    requires copies { AreCopies records.old.keys space.now.ranges plan.old.runs }
+    requires tasks { plan.old.tasks ≡ [] }
+    ensures under_way { OnOk result (IsUnderWay space.now plan.new records.new.keys) }
+    ensures copies { OnOk result (AreCopies records.new.keys space.now.ranges plan.new.runs) }
+    ensures tasks { OnOk result (HasTasks records.new.keys space.now.tasks plan.new) }
+{
+    for k in 0..space.task_count() {
+        let Some(held) = space.task_at(k) else {
+            unreachable!()
+        };
+        let (task, policy) = (held.0, Some(held.1));
+        let number = number_for(alloc, space, policy, plan, records)?;
+        plan.set_task(task, number)?;
+    }
+    Ok(())
+}
+
+/// A plan of the space.
+pub fn compile(alloc: Global, space: &Space) -> Result<Plan, NoMemory>
+    ensures stands { (history : List Command) → StandsFor space.now history → IfOk result (λ plan. PlanStandsFor space.now.machine plan history) }
+    ensures plan { IfOk result (λ plan. IsPlanOf space.now plan) }
+    ensures rules { IfOk result (λ plan. SharesRules space.now plan) }
+    ensures sound { IfOk result (λ plan. (task page cpu : ℕ) → cpu < plan.nodes → ForSome (planned_list plan task page cpu) (IsNodeList space.now.allowed)) }
+{
+    survey(space);
+    let ranges = space.range_iter().as_slice();
+    let local = local_rule(alloc, space)?;
+    let mut plan = Plan::new(alloc, space.machine().nodes(), local);
+    let mut records = IndexSet::new(alloc);
+    add_runs(alloc, space, ranges, &mut plan, &mut records)?;
+    set_tasks(alloc, space, &mut plan, &mut records)?;
+    plan.set_version(space.version());
+    let _ = records.len();
+    Ok(plan)
+}
+
+/// The plan of a new space of the machine, after these commands, of which the refused ones are passed over.
+pub fn compile_commands(
+    alloc: Global,
+    machine: Machine,
+    limits: Limits,
+    commands: &[Command],
+) -> Result<Plan, NoMemory>
+    ensures { IfOk result (λ plan. (starved : List Bool) × (length starved ≡ length commands.now) × PlanStandsFor machine plan (accepted_of machine limits commands.now starved [])) }
+{
+    let mut space = Space::new(alloc, machine, limits);
+    space.apply_all(commands);
+    compile(alloc, &space)
+}

@@ -1,0 +1,15 @@
+//! From a space to a plan.
+#![tactic(auto)]
+
+mod compiler;
+mod law;
+mod numbers;
+mod reach;
+mod rows;
+mod rules;
+#[cfg(test)]
+mod tests;
+mod turns;
+
+pub use compiler::{compile, compile_commands};
+pub use law::every_plan;

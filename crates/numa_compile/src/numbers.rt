@@ -1,0 +1,71 @@
+//! The numbers of rules.
+ghost use Rattle.std.specs.Prelude.{◌≡◌, Some, IfOk, OnOk, slice_get, true};
+ghost use Rattle.std.specs.Option.{ForSome};
+ghost use Rattle.numa_mode.specs.Policy.{is_live};
+ghost use Rattle.numa_space.specs.Policies.{where_live};
+ghost use Rattle.numa_space.specs.Standing.{setting_in, IsInForce};
+ghost use Rattle.numa_compile.specs.Copies.{Grows, IsNumber, Serves};
+ghost use Rattle.numa_compile.specs.Rules.{IsReady};
+
+use crate::rules::rule_of;
+use indexmap::IndexSet;
+use numa_mode::Record;
+use numa_plan::{NoMemory, Plan, Steps};
+use numa_space::Space;
+use std::alloc::Global;
+
+/// The number of the rule of a live policy: its place among the records. The rule is written where the record is new.
+fn number_of(
+    alloc: Global,
+    space: &Space,
+    policy: Record,
+    plan: &mut Plan,
+    records: &mut IndexSet<Record>,
+) -> Result<u32, NoMemory>
+    requires ready { IsReady space.now }
+    requires in_force { IsInForce space.now.machine space.now.allowed policy }
+    requires live { is_live policy ≡ true }
+    requires nodes { plan.old.nodes ≡ space.now.machine.nodes }
+    requires serves { Serves (setting_in space.now) plan.old records.old.keys }
+    ensures number { IfOk result (λ number. slice_get records.new.keys number ≡ Some policy) }
+    ensures serves { OnOk result (Serves (setting_in space.now) plan.new records.new.keys) }
+    ensures grows { OnOk result (Grows records.old.keys (Some policy) records.new.keys) }
+    ensures rest { OnOk result (plan.new ≡ record plan.old { slots = plan.new.slots }) }
+{
+    let (place, is_new) = records.insert_full(policy)?;
+    let Ok(number) = u32::try_from(place) else {
+        return Err(NoMemory);
+    };
+    if is_new {
+        let rule = rule_of(alloc, space, &policy)?;
+        plan.add_rule(rule, &mut Steps::new())?;
+    }
+    Ok(number)
+}
+
+/// The number of a policy's rule, and none for a policy that isn't live or isn't there.
+pub(crate) fn number_for(
+    alloc: Global,
+    space: &Space,
+    policy: Option<Record>,
+    plan: &mut Plan,
+    records: &mut IndexSet<Record>,
+) -> Result<Option<u32>, NoMemory>
+    requires ready { IsReady space.now }
+    requires in_force { ForSome policy (IsInForce space.now.machine space.now.allowed) }
+    requires nodes { plan.old.nodes ≡ space.now.machine.nodes }
+    requires serves { Serves (setting_in space.now) plan.old records.old.keys }
+    ensures number { IfOk result (λ number. IsNumber records.new.keys (where_live policy) number) }
+    ensures serves { OnOk result (Serves (setting_in space.now) plan.new records.new.keys) }
+    ensures grows { OnOk result (Grows records.old.keys policy records.new.keys) }
+    ensures rest { OnOk result (plan.new ≡ record plan.old { slots = plan.new.slots }) }
+{
+    let Some(policy) = policy else {
+        return Ok(None);
+    };
+    if !policy.is_live() {
+        return Ok(None);
+    }
+    let number = number_of(alloc, space, policy, plan, records)?;
+    Ok(Some(number))
+}

@@ -1,0 +1,180 @@
+//! Examples as tables of steps. Each question is put to a plan that was compiled just for it.
+use crate::compile;
+use numa_machine::Machine;
+use numa_mask::{NodeId, NodeMask};
+use numa_mode::PolicySpec;
+use numa_plan::{Plan, Steps};
+use numa_space::{Command, Limits, PlaceRefusal, Space};
+use std::alloc::{AllocError, Global};
+use std::process::Abort;
+
+/// A command, with its policy as a mode word and nodes.
+#[derive(Clone, Copy)]
+pub(super) enum Asked<'a> {
+    Map(u64, u64, u64),
+    Mbind(u64, u64, u32, &'a [u8]),
+    Task(u32, u32, &'a [u8]),
+    Home(u64, u64, u32),
+    Weight(u32, u32),
+    Mems(&'a [u8]),
+}
+
+/// One line of an example.
+#[derive(Clone, Copy)]
+pub(super) enum Step<'a> {
+    /// The command is accepted.
+    Does(Asked<'a>),
+    /// The node list of a task and a page, for a fault on a node.
+    List(u32, u64, u32, &'a [u8]),
+    /// The same question, refused so.
+    NoList(u32, u64, u32, PlaceRefusal),
+    /// The first nodes of a task's pages from this one on, for faults on node 0.
+    Fill(u32, u64, &'a [u8]),
+    /// How many pages of a span are on nodes 0 and 1, for task 1 and faults on node 0: first page and pages.
+    Counts(u64, u64, u64, u64),
+    /// The same question, refused so.
+    NoCounts(u64, u64, PlaceRefusal),
+    /// How many runs there are.
+    Runs(usize),
+    /// How many commands were accepted.
+    Version(u64),
+}
+
+use Asked::{Home, Map, Mbind, Mems, Task, Weight};
+use Step::{Counts, Does, Fill, List, NoCounts, NoList, Runs, Version};
+
+pub(super) fn set_of(nodes: &[u8]) -> NodeMask {
+    let mut set = NodeMask::empty();
+    for number in nodes {
+        if let Some(node) = NodeId::new(*number) {
+            set.insert(node);
+        }
+    }
+    set
+}
+
+fn spec_of(rt: &impl Abort, word: u32, nodes: &[u8]) -> PolicySpec {
+    PolicySpec::from_raw(word, set_of(nodes)).expect(rt, "a specification")
+}
+
+pub(super) fn command_of(rt: &impl Abort, asked: &Asked) -> Command {
+    match asked {
+        Map(start, length, offset) => Command::Map {
+            start: *start,
+            length: *length,
+            offset: *offset,
+        },
+        Mbind(start, length, word, nodes) => Command::Mbind {
+            start: *start,
+            length: *length,
+            spec: spec_of(rt, *word, nodes),
+        },
+        Task(task, word, nodes) => Command::SetTask {
+            task: *task,
+            spec: spec_of(rt, *word, nodes),
+        },
+        Home(start, length, node) => Command::SetHome {
+            start: *start,
+            length: *length,
+            node: *node,
+        },
+        Weight(node, weight) => Command::SetWeight {
+            node: *node,
+            weight: *weight,
+        },
+        Mems(nodes) => Command::SetMems {
+            mask: set_of(nodes),
+        },
+    }
+}
+
+/// The distances of a machine whose nodes are all 20 apart.
+pub(super) fn flat(alloc: Global, nodes: u32) -> Result<Vec<u8>, AllocError> {
+    let mut table = Vec::new(alloc);
+    for from in 0..nodes {
+        for to in 0..nodes {
+            table.push(if from == to { 10 } else { 20 })?;
+        }
+    }
+    Ok(table)
+}
+
+/// A machine of this many nodes, at most four, all with memory.
+pub(super) fn machine_of(rt: &impl Abort, alloc: Global, nodes: u32, distances: &[u8]) -> Machine {
+    let memory = [0, 1, 2, 3].get(..nodes as usize).expect(rt, "four nodes");
+    let frames = [8; 4].get(..nodes as usize).expect(rt, "four nodes");
+    Machine::new(alloc, nodes, set_of(memory), distances, frames).expect(rt, "a machine")
+}
+
+pub(super) fn limits(rt: &impl Abort) -> Limits {
+    Limits::new(64, 8, 1000).expect(rt, "limits")
+}
+
+fn expect_fill(rt: &impl Abort, plan: &Plan, task: u32, first: u64, want: &[u8], line: usize) {
+    let mut out = [9u8; 16];
+    let pages = out
+        .get_mut(..want.len())
+        .expect(rt, "sixteen pages at most");
+    assert_eq!(rt; plan.fill(task, 0, first, pages), Ok(()), "line {line}");
+    assert_eq!(rt; &*pages, want, "line {line}");
+}
+
+fn expect_counts(rt: &impl Abort, plan: &Plan, span: (u64, u64), want: (u64, u64), line: usize) {
+    let counts = plan.counts(1, 0, span.0, span.1).expect(rt, "counts");
+    assert_eq!(rt; counts[0], want.0, "line {line}");
+    assert_eq!(rt; counts[1], want.1, "line {line}");
+}
+
+fn ask(rt: &impl Abort, plan: &Plan, step: &Step, line: usize) {
+    match step {
+        Does(_) => {}
+        List(task, page, cpu, want) => {
+            let list = plan.choice(*task, *page, *cpu, &mut Steps::new());
+            assert_eq!(rt; list.expect(rt, "a list"), *want, "line {line}");
+        }
+        NoList(task, page, cpu, refusal) => {
+            let list = plan.choice(*task, *page, *cpu, &mut Steps::new());
+            assert_eq!(rt; list.err(), Some(*refusal), "line {line}");
+        }
+        Fill(task, first, want) => expect_fill(rt, plan, *task, *first, want, line),
+        Counts(first, pages, zero, one) => {
+            expect_counts(rt, plan, (*first, *pages), (*zero, *one), line)
+        }
+        NoCounts(first, pages, refusal) => {
+            let counts = plan.counts(1, 0, *first, *pages);
+            assert_eq!(rt; counts.err(), Some(*refusal), "line {line}");
+        }
+        Runs(want) => {
+            assert_eq!(rt; plan.run_count(), *want, "line {line}");
+        }
+        Version(want) => {
+            assert_eq!(rt; plan.version(), *want, "line {line}");
+        }
+    }
+}
+
+/// Plays an example on a space.
+pub(super) fn play(rt: &impl Abort, alloc: Global, space: &mut Space, steps: &[Step]) {
+    for (line, step) in steps.iter().enumerate() {
+        if let Does(asked) = step {
+            assert_eq!(rt; space.apply(&command_of(rt, asked)), Ok(()), "line {line}");
+        } else {
+            let plan = compile(alloc, space).expect(rt, "a plan");
+            ask(rt, &plan, step, line);
+        }
+    }
+}
+
+/// Plays an example on a machine of this many nodes, 20 apart.
+pub(super) fn play_flat(
+    rt: &impl Abort,
+    alloc: Global,
+    nodes: u32,
+    steps: &[Step],
+) -> Result<(), AllocError> {
+    let table = flat(alloc, nodes)?;
+    let machine = machine_of(rt, alloc, nodes, table.as_slice());
+    let mut space = Space::new(alloc, machine, limits(rt));
+    play(rt, alloc, &mut space, steps);
+    Ok(())
+}

@@ -1,0 +1,41 @@
+//! Checksums of what the plan answers.
+use numa_compile::compile;
+use numa_plan::{Plan, Steps};
+use numa_space::Space;
+use std::alloc::Global;
+use std::io;
+
+/// The sum so far with one number more, which nearly any other list of numbers would change.
+fn mixed(sum: u64, number: u64) -> u64 {
+    sum.wrapping_mul(6_364_136_223_846_793_005)
+        .wrapping_add(number)
+}
+
+/// What `choice` answers for every page of the ranges and holes.
+fn choices(plan: &Plan, task: u32, cpu: u32) -> u64 {
+    let mut sum = 0u64;
+    for page in 0..262_145u64 {
+        sum = match plan.choice(task, page, cpu, &mut Steps::new()) {
+            Ok(row) => row
+                .iter()
+                .fold(mixed(sum, 1), |sum, node| mixed(sum, u64::from(*node))),
+            Err(_) => mixed(sum, 2),
+        };
+    }
+    sum
+}
+
+/// Prints the checksums.
+pub fn print(rt: &impl Print, alloc: Global, space: &Space) -> io::Result<()> {
+    let Ok(plan) = compile(alloc, space) else {
+        return println!(rt; "no memory");
+    };
+    let runs = plan.run_count();
+    let version = plan.version();
+    println!(rt; "{runs} runs, version {version}")?;
+    for cpu in 0..3 {
+        let sum = choices(&plan, 1, cpu);
+        println!(rt; "choice of each page on node {cpu}: {sum}")?;
+    }
+    Ok(())
+}

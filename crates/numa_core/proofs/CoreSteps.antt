@@ -1,0 +1,452 @@
+-- What a core stands for before and after a step.
+use Rattle.std.proofs.Common.{zero, suc, ◌≡◌, ◌≢◌, ℕ, ◌+◌, ◌-◌, ◌<◌, ◌≤◌, ◌==◌, ◌||◌, ◌⊎◌, inl, inr, Bool, true, false, not, Option, Some, None, Result, Ok, Err, is_some, is_none, is_ok, List, [], ◌∷◌, length, drop, refl, sym, ap, subst, ◌∙◌, arith, nat_le, if◌then◌else◌, slice_get, slice_index, get_or, OnErr, MatchBool, MatchOption, unwrap_or, map}
+use Rattle.std.specs.Option.{option_map, option_map_or, option_and_then}
+use Rattle.std.specs.List.{list_any}
+use Rattle.std.proofs.Math.ListN.{set}
+use Rattle.std.proofs.lemmas.List.{map-set, length-map, length-drop}
+use Rattle.std.proofs.lemmas.Bool.{eq-eqb, leb-false}
+use Rattle.std.proofs.lemmas.Bool.Decides.{eqb_tells}
+use Rattle.std.proofs.lemmas.Option.{slice_get-map}
+use Rattle.numa_space.specs.declared.command.Command.{Command}
+use Rattle.numa_space.specs.Standing.{SpaceState, StandsFor}
+use Rattle.numa_space.specs.Refusals.{refusal_of as command_refusal}
+use Rattle.numa_space.specs.Pages.{is_mapped}
+use Rattle.numa_space.specs.Lists.{node_list}
+use Rattle.numa_plan.specs.Meaning.{PlanData, planned_list, place_refusal, rule_for}
+use Rattle.numa_plan.specs.Rows.{row_of}
+use Rattle.numa_space.specs.declared.refusal.PlaceRefusal.TheVariants.{BadCpu as NoCpu, Unmapped as NoPage}
+use Rattle.numa_compile.specs.Standing.{PlanStandsFor}
+use Rattle.numa_machine.specs.Machine.{Hardware}
+use Rattle.numa_core.specs.declared.request.Request.{Request}
+use Rattle.numa_core.specs.declared.frame.Frame.{Frame}
+use Rattle.numa_core.specs.declared.event.Event.{Event}
+use Rattle.numa_core.specs.declared.event.Event.TheVariants.{Accept, Publish, Begin, Look, Try, Give}
+use Rattle.numa_core.specs.declared.event.Reply.{Reply}
+use Rattle.numa_core.specs.declared.event.Reply.TheVariants.{Accepted, Published, Still, Won, Given}
+use Rattle.numa_core.specs.declared.event.CoreRefusal.{CoreRefusal}
+use Rattle.numa_core.specs.declared.event.CoreRefusal.TheVariants.{Idle, BadTry, Unmapped}
+use Rattle.numa_core.specs.World.{Setup, Hunt, Worker, World, opening, newest_published, first_commands, hunt_of, last_of, owner_of, is_frame, list_at, may_look, may_try, looked, missed, begun}
+use Rattle.numa_core.specs.Steps.{because, refusal_of, reply_of, effect_of, goes_on, going_on, placement_of, with_worker, with_owner, refused_or, IsAnswer, world_after, MayTake}
+use Rattle.numa_core.specs.Runs.{Moment, IsLegalRun, world_of}
+use Rattle.numa_core.specs.Standing.{Busy, CoreState, CoreStandsFor, LeadsTo, place_in, place_of, owner_at, hunt_by, setup_of, frames_before, moment_after}
+use Rattle.numa_core.specs.declared.seat.Job.{Job}
+use Rattle.numa_core.specs.declared.seat.Seat.{Seat}
+use Rattle.numa_core.specs.Seats.{busy_by, busy_of, seat_hunt, hunt_in, hunt_of_busy, fresh, SeatLooks, SeatTries}
+use Rattle.numa_core.proofs.Seating.{tries-nowhere}
+use Rattle.numa_core.proofs.InARow.{not_le, is_at, same_place, place-some}
+use Rattle.numa_core.proofs.Versions.{by_itself}
+use Rattle.numa_core.proofs.Tracking.{first_commands-more}
+
+-- ---- tables
+
+set_same : {X : Type 0} (xs : List X) (w : ℕ) (x : X) → w < length xs → slice_get (set xs w x) w ≡ Some x
+set_same [] w x low = absurd (omega arith)
+set_same (y ∷ xs) zero x low = refl
+set_same (y ∷ xs) (suc w) x low = set_same xs w x (omega arith)
+
+set_other : {X : Type 0} (xs : List X) (w : ℕ) (x : X) (v : ℕ) → w ≢ v → slice_get (set xs w x) v ≡ slice_get xs v
+set_other [] w x v ne = refl
+set_other (y ∷ xs) zero x zero ne = absurd (ne refl)
+set_other (y ∷ xs) zero x (suc v) ne = refl
+set_other (y ∷ xs) (suc w) x zero ne = refl
+set_other (y ∷ xs) (suc w) x (suc v) ne = set_other xs w x v (λ e. ne (ap suc e))
+
+-- the element is written back
+pub set_back : {X : Type 0} (xs : List X) (w : ℕ) (x : X) → slice_get xs w ≡ Some x → set xs w x ≡ xs
+set_back [] w x e = refl
+set_back (y ∷ xs) zero x e = let same : y ≡ x = cc in ap (λ z. z ∷ xs) (sym same)
+set_back (y ∷ xs) (suc w) x e = ap (λ zs. y ∷ zs) (set_back xs w x e)
+
+pub there_at : {X : Type 0} (xs : List X) (w : ℕ) (x : X) → w < length xs → x ≡ get_or xs w x → slice_get xs w ≡ Some x
+there_at [] w x low e = absurd (omega arith)
+there_at (y ∷ xs) zero x low e = ap Some (sym e)
+there_at (y ∷ xs) (suc w) x low e = there_at xs w x (omega arith) e
+
+pub slice_get-set : {X : Type 0} (xs : List X) (w : ℕ) (x : X) (v : ℕ) → w < length xs → slice_get (set xs w x) v ≡ (if w == v then Some x else slice_get xs v)
+slice_get-set xs w x v low = go (eqb_tells w v)
+  where
+    go : ((w == v ≡ true) × (w ≡ v)) ⊎ ((w == v ≡ false) × (w ≢ v)) → slice_get (set xs w x) v ≡ (if w == v then Some x else slice_get xs v)
+    go (inl e) = rw e.0 (ap (λ u. slice_get (set xs w x) u) (sym e.1) ∙ set_same xs w x low)
+    go (inr e) = rw e.0 (set_other xs w x v e.1)
+
+-- each element of a list with one changed
+pub each-set : {X : Type 0} (P : X → Type 0) (xs : List X) (w : ℕ) (x : X) → P x → ((v : ℕ) (y : X) → slice_get xs v ≡ Some y → P y) → (v : ℕ) (y : X) → slice_get (set xs w x) v ≡ Some y → P y
+each-set P [] w x p each v y e = each v y e
+each-set P (z ∷ xs) zero x p each zero y e = let same : x ≡ y = cc in subst P same p
+each-set P (z ∷ xs) zero x p each (suc v) y e = each (suc v) y e
+each-set P (z ∷ xs) (suc w) x p each zero y e = each 0 y e
+each-set P (z ∷ xs) (suc w) x p each (suc v) y e = each-set P xs w x p (λ u. each (suc u)) v y e
+
+-- an owner is written
+owner-set : (owners : List (Option ℕ)) (place : ℕ) (x o : Option ℕ) → place < length owners → owner_at (set owners place x) o ≡ (if is_at o place then x else owner_at owners o)
+owner-set owners place x None low = refl
+owner-set owners place x (Some p) low = go (eqb_tells p place)
+  where
+    go : ((p == place ≡ true) × (p ≡ place)) ⊎ ((p == place ≡ false) × (p ≢ place)) → option_and_then (λ o. o) (slice_get (set owners place x) p) ≡ (if p == place then x else option_and_then (λ o. o) (slice_get owners p))
+    go (inl e) = rw e.0 (ap (option_and_then (λ o. o)) (ap (slice_get (set owners place x)) e.1 ∙ set_same owners place x low))
+    go (inr e) = rw e.0 (ap (option_and_then (λ o. o)) (set_other owners place x p (λ same. e.1 (sym same))))
+
+pub no_job : (o : Option Job) → is_some o ≡ false → o ≡ None
+no_job None e = refl
+no_job (Some job) e = absurd (cc)
+
+-- ---- cores
+
+abbrev pub with_seat : CoreState → ℕ → Option Busy → CoreState
+with_seat core w o = record { space = core.space; plan = core.plan; workers = set core.workers w o; owners = core.owners }
+
+abbrev pub with_owners : CoreState → List (Option ℕ) → CoreState
+with_owners core owners = record { space = core.space; plan = core.plan; workers = core.workers; owners = owners }
+
+-- what a worker is about shows as this hunt
+pub hunt-same : (machine : Hardware) (frames : List ℕ) (o : Option Busy) → frames ≡ machine.frames → hunt_by machine o ≡ hunt_of_busy frames o
+hunt-same machine frames None same = refl
+hunt-same machine frames (Some busy) same = ap (λ fs. Some (hunt_in fs busy)) (sym same)
+
+-- a worker goes on, or is idle
+pub stands-seat : (core : CoreState) (world : World) (w last : ℕ) (o : Option Busy) (hunt : Option Hunt) → CoreStandsFor core world → w < length core.workers → hunt_by core.space.machine o ≡ hunt → last ≤ newest_published world → CoreStandsFor (with_seat core w o) (with_worker world w last hunt)
+stands-seat core world w last o hunt stands low is not_newer = record {
+  space = stands.space;
+  plan = stands.plan;
+  hunts = λ v. ap (λ x. hunt_by core.space.machine (option_and_then (λ busy. busy) x)) (slice_get-set core.workers w o v low) ∙ both v (w == v);
+  owners = stands.owners;
+  published = stands.published;
+  known = stands.known;
+  not_newer = λ v. by_itself (λ (worker : Worker). worker.last ≤ newest_published world) w v (record { last = last; hunt = hunt }) (world.worker v) (λ e. not_newer) (stands.not_newer v);
+}
+  where
+    both : (v : ℕ) (b : Bool) → hunt_by core.space.machine (option_and_then (λ busy. busy) (if b then Some o else slice_get core.workers v)) ≡ (if b then (let x : Worker = record { last = last; hunt = hunt } in x) else world.worker v).hunt
+    both v true = is
+    both v false = stands.hunts v
+
+-- a frame gets an owner, or loses it
+pub stands-owner : (core : CoreState) (world : World) (frame : Frame) (place : ℕ) (x : Option ℕ) → CoreStandsFor core world → frame.number < slice_index core.space.machine.frames frame.node → place ≡ frames_before core.space.machine.frames frame.node + frame.number → place < length core.owners
+    → CoreStandsFor (with_owners core (set core.owners place x)) (with_owner world frame x)
+stands-owner core world frame place x stands here is low = record {
+  space = stands.space;
+  plan = stands.plan;
+  hunts = stands.hunts;
+  owners = λ n k. owner-set core.owners place x (place_in core.space.machine.frames n k) low
+      ∙ ap (λ p. if is_at (place_in core.space.machine.frames n k) p then x else owner_at core.owners (place_in core.space.machine.frames n k)) is
+      ∙ ap (λ b. if b then x else owner_at core.owners (place_in core.space.machine.frames n k)) (same_place core.space.machine.frames frame.node frame.number n k here)
+      ∙ ap (λ o. if is_frame frame n k then x else o) (stands.owners n k);
+  published = stands.published;
+  known = stands.known;
+  not_newer = stands.not_newer;
+}
+
+-- the plan's version is the newest published one
+pub version-is : (core : CoreState) (world : World) → CoreStandsFor core world → core.plan.version ≡ newest_published world
+version-is core world stands =
+    let known : newest_published world ≤ length world.history = stands.known in
+    let cut : length (first_commands (newest_published world) world.history) ≡ length world.history - (length world.history - newest_published world) = length-drop (length world.history - newest_published world) world.history in
+    let plan : core.plan.version ≡ length (first_commands (newest_published world) world.history) = stands.plan.version in
+    omega arith
+
+-- a refused event leaves the worker as it was
+pub stands-result : (core : CoreState) (world after : World) (w : ℕ) (old new : Option Busy) (result : Result Reply CoreRefusal) → (is_ok result ≡ true → CoreStandsFor (with_seat core w new) after) → OnErr result (new ≡ old) → slice_get core.workers w ≡ Some old → CoreStandsFor core world → CoreStandsFor (with_seat core w new) (if is_ok result then after else world)
+stands-result core world after w old new (Ok reply) ok err at stands = ok refl
+stands-result core world after w old new (Err refusal) ok err at stands = subst (λ ws. CoreStandsFor (record { space = core.space; plan = core.plan; workers = ws; owners = core.owners }) world) (sym (ap (set core.workers w) err ∙ set_back core.workers w old at)) stands
+
+pub refused_same : {X : Type 0} (items : List X) (w : ℕ) (old new : X) (result : Result Reply CoreRefusal) (P : List X → Type 0) → OnErr result (new ≡ old) → slice_get items w ≡ Some old → P items → OnErr result (P (set items w new))
+refused_same items w old new (Ok reply) P err at p = tt
+refused_same items w old new (Err refusal) P err at p = subst P (sym (ap (set items w) err ∙ set_back items w old at)) p
+
+-- ---- refusals
+
+answered : (s : Setup) (world : World) (version : ℕ) (event : Event) (o : Option CoreRefusal) (result : Result Reply CoreRefusal) → refusal_of s world version event ≡ o → result ≡ refused_or o (reply_of s world version event) → IsAnswer s world version event result
+answered s world version event o result is e = inl (e ∙ ap (λ r. refused_or r (reply_of s world version event)) (sym is))
+
+-- ---- a Look
+
+pub look_answer : (s : Setup) (world : World) (version w word : ℕ) (old new : Option Hunt) (result : Result Reply CoreRefusal) → w < s.workers → hunt_of world w ≡ old
+    → MatchOption old (result ≡ Err Idle) (λ hunt. MatchBool (may_look s hunt word) ((result ≡ Ok (goes_on s (looked s world word hunt))) × (new ≡ going_on s (looked s world word hunt))) (result ≡ Err BadTry))
+    → IsAnswer s world version (Look w word) result × (is_ok result ≡ true → new ≡ option_map_or (λ hunt. going_on s (looked s world word hunt)) (hunt_of world w) None)
+look_answer s world version w word old new result low is looks = go old is looks
+  where
+    rows : (o : Option Hunt) → hunt_of world w ≡ o → refusal_of s world version (Look w word) ≡ (if is_none o then Some Idle else (if not (option_map_or (λ hunt. may_look s hunt word) o false) then Some BadTry else None))
+    rows o is = rw (not_le s.workers w low, is) refl
+
+    go : (o : Option Hunt) → hunt_of world w ≡ o
+        → MatchOption o (result ≡ Err Idle) (λ hunt. MatchBool (may_look s hunt word) ((result ≡ Ok (goes_on s (looked s world word hunt))) × (new ≡ going_on s (looked s world word hunt))) (result ≡ Err BadTry))
+        → IsAnswer s world version (Look w word) result × (is_ok result ≡ true → new ≡ option_map_or (λ hunt. going_on s (looked s world word hunt)) (hunt_of world w) None)
+    go None is h = (answered s world version (Look w word) (Some Idle) result (rows None is) h, λ ok. absurd (let odd : false ≡ true = sym (ap is_ok h) ∙ ok in cc))
+    go (Some hunt) is h = pick (may_look s hunt word) refl h
+      where
+        pick : (b : Bool) → may_look s hunt word ≡ b → MatchBool b ((result ≡ Ok (goes_on s (looked s world word hunt))) × (new ≡ going_on s (looked s world word hunt))) (result ≡ Err BadTry)
+            → IsAnswer s world version (Look w word) result × (is_ok result ≡ true → new ≡ option_map_or (λ hunt. going_on s (looked s world word hunt)) (hunt_of world w) None)
+        pick true may h = (
+          answered s world version (Look w word) None result (rows (Some hunt) is ∙ ap (λ b. if not b then Some BadTry else None) may) (h.0 ∙ ap (λ o. Ok (option_map_or (λ hunt. goes_on s (looked s world word hunt)) o Still)) (sym is)),
+          λ ok. h.1 ∙ ap (λ o. option_map_or (λ hunt. going_on s (looked s world word hunt)) o None) (sym is),
+        )
+        pick false may h = (answered s world version (Look w word) (Some BadTry) result (rows (Some hunt) is ∙ ap (λ b. if not b then Some BadTry else None) may) h, λ ok. absurd (let odd : false ≡ true = sym (ap is_ok h) ∙ ok in cc))
+
+-- ---- a Try
+
+pub try_answer : (s : Setup) (world : World) (version w : ℕ) (frame : Frame) (owned : Bool) (old new : Option Hunt) (result : Result Reply CoreRefusal) → w < s.workers → hunt_of world w ≡ old → (is_ok result ≡ true → is_some (owner_of world frame) ≡ owned)
+    → MatchOption old (result ≡ Err Idle) (λ hunt. MatchBool (may_try s hunt frame)
+    (MatchBool owned ((result ≡ Ok (goes_on s (missed frame hunt))) × (new ≡ going_on s (missed frame hunt))) ((result ≡ Ok (Won (placement_of s hunt frame))) × (new ≡ None)))
+    (result ≡ Err BadTry))
+    → IsAnswer s world version (Try w frame) result × (is_ok result ≡ true → new ≡ (if owned then option_map_or (λ hunt. going_on s (missed frame hunt)) (hunt_of world w) None else None))
+try_answer s world version w frame owned old new result low is owner tries = go old is tries
+  where
+    rows : (o : Option Hunt) → hunt_of world w ≡ o → refusal_of s world version (Try w frame) ≡ (if is_none o then Some Idle else (if not (option_map_or (λ hunt. may_try s hunt frame) o false) then Some BadTry else None))
+    rows o is = rw (not_le s.workers w low, is) refl
+
+    go : (o : Option Hunt) → hunt_of world w ≡ o
+        → MatchOption o (result ≡ Err Idle) (λ hunt. MatchBool (may_try s hunt frame)
+        (MatchBool owned ((result ≡ Ok (goes_on s (missed frame hunt))) × (new ≡ going_on s (missed frame hunt))) ((result ≡ Ok (Won (placement_of s hunt frame))) × (new ≡ None)))
+        (result ≡ Err BadTry))
+        → IsAnswer s world version (Try w frame) result × (is_ok result ≡ true → new ≡ (if owned then option_map_or (λ hunt. going_on s (missed frame hunt)) (hunt_of world w) None else None))
+    go None is h = (answered s world version (Try w frame) (Some Idle) result (rows None is) h, λ ok. absurd (let odd : false ≡ true = sym (ap is_ok h) ∙ ok in cc))
+    go (Some hunt) is h = pick (may_try s hunt frame) owned refl owner h
+      where
+        pick : (b owned : Bool) → may_try s hunt frame ≡ b → (is_ok result ≡ true → is_some (owner_of world frame) ≡ owned) → MatchBool b (MatchBool owned ((result ≡ Ok (goes_on s (missed frame hunt))) × (new ≡ going_on s (missed frame hunt))) ((result ≡ Ok (Won (placement_of s hunt frame))) × (new ≡ None))) (result ≡ Err BadTry)
+            → IsAnswer s world version (Try w frame) result × (is_ok result ≡ true → new ≡ (if owned then option_map_or (λ hunt. going_on s (missed frame hunt)) (hunt_of world w) None else None))
+        pick true true may own h = (
+          answered s world version (Try w frame) None result (rows (Some hunt) is ∙ ap (λ b. if not b then Some BadTry else None) may)
+              (h.0 ∙ ap (λ o. Ok (option_map_or (λ hunt. goes_on s (missed frame hunt)) o Still)) (sym is) ∙ ap (λ b. Ok (if b then option_map_or (λ hunt. goes_on s (missed frame hunt)) (hunt_of world w) Still else option_map_or (λ hunt. Won (placement_of s hunt frame)) (hunt_of world w) Still)) (sym (own (ap is_ok h.0)))),
+          λ ok. h.1 ∙ ap (λ o. option_map_or (λ hunt. going_on s (missed frame hunt)) o None) (sym is),
+        )
+        pick true false may own h = (
+          answered s world version (Try w frame) None result (rows (Some hunt) is ∙ ap (λ b. if not b then Some BadTry else None) may)
+              (h.0 ∙ ap (λ o. Ok (option_map_or (λ hunt. Won (placement_of s hunt frame)) o Still)) (sym is) ∙ ap (λ b. Ok (if b then option_map_or (λ hunt. goes_on s (missed frame hunt)) (hunt_of world w) Still else option_map_or (λ hunt. Won (placement_of s hunt frame)) (hunt_of world w) Still)) (sym (own (ap is_ok h.0)))),
+          λ ok. h.1,
+        )
+        pick false own may is_own h = (answered s world version (Try w frame) (Some BadTry) result (rows (Some hunt) is ∙ ap (λ b. if not b then Some BadTry else None) may) h, λ ok. absurd (let odd : false ≡ true = sym (ap is_ok h) ∙ ok in cc))
+
+-- ---- a Give
+
+pub give_answer : (s : Setup) (world : World) (version w : ℕ) (frame : Frame) → w < s.workers → hunt_of world w ≡ None → owner_of world frame ≡ Some w → IsAnswer s world version (Give w frame) (Ok Given)
+give_answer s world version w frame low idle owner = answered s world version (Give w frame) None (Ok Given) (rw (not_le s.workers w low, idle, owner, eq-eqb w w refl) refl) refl
+
+-- ---- a Begin
+
+pub list-is : (machine : Hardware) (plan : PlanData) (history : List Command) (version : ℕ) (request : Request) (row : List ℕ) → PlanStandsFor machine plan (first_commands version history) → request.cpu < machine.nodes → planned_list plan request.task request.page request.cpu ≡ Some row → list_at machine history version request ≡ Some row
+unfolding list_at
+list-is machine plan history version request row stands cpu planned = go (is_mapped (first_commands version history) request.page) refl
+  where
+    go : (b : Bool) → is_mapped (first_commands version history) request.page ≡ b → (if b then Some (node_list machine (first_commands version history) request.task request.page request.cpu) else None) ≡ Some row
+    go true is = sym (stands.lists request.task request.page request.cpu cpu is) ∙ planned
+    go false is = absurd (let odd : false ≡ true = ap is_some (sym (stands.unmapped request.task request.page request.cpu is) ∙ planned) in cc)
+
+-- a page that the plan lacks
+refused_parts : (b : Bool) (o : Option (ℕ × Option ℕ)) → (if b then Some NoCpu else if is_some o then None else Some NoPage) ≡ Some NoPage → (b ≡ false) × (o ≡ None)
+refused_parts true o e = absurd (cc)
+refused_parts false (Some found) e = absurd (let odd : false ≡ true = ap is_some e in cc)
+refused_parts false None e = (refl, refl)
+
+pub list-none : (machine : Hardware) (plan : PlanData) (history : List Command) (version : ℕ) (request : Request) → PlanStandsFor machine plan (first_commands version history) → place_refusal plan request.page request.cpu ≡ Some NoPage → (request.cpu < machine.nodes) × (list_at machine history version request ≡ None)
+unfolding list_at
+list-none machine plan history version request stands refused =
+    let parts = refused_parts (nat_le plan.nodes request.cpu) _ refused in
+    let cpu : request.cpu < machine.nodes = subst (λ n. request.cpu < n) stands.nodes (leb-false plan.nodes request.cpu parts.0) in
+    (cpu, listed (is_mapped (first_commands version history) request.page) refl cpu (ap (option_map (λ at. row_of (rule_for plan request.task at.1) request.cpu at.0)) parts.1))
+  where
+    listed : (b : Bool) → is_mapped (first_commands version history) request.page ≡ b → request.cpu < machine.nodes → planned_list plan request.task request.page request.cpu ≡ None → (if b then Some (node_list machine (first_commands version history) request.task request.page request.cpu) else None) ≡ None
+    listed true is cpu none = absurd (let odd : true ≡ false = ap is_some (sym (stands.lists request.task request.page request.cpu cpu is) ∙ none) in cc)
+    listed false is cpu none = refl
+
+pub begin_answer : (s : Setup) (world : World) (version w : ℕ) (request : Request) (row : List ℕ) (reply : Reply) → w < s.workers → hunt_of world w ≡ None → request.cpu < s.machine.nodes → list_at s.machine world.history version request ≡ Some row → reply ≡ goes_on s (fresh request version row) → IsAnswer s world version (Begin w request) (Ok reply)
+begin_answer s world version w request row reply low idle cpu listed is = answered s world version (Begin w request) None (Ok reply) (rw (not_le s.workers w low, idle, not_le s.machine.nodes request.cpu cpu, listed) refl) (ap Ok (is ∙ ap (λ o. goes_on s (fresh request version (unwrap_or o []))) (sym listed)))
+
+pub begin_hunt : (s : Setup) (world : World) (version : ℕ) (request : Request) (row : List ℕ) → list_at s.machine world.history version request ≡ Some row → going_on s (fresh request version row) ≡ going_on s (begun s world version request)
+begin_hunt s world version request row listed = ap (λ o. going_on s (fresh request version (unwrap_or o []))) (sym listed)
+
+-- ---- runs
+
+-- the version that the core takes may be taken
+pub may_take : (core : CoreState) (world : World) (event : Event) → CoreStandsFor core world → MayTake world (newest_published world) event
+may_take core world (Accept command) stands = tt
+may_take core world Publish stands = tt
+may_take core world (Begin w request) stands = (stands.published, stands.not_newer w)
+may_take core world (Look w word) stands = tt
+may_take core world (Try w frame) stands = tt
+may_take core world (Give w frame) stands = tt
+
+-- a step leads on
+pub leads_on : (old new : CoreState) (event : Event) (answer : Result Reply CoreRefusal) → setup_of new ≡ setup_of old → ((world : World) → CoreStandsFor old world → IsAnswer (setup_of old) world (newest_published world) event answer × CoreStandsFor new (world_after (setup_of old) world (newest_published world) event answer))
+    → (run : List Moment) → LeadsTo run old → LeadsTo (moment_after (setup_of old) run event answer ∷ run) new
+leads_on old new event answer same follows run leads =
+    let step = follows (world_of (setup_of old) run) leads.stands in
+    let legal : IsLegalRun (setup_of old) (moment_after (setup_of old) run event answer ∷ run) = (leads.legal, may_take old (world_of (setup_of old) run) event leads.stands, step.0) in
+    record {
+      legal = subst (λ s. IsLegalRun s (moment_after (setup_of old) run event answer ∷ run)) (sym same) legal;
+      stands = subst (λ s. CoreStandsFor new (world_of s (moment_after (setup_of old) run event answer ∷ run))) (sym same) step.1;
+    }
+
+-- ---- the steps of a core, by what the code did
+
+pick_first : (b : Bool) (P : World → Type 0) (x y : World) → b ≡ true → P x → P (if b then x else y)
+pick_first true P x y e h = h
+pick_first false P x y e h = absurd (cc)
+
+pick_second : (b : Bool) (P : World → Type 0) (x y : World) → b ≡ false → P y → P (if b then x else y)
+pick_second false P x y e h = h
+pick_second true P x y e h = absurd (cc)
+
+abbrev pub core_of : SpaceState → PlanData → List Seat → List (Option ℕ) → CoreState
+core_of space plan seats owners = record { space = space; plan = plan; workers = map busy_of seats; owners = owners }
+
+module _ (space : SpaceState) (plan : PlanData) (places : List ℕ) (seats : List Seat) (owners : List (Option ℕ)) (world : World) (same : places ≡ space.machine.frames) (stands : CoreStandsFor (core_of space plan seats owners) world) where
+  -- the owners that the table says
+  told_owner : (n k : ℕ) → world.owner n k ≡ owner_at owners (place_in places n k)
+  told_owner n k = sym (stands.owners n k) ∙ ap (λ fs. owner_at owners (place_in fs n k)) (sym same)
+
+  module _ (w : ℕ) (old : Seat) (low : w < length seats) (there : slice_get seats w ≡ Some old) where
+    few : w < length (map busy_of seats)
+    few = let len : length (map busy_of seats) ≡ length seats = length-map seats busy_of in omega arith
+
+    shown_there : slice_get (map busy_of seats) w ≡ Some (busy_of old)
+    shown_there = slice_get-map busy_of seats w ∙ ap (option_map busy_of) there
+
+    its_hunt : hunt_of world w ≡ seat_hunt places old
+    its_hunt = sym (stands.hunts w) ∙ ap (λ x. hunt_by space.machine (option_and_then (λ busy. busy) x)) shown_there ∙ hunt-same space.machine places (busy_of old) same
+
+    -- an idle seat
+    idle_hunt : old.job ≡ None → hunt_of world w ≡ None
+    idle_hunt idle = its_hunt ∙ ap (λ o. hunt_of_busy places (busy_by o old.nodes.items old.met.items)) idle
+
+    moved : (new : Seat) (table : List (Option ℕ)) (after : World) → CoreStandsFor (record { space = space; plan = plan; workers = set (map busy_of seats) w (busy_of new); owners = table }) after → CoreStandsFor (core_of space plan (set seats w new) table) after
+    moved new table after now = subst (λ ws. CoreStandsFor (record { space = space; plan = plan; workers = ws; owners = table }) after) (sym (map-set busy_of seats w new)) now
+
+    seen_err : (new : Seat) (result : Result Reply CoreRefusal) → OnErr result (new ≡ old) → OnErr result (busy_of new ≡ busy_of old)
+    seen_err new (Ok reply) err = tt
+    seen_err new (Err refusal) err = ap busy_of err
+
+    -- the worker goes on as the seat does
+    with_new : (new : Seat) (last : ℕ) (hunt : Option Hunt) → seat_hunt places new ≡ hunt → last ≤ newest_published world → CoreStandsFor (with_seat (core_of space plan seats owners) w (busy_of new)) (with_worker world w last hunt)
+    with_new new last hunt is not_newer = stands-seat (core_of space plan seats owners) world w last (busy_of new) hunt stands few (hunt-same space.machine places (busy_of new) same ∙ is) not_newer
+
+    pub look-follows : (word : ℕ) (new : Seat) (result : Result Reply CoreRefusal) → OnErr result (new ≡ old) → (((n k : ℕ) → world.owner n k ≡ owner_at owners (place_in places n k)) → SeatLooks places (setup_of (core_of space plan seats owners)) world word old result new)
+        → IsAnswer (setup_of (core_of space plan seats owners)) world (newest_published world) (Look w word) result × CoreStandsFor (core_of space plan (set seats w new) owners) (world_after (setup_of (core_of space plan seats owners)) world (newest_published world) (Look w word) result)
+    look-follows word new result err looks =
+        let answer = look_answer (setup_of (core_of space plan seats owners)) world (newest_published world) w word (seat_hunt places old) (seat_hunt places new) result few its_hunt (looks told_owner) in (
+          answer.0,
+          moved new owners _ (stands-result (core_of space plan seats owners) world (effect_of (setup_of (core_of space plan seats owners)) world (newest_published world) (Look w word)) w (busy_of old) (busy_of new) result
+              (λ ok. with_new new (last_of world w) _ (answer.1 ok) (stands.not_newer w)) (seen_err new result err) shown_there stands),
+        )
+
+    pub begin-follows : (request : Request) (row : List ℕ) (version : ℕ) (new : Seat) (reply : Reply) → old.job ≡ None → version ≡ plan.version → request.cpu < plan.nodes → planned_list plan request.task request.page request.cpu ≡ Some row
+        → ((s : Setup) → places ≡ s.machine.frames → reply ≡ goes_on s (fresh request version row)) → ((s : Setup) → places ≡ s.machine.frames → seat_hunt places new ≡ going_on s (fresh request version row))
+        → IsAnswer (setup_of (core_of space plan seats owners)) world (newest_published world) (Begin w request) (Ok reply) × CoreStandsFor (core_of space plan (set seats w new) owners) (effect_of (setup_of (core_of space plan seats owners)) world (newest_published world) (Begin w request))
+    begin-follows request row version new reply idle is cpu planned answer hunt =
+        let newest : version ≡ newest_published world = is ∙ version-is (core_of space plan seats owners) world stands in
+        let inside : request.cpu < space.machine.nodes = subst (λ n. request.cpu < n) stands.plan.nodes cpu in
+        let listed = list-is space.machine plan world.history (newest_published world) request row stands.plan inside planned in (
+          begin_answer (setup_of (core_of space plan seats owners)) world (newest_published world) w request row reply few (idle_hunt idle) inside listed (answer (setup_of (core_of space plan seats owners)) same ∙ ap (λ v. goes_on (setup_of (core_of space plan seats owners)) (fresh request v row)) newest),
+          moved new owners _ (with_new new (newest_published world) _ (hunt (setup_of (core_of space plan seats owners)) same ∙ ap (λ v. going_on (setup_of (core_of space plan seats owners)) (fresh request v row)) newest ∙ begin_hunt (setup_of (core_of space plan seats owners)) world (newest_published world) request row listed) (omega arith)),
+        )
+
+    -- a Begin at a page that isn't mapped
+    pub unmapped-follows : (request : Request) (version : ℕ) → old.job ≡ None → version ≡ plan.version → place_refusal plan request.page request.cpu ≡ Some NoPage → IsAnswer (setup_of (core_of space plan seats owners)) world (newest_published world) (Begin w request) (Err (Unmapped version))
+    unmapped-follows request version idle is refused =
+        let found = list-none space.machine plan world.history (newest_published world) request stands.plan refused in
+        let newest : version ≡ newest_published world = is ∙ version-is (core_of space plan seats owners) world stands in
+        answered (setup_of (core_of space plan seats owners)) world (newest_published world) (Begin w request) (Some (Unmapped (newest_published world))) (Err (Unmapped version))
+        (rw (not_le (length (map busy_of seats)) w few, idle_hunt idle, not_le space.machine.nodes request.cpu found.0, found.1) refl) (ap (λ v. Err (Unmapped v)) newest)
+
+    -- a Try of an owned frame
+    pub owned-follows : (frame : Frame) (place : ℕ) (new : Seat) (result : Result Reply CoreRefusal) → place_in places frame.node frame.number ≡ Some place → is_some (owner_at owners (Some place)) ≡ true → OnErr result (new ≡ old) → SeatTries places (setup_of (core_of space plan seats owners)) true frame old result new
+        → IsAnswer (setup_of (core_of space plan seats owners)) world (newest_published world) (Try w frame) result × CoreStandsFor (core_of space plan (set seats w new) owners) (world_after (setup_of (core_of space plan seats owners)) world (newest_published world) (Try w frame) result)
+    owned-follows frame place new result at owned err tries =
+        let own : is_some (owner_of world frame) ≡ true = ap is_some (told_owner frame.node frame.number ∙ ap (owner_at owners) at) ∙ owned in
+        let answer = try_answer (setup_of (core_of space plan seats owners)) world (newest_published world) w frame true (seat_hunt places old) (seat_hunt places new) result few its_hunt (λ ok. own) tries in (
+          answer.0,
+          moved new owners _ (stands-result (core_of space plan seats owners) world (effect_of (setup_of (core_of space plan seats owners)) world (newest_published world) (Try w frame)) w (busy_of old) (busy_of new) result
+              (λ ok. pick_first (is_some (owner_of world frame)) (λ after. CoreStandsFor (with_seat (core_of space plan seats owners) w (busy_of new)) after) _ _ own (with_new new (last_of world w) _ (answer.1 ok) (stands.not_newer w))) (seen_err new result err) shown_there stands),
+        )
+
+    -- a Try of a free frame that is refused
+    pub refused-follows : (frame : Frame) (place : ℕ) (refusal : CoreRefusal) (new : Seat) → place_in places frame.node frame.number ≡ Some place → is_some (owner_at owners (Some place)) ≡ false → new ≡ old → SeatTries places (setup_of (core_of space plan seats owners)) false frame old (Err refusal) new
+        → IsAnswer (setup_of (core_of space plan seats owners)) world (newest_published world) (Try w frame) (Err refusal) × CoreStandsFor (core_of space plan (set seats w new) owners) world
+    refused-follows frame place refusal new at free is tries =
+        let own : is_some (owner_of world frame) ≡ false = ap is_some (told_owner frame.node frame.number ∙ ap (owner_at owners) at) ∙ free in (
+          (try_answer (setup_of (core_of space plan seats owners)) world (newest_published world) w frame false (seat_hunt places old) (seat_hunt places new) (Err refusal) few its_hunt (λ ok. own) tries).0,
+          moved new owners world (stands-result (core_of space plan seats owners) world world w (busy_of old) (busy_of new) (Err refusal) (λ ok. absurd (cc)) (ap busy_of is) shown_there stands),
+        )
+
+    -- a Try of a frame that the machine lacks
+    pub nowhere-follows : (frame : Frame) (refusal : CoreRefusal) → place_in places frame.node frame.number ≡ None → MatchOption old.job (refusal ≡ Idle) (λ job. refusal ≡ BadTry)
+        → IsAnswer (setup_of (core_of space plan seats owners)) world (newest_published world) (Try w frame) (Err refusal)
+    nowhere-follows frame refusal at why =
+        let own : is_some (owner_of world frame) ≡ false = ap is_some (told_owner frame.node frame.number ∙ ap (owner_at owners) at) in
+        (try_answer (setup_of (core_of space plan seats owners)) world (newest_published world) w frame false (seat_hunt places old) (seat_hunt places old) (Err refusal) few its_hunt (λ ok. own)
+        (tries-nowhere (setup_of (core_of space plan seats owners)) places false frame old old refusal same at why)).0
+
+    -- a Try of a free frame that is won
+    pub won-follows : (frame : Frame) (place : ℕ) (reply : Reply) (new : Seat) → place_in places frame.node frame.number ≡ Some place → place < length owners → is_some (owner_at owners (Some place)) ≡ false → SeatTries places (setup_of (core_of space plan seats owners)) false frame old (Ok reply) new
+        → IsAnswer (setup_of (core_of space plan seats owners)) world (newest_published world) (Try w frame) (Ok reply) × CoreStandsFor (core_of space plan (set seats w new) (set owners place (Some w))) (effect_of (setup_of (core_of space plan seats owners)) world (newest_published world) (Try w frame))
+    won-follows frame place reply new at within free tries =
+        let own : is_some (owner_of world frame) ≡ false = ap is_some (told_owner frame.node frame.number ∙ ap (owner_at owners) at) ∙ free in
+        let answer = try_answer (setup_of (core_of space plan seats owners)) world (newest_published world) w frame false (seat_hunt places old) (seat_hunt places new) (Ok reply) few its_hunt (λ ok. own) tries in
+        let here = place-some space.machine.frames frame.node frame.number place (subst (λ fs. place_in fs frame.node frame.number ≡ Some place) same at) in (
+          answer.0,
+          moved new (set owners place (Some w)) _ (pick_second (is_some (owner_of world frame)) (λ after. CoreStandsFor (with_seat (with_owners (core_of space plan seats owners) (set owners place (Some w))) w (busy_of new)) after) _ _ own
+              (stands-seat (with_owners (core_of space plan seats owners) (set owners place (Some w))) (with_owner world frame (Some w)) w (last_of world w) (busy_of new) None (stands-owner (core_of space plan seats owners) world frame place (Some w) stands here.0 here.1 within) few
+              (hunt-same space.machine places (busy_of new) same ∙ answer.1 refl) (stands.not_newer w))),
+        )
+
+    pub give-follows : (frame : Frame) (place : ℕ) → old.job ≡ None → place_in places frame.node frame.number ≡ Some place → place < length owners → owner_at owners (Some place) ≡ Some w
+        → IsAnswer (setup_of (core_of space plan seats owners)) world (newest_published world) (Give w frame) (Ok Given) × CoreStandsFor (core_of space plan seats (set owners place None)) (with_owner world frame None)
+    give-follows frame place idle at within owner =
+        let here = place-some space.machine.frames frame.node frame.number place (subst (λ fs. place_in fs frame.node frame.number ≡ Some place) same at) in (
+          give_answer (setup_of (core_of space plan seats owners)) world (newest_published world) w frame few (idle_hunt idle) (told_owner frame.node frame.number ∙ ap (owner_at owners) at ∙ owner),
+          stands-owner (core_of space plan seats owners) world frame place None stands here.0 here.1 within,
+        )
+
+-- ---- commands and publications
+
+pub accept-follows : (space after : SpaceState) (plan : PlanData) (seats : List Seat) (owners : List (Option ℕ)) (world : World) (command : Command) (version : ℕ) → CoreStandsFor (core_of space plan seats owners) world → command_refusal space.machine space.bounds world.history command ≡ None → StandsFor after (command ∷ world.history) → after.machine ≡ space.machine → version ≡ after.version
+    → IsAnswer (setup_of (core_of space plan seats owners)) world (newest_published world) (Accept command) (Ok (Accepted version)) × CoreStandsFor (core_of after plan seats owners) (effect_of (setup_of (core_of space plan seats owners)) world (newest_published world) (Accept command))
+accept-follows space after plan seats owners world command version stands open_ now machine is = (
+  answered (setup_of (core_of space plan seats owners)) world (newest_published world) (Accept command) None (Ok (Accepted version)) (ap because open_) (ap (λ v. Ok (Accepted v)) (let count : after.version ≡ length (command ∷ world.history) = now.version in is ∙ count ∙ omega arith)),
+  record {
+    space = now;
+    plan = subst (λ m. PlanStandsFor m plan (first_commands (newest_published world) (command ∷ world.history))) (sym machine) (subst (λ h. PlanStandsFor space.machine plan h) (sym (first_commands-more (newest_published world) command world.history stands.known)) stands.plan);
+    hunts = subst (λ m. (w : ℕ) → hunt_by m (option_and_then (λ busy. busy) (slice_get (map busy_of seats) w)) ≡ hunt_of world w) (sym machine) stands.hunts;
+    owners = subst (λ m. (n k : ℕ) → owner_at owners (place_of m n k) ≡ world.owner n k) (sym machine) stands.owners;
+    published = stands.published;
+    known = let low : newest_published world ≤ length world.history = stands.known in omega arith;
+    not_newer = stands.not_newer;
+  },
+)
+
+drop_none : (history : List Command) → first_commands (length history) history ≡ history
+drop_none history = let none : length history - length history ≡ 0 = omega arith in ap (λ n. drop n history) none
+
+pub publish-follows : (space : SpaceState) (old plan : PlanData) (seats : List Seat) (owners : List (Option ℕ)) (world : World) (version : ℕ) → CoreStandsFor (core_of space old seats owners) world → PlanStandsFor space.machine plan world.history → version ≡ plan.version
+    → IsAnswer (setup_of (core_of space old seats owners)) world (newest_published world) Publish (Ok (Published version)) × CoreStandsFor (core_of space plan seats owners) (effect_of (setup_of (core_of space old seats owners)) world (newest_published world) Publish)
+publish-follows space old plan seats owners world version stands now is = (
+  answered (setup_of (core_of space old seats owners)) world (newest_published world) Publish None (Ok (Published version)) refl (ap (λ v. Ok (Published v)) (is ∙ now.version)),
+  record {
+    space = stands.space;
+    plan = subst (λ h. PlanStandsFor space.machine plan h) (sym (drop_none world.history)) now;
+    hunts = stands.hunts;
+    owners = stands.owners;
+    published = ap (λ b. b || list_any (λ v. v == length world.history) world.published) (eq-eqb (length world.history) (length world.history) refl);
+    known = omega arith;
+    not_newer = λ w. let low : last_of world w ≤ newest_published world = stands.not_newer w in let known : newest_published world ≤ length world.history = stands.known in omega arith;
+  },
+)
+
+-- ---- a new core
+
+pub opened : (space : SpaceState) (plan : PlanData) (seats : List Seat) (owners : List (Option ℕ)) → StandsFor space [] → PlanStandsFor space.machine plan [] → ((w : ℕ) (seat : Seat) → slice_get seats w ≡ Some seat → seat.job ≡ None) → ((p : ℕ) → owner_at owners (Some p) ≡ None) → CoreStandsFor (core_of space plan seats owners) opening
+opened space plan seats owners stands now idle free = record {
+  space = stands;
+  plan = now;
+  hunts = λ w. ap (λ x. hunt_by space.machine (option_and_then (λ busy. busy) x)) (slice_get-map busy_of seats w) ∙ go w (slice_get seats w) refl;
+  owners = λ n k. none (place_of space.machine n k);
+  published = refl;
+  known = omega arith;
+  not_newer = λ w. omega arith;
+}
+  where
+    none : (o : Option ℕ) → owner_at owners o ≡ None
+    none None = refl
+    none (Some p) = free p
+
+    go : (w : ℕ) (o : Option Seat) → slice_get seats w ≡ o → hunt_by space.machine (option_and_then (λ busy. busy) (option_map busy_of o)) ≡ None
+    go w None is = refl
+    go w (Some seat) is = ap (λ j. hunt_by space.machine (busy_by j seat.nodes.items seat.met.items)) (idle w seat is)

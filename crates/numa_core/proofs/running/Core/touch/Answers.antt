@@ -1,0 +1,36 @@
+use Rattle.std.proofs.Common.{◌≡◌, ◌++◌, sym, ap, subst, ◌∙◌}
+use Rattle.numa_core.specs.Kept.{shown}
+use Rattle.numa_core.specs.World.{World}
+use Rattle.numa_core.specs.Runs.{IsLegalRun, world_of}
+use Rattle.numa_core.specs.Standing.{CoreStandsFor, setup_of}
+use Rattle.numa_core.specs.Touching.{Answered, IsTouch, touched, touch_answer, touch_world}
+use Rattle.numa_core.proofs.TouchLaw.{touch_law}
+use Rattle.numa_core.proofs.TouchRuns.{touches}
+use Rattle.numa_core.proofs.running.Core.touch.Goals as goal
+
+ends : (c : goal.After-touch) (world : World) → CoreStandsFor c.args.self.now world → (c.touch.result ≡ (touched (setup_of c.args.self.now) world c.args.worker c.args.request).answer) × CoreStandsFor (shown c.touch.new.self) (touched (setup_of c.args.self.now) world c.args.worker c.args.request).world
+ends c world stands =
+    let view : shown c.self.inside.state ≡ c.args.self.now = c.self.view_is in
+    let told = c.touch.ensures.touches world (subst (λ core. CoreStandsFor core world) (sym view) stands) in
+    let law = touch_law (setup_of c.args.self.now) world c.args.worker c.args.request in (
+      told.0 ∙ ap (λ core. touch_answer (setup_of core) world c.args.worker c.args.request) view ∙ sym (ap (λ (a : Answered). a.answer) law),
+      subst (λ w. CoreStandsFor (shown c.touch.new.self) w) (ap (λ core. touch_world (setup_of core) world c.args.worker c.args.request) view ∙ sym (ap (λ (a : Answered). a.world) law)) told.1,
+    )
+
+pub returns-clause-answer : goal.returns-clause-answer
+returns-clause-answer c world stands = ends c world stands
+
+pub returns-clause-runs : goal.returns-clause-runs
+returns-clause-runs c run leads =
+    let old = setup_of c.args.self.now in
+    let new = shown c.touch.new.self in
+    let last = ends c (world_of old run) leads.stands in
+    let steps = touches old run c.args.worker c.args.request leads.legal in
+    let same = c.touch.ensures.setup ∙ ap setup_of c.self.view_is in (
+      steps.moments,
+      subst (λ answer. IsTouch c.args.worker c.args.request answer steps.moments) (sym last.0) steps.touch,
+      record {
+        legal = subst (λ s. IsLegalRun s (steps.moments ++ run)) (sym same) steps.legal;
+        stands = subst (λ s. CoreStandsFor new (world_of s (steps.moments ++ run))) (sym same) (subst (λ w. CoreStandsFor new w) (sym steps.world) last.1);
+      },
+    )

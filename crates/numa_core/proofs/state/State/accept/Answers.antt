@@ -1,0 +1,7 @@
+use Rattle.numa_core.proofs.CoreSteps.{accept-follows}
+use Rattle.numa_core.proofs.state.State.accept.Goals as goal
+
+pub returns-clause-follows : goal.returns-clause-follows
+returns-clause-follows c world stands =
+    let done = c.in-Ok.ensures.ok world.history stands.space in
+    accept-follows c.args.self.now.space c.apply.new.self c.args.self.now.plan c.args.self.now.seats.items c.args.self.now.owners.items world c.args.command c.version.result stands done.0 done.1 c.apply.ensures.machine c.version.ensures.version

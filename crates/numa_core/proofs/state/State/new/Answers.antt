@@ -1,0 +1,16 @@
+use Rattle.std.proofs.Common.{[], arith, sym, ap, ◌∙◌}
+use Rattle.numa_machine.specs.Machine.{Hardware}
+use Rattle.numa_core.proofs.CoreSteps.{opened}
+use Rattle.numa_core.proofs.state.State.new.Goals as goal
+
+pub returns-clause-kept : goal.returns-clause-kept
+returns-clause-kept c = record {
+  places = c.in_ok-places.ensures ∙ sym (ap (λ (m : Hardware). m.frames) c.new-space.ensures.machine);
+  seats = λ w seat at. (c.in_ok-seats.ensures.idle w seat at).1;
+  owners = c.in_ok-owners.ensures.len ∙ c.total.ensures.total;
+  few = omega (arith, c.in_ok-seats.ensures.count, c.requires.few);
+  taken = c.in_ok-taken.ensures c.in_ok-owners.owners.items;
+}
+
+pub returns-clause-opens : goal.returns-clause-opens
+returns-clause-opens c = opened c.new-space.result c.in_ok-plan.plan c.in_ok-seats.seats.items c.in_ok-owners.owners.items c.new-space.ensures.stands (c.in_ok-plan.ensures.stands [] c.new-space.ensures.stands) (λ w seat at. (c.in_ok-seats.ensures.idle w seat at).0) c.in_ok-owners.ensures.owners

@@ -1,0 +1,16 @@
+-- What a Begin is judged by in a core that stands for a world.
+use Rattle.std.specs.Prelude.{◌≡◌, ℕ, Option, Some, List}
+use Rattle.numa_core.specs.declared.request.Request.{Request}
+use Rattle.numa_core.specs.declared.event.Event.TheVariants.{Begin}
+use Rattle.numa_core.specs.declared.event.CoreRefusal.{CoreRefusal}
+use Rattle.numa_core.specs.World.{World, newest_published, list_at}
+use Rattle.numa_core.specs.Steps.{refusal_of}
+use Rattle.numa_core.specs.Standing.{CoreState, CoreStandsFor, setup_of}
+
+-- in each world that the core stands for, the worker's Begin of the request is refused so, or not at all
+abbrev pub IsJudged : CoreState → ℕ → Request → Option CoreRefusal → Type 0
+IsJudged core w request refusal = (world : World) → CoreStandsFor core world → refusal_of (setup_of core) world (newest_published world) (Begin w request) ≡ refusal
+
+-- in each such world these nodes are the list of the newest published version for the request
+abbrev pub IsListed : CoreState → Request → List ℕ → Type 0
+IsListed core request nodes = (world : World) → CoreStandsFor core world → list_at core.space.machine world.history (newest_published world) request ≡ Some nodes

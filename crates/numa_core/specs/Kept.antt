@@ -1,0 +1,30 @@
+-- What a core keeps of its tables, and what it shows.
+use Rattle.std.specs.Prelude.{◌≡◌, ℕ, ◌≤◌, Some, length, vec_len, slice_get, map, Result}
+use Rattle.numa_core.specs.declared.state.State.{State}
+use Rattle.numa_core.specs.declared.seat.Seat.{Seat}
+use Rattle.numa_core.specs.declared.event.Event.{Event}
+use Rattle.numa_core.specs.declared.event.Reply.{Reply}
+use Rattle.numa_core.specs.declared.event.CoreRefusal.{CoreRefusal}
+use Rattle.numa_core.specs.World.{World, newest_published}
+use Rattle.numa_core.specs.Steps.{IsAnswer, world_after}
+use Rattle.numa_core.specs.Standing.{CoreState, CoreStandsFor, setup_of, frames_before}
+use Rattle.numa_core.specs.Seats.{busy_of, SeatFits}
+use Rattle.numa_core.specs.Hints.{AreTaken}
+
+abbrev pub shown : State → CoreState
+shown state = record { space = state.space; plan = state.plan; workers = map busy_of state.seats.items; owners = state.owners.items }
+
+-- the table of places is the machine's; each seat has its room and a cursor that stands right; there is an owner's place for each frame;
+-- a worker's number has room in a byte; for each node there is a number below which all its frames are owned
+pub record IsKept (state : State) : Type 0 where
+  pub places : state.places ≡ state.space.machine.frames
+  pub seats : (w : ℕ) (seat : Seat) → slice_get state.seats.items w ≡ Some seat → SeatFits state.places seat
+  pub owners : vec_len state.owners ≡ frames_before state.places (length state.places)
+  pub few : vec_len state.seats ≤ 16
+  pub taken : AreTaken state.places state.owners.items state.taken.items
+
+-- where the old core stands for a world, the event may have the answer there, and the new core stands for the world afterwards
+abbrev pub Follows : CoreState → Event → Result Reply CoreRefusal → CoreState → Type 0
+Follows old event answer new = (world : World) → CoreStandsFor old world →
+    IsAnswer (setup_of old) world (newest_published world) event answer
+    × CoreStandsFor new (world_after (setup_of old) world (newest_published world) event answer)

@@ -1,0 +1,94 @@
+-- What a worker's seat shows, and what its cursor means.
+use Rattle.std.specs.Prelude.{◌≡◌, ℕ, ◌*◌, ◌<◌, ◌≤◌, Bool, true, false, Option, Some, None, Result, Ok, Err, List, length, vec_len, slice_index, MatchOption, MatchBool}
+use Rattle.numa_core.specs.declared.frame.Frame.{Frame}
+use Rattle.numa_core.specs.declared.request.Request.{Request}
+use Rattle.numa_core.specs.declared.event.Reply.{Reply}
+use Rattle.numa_core.specs.declared.event.Reply.TheVariants.{Won}
+use Rattle.numa_core.specs.declared.event.CoreRefusal.{CoreRefusal}
+use Rattle.numa_core.specs.declared.event.CoreRefusal.TheVariants.{Idle, BadTry}
+use Rattle.numa_core.specs.declared.seat.Job.{Job}
+use Rattle.numa_core.specs.declared.seat.Seat.{Seat}
+use Rattle.numa_core.specs.World.{Setup, Hunt, World, may_look, may_try, looked, missed}
+use Rattle.numa_core.specs.Steps.{goes_on, going_on, placement_of}
+use Rattle.numa_core.specs.Standing.{Busy, frames_before, place_in, is_met}
+
+-- the frame is met, where each node has as many frames as the list says
+abbrev pub met_at : List ℕ → List ℕ → ℕ → ℕ → Bool
+met_at frames words n k = is_met words (place_in frames n k)
+
+-- ---- the cursor
+
+-- the first nodes of the list are met with all their frames, as many nodes as the rank says, and so are the first frames of the next node
+pub record IsPassed (frames nodes words : List ℕ) (rank next : ℕ) : Type 0 where
+  pub earlier : (i k : ℕ) → i < rank → k < slice_index frames (slice_index nodes i) → met_at frames words (slice_index nodes i) k ≡ true
+  pub lower : (k : ℕ) → k < next → k < slice_index frames (slice_index nodes rank) → met_at frames words (slice_index nodes rank) k ≡ true
+
+-- the cursor stands at the lowest unmet frame of the first listed node with one
+pub record IsCursor (frames nodes words : List ℕ) (rank next : ℕ) : Type 0 where
+  pub passed : IsPassed frames nodes words rank next
+  pub listed : rank < length nodes
+  pub within : next < slice_index frames (slice_index nodes rank)
+  pub unmet : met_at frames words (slice_index nodes rank) next ≡ false
+
+-- each frame of each listed node is met
+abbrev pub IsAllMet : List ℕ → List ℕ → List ℕ → Type 0
+IsAllMet frames nodes words = (i k : ℕ) → i < length nodes → k < slice_index frames (slice_index nodes i) → met_at frames words (slice_index nodes i) k ≡ true
+
+-- ---- seats
+
+-- what a worker is about that has this job, list and words
+abbrev pub busy_at : Job → List ℕ → List ℕ → Busy
+busy_at job nodes words = record { request = job.request; version = job.version; nodes = nodes; met = words }
+
+abbrev pub busy_by : Option Job → List ℕ → List ℕ → Option Busy
+busy_by None nodes words = None
+busy_by (Some job) nodes words = Some (busy_at job nodes words)
+
+-- what the seat's worker is about
+abbrev pub busy_of : Seat → Option Busy
+busy_of seat = busy_by seat.job seat.nodes.items seat.met.items
+
+-- the hunt of it
+abbrev pub hunt_in : List ℕ → Busy → Hunt
+hunt_in frames busy = record { request = busy.request; version = busy.version; nodes = busy.nodes; met = λ n k. met_at frames busy.met n k }
+
+abbrev pub hunt_of_busy : List ℕ → Option Busy → Option Hunt
+hunt_of_busy frames None = None
+hunt_of_busy frames (Some busy) = Some (hunt_in frames busy)
+
+abbrev pub seat_hunt : List ℕ → Seat → Option Hunt
+seat_hunt frames seat = hunt_of_busy frames (busy_of seat)
+
+-- a job's cursor stands right
+abbrev pub JobStands : List ℕ → Option Job → List ℕ → List ℕ → Type 0
+JobStands frames None nodes words = Unit {0}
+JobStands frames (Some job) nodes words = IsCursor frames nodes words job.at.rank job.at.next
+
+-- there is a bit for each frame
+abbrev pub HasRoom : List ℕ → ℕ → Type 0
+HasRoom frames words = frames_before frames (length frames) ≤ 64 * words
+
+-- the seat has room for these frames, and while its worker is busy the cursor stands right
+pub record SeatFits (frames : List ℕ) (seat : Seat) : Type 0 where
+  pub room : HasRoom frames (vec_len seat.met)
+  pub cursor : JobStands frames seat.job seat.nodes.items seat.met.items
+
+-- a hunt with no frame met
+abbrev pub fresh : Request → ℕ → List ℕ → Hunt
+fresh request version nodes = record { request = request; version = version; nodes = nodes; met = λ n k. false }
+
+-- what the seat answers to a Look, and its hunt afterwards
+abbrev pub SeatLooks : List ℕ → Setup → World → ℕ → Seat → Result Reply CoreRefusal → Seat → Type 0
+SeatLooks frames s world word old result new = MatchOption (seat_hunt frames old) (result ≡ Err Idle) (λ hunt.
+    MatchBool (may_look s hunt word)
+    ((result ≡ Ok (goes_on s (looked s world word hunt))) × (seat_hunt frames new ≡ going_on s (looked s world word hunt)))
+    (result ≡ Err BadTry))
+
+-- what the seat answers to a Try of a frame that is owned or not, and its hunt afterwards
+abbrev pub SeatTries : List ℕ → Setup → Bool → Frame → Seat → Result Reply CoreRefusal → Seat → Type 0
+SeatTries frames s owned frame old result new = MatchOption (seat_hunt frames old) (result ≡ Err Idle) (λ hunt.
+    MatchBool (may_try s hunt frame)
+    (MatchBool owned
+    ((result ≡ Ok (goes_on s (missed frame hunt))) × (seat_hunt frames new ≡ going_on s (missed frame hunt)))
+    ((result ≡ Ok (Won (placement_of s hunt frame))) × (seat_hunt frames new ≡ None)))
+    (result ≡ Err BadTry))

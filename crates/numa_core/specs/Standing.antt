@@ -1,0 +1,94 @@
+-- What a core shows, and which worlds and runs it stands for.
+use Rattle.std.specs.Prelude.{zero, suc, ◌≡◌, ◌==◌, ◌+◌, ◌/◌, ◌%◌, ℕ, ◌≤◌, Bool, true, false, Option, Some, None, Result, List, length, nat_lt, slice_get, slice_index, option_and_then, if◌then◌else◌}
+use Rattle.std.specs.Int.{bit_at}
+use Rattle.numa_machine.specs.Machine.{Hardware}
+use Rattle.numa_space.specs.Standing.{SpaceState, StandsFor}
+use Rattle.numa_plan.specs.Meaning.{PlanData}
+use Rattle.numa_compile.specs.Standing.{PlanStandsFor}
+use Rattle.numa_core.specs.World.{Setup, Hunt, World, newest_published, is_published, first_commands, hunt_of, last_of}
+use Rattle.numa_core.specs.Runs.{Moment, IsLegalRun, world_of}
+use Rattle.numa_core.specs.declared.request.Request.{Request}
+use Rattle.numa_core.specs.declared.event.Event.{Event}
+use Rattle.numa_core.specs.declared.event.Reply.{Reply}
+use Rattle.numa_core.specs.declared.event.CoreRefusal.{CoreRefusal}
+
+-- ---- frames in a row
+
+-- how many frames the first nodes have, this many of them, where each node has as many as the list says
+abbrev pub frames_before : List ℕ → ℕ → ℕ
+frames_before frames zero = 0
+frames_before frames (suc n) = frames_before frames n + slice_index frames n
+
+-- how many frames the nodes below this one have
+abbrev pub frames_below : Hardware → ℕ → ℕ
+frames_below machine n = frames_before machine.frames n
+
+-- the place of a frame among all frames, node by node
+abbrev pub place_in : List ℕ → ℕ → ℕ → Option ℕ
+place_in frames n k = if nat_lt k (slice_index frames n) then Some (frames_before frames n + k) else None
+
+abbrev pub place_of : Hardware → ℕ → ℕ → Option ℕ
+place_of machine n k = place_in machine.frames n k
+
+-- ---- what a core shows
+
+-- what a busy worker is about: its request, the version and the node list that it took, and the frames that it met, one bit for each
+-- frame's place in words of 64
+pub record Busy : Type 0 where
+  pub request : Request
+  pub version : ℕ
+  pub nodes : List ℕ
+  pub met : List ℕ
+
+-- a core: what each of its workers is about, the space of all accepted commands, the plan of those that are published, and the owner of
+-- the frame at each place
+pub record CoreState : Type 0 where
+  pub space : SpaceState
+  pub plan : PlanData
+  pub workers : List (Option Busy)
+  pub owners : List (Option ℕ)
+
+-- the frame at a place is met
+abbrev pub is_met : List ℕ → Option ℕ → Bool
+is_met words None = false
+is_met words (Some place) = bit_at (slice_index words (place / 64)) (place % 64) == 1
+
+-- the worker's hunt
+abbrev pub hunt_by : Hardware → Option Busy → Option Hunt
+hunt_by machine None = None
+hunt_by machine (Some busy) = Some (record { request = busy.request; version = busy.version; nodes = busy.nodes; met = λ n k. is_met busy.met (place_of machine n k) })
+
+abbrev pub shown_hunt : CoreState → ℕ → Option Hunt
+shown_hunt core w = hunt_by core.space.machine (option_and_then (λ busy. busy) (slice_get core.workers w))
+
+-- the owner in a table by place
+abbrev pub owner_at : List (Option ℕ) → Option ℕ → Option ℕ
+owner_at owners None = None
+owner_at owners (Some place) = option_and_then (λ o. o) (slice_get owners place)
+
+abbrev pub shown_owner : CoreState → ℕ → ℕ → Option ℕ
+shown_owner core n k = owner_at core.owners (place_of core.space.machine n k)
+
+-- what never changes in a core
+abbrev pub setup_of : CoreState → Setup
+setup_of core = record { machine = core.space.machine; bounds = core.space.bounds; workers = length core.workers }
+
+-- the core stands for the world: its space for the accepted commands, its plan for those that are published, and its hunts and owners
+-- are the world's; of the published versions the newest has no more commands than were accepted, and no worker has taken a newer one
+pub record CoreStandsFor (core : CoreState) (world : World) : Type 0 where
+  pub space : StandsFor core.space world.history
+  pub plan : PlanStandsFor core.space.machine core.plan (first_commands (newest_published world) world.history)
+  pub hunts : (w : ℕ) → shown_hunt core w ≡ hunt_of world w
+  pub owners : (n k : ℕ) → shown_owner core n k ≡ world.owner n k
+  pub published : is_published world (newest_published world) ≡ true
+  pub known : newest_published world ≤ length world.history
+  pub not_newer : (w : ℕ) → last_of world w ≤ newest_published world
+
+-- the run is legal and leads to a world that the core stands for
+pub record LeadsTo (run : List Moment) (core : CoreState) : Type 0 where
+  pub legal : IsLegalRun (setup_of core) run
+  pub stands : CoreStandsFor core (world_of (setup_of core) run)
+
+-- the moment of an event that comes after a run and was answered so; a Begin takes the newest published version
+abbrev pub moment_after : Setup → List Moment → Event → Result Reply CoreRefusal → Moment
+moment_after s run event answer = record { event = event; version = newest_published (world_of s run); answer = answer }

@@ -1,0 +1,93 @@
+//! Frames in a row: the place of each frame among all, node by node.
+ghost use Rattle.std.specs.Prelude.{◌≡◌, ℕ, ◌+◌, ◌<◌, ◌≤◌, IfOk, IfSome, length, slice_index};
+ghost use Rattle.numa_core.specs.Standing.{frames_before, place_in};
+
+use numa_machine::Machine;
+use std::alloc::{AllocError, Global};
+use std::marker::Model;
+
+/// How many frames each node has, and how many the nodes below it have, so that a place is found at once.
+#[derive(Drop)]
+pub(crate) struct Places {
+    frames: Vec<u32>,
+    before: Vec<u32>,
+    total: u32,
+}
+
+impl Model for Places {
+    ghost use Rattle.std.specs.Prelude.{ℕ, List};
+    ghost use Rattle.numa_core.specs.Places.{IsTable};
+
+    ghost Value = { List ℕ };
+
+    ghost view = { λ a. a.frames.items };
+
+    ghost invariant = { λ a. IsTable a.frames.items a.before.items a.total };
+}
+
+impl Places {
+    /// The places of a machine's frames.
+    pub(crate) fn new(alloc: Global, machine: &Machine) -> Result<Places, AllocError>
+        ensures { IfOk result (λ places. places ≡ machine.now.frames) }
+    {
+        let nodes = machine.nodes();
+        let mut frames = Vec::new(alloc);
+        let mut before = Vec::new(alloc);
+        let mut total = 0u32;
+        for node in 0..nodes {
+            let count = machine.frames(node);
+            frames.push(count)?;
+            before.push(total)?;
+            total += count;
+        }
+        Ok(Places {
+            frames,
+            before,
+            total,
+        })
+    }
+
+    /// How many nodes there are.
+    pub(crate) fn nodes(&self) -> usize
+        ensures { result ≡ length self.now }
+    {
+        self.frames.len()
+    }
+
+    /// How many frames there are.
+    pub(crate) fn total(&self) -> u32
+        ensures total { result ≡ frames_before self.now (length self.now) }
+        ensures at_most { result ≤ 1048576 }
+    {
+        self.total
+    }
+
+    /// How many frames a node has: none past the last node.
+    pub(crate) fn frames(&self, node: u8) -> u32
+        ensures frames { result ≡ slice_index self.now node }
+        ensures at_most { result ≤ 4096 }
+    {
+        self.frames.get(node as usize).copied().unwrap_or(0)
+    }
+
+    /// The place of a node's first frame.
+    pub(crate) fn first(&self, node: u8) -> u32
+        requires { node < length self.now }
+        ensures first { result ≡ frames_before self.now node }
+        ensures within { result + slice_index self.now node ≤ frames_before self.now (length self.now) }
+        ensures at_most { result ≤ 1048576 }
+    {
+        self.before[node as usize]
+    }
+
+    /// The place of a frame, where the node has it.
+    pub(crate) fn place(&self, node: u8, number: u16) -> Option<u32>
+        ensures place { result ≡ place_in self.now node number }
+        ensures within { IfSome result (λ place. place < frames_before self.now (length self.now)) }
+    {
+        if number as u32 >= self.frames(node) {
+            return None;
+        }
+        Some(self.first(node) + number as u32)
+    }
+}

@@ -1,0 +1,227 @@
+//! A worker's seat: what it is about, the list that it took and the frames that it met.
+ghost use Rattle.std.specs.Prelude.{◌≡◌, ℕ, ◌<◌, ◌≤◌, true, false, None, Some, IfOk, IfSome, OnOk, OnErr, MatchOption, is_some, length, vec_len, slice_index};
+ghost use Rattle.numa_core.specs.World.{Setup, World};
+ghost use Rattle.numa_core.specs.Steps.{goes_on, going_on};
+ghost use Rattle.numa_core.specs.Standing.{frames_before, owner_at, place_in};
+ghost use Rattle.numa_core.specs.Seats.{met_at, busy_at, hunt_in, busy_of, seat_hunt, fresh, HasRoom, IsPassed, IsCursor, IsAllMet, SeatFits, SeatLooks, SeatTries};
+
+use crate::event::{CoreRefusal, Reply};
+use crate::frame::Frame;
+use crate::placement::Placement;
+use crate::places::Places;
+use crate::request::Request;
+use crate::tables::{clear, is_met, meet, meet_owned, none_met};
+use arrayvec::ArrayVec;
+use std::alloc::{AllocError, Global};
+
+/// A place in a list of nodes, from 0, and a frame of the node there, by its number.
+#[derive(Clone, Copy, Debug, PartialEq, Eq)]
+pub(crate) struct Cursor {
+    pub rank: u32,
+    pub next: u32,
+}
+
+/// What a busy worker asked, the version that it took, and where it is: at the lowest unmet frame of its current node.
+#[derive(Clone, Copy, Debug, PartialEq, Eq)]
+pub(crate) struct Job {
+    pub request: Request,
+    pub version: u64,
+    pub at: Cursor,
+}
+
+/// A worker, with room for a list and for a bit for each frame of the machine.
+#[derive(Drop)]
+pub(crate) struct Seat {
+    pub job: Option<Job>,
+    pub nodes: ArrayVec<u8, 256>,
+    pub met: Vec<u64>,
+}
+
+/// The lowest unmet frame of a node from this number on.
+fn first_unmet(places: &Places, met: &Vec<u64>, node: u8, from: u32) -> Option<u32>
+    requires { HasRoom places.now (vec_len met.now) }
+    ensures some { IfSome result (λ next. (from ≤ next) × (next < slice_index places.now node) × (met_at places.now met.now.items node next ≡ false)
+        × ((k : ℕ) → from ≤ k → k < next → met_at places.now met.now.items node k ≡ true)) }
+    ensures none { (k : ℕ) → result ≡ None → from ≤ k → k < slice_index places.now node → met_at places.now met.now.items node k ≡ true }
+{
+    let frames = places.frames(node);
+    if from >= frames {
+        return None;
+    }
+    let first = places.first(node);
+    for number in from..frames {
+        if !is_met(met, first + number) {
+            return Some(number);
+        }
+    }
+    None
+}
+
+/// The lowest unmet frame of the first listed node with one, where all before this place is met.
+fn first_from(places: &Places, nodes: &[u8], met: &Vec<u64>, from: Cursor) -> Option<Cursor>
+    requires room { HasRoom places.now (vec_len met.now) }
+    requires few { length nodes.now ≤ 256 }
+    requires passed { IsPassed places.now nodes.now met.now.items from.rank from.next }
+    ensures { MatchOption result (IsAllMet places.now nodes.now met.now.items) (λ at. IsCursor places.now nodes.now met.now.items at.rank at.next) }
+{
+    let mut next = from.next;
+    for rank in from.rank as usize..nodes.len() {
+        let found = first_unmet(places, met, nodes[rank], next);
+        if let Some(next) = found {
+            return Some(Cursor {
+                rank: rank as u32,
+                next,
+            });
+        }
+        next = 0;
+    }
+    None
+}
+
+/// The nodes become those of the row.
+fn take_row(nodes: &mut ArrayVec<u8, 256>, row: &[u8])
+    requires { length row.now ≤ 256 }
+    ensures { nodes.new.items ≡ row.now }
+{
+    nodes.clear();
+    let _fits = nodes.try_extend_from_slice(row);
+}
+
+impl Seat {
+    /// An idle worker, with room for these frames.
+    pub(crate) fn new(alloc: Global, places: &Places) -> Result<Seat, AllocError>
+        ensures idle { IfOk result (λ seat. seat.job ≡ None) }
+        ensures fits { IfOk result (λ seat. SeatFits places.now seat) }
+    {
+        let met = none_met(alloc, places.total())?;
+        Ok(Seat {
+            job: None,
+            nodes: ArrayVec::new(),
+            met,
+        })
+    }
+
+    /// Goes on with the job while a listed node has an unmet frame, and else is idle. All before the job's cursor is met.
+    fn settle(&mut self, places: &Places, job: Job) -> Reply
+        requires room { HasRoom places.now (vec_len self.old.met) }
+        requires passed { IsPassed places.now self.old.nodes.items self.old.met.items job.at.rank job.at.next }
+        ensures reply { (s : Setup) → places.now ≡ s.machine.frames → result ≡ goes_on s (hunt_in places.now (busy_at job self.old.nodes.items self.old.met.items)) }
+        ensures hunt { (s : Setup) → places.now ≡ s.machine.frames → seat_hunt places.now self.new ≡ going_on s (hunt_in places.now (busy_at job self.old.nodes.items self.old.met.items)) }
+        ensures fits { SeatFits places.now self.new }
+    {
+        let Some(at) = first_from(places, self.nodes.as_slice(), &self.met, job.at) else {
+            self.job = None;
+            return Reply::Exhausted(job.version);
+        };
+        self.job = Some(Job {
+            request: job.request,
+            version: job.version,
+            at,
+        });
+        Reply::Still
+    }
+
+    /// Takes a request with the version and the list for it.
+    pub(crate) fn begin(
+        &mut self,
+        places: &Places,
+        request: Request,
+        version: u64,
+        row: &[u8],
+    ) -> Reply
+        requires few { length row.now ≤ 256 }
+        requires fits { SeatFits places.now self.old }
+        ensures reply { (s : Setup) → places.now ≡ s.machine.frames → result ≡ goes_on s (fresh request version row.now) }
+        ensures hunt { (s : Setup) → places.now ≡ s.machine.frames → seat_hunt places.now self.new ≡ going_on s (fresh request version row.now) }
+        ensures fits { SeatFits places.now self.new }
+    {
+        take_row(&mut self.nodes, row);
+        clear(&mut self.met);
+        let at = Cursor { rank: 0, next: 0 };
+        self.settle(
+            places,
+            Job {
+                request,
+                version,
+                at,
+            },
+        )
+    }
+
+    /// Looks at a word of the current node.
+    pub(crate) fn look(
+        &mut self,
+        places: &Places,
+        owners: &Vec<Option<u8>>,
+        word: u32,
+    ) -> Result<Reply, CoreRefusal>
+        requires owners { vec_len owners.now ≡ frames_before places.now (length places.now) }
+        requires fits { SeatFits places.now self.old }
+        ensures looks { (s : Setup) (world : World) → places.now ≡ s.machine.frames → ((n k : ℕ) → world.owner n k ≡ owner_at owners.now.items (place_in places.now n k)) → SeatLooks places.now s world word self.old result self.new }
+        ensures unchanged { OnErr result (self.new ≡ self.old) }
+        ensures fits { SeatFits places.now self.new }
+    {
+        let Some(job) = self.job else {
+            return Err(CoreRefusal::Idle);
+        };
+        let node = self.nodes.as_slice()[job.at.rank as usize];
+        let frames = places.frames(node);
+        if word >= 64 || 64 * word >= frames {
+            return Err(CoreRefusal::BadTry);
+        }
+        let first = places.first(node);
+        let end = frames.min(64 * word + 64);
+        meet_owned(&mut self.met, owners, first + 64 * word, first + end);
+        Ok(self.settle(places, job))
+    }
+
+    /// Why the worker can't try a frame that the machine lacks.
+    pub(crate) fn no_try(&self) -> CoreRefusal
+        ensures { MatchOption self.now.job (result ≡ CoreRefusal.Idle) (λ job. result ≡ CoreRefusal.BadTry) }
+    {
+        if self.job.is_none() {
+            return CoreRefusal::Idle;
+        }
+        CoreRefusal::BadTry
+    }
+
+    /// Tries the frame at a place, which has an owner or not.
+    pub(crate) fn attempt(
+        &mut self,
+        places: &Places,
+        owned: bool,
+        frame: Frame,
+        place: u32,
+    ) -> Result<Reply, CoreRefusal>
+        requires place { place_in places.now frame.node frame.number ≡ Some place }
+        requires within { place < frames_before places.now (length places.now) }
+        requires fits { SeatFits places.now self.old }
+        ensures tries { (s : Setup) → places.now ≡ s.machine.frames → SeatTries places.now s owned frame self.old result self.new }
+        ensures unchanged { OnErr result (self.new ≡ self.old) }
+        ensures fits { SeatFits places.now self.new }
+    {
+        let Some(job) = self.job else {
+            return Err(CoreRefusal::Idle);
+        };
+        let node = self.nodes.as_slice()[job.at.rank as usize];
+        if node != frame.node {
+            return Err(CoreRefusal::BadTry);
+        }
+        if is_met(&self.met, place) {
+            return Err(CoreRefusal::BadTry);
+        }
+        if owned {
+            meet(&mut self.met, place);
+            return Ok(self.settle(places, job));
+        }
+        self.job = None;
+        Ok(Reply::Won(Placement {
+            version: job.version,
+            task: job.request.task,
+            page: job.request.page,
+            node,
+            frame,
+            rank: job.at.rank,
+        }))
+    }
+}

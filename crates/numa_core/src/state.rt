@@ -1,0 +1,203 @@
+//! What a core keeps, and its steps.
+ghost use Rattle.std.specs.Prelude.{◌≡◌, ℕ, ◌≤◌, IfOk, OnErr, None, Some, slice_get, vec_len};
+ghost use Rattle.numa_core.specs.World.{opening};
+ghost use Rattle.numa_core.specs.Standing.{CoreStandsFor, setup_of};
+ghost use Rattle.numa_core.specs.Kept.{shown, IsKept, Follows};
+ghost use Rattle.numa_core.specs.Seats.{SeatFits};
+ghost use Rattle.numa_core.specs.declared.seat.Seat.{Seat};
+ghost use Rattle.numa_core.specs.declared.event.Event.{Event};
+
+use crate::event::{CoreRefusal, Reply};
+use crate::frame::Frame;
+use crate::places::Places;
+use crate::request::Request;
+use crate::seat::Seat;
+use crate::tables::none_owned;
+use crate::touching::{lower, none_taken};
+use numa_compile::compile;
+use numa_machine::Machine;
+use numa_plan::{NoMemory, Plan, Steps};
+use numa_space::{Command, Limits, PlaceRefusal, Space};
+use std::alloc::Global;
+
+/// The space of all accepted commands, the plan of those that are published, the workers' seats, the owner of each frame, and
+/// for each node how many of its lowest frames are known to be owned.
+#[derive(Drop)]
+pub(crate) struct State {
+    pub alloc: Global,
+    pub space: Space,
+    pub plan: Plan,
+    pub places: Places,
+    pub seats: Vec<Seat>,
+    pub owners: Vec<Option<u8>>,
+    pub taken: Vec<u32>,
+}
+
+/// Idle seats, this many.
+fn idle_seats(alloc: Global, places: &Places, workers: u32) -> Result<Vec<Seat>, NoMemory>
+    ensures count { IfOk result (λ seats. vec_len seats ≡ workers) }
+    ensures idle { IfOk result (λ seats. (w : ℕ) (seat : Seat) → slice_get seats.items w ≡ Some seat → (seat.job ≡ None) × SeatFits places.now seat) }
+{
+    let mut seats = Vec::new(alloc);
+    for _ in 0..workers {
+        let seat = Seat::new(alloc, places)?;
+        seats.push(seat)?;
+    }
+    Ok(seats)
+}
+
+impl State {
+    /// A core with nothing mapped, version 0 published, each of the workers idle and no frame owned.
+    pub(crate) fn new(
+        alloc: Global,
+        machine: Machine,
+        limits: Limits,
+        workers: u32,
+    ) -> Result<State, NoMemory>
+        requires few { workers ≤ 16 }
+        ensures kept { IfOk result IsKept }
+        ensures opens { IfOk result (λ state. CoreStandsFor (shown state) opening) }
+        ensures setup { IfOk result (λ state. setup_of (shown state) ≡ record { machine = machine; bounds = limits; workers = workers }) }
+    {
+        let places = Places::new(alloc, &machine)?;
+        let owners = none_owned(alloc, places.total())?;
+        let taken = none_taken(alloc, &places)?;
+        let seats = idle_seats(alloc, &places, workers)?;
+        let space = Space::new(alloc, machine, limits);
+        let plan = compile(alloc, &space)?;
+        Ok(State {
+            alloc,
+            space,
+            plan,
+            places,
+            seats,
+            owners,
+            taken,
+        })
+    }
+
+    /// The command is accepted, where nothing refuses it.
+    pub(crate) fn accept(&mut self, command: Command) -> Result<Reply, CoreRefusal>
+        requires kept { IsKept self.old }
+        ensures kept { IsKept self.new }
+        ensures follows { Follows (shown self.old) (Event.Accept command) result (shown self.new) }
+        ensures unchanged { OnErr result (shown self.new ≡ shown self.old) }
+        ensures setup { setup_of (shown self.new) ≡ setup_of (shown self.old) }
+    {
+        match self.space.apply(&command) {
+            Ok(()) => {}
+            Err(refusal) => return Err(CoreRefusal::Command(refusal)),
+        }
+        Ok(Reply::Accepted(self.space.version()))
+    }
+
+    /// All accepted commands are published.
+    pub(crate) fn publish(&mut self) -> Result<Reply, CoreRefusal>
+        requires kept { IsKept self.old }
+        ensures kept { IsKept self.new }
+        ensures follows { Follows (shown self.old) Event.Publish result (shown self.new) }
+        ensures unchanged { OnErr result (shown self.new ≡ shown self.old) }
+        ensures setup { setup_of (shown self.new) ≡ setup_of (shown self.old) }
+    {
+        match compile(self.alloc, &self.space) {
+            Ok(plan) => self.plan = plan,
+            Err(_) => return Err(CoreRefusal::NoMemory),
+        }
+        Ok(Reply::Published(self.plan.version()))
+    }
+
+    /// A worker takes the newest published version, and its list for the request.
+    pub(crate) fn begin(&mut self, worker: u32, request: Request) -> Result<Reply, CoreRefusal>
+        requires kept { IsKept self.old }
+        ensures kept { IsKept self.new }
+        ensures follows { Follows (shown self.old) (Event.Begin worker request) result (shown self.new) }
+        ensures unchanged { OnErr result (shown self.new ≡ shown self.old) }
+        ensures setup { setup_of (shown self.new) ≡ setup_of (shown self.old) }
+    {
+        if worker as usize >= self.seats.len() {
+            return Err(CoreRefusal::NoSuchWorker);
+        }
+        let seat = &self.seats[worker as usize];
+        if seat.job.is_some() {
+            return Err(CoreRefusal::Busy);
+        }
+        let version = self.plan.version();
+        let row = match self
+            .plan
+            .choice(request.task, request.page, request.cpu, &mut Steps::new())
+        {
+            Ok(row) => row,
+            Err(PlaceRefusal::BadCpu) => return Err(CoreRefusal::BadCpu),
+            Err(PlaceRefusal::Unmapped) => return Err(CoreRefusal::Unmapped(version)),
+        };
+        Ok(self.seats[worker as usize].begin(&self.places, request, version, row))
+    }
+
+    /// A worker looks at a word of its current node.
+    pub(crate) fn look(&mut self, worker: u32, word: u32) -> Result<Reply, CoreRefusal>
+        requires kept { IsKept self.old }
+        ensures kept { IsKept self.new }
+        ensures follows { Follows (shown self.old) (Event.Look worker word) result (shown self.new) }
+        ensures unchanged { OnErr result (shown self.new ≡ shown self.old) }
+        ensures setup { setup_of (shown self.new) ≡ setup_of (shown self.old) }
+    {
+        if worker as usize >= self.seats.len() {
+            return Err(CoreRefusal::NoSuchWorker);
+        }
+        self.seats[worker as usize].look(&self.places, &self.owners, word)
+    }
+
+    /// A worker tries a frame of its current node.
+    pub(crate) fn attempt(&mut self, worker: u32, frame: Frame) -> Result<Reply, CoreRefusal>
+        requires kept { IsKept self.old }
+        ensures kept { IsKept self.new }
+        ensures follows { Follows (shown self.old) (Event.Try worker frame) result (shown self.new) }
+        ensures unchanged { OnErr result (shown self.new ≡ shown self.old) }
+        ensures setup { setup_of (shown self.new) ≡ setup_of (shown self.old) }
+    {
+        if worker as usize >= self.seats.len() {
+            return Err(CoreRefusal::NoSuchWorker);
+        }
+        let Some(place) = self.places.place(frame.node, frame.number) else {
+            return Err(self.seats[worker as usize].no_try());
+        };
+        if self.owners[place as usize].is_some() {
+            return self.seats[worker as usize].attempt(&self.places, true, frame, place);
+        }
+        let reply = match self.seats[worker as usize].attempt(&self.places, false, frame, place) {
+            Ok(reply) => reply,
+            Err(refusal) => return Err(refusal),
+        };
+        self.owners[place as usize] = Some(worker as u8);
+        Ok(reply)
+    }
+
+    /// A worker gives a frame back.
+    pub(crate) fn give(&mut self, worker: u32, frame: Frame) -> Result<Reply, CoreRefusal>
+        requires kept { IsKept self.old }
+        ensures kept { IsKept self.new }
+        ensures follows { Follows (shown self.old) (Event.Give worker frame) result (shown self.new) }
+        ensures unchanged { OnErr result (shown self.new ≡ shown self.old) }
+        ensures setup { setup_of (shown self.new) ≡ setup_of (shown self.old) }
+    {
+        if worker as usize >= self.seats.len() {
+            return Err(CoreRefusal::NoSuchWorker);
+        }
+        let seat = &self.seats[worker as usize];
+        if seat.job.is_some() {
+            return Err(CoreRefusal::Busy);
+        }
+        let Some(place) = self.places.place(frame.node, frame.number) else {
+            return Err(CoreRefusal::NotOwned);
+        };
+        let Some(owner) = self.owners[place as usize] else {
+            return Err(CoreRefusal::NotOwned);
+        };
+        if owner as u32 != worker {
+            return Err(CoreRefusal::NotOwned);
+        }
+        self.owners[place as usize] = None;
+        lower(&mut self.taken, frame);
+        Ok(Reply::Given)
+    }
+}

@@ -1,0 +1,7 @@
+mod ByPage
+mod Examples
+pub mod Fronts
+mod Hexes
+mod Lines
+mod Listed
+mod Placed

@@ -1,0 +1,7 @@
+use Rattle.std.specs.Map.Iter.{deref_pair}
+use Rattle.std.proofs.lemmas.Iterator.Consumers.{YieldsList-from_first, count_from_yields_List}
+use Rattle.numa_maps.specs.Listing.{placed_in}
+use Rattle.numa_maps.proofs.resident.Resident.count_in.Goals as goal
+
+pub returns : goal.returns
+returns c = count_from_yields_List c.placed_in.result _ c.count.ensures.ran (YieldsList-from_first deref_pair (λ entries. entries) (placed_in c.args.self.now c.args.range.now) c.placed_in.ensures.placed)

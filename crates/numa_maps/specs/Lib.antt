@@ -1,0 +1,4 @@
+pub mod Listing
+pub mod Residents
+pub mod Watching
+pub mod Written

@@ -1,0 +1,16 @@
+//! The listing of a space's ranges, with the pages that are placed in them, as numa_maps shows it (numa(7)). Readers and writers
+//! that remember whether a call on them has failed stand here too.
+#![tactic(auto)]
+
+mod hex;
+pub mod law;
+mod line;
+pub mod listing;
+pub mod resident;
+#[cfg(test)]
+mod tests;
+pub mod watched;
+
+pub use listing::write_maps;
+pub use resident::{RecordRefusal, Resident};
+pub use watched::{CallFailed, Watched, WriteFault};

@@ -1,0 +1,107 @@
+//! One line of the listing.
+ghost use Rattle.std.specs.Prelude.{◌≡◌, ℕ, ◌+◌, ◌<◌, ◌≤◌, ◌^◌, ◌++◌, [], decimal, length, slice_index};
+ghost use Rattle.arrayvec.specs.ArrayString.{array_string_len};
+ghost use Rattle.numa_maps.specs.Listing.{address_text, node_text, nodes_text, placed_in, placed_text, policy_or_default, range_line};
+ghost use Rattle.numa_ranges.specs.Runs.{end_of};
+
+use crate::hex::push_hex;
+use crate::resident::Resident;
+use arrayvec::ArrayString;
+use itoa::Buffer;
+use numa_mode::Record;
+use numa_space::{RangeRecord, Run};
+
+/// How many bytes a page has.
+const PAGE_BYTES: u64 = 4096;
+
+/// The text of a line. It has room for an address of 16 digits, a space, a policy of 1024 bytes, the number of placed pages in
+/// 26 bytes, 256 nodes of 26 bytes each, the size of a page in 20 bytes, and a line feed.
+pub(crate) type LineText = ArrayString<8192>;
+
+/// Appends a word and a number.
+fn push_number(text: &mut LineText, word: &str, number: u64)
+    requires { array_string_len text.old + length word.now + length (decimal number) ≤ 8192 }
+    ensures { text.new.bytes ≡ text.old.bytes ++ word.now ++ decimal number }
+{
+    text.push_str(word);
+    text.push_str(Buffer::new().format(number));
+}
+
+/// Appends the address of a page.
+fn push_address(text: &mut LineText, page: u64)
+    requires page { page < 2 ^ 36 }
+    requires room { array_string_len text.old + 16 ≤ 8192 }
+    ensures bytes { text.new.bytes ≡ text.old.bytes ++ address_text page }
+    ensures short { array_string_len text.new ≤ array_string_len text.old + 16 }
+{
+    push_hex(text, page * PAGE_BYTES, 8);
+}
+
+/// Appends a policy, or `default` where there is none.
+fn push_policy(text: &mut LineText, policy: Option<Record>)
+    requires room { array_string_len text.old + 1024 ≤ 8192 }
+    ensures bytes { text.new.bytes ≡ text.old.bytes ++ policy_or_default policy }
+    ensures short { array_string_len text.new ≤ array_string_len text.old + 1024 }
+{
+    match policy {
+        Some(policy) => text.push_str(policy.policy_text().as_str()),
+        None => text.push_str("default"),
+    }
+}
+
+/// Appends a node and its pages, where it has some.
+fn push_node(text: &mut LineText, node: usize, pages: u64)
+    requires node { node < 256 }
+    requires room { array_string_len text.old + 26 ≤ 8192 }
+    ensures bytes { text.new.bytes ≡ text.old.bytes ++ node_text node pages }
+    ensures short { array_string_len text.new ≤ array_string_len text.old + 26 }
+{
+    if pages > 0 {
+        push_number(text, " N", node as u64);
+        push_number(text, "=", pages);
+    }
+}
+
+/// Appends each node that has pages, the lowest first.
+fn push_nodes(text: &mut LineText, pages: &[u64; 256])
+    requires room { array_string_len text.old + 6656 ≤ 8192 }
+    ensures bytes { text.new.bytes ≡ text.old.bytes ++ nodes_text (λ node. slice_index pages.now node) }
+    ensures short { array_string_len text.new ≤ array_string_len text.old + 6656 }
+{
+    for node in 0..256 {
+        push_node(text, node, pages[node]);
+    }
+}
+
+/// Appends the placed pages of a range, where there are some.
+fn push_placed(text: &mut LineText, resident: &Resident, range: &Run<RangeRecord>)
+    requires range { end_of range.now ≤ 2 ^ 35 }
+    requires room { array_string_len text.old + 6702 ≤ 8192 }
+    ensures bytes { text.new.bytes ≡ text.old.bytes ++ placed_text (placed_in resident.now range.now) }
+    ensures short { array_string_len text.new ≤ array_string_len text.old + 6702 }
+{
+    let count = resident.count_in(range);
+    if count > 0 {
+        push_number(text, " anon=", count as u64);
+        push_nodes(text, &resident.pages_by_node(range));
+        text.push_str(" kernelpagesize_kB=4");
+    }
+}
+
+/// Writes the line of a range whose pages have this policy, in place of what the text was.
+pub(crate) fn write_line(
+    text: &mut LineText,
+    policy: Option<Record>,
+    resident: &Resident,
+    range: &Run<RangeRecord>,
+)
+    requires { end_of range.now ≤ 2 ^ 35 }
+    ensures { text.new.bytes ≡ range_line policy resident.now range.now }
+{
+    text.clear();
+    push_address(text, range.first);
+    text.push(' ');
+    push_policy(text, policy);
+    push_placed(text, resident, range);
+    text.push('\n');
+}

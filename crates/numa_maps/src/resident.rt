@@ -1,0 +1,124 @@
+//! Which pages are placed, and where.
+ghost use Rattle.std.specs.Prelude.{◌≡◌, ◌≢◌, ◌<◌, ◌≤◌, ◌^◌, ℕ, [], length, None, Some, IfSome, IfErr, OnOk, OnErr, MatchOption, slice_index};
+ghost use Rattle.numa_maps.specs.Listing.{pages_on, placed_in};
+ghost use Rattle.numa_ranges.specs.Runs.{end_of};
+ghost use Rattle.numa_maps.specs.Residents.{placed_at, with_placement, without_page, IsRefusal, IsRising};
+
+use numa_core::Placement;
+use numa_space::{RangeRecord, Run};
+use std::alloc::Global;
+use std::collections::BTreeMap;
+use std::collections::btree_map::Range;
+use std::marker::Model;
+
+/// The placements of pages that hold memory, at most one a page. They are kept by page alone: a page is placed for all tasks,
+/// whichever of them touched it first.
+#[derive(Drop)]
+pub struct Resident {
+    placements: BTreeMap<u64, Placement>,
+}
+
+impl Model for Resident {
+    ghost use Rattle.std.specs.Prelude.{List, ℕ};
+    ghost use Rattle.numa_core.specs.declared.placement.Placement.{Placement};
+    ghost use Rattle.numa_maps.specs.Residents.{AreKept};
+
+    ghost Value = { List (ℕ × Placement) };
+
+    ghost view = { λ a. a.placements.entries };
+
+    ghost invariant = { λ a. AreKept a.placements.entries };
+}
+
+/// Why a placement was not recorded. Both hand it back.
+#[derive(PartialEq, Eq, Debug, Drop)]
+pub enum RecordRefusal {
+    /// The page is placed already.
+    Taken(Placement),
+    /// There is no memory for one placement more.
+    NoMemory(Placement),
+}
+
+impl Resident {
+    /// No placements. Takes no memory; the allocator is kept for those that are recorded.
+    pub fn new(alloc: Global) -> Resident
+        ensures { result ≡ [] }
+    {
+        Resident {
+            placements: BTreeMap::new(alloc),
+        }
+    }
+
+    /// Keeps a placement as that of its page.
+    ///
+    /// # Errors
+    /// `Taken` where the page has a placement already, else `NoMemory` where there is none for one more; nothing has changed.
+    pub fn record(&mut self, placement: Placement) -> Result<(), RecordRefusal>
+        ensures ok { OnOk result (self.new ≡ with_placement self.old placement) }
+        ensures free { OnOk result (placed_at self.old placement.page ≡ None) }
+        ensures kept { OnOk result (placed_at self.new placement.page ≡ Some placement) }
+        ensures others { OnOk result ((page : ℕ) → page ≢ placement.page → placed_at self.new page ≡ placed_at self.old page) }
+        ensures err { IfErr result (λ refusal. IsRefusal self.old placement refusal) }
+        ensures unchanged { OnErr result (self.new ≡ self.old) }
+        ensures rising { IsRising self.new }
+    {
+        let page = placement.page;
+        if self.placements.contains_key(&page) {
+            return Err(RecordRefusal::Taken(placement));
+        }
+        if let Err(refused) = self.placements.insert(page, placement) {
+            return Err(RecordRefusal::NoMemory(refused.value.1));
+        }
+        Ok(())
+    }
+
+    /// The placement of a page, where it is placed.
+    pub fn at(&self, page: u64) -> Option<&Placement>
+        ensures kept { MatchOption result (placed_at self.now page ≡ None) (λ placement. placed_at self.now page ≡ Some placement.now) }
+        ensures page { IfSome result (λ placement. placement.now.page ≡ page) }
+    {
+        self.placements.get(&page)
+    }
+
+    /// Takes away the placement of a page, where it is placed.
+    pub fn remove(&mut self, page: u64) -> Option<Placement>
+        ensures kept { result ≡ placed_at self.old page }
+        ensures rest { self.new ≡ without_page self.old page }
+        ensures page { IfSome result (λ placement. placement.page ≡ page) }
+        ensures gone { placed_at self.new page ≡ None }
+        ensures others { (other : ℕ) → other ≢ page → placed_at self.new other ≡ placed_at self.old other }
+        ensures rising { IsRising self.new }
+    {
+        self.placements.remove(&page)
+    }
+
+    /// The placements on the pages of a range, rising.
+    fn placed_in(&self, range: &Run<RangeRecord>) -> Range<'_, u64, Placement>
+        requires { end_of range.now ≤ 2 ^ 35 }
+        ensures placed { result ≡ placed_in self.now range.now }
+        ensures few { length result < 2 ^ 63 }
+    {
+        self.placements
+            .range(range.first..range.first + range.pages)
+    }
+
+    /// How many pages of a range are placed.
+    pub(crate) fn count_in(&self, range: &Run<RangeRecord>) -> usize
+        requires { end_of range.now ≤ 2 ^ 35 }
+        ensures { result ≡ length (placed_in self.now range.now) }
+    {
+        self.placed_in(range).count()
+    }
+
+    /// How many pages of a range are placed on each node.
+    pub(crate) fn pages_by_node(&self, range: &Run<RangeRecord>) -> [u64; 256]
+        requires { end_of range.now ≤ 2 ^ 35 }
+        ensures { (node : ℕ) → node < 256 → slice_index result node ≡ pages_on (placed_in self.now range.now) node }
+    {
+        let mut pages = [0u64; 256];
+        for (_, placement) in self.placed_in(range) {
+            pages[usize::from(placement.node)] += 1;
+        }
+        pages
+    }
+}

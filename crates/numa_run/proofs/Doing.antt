@@ -1,0 +1,217 @@
+-- What a running machine does with commands and the lines of workers.
+use Rattle.std.proofs.Common.{◌≡◌, ◌⊎◌, ℕ, Bool, true, false, Option, Some, None, Result, Ok, Err, is_some, refl, sym, ap, subst, ◌∙◌, inl, inr}
+use Rattle.std.specs.Prelude.{is_ok, is_err, List, if◌then◌else◌}
+use Rattle.std.specs.Option.{ForSome}
+use Rattle.numa_space.specs.declared.command.Command.{Command}
+use Rattle.numa_plan.specs.Meaning.{PlanData}
+use Rattle.numa_compile.specs.Standing.{PlanStandsFor}
+use Rattle.numa_core.specs.World.{Setup, World, newest_published}
+use Rattle.numa_core.specs.Steps.{world_after, IsAnswer}
+use Rattle.numa_core.specs.Touching.{touched}
+use Rattle.numa_core.specs.Standing.{CoreState, CoreStandsFor, setup_of}
+use Rattle.numa_core.specs.declared.frame.Frame.{Frame}
+use Rattle.numa_core.specs.declared.placement.Placement.{Placement}
+use Rattle.numa_core.specs.declared.request.Request.{Request}
+use Rattle.numa_core.specs.declared.event.Event.{Event}
+use Rattle.numa_core.specs.declared.event.Event.TheVariants.{Give}
+use Rattle.numa_core.specs.declared.event.Reply.{Reply as CoreReply}
+use Rattle.numa_core.specs.declared.event.CoreRefusal.{CoreRefusal}
+use Rattle.numa_core.specs.declared.event.CoreRefusal.TheVariants.{NotOwned, NoMemory}
+use Rattle.numa_maps.specs.Residents.{Kept, placed_at, with_placement, without_page}
+use Rattle.numa_run.specs.States.{State, setup_with}
+use Rattle.numa_run.specs.Standing.{RunsAs, Does, state_with}
+use Rattle.numa_run.specs.Work.{told, win_of, is_accept, is_accepted, won_by, event_answer, event_world, event_outcome, not_kept, kept_outcome, touch_by, touch_outcome, release_by, release_outcome}
+use Rattle.numa_run.specs.declared.running.Running.{Running}
+use Rattle.numa_run.specs.declared.reply.Reply.{Reply}
+use Rattle.numa_run.specs.declared.reply.Reply.TheVariants as reply
+use Rattle.numa_run.proofs.Histories.{kept-by_event, kept-unless_accepted, touched-kept, answer-told, give-told}
+
+-- what the core promises of a step, and of a touch
+abbrev pub Steps : CoreState → Event → Result CoreReply CoreRefusal → CoreState → Type 0
+Steps old event answer new =
+    (world : World) → CoreStandsFor old world
+    → IsAnswer (setup_of old) world (newest_published world) event answer × CoreStandsFor new (world_after (setup_of old) world (newest_published world) event answer)
+
+abbrev pub Touches : CoreState → ℕ → Request → Result CoreReply CoreRefusal → CoreState → Type 0
+Touches old w request answer new =
+    (world : World) → CoreStandsFor old world
+    → (answer ≡ (touched (setup_of old) world w request).answer) × CoreStandsFor new (touched (setup_of old) world w request).world
+
+-- a plan that is kept stands for the commands, where they are the same
+abbrev pub Plans : Setup → Option PlanData → List Command → Type 0
+Plans s plan history = ForSome plan (λ plan. PlanStandsFor s.machine plan history)
+
+-- a running machine with another core, placed pages and plan
+pub moved : (old new : Running) (state : State) (world : World) (kept : Kept) → RunsAs old state → setup_of new.core ≡ setup_of old.core → CoreStandsFor new.core world → new.resident ≡ kept
+    → Plans (setup_of old.core) new.plan world.history → RunsAs new (record { bounds = state.bounds; machine = state.machine; world = world; resident = kept })
+moved old new state world kept stands same reached resident plan = record {
+  bounds = stands.bounds ∙ sym (ap (λ s. s.bounds) same);
+  machine = stands.machine ∙ ap Some (sym (ap (λ s. s.machine) same));
+  workers = ap (λ s. s.workers) same ∙ stands.workers;
+  world = reached;
+  resident = resident;
+  plan = subst (λ (s : Setup). Plans s new.plan world.history) (sym same) plan;
+}
+
+-- the plan of before stands for a world with the same commands
+same-plan : (old new : Running) (state : State) (world : World) → RunsAs old state → new.plan ≡ old.plan → world.history ≡ state.world.history → Plans (setup_of old.core) new.plan world.history
+same-plan old new state world stands plan history = subst (λ h. Plans (setup_of old.core) new.plan h) (sym history) (subst (λ p. Plans (setup_of old.core) p state.world.history) (sym plan) stands.plan)
+
+-- ---- one event
+
+pub does-event : (old new : Running) (event : Event) (answer : Result CoreReply CoreRefusal) → Steps old.core event answer new.core → setup_of new.core ≡ setup_of old.core → new.resident ≡ old.resident
+    → ((new.plan ≡ None) ⊎ ((is_accepted answer ≡ false) × (new.plan ≡ old.plan)))
+    → Does old (told answer) new (λ refused state. event_outcome refused (setup_of old.core) state.world state.resident event)
+does-event old new event answer steps same resident plan =
+    λ state stands.
+    let s = setup_of old.core in
+    let step = steps state.world stands.world in
+    let right = answer-told s state.world event answer step.0 in
+    let after : World = world_after s state.world (newest_published state.world) event answer in
+    let there : after ≡ event_world right.0 s state.world event = ap (world_after s state.world (newest_published state.world) event) right.1 in
+    let plans : Plans s new.plan after.history = elim plan [
+      | inl none ↦ subst (λ (p : Option PlanData). Plans s p after.history) (sym none) (λ x odd. let no : false ≡ true = ap is_some odd in cc)
+      | inr kept ↦ same-plan old new state after stands kept.1 (kept-unless_accepted s state.world (newest_published state.world) event answer step.0 kept.0)
+    ] in (
+      right.0,
+      ap told right.1,
+      subst (λ (w : World). RunsAs new (record { bounds = state.bounds; machine = state.machine; world = w; resident = state.resident })) there
+          (moved old new state after state.resident stands same step.1 (resident ∙ stands.resident) plans),
+    )
+
+-- ---- a Give that a line needs
+
+given : (old new : Running) (refused : Bool) (w : ℕ) (frame : Frame) (answer : Result CoreReply CoreRefusal) (kept : Kept) → Steps old.core (Give w frame) answer new.core → setup_of new.core ≡ setup_of old.core
+    → new.plan ≡ old.plan → new.resident ≡ kept → (state : State) → RunsAs old state
+    → RunsAs new (record { bounds = state.bounds; machine = state.machine; world = event_world refused (setup_of old.core) state.world (Give w frame); resident = kept })
+given old new refused w frame answer kept steps same plan resident state stands =
+    let s = setup_of old.core in
+    let step = steps state.world stands.world in
+    let after : World = world_after s state.world (newest_published state.world) (Give w frame) answer in
+    let there : after ≡ event_world refused s state.world (Give w frame) =
+    ap (world_after s state.world (newest_published state.world) (Give w frame)) (give-told refused s state.world w frame answer step.0) in
+    subst (λ (world : World). RunsAs new (record { bounds = state.bounds; machine = state.machine; world = world; resident = kept })) there
+    (moved old new state after kept stands same step.1 resident (same-plan old new state after stands plan (kept-by_event s state.world (newest_published state.world) (Give w frame) answer refl)))
+
+-- ---- a placement that was won
+
+pub keeps : (old new : Running) (w : ℕ) (placement : Placement) → new.core ≡ old.core → new.plan ≡ old.plan → placed_at old.resident placement.page ≡ None → new.resident ≡ with_placement old.resident placement
+    → Does old (reply.Won (win_of placement)) new (λ refused state. kept_outcome refused (setup_of old.core) state.world state.resident w placement)
+keeps old new w placement core plan free resident =
+    λ state stands.
+    let none : placed_at state.resident placement.page ≡ None = subst (λ (kept : Kept). placed_at kept placement.page ≡ None) stands.resident free in
+    let out : kept_outcome false (setup_of old.core) state.world state.resident w placement ≡ record { reply = reply.Won (win_of placement); world = state.world; resident = with_placement state.resident placement } = rw none refl in (
+      false,
+      sym (ap (λ o. o.reply) out),
+      subst (λ o. RunsAs new (state_with state o)) (sym out)
+          (moved old new state state.world (with_placement state.resident placement) stands (ap setup_of core) (subst (λ c. CoreStandsFor c state.world) (sym core) stands.world)
+          (resident ∙ ap (λ kept. with_placement kept placement) stands.resident) (same-plan old new state state.world stands plan refl)),
+    )
+
+-- the page has a placement already
+pub gives-taken : (old new : Running) (w : ℕ) (placement : Placement) (answer : Result CoreReply CoreRefusal) → Steps old.core (Give w placement.frame) answer new.core → setup_of new.core ≡ setup_of old.core
+    → new.plan ≡ old.plan → new.resident ≡ old.resident → is_some (placed_at old.resident placement.page) ≡ true
+    → Does old (reply.Back placement.frame) new (λ refused state. kept_outcome refused (setup_of old.core) state.world state.resident w placement)
+gives-taken old new w placement answer steps same plan resident taken =
+    λ state stands.
+    let some : is_some (placed_at state.resident placement.page) ≡ true = subst (λ (kept : Kept). is_some (placed_at kept placement.page) ≡ true) stands.resident taken in
+    let out : kept_outcome false (setup_of old.core) state.world state.resident w placement ≡ not_kept false (setup_of old.core) state.world state.resident w placement (reply.Back placement.frame) = rw some refl in (
+      false,
+      sym (ap (λ o. o.reply) out),
+      subst (λ o. RunsAs new (state_with state o)) (sym out) (given old new false w placement.frame answer state.resident steps same plan (resident ∙ stands.resident) state stands),
+    )
+
+-- there is no memory for it
+pub gives-starved : (old new : Running) (w : ℕ) (placement : Placement) (answer : Result CoreReply CoreRefusal) → Steps old.core (Give w placement.frame) answer new.core → setup_of new.core ≡ setup_of old.core
+    → new.plan ≡ old.plan → new.resident ≡ old.resident → placed_at old.resident placement.page ≡ None
+    → Does old (reply.Refused NoMemory) new (λ refused state. kept_outcome refused (setup_of old.core) state.world state.resident w placement)
+gives-starved old new w placement answer steps same plan resident free =
+    λ state stands.
+    let none : placed_at state.resident placement.page ≡ None = subst (λ (kept : Kept). placed_at kept placement.page ≡ None) stands.resident free in
+    let out : kept_outcome true (setup_of old.core) state.world state.resident w placement ≡ not_kept true (setup_of old.core) state.world state.resident w placement (reply.Refused NoMemory) = rw none refl in (
+      true,
+      sym (ap (λ o. o.reply) out),
+      subst (λ o. RunsAs new (state_with state o)) (sym out) (given old new true w placement.frame answer state.resident steps same plan (resident ∙ stands.resident) state stands),
+    )
+
+-- ---- touch
+
+-- the machine after the core's touch
+touched-there : (old mid : Running) (w : ℕ) (request : Request) (answer : Result CoreReply CoreRefusal) → Touches old.core w request answer mid.core → setup_of mid.core ≡ setup_of old.core → mid.plan ≡ old.plan → mid.resident ≡ old.resident
+    → (state : State) → RunsAs old state → RunsAs mid (record { bounds = state.bounds; machine = state.machine; world = (touched (setup_of old.core) state.world w request).world; resident = state.resident })
+touched-there old mid w request answer touches same plan resident state stands =
+    let s = setup_of old.core in
+    let touch = touches state.world stands.world in
+    moved old mid state (touched s state.world w request).world state.resident stands same touch.1 (resident ∙ stands.resident)
+    (same-plan old mid state (touched s state.world w request).world stands plan (touched-kept s state.world w request))
+
+pub touches-nothing : (old new : Running) (w : ℕ) (request : Request) (answer : Result CoreReply CoreRefusal) → Touches old.core w request answer new.core → setup_of new.core ≡ setup_of old.core → new.plan ≡ old.plan
+    → new.resident ≡ old.resident → won_by answer ≡ None → Does old (told answer) new (λ refused state. touch_outcome refused (setup_of old.core) state.world state.resident w request)
+touches-nothing old new w request answer touches same plan resident lost =
+    λ state stands.
+    let s = setup_of old.core in
+    let t = touched s state.world w request in
+    let touch = touches state.world stands.world in
+    let none : won_by t.answer ≡ None = ap won_by (sym touch.0) ∙ lost in
+    let out : touch_by false s None t.answer t.world state.resident w ≡ touch_outcome false s state.world state.resident w request = ap (λ o. touch_by false s o t.answer t.world state.resident w) (sym none) in (
+      false,
+      ap told touch.0 ∙ ap (λ o. o.reply) out,
+      subst (λ o. RunsAs new (state_with state o)) out (touched-there old new w request answer touches same plan resident state stands),
+    )
+
+pub touches-won : (old mid new : Running) (w : ℕ) (request : Request) (answer : Result CoreReply CoreRefusal) (placement : Placement) (said : Reply) → Touches old.core w request answer mid.core → setup_of mid.core ≡ setup_of old.core
+    → mid.plan ≡ old.plan → mid.resident ≡ old.resident → won_by answer ≡ Some placement
+    → Does mid said new (λ refused state. kept_outcome refused (setup_of mid.core) state.world state.resident w placement)
+    → Does old said new (λ refused state. touch_outcome refused (setup_of old.core) state.world state.resident w request)
+touches-won old mid new w request answer placement said touches same plan resident won keep =
+    λ state stands.
+    let s = setup_of old.core in
+    let t = touched s state.world w request in
+    let touch = touches state.world stands.world in
+    let some : won_by t.answer ≡ Some placement = ap won_by (sym touch.0) ∙ won in
+    let kept = keep (record { bounds = state.bounds; machine = state.machine; world = t.world; resident = state.resident }) (touched-there old mid w request answer touches same plan resident state stands) in
+    let out : kept_outcome kept.0 (setup_of mid.core) t.world state.resident w placement ≡ touch_outcome kept.0 s state.world state.resident w request =
+    ap (λ r. kept_outcome kept.0 r t.world state.resident w placement) same ∙ ap (λ o. touch_by kept.0 s o t.answer t.world state.resident w) (sym some) in (
+      kept.0,
+      kept.1 ∙ ap (λ o. o.reply) out,
+      subst (λ o. RunsAs new (state_with state o)) out kept.2,
+    )
+
+-- ---- release
+
+pub releases-none : (old : Running) (w page : ℕ) → placed_at old.resident page ≡ None
+    → Does old (reply.Refused NotOwned) old (λ refused state. release_outcome refused (setup_of old.core) state.world state.resident w page)
+releases-none old w page free =
+    λ state stands.
+    let none : placed_at state.resident page ≡ None = subst (λ (kept : Kept). placed_at kept page ≡ None) stands.resident free in
+    let out : release_by false (setup_of old.core) None state.world state.resident w page ≡ release_outcome false (setup_of old.core) state.world state.resident w page =
+    ap (λ o. release_by false (setup_of old.core) o state.world state.resident w page) (sym none) in
+    (false, ap (λ o. o.reply) out, subst (λ o. RunsAs old (state_with state o)) out stands)
+
+pub releases : (old new : Running) (w page : ℕ) (placement : Placement) (answer : Result CoreReply CoreRefusal) → Steps old.core (Give w placement.frame) answer new.core → setup_of new.core ≡ setup_of old.core
+    → new.plan ≡ old.plan → placed_at old.resident page ≡ Some placement → new.resident ≡ (if is_ok answer then without_page old.resident page else old.resident)
+    → Does old (told answer) new (λ refused state. release_outcome refused (setup_of old.core) state.world state.resident w page)
+releases old new w page placement answer steps same plan there resident =
+    λ state stands.
+    let s = setup_of old.core in
+    let some : placed_at state.resident page ≡ Some placement = subst (λ (kept : Kept). placed_at kept page ≡ Some placement) stands.resident there in
+    let step = steps state.world stands.world in
+    let right : answer ≡ event_answer false s state.world (Give w placement.frame) = give-told false s state.world w placement.frame answer step.0 in
+    let kept : Kept = if is_ok (event_answer false s state.world (Give w placement.frame)) then without_page state.resident page else state.resident in
+    let is : new.resident ≡ kept =
+    resident ∙ (λ i. if is_ok (right i) then without_page (stands.resident i) page else stands.resident i) in
+    let out : release_by false s (Some placement) state.world state.resident w page ≡ release_outcome false s state.world state.resident w page =
+    ap (λ o. release_by false s o state.world state.resident w page) (sym some) in (
+      false,
+      ap told right ∙ ap (λ o. o.reply) out,
+      subst (λ o. RunsAs new (state_with state o)) out (given old new false w placement.frame answer kept steps same plan is state stands),
+    )
+
+-- the page keeps its placement where the Give is refused, and only there
+pub kept-where_refused : (answer : Result CoreReply CoreRefusal) (gone kept : Kept) → is_err answer ≡ true → kept ≡ (if is_ok answer then gone else kept)
+kept-where_refused (Ok done) gone kept e = cc
+kept-where_refused (Err cause) gone kept e = refl
+
+pub gone-where_given : (answer : Result CoreReply CoreRefusal) (gone kept : Kept) → is_err answer ≡ false → gone ≡ (if is_ok answer then gone else kept)
+gone-where_given (Ok done) gone kept e = refl
+gone-where_given (Err cause) gone kept e = cc

@@ -1,0 +1,12 @@
+use Rattle.std.proofs.Common.{◌∙◌, ap, sym, slice_index, true, false, refl, inl, inr, ℕ, List, length, subst, Some, None, ◌++◌, codes, decimal, arith, ◌/◌, ◌≡◌}
+use Rattle.numa_script.specs.Watching.{has_failed}
+use Rattle.numa_script.specs.Written.{Adds}
+use Rattle.numa_script.proofs.Adding.{adds_same}
+use Rattle.numa_run.specs.Questions.{span_text}
+use Rattle.numa_run.proofs.ask.say_span.Goals as goal
+
+pub returns : goal.returns
+returns g c =
+    λ machine history stands.
+    let all : length c.as_mut_slice.result.now ≡ c.args.pages = c.as_mut_slice.ensures.len ∙ c.in-Ok.ensures.len in
+    (false, adds_same (g.W.Write.contents c.args.output.now.inner) (g.W.Write.contents c.say_firsts.new.output.inner) (has_failed c.args.output.now) (has_failed c.say_firsts.new.output) c.args.gathered.now c.say_firsts.new.gathered _ _ (ap (λ (n : ℕ). span_text machine history c.args.task c.args.first n c.args.cpu) all) (c.say_firsts.ensures machine history stands))

@@ -1,0 +1,18 @@
+use Rattle.std.proofs.Common.{refl, inl, inr, sym, ◌∙◌, ◌≡◌, false, None, Option, subst}
+use Rattle.numa_core.specs.Standing.{setup_of}
+use Rattle.numa_run.specs.Standing.{Does}
+use Rattle.numa_run.specs.Work.{event_outcome}
+use Rattle.numa_run.proofs.Doing.{does-event}
+use Rattle.numa_run.proofs.running.Running.step.Goals as goal
+
+pub returns-then-is_accepted : goal.returns-then-is_accepted
+returns-then-is_accepted c =
+    rw c.told.ensures
+    (does-event c.args.self.now (record { core = c.step-answer.new.self; resident = c.args.self.now.resident; plan = None }) c.args.event c.step-answer.result
+    c.step-answer.ensures.answer c.step-answer.ensures.setup refl (inl refl))
+
+pub returns : goal.returns
+returns c =
+    rw c.told-2.ensures
+    (does-event c.args.self.now (record { core = c.step-answer.new.self; resident = c.args.self.now.resident; plan = c.args.self.now.plan }) c.args.event c.step-answer.result
+    c.step-answer.ensures.answer c.step-answer.ensures.setup refl (inr (sym c.is_accepted.ensures ∙ c.if-is_accepted.false, refl)))

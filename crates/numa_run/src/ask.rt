@@ -1,0 +1,100 @@
+//! Questions about pages, by a plan.
+ghost use Rattle.std.specs.Prelude.{ℕ, Bool, List, length};
+ghost use Rattle.numa_compile.specs.Standing.{PlanStandsFor};
+ghost use Rattle.numa_machine.specs.Machine.{Hardware};
+ghost use Rattle.numa_space.specs.declared.command.Command.{Command};
+ghost use Rattle.numa_script.specs.Watching.{has_failed};
+ghost use Rattle.numa_script.specs.Written.{Adds};
+ghost use Rattle.numa_run.specs.Questions.{count_text, place_text, span_text, unless_starved};
+
+use crate::tell::{say_counts, say_nodes, say_place_refusal, say_starved};
+use numa_plan::{Plan, Steps};
+use numa_script::{Gathered, Watched};
+use std::alloc::Global;
+use std::io::Write;
+
+/// `place TASK ADDR CPU`: the list of nodes of a page.
+pub(crate) fn say_place<W: Write>(
+    plan: &Plan,
+    task: u32,
+    page: u64,
+    cpu: u32,
+    gathered: &mut Gathered,
+    output: &mut Watched<W>,
+)
+    ensures { (machine : Hardware) (history : List Command) → PlanStandsFor machine plan.now history
+        → Adds (W.contents output.old.inner) (has_failed output.old) gathered.old (W.contents output.new.inner) (has_failed output.new) gathered.new (place_text machine history task page cpu) }
+{
+    match plan.choice(task, page, cpu, &mut Steps::new()) {
+        Ok(nodes) => say_nodes(gathered, output, plan.version(), nodes),
+        Err(refusal) => say_place_refusal(gathered, output, refusal),
+    }
+}
+
+/// Says the first node of each page's list, for the pages from one on, as many as there is room for.
+fn say_firsts<W: Write>(
+    plan: &Plan,
+    task: u32,
+    first: u64,
+    cpu: u32,
+    nodes: &mut [u8],
+    gathered: &mut Gathered,
+    output: &mut Watched<W>,
+)
+    ensures { (machine : Hardware) (history : List Command) → PlanStandsFor machine plan.now history
+        → Adds (W.contents output.old.inner) (has_failed output.old) gathered.old (W.contents output.new.inner) (has_failed output.new) gathered.new (span_text machine history task first (length nodes.old) cpu) }
+{
+    match plan.fill(task, cpu, first, nodes) {
+        Ok(()) => say_nodes(gathered, output, plan.version(), nodes),
+        Err(refusal) => say_place_refusal(gathered, output, refusal),
+    }
+}
+
+/// `span TASK ADDR PAGES CPU`: the first node of each page's list, for so many pages from one on.
+pub(crate) fn say_span<W: Write>(
+    alloc: Global,
+    plan: &Plan,
+    task: u32,
+    first: u64,
+    pages: u32,
+    cpu: u32,
+    gathered: &mut Gathered,
+    output: &mut Watched<W>,
+)
+    ensures { (machine : Hardware) (history : List Command) → PlanStandsFor machine plan.now history
+        → (refused : Bool) × Adds (W.contents output.old.inner) (has_failed output.old) gathered.old (W.contents output.new.inner) (has_failed output.new) gathered.new
+        (unless_starved refused (span_text machine history task first pages cpu)) }
+{
+    let Ok(mut nodes) = vec![in alloc; 0u8; pages as usize] else {
+        say_starved(gathered, output);
+        return;
+    };
+    say_firsts(
+        plan,
+        task,
+        first,
+        cpu,
+        nodes.as_mut_slice(),
+        gathered,
+        output,
+    );
+}
+
+/// `counts TASK ADDR PAGES CPU`: how many pages each node would get, of so many pages from one on.
+pub(crate) fn say_pages<W: Write>(
+    plan: &Plan,
+    task: u32,
+    first: u64,
+    pages: u64,
+    cpu: u32,
+    gathered: &mut Gathered,
+    output: &mut Watched<W>,
+)
+    ensures { (machine : Hardware) (history : List Command) → PlanStandsFor machine plan.now history
+        → Adds (W.contents output.old.inner) (has_failed output.old) gathered.old (W.contents output.new.inner) (has_failed output.new) gathered.new (count_text machine history task first pages cpu) }
+{
+    match plan.counts(task, cpu, first, pages) {
+        Ok(counts) => say_counts(gathered, output, plan.version(), &counts),
+        Err(refusal) => say_place_refusal(gathered, output, refusal),
+    }
+}

@@ -1,0 +1,104 @@
+//! A machine that is running.
+ghost use Rattle.std.specs.Prelude.{◌≡◌, [], None};
+ghost use Rattle.numa_core.specs.Standing.{setup_of};
+ghost use Rattle.numa_run.specs.Standing.{Does};
+ghost use Rattle.numa_run.specs.Work.{event_outcome, kept_outcome, release_outcome, touch_outcome, work_outcome};
+
+use crate::reply::Reply;
+use crate::told::{is_accepted, told, win_of, won_by};
+use numa_core::{Core, CoreRefusal, Event, Frame, Placement, Request};
+use numa_maps::{RecordRefusal, Resident};
+use numa_plan::Plan;
+use numa_script::Work;
+use std::alloc::Global;
+
+/// A machine that is running: its core, the pages that are placed, and the plan last compiled, until a command is accepted.
+#[derive(Drop)]
+pub(crate) struct Running {
+    pub core: Core,
+    pub resident: Resident,
+    pub plan: Option<Plan>,
+}
+
+impl Running {
+    /// With no page placed, and no plan.
+    pub fn new(alloc: Global, core: Core) -> Running
+        ensures core { result.core ≡ core }
+        ensures resident { result.resident ≡ [] }
+        ensures plan { result.plan ≡ None }
+    {
+        Running {
+            core,
+            resident: Resident::new(alloc),
+            plan: None,
+        }
+    }
+
+    /// One event of the core. The plan is kept unless a command was accepted.
+    pub fn step(&mut self, event: Event) -> Reply
+        ensures { Does self.old result self.new (λ refused state. event_outcome refused (setup_of self.old.core) state.world state.resident event) }
+    {
+        let answer = self.core.step(event);
+        if is_accepted(&answer) {
+            self.plan = None;
+            return told(&answer);
+        }
+        told(&answer)
+    }
+
+    /// Keeps a placement that a worker won, unless its page has one or there is no memory for it: then its frame is given back.
+    fn keep(&mut self, worker: u32, placement: Placement) -> Reply
+        ensures { Does self.old result self.new (λ refused state. kept_outcome refused (setup_of self.old.core) state.world state.resident worker placement) }
+    {
+        let win = win_of(&placement);
+        let frame = placement.frame;
+        match self.resident.record(placement) {
+            Ok(()) => Reply::Won(win),
+            Err(RecordRefusal::Taken(_)) => {
+                let _ = self.core.step(Event::Give(worker, frame));
+                Reply::Back(frame)
+            }
+            Err(RecordRefusal::NoMemory(_)) => {
+                let _ = self.core.step(Event::Give(worker, frame));
+                Reply::Refused(CoreRefusal::NoMemory)
+            }
+        }
+    }
+
+    /// A worker looks for a frame for a page, and the page keeps it.
+    fn touch(&mut self, worker: u32, request: Request) -> Reply
+        ensures { Does self.old result self.new (λ refused state. touch_outcome refused (setup_of self.old.core) state.world state.resident worker request) }
+    {
+        match won_by(self.core.touch(worker, request)) {
+            Ok(placement) => self.keep(worker, placement),
+            Err(reply) => reply,
+        }
+    }
+
+    /// A worker gives back the frame that is kept for a page. Where it may not, the page keeps it.
+    fn release(&mut self, worker: u32, page: u64) -> Reply
+        ensures { Does self.old result self.new (λ refused state. release_outcome refused (setup_of self.old.core) state.world state.resident worker page) }
+    {
+        let Some(placement) = self.resident.at(page) else {
+            return Reply::Refused(CoreRefusal::NotOwned);
+        };
+        let frame = placement.frame;
+        let answer = self.core.step(Event::Give(worker, frame));
+        if answer.is_err() {
+            return told(&answer);
+        }
+        let _ = self.resident.remove(page);
+        told(&answer)
+    }
+
+    /// What a line of workers asks for.
+    pub fn work(&mut self, work: Work) -> Reply
+        ensures { Does self.old result self.new (λ refused state. work_outcome refused (setup_of self.old.core) state.world state.resident work) }
+    {
+        match work {
+            Work::Event(event) => self.step(event),
+            Work::Touch(worker, request) => self.touch(worker, request),
+            Work::Release(worker, page) => self.release(worker, page),
+        }
+    }
+}

@@ -1,0 +1,140 @@
+//! A machine that is running serves lines.
+ghost use Rattle.std.specs.Prelude.{◌≡◌, ℕ, Bool, List, Option, IfErr, OnOk, Ok, IsSome};
+ghost use Rattle.numa_script.specs.Watching.{has_failed};
+ghost use Rattle.numa_script.specs.Written.{Adds};
+ghost use Rattle.numa_run.specs.Answers.{State, after, answer_of};
+ghost use Rattle.numa_run.specs.Questions.{question_text};
+ghost use Rattle.numa_run.specs.Ranges.{listing_of};
+ghost use Rattle.numa_run.specs.Standing.{RunsAs};
+
+use crate::ask::{say_pages, say_place, say_span};
+use crate::reply::Reply;
+use crate::running::Running;
+use crate::tell::{say_count, say_starved, tell};
+use numa_compile::compile;
+use numa_core::Event;
+use numa_maps::write_maps;
+use numa_plan::NoMemory;
+use numa_script::{Gathered, Line, Question, Watched};
+use std::alloc::Global;
+use std::io::Write;
+
+/// How many bytes a page has.
+const PAGE: u64 = 4096;
+
+impl Running {
+    /// Compiles a plan, where none is kept.
+    fn prepare(&mut self, alloc: Global) -> Result<(), NoMemory>
+        ensures stands { (state : State) → RunsAs self.old state → RunsAs self.new state }
+        ensures ready { OnOk result (IsSome self.new.plan) }
+        ensures core { self.new.core ≡ self.old.core }
+    {
+        if self.plan.is_some() {
+            return Ok(());
+        }
+        let Ok(plan) = compile(alloc, self.core.space()) else {
+            return Err(NoMemory);
+        };
+        self.plan = Some(plan);
+        Ok(())
+    }
+
+    /// Answers a question, for which a plan is compiled where none is kept.
+    fn answer<W: Write>(
+        &mut self,
+        alloc: Global,
+        question: Question,
+        gathered: &mut Gathered,
+        output: &mut Watched<W>,
+    )
+        ensures { (state : State) → RunsAs self.old state → (refused : Bool) × RunsAs self.new state
+            × Adds (W.contents output.old.inner) (has_failed output.old) gathered.old (W.contents output.new.inner) (has_failed output.new) gathered.new (question_text refused self.old.core.space.machine state.world.history question) }
+    {
+        if let Question::Ranges = question {
+            say_count(
+                gathered,
+                output,
+                b"ranges ",
+                self.core.space().ranges() as u64,
+            );
+            return;
+        }
+        if self.prepare(alloc).is_err() {
+            say_starved(gathered, output);
+            return;
+        }
+        let Some(plan) = &self.plan else {
+            return;
+        };
+        match question {
+            Question::Place { task, address, cpu } => {
+                say_place(plan, task, address / PAGE, cpu, gathered, output)
+            }
+            Question::Span {
+                task,
+                address,
+                pages,
+                cpu,
+            } => say_span(
+                alloc,
+                plan,
+                task,
+                address / PAGE,
+                pages,
+                cpu,
+                gathered,
+                output,
+            ),
+            Question::Counts {
+                task,
+                address,
+                pages,
+                cpu,
+            } => say_pages(plan, task, address / PAGE, pages, cpu, gathered, output),
+            Question::Ranges => {}
+        }
+    }
+
+    /// Lists the ranges, with their policies for a task and the pages that are placed there.
+    fn list<W: Write>(&self, task: u32, gathered: &mut Gathered, output: &mut Watched<W>)
+        ensures { (state : State) → RunsAs self.now state
+            → Adds (W.contents output.old.inner) (has_failed output.old) gathered.old (W.contents output.new.inner) (has_failed output.new) gathered.new (listing_of self.now.core.space.machine state.world.history task state.resident) }
+    {
+        if gathered.hand_over(output).is_err() {
+            return;
+        }
+        let space = self.core.space();
+        let _ = space.range_iter();
+        let _ = write_maps(space, task, &self.resident, output);
+    }
+
+    /// Serves a line, and says its answer.
+    pub fn serve<W: Write>(
+        &mut self,
+        alloc: Global,
+        line: Line<'_>,
+        gathered: &mut Gathered,
+        output: &mut Watched<W>,
+    )
+        ensures { (state : State) → RunsAs self.old state → (refused : Bool) × RunsAs self.new (after refused state line.entry)
+            × Adds (W.contents output.old.inner) (has_failed output.old) gathered.old (W.contents output.new.inner) (has_failed output.new) gathered.new (answer_of refused state line.entry) }
+    {
+        match line {
+            Line::Silent => tell(gathered, output, &Reply::Silent),
+            Line::Malformed => tell(gathered, output, &Reply::BadWords),
+            Line::Limits { .. } => tell(gathered, output, &Reply::BadState),
+            Line::Machine(_) => tell(gathered, output, &Reply::BadState),
+            Line::Command(Err(fault)) => tell(gathered, output, &Reply::BadWord(fault)),
+            Line::Command(Ok(command)) => {
+                let reply = self.step(Event::Accept(command));
+                tell(gathered, output, &reply);
+            }
+            Line::Work(work) => {
+                let reply = self.work(work);
+                tell(gathered, output, &reply);
+            }
+            Line::Question(question) => self.answer(alloc, question, gathered, output),
+            Line::Maps(task) => self.list(task, gathered, output),
+        }
+    }
+}

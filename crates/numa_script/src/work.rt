@@ -1,0 +1,104 @@
+//! What the lines of workers ask for.
+ghost use Rattle.std.specs.Prelude.{◌≡◌, ℕ, List, Option};
+ghost use Rattle.numa_script.specs.Workers.{request_of, frame_of, publish_work, begin_work, look_work, try_work, give_work, touch_work, release_work};
+
+use crate::number::{frame_number, node, page, small};
+use crate::parts::Parts;
+use numa_core::{Event, Frame, Request};
+
+/// Work for a worker, or the publication of the commands so far. Workers are numbered from 0.
+#[derive(Clone, Copy, Debug, PartialEq, Eq)]
+pub enum Work {
+    /// One event of the core: `publish`, `begin`, `look`, `try` and `give` ask for one. A command is none of them.
+    Event(Event),
+    /// The worker is to find a frame for the request, and the page is to keep it.
+    Touch(u32, Request),
+    /// The worker is to give back the frame that the page, by its number, has kept.
+    Release(u32, u64),
+}
+
+/// `TASK ADDR CPU`
+fn request(mut words: Parts) -> Option<Request>
+    ensures { result ≡ request_of words.entry }
+{
+    let task = words.next()?;
+    let address = words.next()?;
+    let cpu = words.only()?;
+    Some(Request {
+        task: small(task)?,
+        page: page(address)?,
+        cpu: small(cpu)?,
+    })
+}
+
+/// `NODE FRAME`
+fn frame(mut words: Parts) -> Option<Frame>
+    ensures { result ≡ frame_of words.entry }
+{
+    let of = words.next()?;
+    let number = words.only()?;
+    Some(Frame {
+        node: node(of)?,
+        number: frame_number(number)?,
+    })
+}
+
+/// `publish`
+pub fn publish(mut words: Parts) -> Option<Work>
+    ensures { result ≡ publish_work words.entry }
+{
+    match words.next() {
+        None => Some(Work::Event(Event::Publish)),
+        Some(_) => None,
+    }
+}
+
+/// `begin W TASK ADDR CPU`
+pub fn begin(mut words: Parts) -> Option<Work>
+    ensures { result ≡ begin_work words.entry }
+{
+    let worker = small(words.next()?)?;
+    Some(Work::Event(Event::Begin(worker, request(words)?)))
+}
+
+/// `look W WORD`
+pub fn look(mut words: Parts) -> Option<Work>
+    ensures { result ≡ look_work words.entry }
+{
+    let worker = words.next()?;
+    let word = words.only()?;
+    Some(Work::Event(Event::Look(small(worker)?, small(word)?)))
+}
+
+/// `try W NODE FRAME`
+pub fn try_frame(mut words: Parts) -> Option<Work>
+    ensures { result ≡ try_work words.entry }
+{
+    let worker = small(words.next()?)?;
+    Some(Work::Event(Event::Try(worker, frame(words)?)))
+}
+
+/// `give W NODE FRAME`
+pub fn give(mut words: Parts) -> Option<Work>
+    ensures { result ≡ give_work words.entry }
+{
+    let worker = small(words.next()?)?;
+    Some(Work::Event(Event::Give(worker, frame(words)?)))
+}
+
+/// `touch W TASK ADDR CPU`
+pub fn touch(mut words: Parts) -> Option<Work>
+    ensures { result ≡ touch_work words.entry }
+{
+    let worker = small(words.next()?)?;
+    Some(Work::Touch(worker, request(words)?))
+}
+
+/// `release W ADDR`
+pub fn release(mut words: Parts) -> Option<Work>
+    ensures { result ≡ release_work words.entry }
+{
+    let worker = words.next()?;
+    let address = words.only()?;
+    Some(Work::Release(small(worker)?, page(address)?))
+}
