@@ -93,7 +93,12 @@ fn set_tasks(
     Ok(())
 }
 
-/// A plan of the space.
+/// The plan of a space: one run for each of its ranges, and one rule for each policy that is live, which all ranges and tasks with
+/// equal records share; a policy that isn't live has none, so that the next scope counts ("NUMA Memory Policy", scopes). Its
+/// version is the number of commands that the space has accepted.
+///
+/// # Errors
+/// `NoMemory` where there is none for the plan.
 pub fn compile(alloc: Global, space: &Space) -> Result<Plan, NoMemory>
     ensures stands { (history : List Command) → StandsFor space.now history → IfOk result (λ plan. PlanStandsFor space.now.machine plan history) }
     ensures plan { IfOk result (λ plan. IsPlanOf space.now plan) }
@@ -112,7 +117,11 @@ pub fn compile(alloc: Global, space: &Space) -> Result<Plan, NoMemory>
     Ok(plan)
 }
 
-/// The plan of a new space of the machine, after these commands, of which the refused ones are passed over.
+/// The plan of a new space of the machine, after these commands, the first first; those that are refused, or for which there is no
+/// memory, are passed over.
+///
+/// # Errors
+/// `NoMemory` where there is none for the plan.
 pub fn compile_commands(
     alloc: Global,
     machine: Machine,

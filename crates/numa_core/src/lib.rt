@@ -22,3 +22,6 @@ pub use numa_plan::NoMemory;
 pub use placement::Placement;
 pub use request::Request;
 pub use running::Core;
+
+#[cfg(test)]
+mod tests;

@@ -13,7 +13,7 @@ use numa_space::{Limits, Space};
 use std::alloc::Global;
 use std::marker::Model;
 
-/// Commands, published versions, and workers that look for frames.
+/// Commands, published versions, and workers that look for frames. Nothing in it runs by itself: each event is one call of `step`.
 #[derive(Drop)]
 pub struct Core {
     pub(crate) state: State,
@@ -31,7 +31,14 @@ impl Model for Core {
 }
 
 impl Core {
-    /// A core.
+    /// A core of this machine, with these limits and so many workers, which are numbered from 0. Nothing is accepted, version 0 is
+    /// published, each worker is idle and no frame is owned.
+    ///
+    /// All memory is taken here that Begin, Look, Try and Give ever use: for owners two bytes a frame of the machine, and for each
+    /// worker a list of 256 nodes and one bit a frame.
+    ///
+    /// # Errors
+    /// `NoMemory` where that memory was not to be had.
     pub fn new(
         alloc: Global,
         machine: Machine,
@@ -47,7 +54,15 @@ impl Core {
         Ok(Core { state })
     }
 
-    /// One event.
+    /// One event, with its answer. A Begin takes the newest published version. A refused event leaves the core as it was.
+    ///
+    /// # Errors
+    /// - Accept: `Command`, with what refuses the command.
+    /// - Publish: `NoMemory`.
+    /// - Begin: `NoSuchWorker`, `Busy`, `BadCpu` where the faulting node is none of the machine, `Unmapped` with the version that has
+    ///   no such page, in this order.
+    /// - Look and Try: `NoSuchWorker`, `Idle`, `BadTry` where the current node lacks the word, or where the frame is none of it or met.
+    /// - Give: `NoSuchWorker`, `Busy`, `NotOwned` where the frame isn't the worker's.
     pub fn step(&mut self, event: Event) -> Result<Reply, CoreRefusal>
         ensures answer { (world : World) → CoreStandsFor self.old world → IsAnswer (setup_of self.old) world (newest_published world) event result × CoreStandsFor self.new (world_after (setup_of self.old) world (newest_published world) event result) }
         ensures runs { (run : List Moment) → LeadsTo run self.old → LeadsTo (moment_after (setup_of self.old) run event result ∷ run) self.new }

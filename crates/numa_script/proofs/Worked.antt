@@ -1,5 +1,5 @@
 -- Lines of scripts, and what they say.
-use Rattle.std.specs.Prelude.{◌≡◌, codes, Ok, Err, refl}
+use Rattle.std.specs.Prelude.{◌≡◌, codes, Ok, refl}
 use Rattle.numa_core.specs.declared.event.Event.TheVariants as event
 use Rattle.numa_space.specs.declared.command.Command.TheVariants as command
 use Rattle.numa_script.specs.Lines.{line_of, keyword_of, setting_keyword, command_keyword, question_keyword, work_keyword}

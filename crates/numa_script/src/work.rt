@@ -35,11 +35,11 @@ fn request(mut words: Parts) -> Option<Request>
 fn frame(mut words: Parts) -> Option<Frame>
     ensures { result ≡ frame_of words.entry }
 {
-    let of = words.next()?;
-    let number = words.only()?;
+    let node_word = words.next()?;
+    let number_word = words.only()?;
     Some(Frame {
-        node: node(of)?,
-        number: frame_number(number)?,
+        node: node(node_word)?,
+        number: frame_number(number_word)?,
     })
 }
 

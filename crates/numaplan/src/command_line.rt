@@ -5,15 +5,18 @@ use clap::{Command, Error};
 use std::alloc::{AllocError, Global};
 
 /// What the help of the program says.
-const PROGRAM: &str = "Says where Linux would place memory under NUMA memory policies: which nodes a page may come from, in \
+const PROGRAM: &str =
+    "Says where Linux would place memory under NUMA memory policies: which nodes a page may come from, in \
 which order, and which frame each fault gets.";
 
 /// What the help of `run` says in full.
-const RUN: &str = "Answers a script. The script is read from standard input, and its answers are written to standard output: one \
+const RUN: &str =
+    "Answers a script. The script is read from standard input, and its answers are written to standard output: one \
 line for each line of the script, but none for an empty line or a comment, and for `maps` one for each range.";
 
 /// What stands at the end of both helps.
-const MORE: &str = "Example:\n  numaplan run < examples/first-run.numaplan\n\nThe language of scripts is told in docs/SCRIPT.md of \
+const MORE: &str =
+    "Example:\n  numaplan run < examples/first-run.numaplan\n\nThe language of scripts is told in docs/SCRIPT.md of \
 the repository.";
 
 /// The commands that the program knows.

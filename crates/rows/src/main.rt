@@ -10,7 +10,7 @@ use std::{fs, io};
 
 /// The scripts, by the names of their files. Those whose names begin with `example-` are the scripts of the folder
 /// examples/, which the gate compares with these copies.
-const NAMES: [&str; 44] = [
+const NAMES: [&str; 42] = [
     "bad-lines",
     "default-local-and-task",
     "empty-script",
@@ -19,10 +19,8 @@ const NAMES: [&str; 44] = [
     "example-interleaved-range",
     "example-mbind-of-a-part",
     "example-nodes-taken-away",
-    "example-published-versions",
     "example-static-or-relative",
     "example-touch-and-release",
-    "example-two-workers",
     "example-weights",
     "example-why-refused",
     "exhausted",

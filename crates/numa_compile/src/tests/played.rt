@@ -35,7 +35,7 @@ pub(super) enum Step<'a> {
     /// The same question, refused so.
     NoCounts(u64, u64, PlaceRefusal),
     /// How many runs there are.
-    Runs(usize),
+    Runs(u64),
     /// How many commands were accepted.
     Version(u64),
 }
@@ -125,42 +125,71 @@ fn expect_counts(rt: &impl Abort, plan: &Plan, span: (u64, u64), want: (u64, u64
     assert_eq!(rt; counts[1], want.1, "line {line}");
 }
 
+fn expect_list(rt: &impl Abort, plan: &Plan, place: (u32, u64, u32), want: &[u8], line: usize) {
+    let list = plan.choice(place.0, place.1, place.2, &mut Steps::new());
+    assert_eq!(rt; list.expect(rt, "a list"), want, "line {line}");
+}
+
+fn expect_no_list(
+    rt: &impl Abort,
+    plan: &Plan,
+    place: (u32, u64, u32),
+    want: PlaceRefusal,
+    line: usize,
+) {
+    let list = plan.choice(place.0, place.1, place.2, &mut Steps::new());
+    assert_eq!(rt; list.err(), Some(want), "line {line}");
+}
+
+fn expect_no_counts(
+    rt: &impl Abort,
+    plan: &Plan,
+    span: (u64, u64),
+    want: PlaceRefusal,
+    line: usize,
+) {
+    let counts = plan.counts(1, 0, span.0, span.1);
+    assert_eq!(rt; counts.err(), Some(want), "line {line}");
+}
+
+fn expect_number(rt: &impl Abort, found: u64, want: u64, line: usize) {
+    assert_eq!(rt; found, want, "line {line}");
+}
+
 fn ask(rt: &impl Abort, plan: &Plan, step: &Step, line: usize) {
     match step {
         Does(_) => {}
-        List(task, page, cpu, want) => {
-            let list = plan.choice(*task, *page, *cpu, &mut Steps::new());
-            assert_eq!(rt; list.expect(rt, "a list"), *want, "line {line}");
-        }
-        NoList(task, page, cpu, refusal) => {
-            let list = plan.choice(*task, *page, *cpu, &mut Steps::new());
-            assert_eq!(rt; list.err(), Some(*refusal), "line {line}");
+        List(task, page, cpu, want) => expect_list(rt, plan, (*task, *page, *cpu), want, line),
+        NoList(task, page, cpu, want) => {
+            expect_no_list(rt, plan, (*task, *page, *cpu), *want, line)
         }
         Fill(task, first, want) => expect_fill(rt, plan, *task, *first, want, line),
         Counts(first, pages, zero, one) => {
             expect_counts(rt, plan, (*first, *pages), (*zero, *one), line)
         }
-        NoCounts(first, pages, refusal) => {
-            let counts = plan.counts(1, 0, *first, *pages);
-            assert_eq!(rt; counts.err(), Some(*refusal), "line {line}");
-        }
-        Runs(want) => {
-            assert_eq!(rt; plan.run_count(), *want, "line {line}");
-        }
-        Version(want) => {
-            assert_eq!(rt; plan.version(), *want, "line {line}");
-        }
+        NoCounts(first, pages, want) => expect_no_counts(rt, plan, (*first, *pages), *want, line),
+        Runs(want) => expect_number(rt, plan.run_count() as u64, *want, line),
+        Version(want) => expect_number(rt, plan.version(), *want, line),
     }
+}
+
+/// Puts a question to a plan of the space.
+fn answer(rt: &impl Abort, alloc: Global, space: &Space, step: &Step, line: usize) {
+    let plan = compile(alloc, space).expect(rt, "a plan");
+    ask(rt, &plan, step, line);
+}
+
+fn carry_out(rt: &impl Abort, space: &mut Space, asked: &Asked, line: usize) {
+    let command = command_of(rt, asked);
+    assert_eq!(rt; space.apply(&command), Ok(()), "line {line}");
 }
 
 /// Plays an example on a space.
 pub(super) fn play(rt: &impl Abort, alloc: Global, space: &mut Space, steps: &[Step]) {
     for (line, step) in steps.iter().enumerate() {
-        if let Does(asked) = step {
-            assert_eq!(rt; space.apply(&command_of(rt, asked)), Ok(()), "line {line}");
-        } else {
-            let plan = compile(alloc, space).expect(rt, "a plan");
-            ask(rt, &plan, step, line);
+        match step {
+            Does(asked) => carry_out(rt, space, asked, line),
+            _ => answer(rt, alloc, space, step, line),
         }
     }
 }
