@@ -128,6 +128,31 @@ fn versions(rt: HostRuntime) -> Result<(), Fail> {
 }
 
 #[test]
+fn touches(rt: HostRuntime) -> Result<(), Fail> {
+    let mut core = core_of(&rt, rt.alloc(), &[1, 1], 1)?;
+    let steps = [
+        (map(0x10000, 0x3000), Accepted(1)),
+        (task(&rt, 1, 2, &[0]), Accepted(2)),
+        (task(&rt, 2, 5, &[0]), Accepted(3)),
+        (Event::Publish, Published(3)),
+    ];
+    play(&rt, &mut core, &steps);
+    let asked = [
+        (0, 1, 16, Won(3, 0, 0, 0)),
+        (0, 1, 17, Exhausted(3)),
+        (0, 2, 17, Won(3, 1, 0, 1)),
+        (0, 2, 18, Exhausted(3)),
+        (0, 2, 19, Refused(CoreRefusal::Unmapped(3))),
+        (1, 2, 18, Refused(CoreRefusal::NoSuchWorker)),
+    ];
+    for (worker, task, page, want) in asked {
+        let request = Request { task, page, cpu: 0 };
+        assert_eq!(&rt; answer_of(core.touch(worker, request)), want, "page {page}");
+    }
+    Ok(())
+}
+
+#[test]
 fn exhausted(rt: HostRuntime) -> Result<(), Fail> {
     let mut core = core_of(&rt, rt.alloc(), &[1, 1], 1)?;
     let steps = [
