@@ -148,10 +148,6 @@ pub stands-result : (core : CoreState) (world after : World) (w : ℕ) (old new 
 stands-result core world after w old new (Ok reply) ok err at stands = ok refl
 stands-result core world after w old new (Err refusal) ok err at stands = subst (λ ws. CoreStandsFor (record { space = core.space; plan = core.plan; workers = ws; owners = core.owners }) world) (sym (ap (set core.workers w) err ∙ set_back core.workers w old at)) stands
 
-pub refused_same : {X : Type 0} (items : List X) (w : ℕ) (old new : X) (result : Result Reply CoreRefusal) (P : List X → Type 0) → OnErr result (new ≡ old) → slice_get items w ≡ Some old → P items → OnErr result (P (set items w new))
-refused_same items w old new (Ok reply) P err at p = tt
-refused_same items w old new (Err refusal) P err at p = subst P (sym (ap (set items w) err ∙ set_back items w old at)) p
-
 -- ---- refusals
 
 answered : (s : Setup) (world : World) (version : ℕ) (event : Event) (o : Option CoreRefusal) (result : Result Reply CoreRefusal) → refusal_of s world version event ≡ o → result ≡ refused_or o (reply_of s world version event) → IsAnswer s world version event result

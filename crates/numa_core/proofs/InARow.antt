@@ -40,14 +40,8 @@ before-mono frames n (suc m) low = go (eqb_tells n m) (λ lower. before-mono fra
     go (inl e) before = subst (λ i. frames_before frames i + slice_index frames i ≤ frames_before frames m + slice_index frames m) (sym e.1) (omega arith)
     go (inr e) before = let ne : n ≢ m = e.1 in let ih : frames_before frames n + slice_index frames n ≤ frames_before frames m = before (omega arith) in omega arith
 
-pub place-within : (frames : List ℕ) (n k : ℕ) → k < slice_index frames n → frames_before frames n + k < frames_before frames (length frames)
-place-within frames n k low = let all : frames_before frames n + slice_index frames n ≤ frames_before frames (length frames) = before-mono frames n (length frames) (index_within frames n k low) in omega arith
-
 pub place-is : (frames : List ℕ) (n k : ℕ) → k < slice_index frames n → place_in frames n k ≡ Some (frames_before frames n + k)
 place-is frames n k low = rw (is_lt k (slice_index frames n) low) refl
-
-pub place-none : (frames : List ℕ) (n k : ℕ) → slice_index frames n ≤ k → place_in frames n k ≡ None
-place-none frames n k high = rw (not_lt k (slice_index frames n) high) refl
 
 -- ---- building the table
 
@@ -158,11 +152,6 @@ bit_set words place old p within was = with_word (bit_or old (1 * 2 ^ (place % 6
     with_word word is = bit_written words place word p within is
 
 -- ---- the frames of a word of a node
-
--- a place of this stretch
-abbrev pub in_stretch : ℕ → ℕ → Option ℕ → Bool
-in_stretch start end None = false
-in_stretch start end (Some p) = nat_le start p && nat_lt p end
 
 -- each owned frame of a stretch becomes met
 abbrev pub MeetsOwned : ℕ → ℕ → List (Option ℕ) → List ℕ → List ℕ → Type 0

@@ -100,13 +100,6 @@ next-other frames words node frame other = go (eqb_tells node frame.node)
     go (inl e) = absurd (other e.1)
     go (inr e) = rw e.0 refl
 
-pub next-past : (frames words : List ℕ) (node : ℕ) (frame : Frame) → node ≡ frame.node → nat_lt frame.number (slice_index frames frame.node) ≡ false → is_next frames words node frame ≡ false
-next-past frames words node frame same past = subst (λ n. is_next frames words n frame ≡ false) (sym same) (rw past (and_false (frame.node == frame.node)))
-
-pub next-met : (frames words : List ℕ) (node : ℕ) (frame : Frame) → node ≡ frame.node → met_at frames words frame.node frame.number ≡ true → is_next frames words node frame ≡ false
-next-met frames words node frame same is = subst (λ n. is_next frames words n frame ≡ false) (sym same)
-    (ap (λ b. (frame.node == frame.node) && (nat_lt frame.number (slice_index frames frame.node) && not b)) is ∙ ap (λ b. (frame.node == frame.node) && b) (and_false (nat_lt frame.number (slice_index frames frame.node))) ∙ and_false (frame.node == frame.node))
-
 module _ (s : Setup) (frames : List ℕ) (owned : Bool) (frame : Frame) (old new : Seat) (job : Job) (node : ℕ) (same : frames ≡ s.machine.frames) (busy : old.job ≡ Some job) (cursor : IsCursor frames old.nodes.items old.met.items job.at.rank job.at.next) (at : node ≡ slice_index old.nodes.items job.at.rank) where
   current' : current_rank s (hunt_in frames (busy_at job old.nodes.items old.met.items)) ≡ Some job.at.rank
   current' = rank-at s frames (busy_at job old.nodes.items old.met.items) job.at.rank job.at.next same cursor

@@ -20,10 +20,6 @@ use Rattle.numa_core.specs.Standing.{CoreState, CoreStandsFor, Busy, setup_of, h
 use Rattle.numa_core.specs.Seats.{busy_of, busy_by}
 use Rattle.numa_core.specs.Judging.{IsJudged, IsListed}
 
-is_false : (b : Bool) → (b ≡ true → ⊥) → b ≡ false
-is_false true h = absurd (h refl)
-is_false false h = refl
-
 low_false : (a b : ℕ) → b < a → nat_le a b ≡ false
 low_false a b h = grind (arith, nat_tests)
 

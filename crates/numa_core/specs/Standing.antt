@@ -19,10 +19,6 @@ abbrev pub frames_before : List ℕ → ℕ → ℕ
 frames_before frames zero = 0
 frames_before frames (suc n) = frames_before frames n + slice_index frames n
 
--- how many frames the nodes below this one have
-abbrev pub frames_below : Hardware → ℕ → ℕ
-frames_below machine n = frames_before machine.frames n
-
 -- the place of a frame among all frames, node by node
 abbrev pub place_in : List ℕ → ℕ → ℕ → Option ℕ
 place_in frames n k = if nat_lt k (slice_index frames n) then Some (frames_before frames n + k) else None

@@ -5,8 +5,7 @@ use Rattle.std.proofs.lemmas.Bool.{cases_lt, both_ways, or_parts, and_cases, not
 use Rattle.std.proofs.lemmas.List.{get_or_past}
 use Rattle.std.proofs.lemmas.List.Elements.{Contains-get_or}
 use Rattle.numa_mask.specs.NodeSet.{has, members}
-use Rattle.numa_machine.specs.Machine.{table_entry}
-use Rattle.numa_machine.specs.Faults.{some_node, has_bad_count, has_bad_memory, is_bad_distance, has_bad_distance, are_bad_frames, has_bad_frames, machine_fault}
+use Rattle.numa_machine.specs.Faults.{some_node, has_bad_count, has_bad_memory, has_bad_distance, are_bad_frames, has_bad_frames, machine_fault}
 use Rattle.numa_machine.proofs.Rising.{IsIn-from_Contains}
 use Rattle.numa_machine.proofs.Nodes.{none_of_the_nodes, none_of_the_list}
 
@@ -37,9 +36,6 @@ module _ (nodes memory : ℕ) (distances frames : List ℕ) (no_fault : machine_
   pub few_nodes : nodes ≤ 256
   few_nodes = ltb-false 256 nodes count_passed.1
 
-  pub table_size : length distances ≡ nodes * nodes
-  table_size = eqb-true (length distances) (nodes * nodes) count_passed.2
-
   pub frames_size : length frames ≡ nodes
   frames_size = eqb-true (length frames) nodes count_passed.3
 
@@ -53,12 +49,6 @@ module _ (nodes memory : ℕ) (distances frames : List ℕ) (no_fault : machine_
   pub memory_within : All (λ node. node < nodes) (members memory)
   memory_within = λ k d h.
       leb-false nodes (get_or (members memory) k d) (none_of_the_list (λ node. leb nodes node) (members memory) (get_or (members memory) k d) memory_passed.1 (IsIn-from_Contains (members memory) _ (Contains-get_or (members memory) k d h)))
-
-  pub good_distance : (from to : ℕ) → from < nodes → to < nodes → is_bad_distance from to (table_entry nodes distances from to) ≡ false
-  unfolding has_bad_distance
-  good_distance from to h k =
-      none_of_the_nodes nodes (λ other. is_bad_distance from other (table_entry nodes distances from other)) to
-      (none_of_the_nodes nodes (λ node. some_node nodes (λ other. is_bad_distance node other (table_entry nodes distances node other))) from passed.2 h) k
 
   good_frames : (node : ℕ) → node < nodes → are_bad_frames memory node (slice_index frames node) ≡ false
   unfolding has_bad_frames

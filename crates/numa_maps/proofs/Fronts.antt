@@ -1,9 +1,10 @@
-use Rattle.std.proofs.Common.{◌≡◌, ℕ, List, ◌++◌, length, take, drop, Option, ap, sym, ◌∙◌, append_assoc, ◌-◌, Result, Ok, Err, OnErr}
+use Rattle.std.proofs.Common.{◌≡◌, ℕ, List, ◌++◌, length, take, drop, Option, ap, sym, ◌∙◌, append_assoc, ◌-◌}
 use Rattle.std.specs.Io.KnownBytes.{Appends}
 use Rattle.std.proofs.KnownBytes.{Appends-trans}
 use Rattle.std.proofs.lemmas.List.{take-append-drop, take_rest}
 use Rattle.numa_maps.specs.Written.{AppendsFront}
 
+-- a longer front: a first part of what was left has gone too
 pub front_more : (a b c : Option (List ℕ)) (n : ℕ) (bs front rest : List ℕ) → Appends a b front → bs ≡ front ++ rest → Appends b c (take n rest) → (f : List ℕ) × Appends a c f × (bs ≡ f ++ take (length rest - n) (drop n rest))
 front_more a b c n bs front rest h e m = (
   front ++ take n rest,
@@ -19,11 +20,3 @@ front_widen a b xs ys (front, rest, h, e) = (front, rest ++ ys, h, ap (λ l. l +
 pub front_after : (a b c : Option (List ℕ)) (xs ys : List ℕ) → Appends a b xs → AppendsFront b c ys → AppendsFront a c (xs ++ ys)
 front_after a b c xs ys h (front, rest, m, e) =
     (xs ++ front, rest, Appends-trans a b c xs front h m, ap (λ l. xs ++ l) e ∙ sym (append_assoc xs front rest))
-
-pub on_err : {A E : Type 0} (P : Type 0) (r : Result A E) → P → OnErr r P
-on_err P (Ok x) h = tt
-on_err P (Err e) h = h
-
-pub on_err_map : {A E : Type 0} (P Q : Type 0) (r : Result A E) → (P → Q) → OnErr r P → OnErr r Q
-on_err_map P Q (Ok x) f h = tt
-on_err_map P Q (Err e) f h = f h

@@ -1,5 +1,5 @@
 -- Placements in the pages of a range, and on a node.
-use Rattle.std.proofs.Common.{◌≡◌, ℕ, ◌+◌, ◌<◌, ◌^◌, Bool, true, not, ◌&&◌, ◌==◌, cond, List, [], ◌∷◌, Option, length, filter, get_or, set, nat_le, refl, sym, ap, ◌∙◌, arith, inl, inr}
+use Rattle.std.proofs.Common.{◌≡◌, ℕ, ◌+◌, ◌<◌, ◌^◌, Bool, true, not, ◌&&◌, ◌==◌, cond, List, [], ◌∷◌, Option, length, filter, get_or, set, refl, sym, ap, ◌∙◌, arith, inl, inr}
 use Rattle.std.specs.Ordering.{nat_cmp, is_le}
 use Rattle.std.specs.BTreeMap.Range.{entries_between}
 use Rattle.std.specs.declared.ops.Bound.TheVariants.{Included, Excluded}
@@ -14,9 +14,6 @@ use Rattle.numa_ranges.specs.Runs.{in_pages}
 use Rattle.numa_ranges.specs.declared.run.Run.{Run}
 use Rattle.numa_maps.specs.Residents.{Kept}
 use Rattle.numa_maps.specs.Listing.{pages_on, placed_in}
-
-below-same : (a b : ℕ) → is_le (nat_cmp a b) ≡ nat_le a b
-below-same a b = grind (arith, common_steps)
 
 -- what a map has between two pages is what lies in the range
 pub between-is : (kept : Kept) (range : Run (Option PolicyRecord)) → entries_between nat_cmp (Included range.first) (Excluded (range.first + range.pages)) kept ≡ placed_in kept range

@@ -165,7 +165,3 @@ module _ (f : ℕ → ℕ) (cycle : List ℕ) (node : ℕ) where
   rounds_fit pages old top some room =
       let few : counted node (map f cycle) ≤ length cycle = omega (arith, count_by-le-length (λ (x : ℕ). eqb x node) (map f cycle), length-map cycle f) in
       omega (arith, div-add-mod pages (length cycle), mul-le-mul_left (pages / length cycle) few)
-
--- a part counts no more than its places
-pub part_fits : (f : ℕ → ℕ) (part : List ℕ) (node : ℕ) → counted node (map f part) ≤ length part
-part_fits f part node = omega (arith, count_by-le-length (λ (x : ℕ). eqb x node) (map f part), length-map part f)

@@ -1,9 +1,8 @@
 -- Rules whose rows were joined, one behind another.
-use Rattle.std.proofs.Common.{◌≡◌, ℕ, zero, suc, ◌+◌, ◌-◌, ◌*◌, ◌%◌, ◌<◌, ◌≤◌, List, [], ◌∷◌, ◌++◌, length, take, drop, flat_map, get_or, sym, ap, ◌∙◌, arith, length-append, drop-drop, take_at, drop_at, take_all, mul-le-mul_right}
+use Rattle.std.proofs.Common.{◌≡◌, ℕ, zero, suc, ◌+◌, ◌-◌, ◌*◌, ◌<◌, ◌≤◌, List, [], ◌∷◌, ◌++◌, length, take, drop, flat_map, get_or, sym, ap, ◌∙◌, arith, length-append, drop-drop, take_at, drop_at, take_all, mul-le-mul_right}
 use Rattle.std.specs.List.{range_with_len}
-use Rattle.std.proofs.Math.Nat.{mod-lt}
 use Rattle.std.proofs.lemmas.List.FromFn.{length-range_with_len, get_or-range_with_len}
-use Rattle.numa_plan.specs.Rows.{Key, Faulting, Fixed, InTurns, row_at, row_of, HasRow, HasRows}
+use Rattle.numa_plan.specs.Rows.{Key, Faulting, Fixed, row_at, row_of, HasRow, HasRows}
 
 -- ---- lists of one length, one behind another
 
@@ -25,10 +24,6 @@ module _ {X : Type 0} (f : X → List ℕ) (width : ℕ) where
 
 -- ---- the rows of a list of things
 
--- so many numbers in all
-pub length-rows : {X : Type 0} (f : X → List ℕ) (width : ℕ) (xs : List X) → ((k : ℕ) (d : X) → k < length xs → length (f (get_or xs k d)) ≡ width) → length (flat_map f xs) ≡ length xs * width
-length-rows f width xs even = length-joined f width xs even
-
 -- a row, by its number
 pub row_at-joined : {X : Type 0} (f : X → List ℕ) (width : ℕ) (xs : List X) (key : Key) (rows : List ℕ) → rows ≡ flat_map f xs → ((k : ℕ) (d : X) → k < length xs → length (f (get_or xs k d)) ≡ width)
     → (k : ℕ) (d : X) → k < length xs → row_at (record { key = key; width = width; rows = rows }) k ≡ f (get_or xs k d)
@@ -46,11 +41,6 @@ has_row-joined f width xs key rows is even some few k lt =
     let next : suc k * width ≤ length xs * width = mul-le-mul_right width lt in
     record { some = some; few = few; there = omega (arith, all, next) }
 
--- rows that were written down
-pub row_at-rows : (width : ℕ) (lists : List (List ℕ)) (key : Key) (rows : List ℕ) → rows ≡ flat_map (λ row. row) lists → ((k : ℕ) (d : List ℕ) → k < length lists → length (get_or lists k d) ≡ width)
-    → (k : ℕ) → k < length lists → row_at (record { key = key; width = width; rows = rows }) k ≡ get_or lists k []
-row_at-rows width lists key rows is even k lt = row_at-joined (λ row. row) width lists key rows is even k [] lt
-
 -- ---- the rows of the numbers below a count
 
 -- a function of one length
@@ -61,9 +51,6 @@ even-range f width count even k d lt =
     ap (λ n. length (f n)) number ∙ even k short
 
 module _ (f : ℕ → List ℕ) (width count : ℕ) (rows : List ℕ) (is : rows ≡ flat_map f (range_with_len 0 count)) (even : (k : ℕ) → k < count → length (f k) ≡ width) where
-  length_below : length rows ≡ count * width
-  length_below = ap length is ∙ length-joined f width (range_with_len 0 count) (even-range f width count even) ∙ ap (λ n. n * width) (length-range_with_len 0 count)
-
   row_below : (key : Key) (k : ℕ) → k < count → row_at (record { key = key; width = width; rows = rows }) k ≡ f k
   row_below key k lt =
       row_at-joined f width (range_with_len 0 count) key rows is (even-range f width count even) k 0 (omega (arith, length-range_with_len 0 count))
@@ -72,14 +59,7 @@ module _ (f : ℕ → List ℕ) (width count : ℕ) (rows : List ℕ) (is : rows
   there_below : (key : Key) → 0 < width → width ≤ 256 → (k : ℕ) → k < count → HasRow (record { key = key; width = width; rows = rows }) k
   there_below key some few k lt = has_row-joined f width (range_with_len 0 count) key rows is (even-range f width count even) some few k (omega (arith, length-range_with_len 0 count))
 
-pub length-rows_below : (f : ℕ → List ℕ) (width count : ℕ) (rows : List ℕ) → rows ≡ flat_map f (range_with_len 0 count) → ((k : ℕ) → k < count → length (f k) ≡ width) → length rows ≡ count * width
-length-rows_below f width count rows is even = length_below f width count rows is even
-
-pub row_at-below : (f : ℕ → List ℕ) (width count : ℕ) (rows : List ℕ) → rows ≡ flat_map f (range_with_len 0 count) → ((k : ℕ) → k < count → length (f k) ≡ width)
-    → (key : Key) (k : ℕ) → k < count → row_at (record { key = key; width = width; rows = rows }) k ≡ f k
-row_at-below f width count rows is even key k lt = row_below f width count rows is even key k lt
-
--- ---- the three keys
+-- ---- a row for each node, and a single one
 
 -- a row for each faulting node
 pub has_rows-faulting : (f : ℕ → List ℕ) (width nodes : ℕ) (rows : List ℕ) → rows ≡ flat_map f (range_with_len 0 nodes) → ((k : ℕ) → k < nodes → length (f k) ≡ width) → 0 < width → width ≤ 256
@@ -99,14 +79,3 @@ row_of-fixed row cpu index =
     let start : 0 * length row ≡ 0 = omega arith in
     let size : 0 + length row - 0 ≡ length row = omega arith in
     ap (λ n. take (n + length row - n) (drop n row)) start ∙ ap (λ n. take n row) size ∙ take_all (length row) row (omega arith)
-
--- rows in turns
-pub has_rows-in_turns : (f : ℕ → List ℕ) (width count : ℕ) (rows cycle : List ℕ) (nodes : ℕ) → rows ≡ flat_map f (range_with_len 0 count) → ((k : ℕ) → k < count → length (f k) ≡ width) → 0 < width → width ≤ 256
-    → 0 < length cycle → ((turn : ℕ) → turn < length cycle → get_or cycle turn 0 < count) → HasRows nodes (record { key = InTurns cycle; width = width; rows = rows })
-has_rows-in_turns f width count rows cycle nodes is even some few turns below cpu index lt =
-    there_below f width count rows is even (InTurns cycle) some few (get_or cycle (index % length cycle) 0) (below (index % length cycle) (mod-lt index turns))
-
-pub row_of-in_turns : (f : ℕ → List ℕ) (width count : ℕ) (rows cycle : List ℕ) → rows ≡ flat_map f (range_with_len 0 count) → ((k : ℕ) → k < count → length (f k) ≡ width)
-    → 0 < length cycle → ((turn : ℕ) → turn < length cycle → get_or cycle turn 0 < count) → (cpu index : ℕ) → row_of (record { key = InTurns cycle; width = width; rows = rows }) cpu index ≡ f (get_or cycle (index % length cycle) 0)
-row_of-in_turns f width count rows cycle is even turns below cpu index =
-    row_below f width count rows is even (InTurns cycle) (get_or cycle (index % length cycle) 0) (below (index % length cycle) (mod-lt index turns))

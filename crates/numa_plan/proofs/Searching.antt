@@ -42,15 +42,6 @@ spare old new left left' runs some half h =
     doubled p left runs some h = grind (arith, mul-le-mul_left p some)
 
 module _ (runs : List (Run (Option ℕ))) (page : ℕ) where
-  pub narrow_start : IsNarrowed runs page 0 (length runs) 0
-  narrow_start = record {
-    within = omega arith;
-    top = omega arith;
-    before = λ k d low high. absurd (omega arith);
-    after = λ k d low high. absurd (omega arith);
-    lies = λ d some. absurd (omega arith);
-  }
-
   pub narrow_up : (low high far middle far' : ℕ) → AreApart 0 runs → low ≤ middle → middle < high → ((d : Run (Option ℕ)) → (get_or runs middle d).first + far' ≡ page) → IsNarrowed runs page low high far → IsNarrowed runs page (middle + 1) high far'
   narrow_up low high far middle far' apart ge lt lies h = record {
     within = omega arith;

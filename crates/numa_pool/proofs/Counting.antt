@@ -7,16 +7,13 @@ use native.Mathlib.Decide.{dec_le}
 use mathlib.Core.Option.{some, some-ne-none, some-injective}
 use lib.ListN.{get_elem?}
 use Rattle.numa_core.specs.declared.frame.Frame.{Frame}
-use Rattle.numa_pool.specs.Frames.{bit_in, set_below}
+use Rattle.numa_pool.specs.Frames.{bit_in}
 use Rattle.numa_pool.specs.Seats.{Marks, IsAllOf}
 
 pub get_or-of : {A : Type 0} (l : List A) (i : ℕ) (a d : A) → get_elem? l i ≡ some a → get_or l i d ≡ a
 get_or-of [] i a d e = absurd (some-ne-none a (sym e))
 get_or-of (x ∷ xs) zero a d e = some-injective x a e
 get_or-of (x ∷ xs) (suc i) a d e = get_or-of xs i a d e
-
-pub set_below-more : (words : List ℕ) (n k : ℕ) → set_below words n (k + 1) ≡ bit_in words n k + set_below words n k
-set_below-more words n k = let e : k + 1 ≡ suc k = omega arith in ap (set_below words n) e
 
 pub bit_in-of : (words : List ℕ) (n k x : ℕ) → get_elem? words (64 * n + k / 64) ≡ some x → bit_in words n k ≡ bit_at x (k % 64)
 bit_in-of words n k x e = ap (λ y. bit_at y (k % 64)) (get_or-of words (64 * n + k / 64) x 0 e)

@@ -1,6 +1,6 @@
 -- Marks for frames.
-use Rattle.std.proofs.Common.{◌≡◌, ◌≢◌, ℕ, ◌+◌, ◌-◌, ◌*◌, ◌/◌, ◌%◌, ◌^◌, ◌<◌, ◌≤◌, List, [], ◌∷◌, ◌++◌, length, set, get_or, Bool, true, false, refl, sym, ap, ◌∙◌, subst, inl, inr, arith, ne_eqb, replicate}
-use Rattle.std.specs.Prelude.{slice_index, ◌==◌, bit_or, bit_and, min, max}
+use Rattle.std.proofs.Common.{◌≡◌, ℕ, ◌+◌, ◌-◌, ◌*◌, ◌/◌, ◌%◌, ◌^◌, ◌<◌, ◌≤◌, List, [], ◌∷◌, ◌++◌, length, set, get_or, Bool, true, false, refl, sym, ap, ◌∙◌, subst, inl, inr, arith, replicate}
+use Rattle.std.specs.Prelude.{slice_index, bit_or, bit_and, min, max}
 use Rattle.std.specs.Int.{bit_at, bit_not}
 use Rattle.std.proofs.lemmas.List.{get_or-replicate, get_or_past}
 use Rattle.std.proofs.lemmas.Nat.Bits.{bit_at-lt, bit_at-zero, bit_at_or, bit_at_set_same, bit_at_set_other, bit_at_clear_same, bit_at_clear_other}
@@ -12,7 +12,7 @@ use Rattle.numa_pool.specs.Frames.{frame_of, is_frame, one_if, times, bit_in, wi
 use Rattle.numa_pool.specs.Rule.{Counted}
 use Rattle.numa_pool.specs.Seats.{Marks}
 use Rattle.numa_pool.specs.Steps.{newcomer, frame_at}
-use Rattle.numa_pool.proofs.StepLemmas.{Changed, changes, frame_at-is, times_append, times_without-here, times_without-else, times_without-le, and_false, is_frame-same}
+use Rattle.numa_pool.proofs.StepLemmas.{Changed, changes, frame_at-is, times_append, times_without-here, times_without-else, times_without-le, is_frame-same}
 
 frame_here : (n k : ℕ) → k < 4096 → frame_at (64 * n + k / 64) (k % 64) ≡ frame_of n k
 frame_here n k low = let whole : 64 * (k / 64) + k % 64 ≡ k = omega arith in frame_at-is n (k / 64) (k % 64) (omega arith) ∙ ap (frame_of n) whole
@@ -51,21 +51,6 @@ module _ (bits : List ℕ) (m j : ℕ) (fits : 64 * m + 64 ≤ length bits) (num
       by (inl t) = let w : one_if (is_frame (frame_at i b) n k) ≡ 1 = ap one_if t.0 in let s = bit_at_clear_same w64 x b (omega arith) in rw (t.1, t.2, w) (omega arith)
       by (inr t) = let w : one_if (is_frame (frame_at i b) n k) ≡ 0 = ap one_if t.0 in let l = bit_at-lt (slice_index bits (64 * n + k / 64)) (k % 64) in rw (t.1, w) (omega arith)
 
-frame_apart : (f : Frame) (n k : ℕ) → f.number ≢ k → is_frame f n k ≡ false
-frame_apart f n k d = and_false (f.node == n) (f.number == k) (ne_eqb f.number k d)
-
--- the seat wins the frame
-pub marks_one : (width : ℕ) (bits now : List ℕ) (held : List Frame) (f : Frame) → f.number < 4096 → length now ≡ width → ((n k : ℕ) → k < 4096 → bit_in now n k ≡ max (bit_in bits n k) (one_if (is_frame f n k))) → Marks width bits held → Marks width now (f ∷ held)
-marks_one width bits now held f low wide all h = record {
-  words = wide;
-  exact = λ n k l. let a = all n k l in let b = h.exact n k l in rw a (by n k (is_frame f n k) b);
-  low = λ n k l. let w : one_if (is_frame f n k) ≡ 0 = ap one_if (frame_apart f n k (λ e. omega arith)) in let b = h.low n k l in omega arith;
-}
-  where
-    by : (n k : ℕ) (t : Bool) → bit_in bits n k ≡ min 1 (times n k held) → max (bit_in bits n k) (one_if t) ≡ min 1 (one_if t + times n k held)
-    by n k true b = omega arith
-    by n k false b = omega arith
-
 pub marks_without : (width : ℕ) (bits now : List ℕ) (held : List Frame) (f : Frame) → length now ≡ width → ((n k : ℕ) → k < 4096 → bit_in now n k ≡ min (bit_in bits n k) (1 - one_if (is_frame f n k))) → Marks width bits held → Marks width now (without f.node f.number held)
 marks_without width bits now held f wide all h = record {
   words = wide;
@@ -89,9 +74,6 @@ marks_both width bits other now held more wide all h o = record {
 
 none_in : (words : List ℕ) → ((i : ℕ) → slice_index words i ≡ 0) → (n k : ℕ) → bit_in words n k ≡ 0
 none_in words clear n k = ap (λ y. bit_at y (k % 64)) (clear (64 * n + k / 64)) ∙ bit_at-zero (k % 64)
-
-pub marks_none : (width : ℕ) (bits : List ℕ) → length bits ≡ width → ((i : ℕ) → slice_index bits i ≡ 0) → Marks width bits []
-marks_none width bits wide clear = record { words = wide; exact = λ n k l. none_in bits clear n k; low = λ n k l. refl }
 
 pub opens : (frames words : List ℕ) → length words ≡ 64 * length frames → ((i : ℕ) → slice_index words i ≡ 0) → Counted frames words (newcomer ∷ [])
 opens frames words wide clear = record { wide = wide; exact = λ n k l. none_in words clear n k; past = λ n k l. refl }

@@ -67,15 +67,6 @@ module _ {T : Type 0} where
       rw (in_pages-above r.first r.pages page (omega arith))
       (page_at-last (end_of r) runs place page run apart.3 (omega arith) is (λ k d low high. before (suc k) d (omega arith) (omega arith)) (λ k d low high. after (suc k) d (omega arith) (omega arith)))
 
-  -- what a search by the first pages finds
-  pub page_at-found : (runs : List (Run T)) (count page : ℕ) (run : Run T) → AreApart 0 runs → count ≤ length runs → StartsAround runs count page → (count ≡ 0 → ⊥) → run ≡ get_or runs (count - 1) run → page - run.first < run.pages → Some (run.index + (page - run.first), run.value) ≡ page_at runs page
-  page_at-found runs count page run apart within parts some is short =
-      let low : (get_or runs (count - 1) run).first ≤ page = parts.0 (count - 1) run (omega arith) (omega arith) in
-      let low' : run.first ≤ page = subst (λ (r : Run T). r.first ≤ page) (sym is) low in
-      let inside : in_pages run.first run.pages page ≡ true = in_pages-true run.first run.pages page low' (omega arith) in
-      let last = page_at-last 0 runs (count - 1) page run apart (omega arith) is (λ k d low high. parts.0 k d low (omega arith)) (λ k d low high. parts.1 k d (omega arith) high) in
-      sym (last ∙ ap (λ b. if b then Some (run.index + (page - run.first), run.value) else None) inside)
-
   pub page_at-missed : (runs : List (Run T)) (count page : ℕ) (run : Run T) → AreApart 0 runs → count ≤ length runs → StartsAround runs count page → (count ≡ 0 → ⊥) → run ≡ get_or runs (count - 1) run → run.pages ≤ page - run.first → None ≡ page_at runs page
   page_at-missed runs count page run apart within parts some is long =
       let low : (get_or runs (count - 1) run).first ≤ page = parts.0 (count - 1) run (omega arith) (omega arith) in

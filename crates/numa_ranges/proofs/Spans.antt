@@ -14,7 +14,6 @@ use Rattle.numa_ranges.specs.Maps.{IsRefusal, changed_page, changed_span, withou
 use Rattle.numa_ranges.specs.Edits.{IsInRange, edited, joined, edited_span, edited_page}
 use Rattle.numa_ranges.specs.declared.run.Run.{Run}
 use Rattle.numa_ranges.proofs.Apart.{apart-bounds}
-use Rattle.numa_ranges.proofs.Cut.{page_at-edited, apart-edited}
 use Rattle.numa_ranges.proofs.Joined.{page_at-joined, apart-joined, maximal-joined}
 use Rattle.numa_ranges.proofs.Counted.{range_count-length}
 
@@ -44,10 +43,6 @@ module _ {T : Type 0} (same : T → T → Bool) (exact : (a b : T) → same a b 
   count-joined runs at apart says =
       let whole : page_at (joined same runs) ≡ at = λ i page. (page_at-joined-all runs page ∙ says page) i in
       ap (range_count same) (sym whole) ∙ range_count-length same exact itself (joined same runs) (apart-joined-all runs apart) (maximal-joined-all runs)
-
-  pub count-edited : (runs : List (Run T)) (first pages : ℕ) (edit : T → Option T) → AreApart 0 runs → range_count same (edited_span first pages edit (page_at runs)) ≡ length (joined same (edited first (first + pages) edit runs))
-  count-edited runs first pages edit apart =
-      count-joined (edited first (first + pages) edit runs) (edited_span first pages edit (page_at runs)) (apart-edited 0 first (first + pages) edit runs (omega arith) apart) (λ page. page_at-edited 0 first pages edit runs page apart)
 
   -- what an edit of a span has to show where it is accepted
   pub record Stands (runs new : List (Run T)) (at : ℕ → Option (ℕ × T)) (limit : ℕ) : Type 0 where

@@ -72,14 +72,6 @@ module _ {T : Type 0} where
   Each-take-le P (suc m) (suc n) [] le all = tt
   Each-take-le P (suc m) (suc n) (run ∷ runs) le all = (all.0, Each-take-le P m n runs (omega arith) all.1)
 
-  pub Each-drop-le : (P : Run T → Type 0) (m n : ℕ) (runs : List (Run T)) → m ≤ n → Each P (drop m runs) → Each P (drop n runs)
-  Each-drop-le P zero zero runs le all = all
-  Each-drop-le P zero (suc n) [] le all = tt
-  Each-drop-le P zero (suc n) (run ∷ runs) le all = Each-drop-le P zero n runs (omega arith) all.1
-  Each-drop-le P (suc m) zero runs le all = absurd (omega arith)
-  Each-drop-le P (suc m) (suc n) [] le all = tt
-  Each-drop-le P (suc m) (suc n) (run ∷ runs) le all = Each-drop-le P m n runs (omega arith) all
-
   pub length-splice : (runs new : List (Run T)) (from to : ℕ) → from ≤ to → to ≤ length runs → length (splice runs from to new) ≡ length runs - (to - from) + length new
   length-splice runs new from to le within =
       simp (length-append, length-append, length-take, length-drop) (omega arith)

@@ -16,7 +16,7 @@ use Rattle.numa_core.specs.declared.event.Event.{Event}
 use Rattle.numa_core.specs.declared.event.Event.TheVariants.{Give}
 use Rattle.numa_core.specs.declared.event.Reply.{Reply as CoreReply}
 use Rattle.numa_core.specs.declared.event.CoreRefusal.{CoreRefusal}
-use Rattle.numa_core.specs.declared.event.CoreRefusal.TheVariants.{NotOwned, NoMemory}
+use Rattle.numa_core.specs.declared.event.CoreRefusal.TheVariants.{NoMemory}
 use Rattle.numa_maps.specs.Residents.{Kept, placed_at, with_placement, without_page}
 use Rattle.numa_run.specs.States.{State, setup_with}
 use Rattle.numa_run.specs.Standing.{RunsAs, Does, state_with}
@@ -178,15 +178,6 @@ touches-won old mid new w request answer placement said touches same plan reside
     )
 
 -- ---- release
-
-pub releases-none : (old : Running) (w page : ℕ) → placed_at old.resident page ≡ None
-    → Does old (reply.Refused NotOwned) old (λ refused state. release_outcome refused (setup_of old.core) state.world state.resident w page)
-releases-none old w page free =
-    λ state stands.
-    let none : placed_at state.resident page ≡ None = subst (λ (kept : Kept). placed_at kept page ≡ None) stands.resident free in
-    let out : release_by false (setup_of old.core) None state.world state.resident w page ≡ release_outcome false (setup_of old.core) state.world state.resident w page =
-    ap (λ o. release_by false (setup_of old.core) o state.world state.resident w page) (sym none) in
-    (false, ap (λ o. o.reply) out, subst (λ o. RunsAs old (state_with state o)) out stands)
 
 pub releases : (old new : Running) (w page : ℕ) (placement : Placement) (answer : Result CoreReply CoreRefusal) → Steps old.core (Give w placement.frame) answer new.core → setup_of new.core ≡ setup_of old.core
     → new.plan ≡ old.plan → placed_at old.resident page ≡ Some placement → new.resident ≡ (if is_ok answer then without_page old.resident page else old.resident)

@@ -5,16 +5,12 @@ use Rattle.std.proofs.lemmas.List.{append-nil}
 use Rattle.std.proofs.KnownBytes.{Appends-trans}
 use Rattle.std.specs.Io.KnownBytes.{Appends}
 use Rattle.numa_script.specs.Written.{Says, Adds, StillSays, AppendsFront}
-use Rattle.numa_script.proofs.Fronts.{front_widen, front_after}
+use Rattle.numa_maps.proofs.Fronts.{front_widen, front_after}
 
 -- two texts
 pub adds_both : (old mid new : Option (List ℕ)) (f g h : Bool) (held then last : List ℕ) (xs ys : List ℕ) → Adds old f held mid g then xs → Adds mid g then new h last ys → Adds old f held new h last (xs ++ ys)
 adds_both old mid new f g h held then last xs ys first second start said is =
     subst (Says start new h last) (append_assoc said xs ys) (second start (said ++ xs) (first start said is))
-
--- a text, and then no more
-pub adds_still : (old mid new : Option (List ℕ)) (f g h : Bool) (held then last : List ℕ) (xs : List ℕ) → Adds old f held mid g then xs → StillSays mid g then new h last → Adds old f held new h last xs
-adds_still old mid new f g h held then last xs first second start said is = second start (said ++ xs) (first start said is)
 
 -- nothing
 pub adds_nothing : (old : Option (List ℕ)) (f : Bool) (held : List ℕ) → Adds old f held old f held []

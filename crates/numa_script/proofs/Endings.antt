@@ -10,7 +10,7 @@ use Rattle.numa_script.specs.Output.{answers, output_of}
 use Rattle.numa_script.specs.Session.{Session, among}
 use Rattle.numa_script.specs.Split.{lines_of, ended, open_line}
 use Rattle.numa_script.specs.Written.{Says, AppendsFront}
-use Rattle.numa_script.proofs.Fronts.{front_widen}
+use Rattle.numa_maps.proofs.Fronts.{front_widen}
 use Rattle.numa_script.proofs.Splitting.{ended_all, ended_feed}
 
 says_all : (from now : Option (List ℕ)) (failed : Bool) (held said : List ℕ) → failed ≡ false → held ≡ [] → Says from now failed held said → Appends from now said
@@ -38,11 +38,6 @@ module _ {State : Type 0} (answer_of : Bool → State → Line → List ℕ) (af
       Session answer_of after start stands from now failed held line (front ++ 10 ∷ []) → (refused : ℕ → Bool) × Appends from now (output_of answer_of after start refused script)
   all_written from now failed held line front script is well none session =
       (among session.flags, subst (Appends from now) (ap (answers answer_of after (among session.flags) start) (ended_all front ∙ ap lines_of (sym is))) (says_all from now failed held _ well none session.says))
-
-  -- what had ended was written
-  pub ended_written : (from now : Option (List ℕ)) (failed : Bool) (held line : List ℕ) (front : List ℕ) → failed ≡ false → held ≡ [] →
-      Session answer_of after start stands from now failed held line front → (refused : ℕ → Bool) × Appends from now (answers answer_of after refused start (ended front))
-  ended_written from now failed held line front well none session = (among session.flags, says_all from now failed held _ well none session.says)
 
   -- a write failed at the end
   pub front_written : (from now : Option (List ℕ)) (failed : Bool) (held line : List ℕ) (front script : List ℕ) → script ≡ front → failed ≡ true →

@@ -2,7 +2,6 @@ pub mod Adding
 pub mod Answering
 pub mod Eaches
 pub mod Endings
-pub mod Fronts
 pub mod Numerals
 pub mod Saturates
 pub mod Saying

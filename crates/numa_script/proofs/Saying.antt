@@ -11,11 +11,6 @@ pub says_more : (from now : Option (List ℕ)) (failed : Bool) (held said text :
 says_more from now true held said text (front, rest, h, e) = (front, rest ++ text, h, ap (λ l. l ++ text) e ∙ append_assoc front rest text)
 says_more from now false held said text (sent, h, e) = (sent, h, ap (λ l. l ++ text) e ∙ append_assoc sent held text)
 
--- what is held doesn't matter once a write has failed
-pub says_failed : (from now : Option (List ℕ)) (failed : Bool) (held other said : List ℕ) → failed ≡ true → Says from now failed held said → Says from now failed other said
-says_failed from now true held other said e h = h
-says_failed from now false held other said e h = cc
-
 -- what is held is put
 pub says_flushed : {E : Type 0} (from old new : Option (List ℕ)) (before after : Bool) (held said : List ℕ) (r : Result (Unit {0}) E) → before ≡ false →
     OnOk r (Appends old new held) → OnErr r (AppendsFront old new held) → OnOk r (after ≡ before) → OnErr r (after ≡ true) → Says from old before held said → Says from new after [] said

@@ -7,7 +7,7 @@ use Rattle.numa_script.specs.declared.line.Line.{Line}
 use Rattle.numa_script.specs.Output.{answers, state_after}
 use Rattle.numa_script.specs.Session.{Session, among, saturated}
 use Rattle.numa_script.specs.Split.{ended, open_line}
-use Rattle.numa_script.specs.Written.{Says, Adds, StillSays}
+use Rattle.numa_script.specs.Written.{Says, Adds}
 use Rattle.numa_script.proofs.Answering.{answers_more, state_more}
 use Rattle.numa_script.proofs.Saturates.{line_of_saturated}
 use Rattle.numa_script.proofs.Splitting.{ended_feed, open_feed, ended_hold, open_hold, ended_nil, open_nil}
@@ -67,15 +67,3 @@ module _ {State : Type 0} (answer_of : Bool → State → Line → List ℕ) (af
         reached = subst (λ ls. stands (state_after answer_of after (among session.flags) start ls)) (sym same) session.reached;
         line_is = holds (open_line front) session.line_is ∙ ap saturated (sym (open_hold front b other));
       }
-
-  -- what is held was handed over
-  pub session_says : (stands : State → Type 0) (from now then : Option (List ℕ)) (failed failed_then : Bool) (held held_then line : List ℕ) (front : List ℕ) →
-      StillSays now failed held then failed_then held_then →
-      Session answer_of after start stands from now failed held line front → Session answer_of after start stands from then failed_then held_then line front
-  session_says stands from now then failed failed_then held held_then line front still session = record {
-    flags = session.flags;
-    count = session.count;
-    says = still from _ session.says;
-    reached = session.reached;
-    line_is = session.line_is;
-  }

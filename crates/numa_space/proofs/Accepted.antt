@@ -5,11 +5,9 @@ use Rattle.numa_machine.specs.Machine.{Hardware}
 use Rattle.numa_space.specs.Limited.{Bounds}
 use Rattle.numa_space.specs.Refusals.{refusal_of}
 use Rattle.numa_space.specs.Standing.{SpaceState, StandsFor, accepted_of}
-use Rattle.numa_space.specs.Steps.{IsAnswer}
 use Rattle.numa_space.specs.declared.command.Command.{Command}
 use Rattle.numa_space.specs.declared.refusal.Refusal.{Refusal}
 use Rattle.numa_space.specs.declared.refusal.Refusal.TheVariants.{NoMemory}
-use Rattle.numa_space.proofs.Answers.{answer-ok, answer-err, answer-unchanged}
 
 -- the history after one command more, which is refused where it is said to want memory
 abbrev pub accepted_one : Hardware → Bounds → List Command → Command → Bool → List Command
@@ -23,11 +21,6 @@ accepted_of-more machine bounds [] (w ∷ starved) history command want same = a
 accepted_of-more machine bounds (c ∷ commands) [] history command want same = absurd (omega arith)
 accepted_of-more machine bounds (c ∷ commands) (w ∷ starved) history command want same =
     accepted_of-more machine bounds commands starved (accepted_one machine bounds history c w) command want (omega arith)
-
--- the same, where no command wanted memory
-pub accepted_of-more_fed : (machine : Hardware) (bounds : Bounds) (commands history : List Command) (command : Command) → accepted_of machine bounds (commands ++ command ∷ []) [] history ≡ accepted_one machine bounds (accepted_of machine bounds commands [] history) command false
-accepted_of-more_fed machine bounds [] history command = refl
-accepted_of-more_fed machine bounds (c ∷ commands) history command = accepted_of-more_fed machine bounds commands (accepted_one machine bounds history c false) command
 
 -- what one command more makes of the history, by its answer
 pub accepted_one-ok : (machine : Hardware) (bounds : Bounds) (history : List Command) (command : Command) → refusal_of machine bounds history command ≡ None → accepted_one machine bounds history command false ≡ command ∷ history
@@ -57,8 +50,3 @@ accepted_one-applied old new history command (Err refusal) stands ok err kept =
     go : (o : Option Refusal) → refusal_of old.machine old.bounds history command ≡ o → (refusal : Refusal) → MatchOption o (refusal ≡ NoMemory) (λ first. refusal ≡ first) → accepted_one old.machine old.bounds history command (wanted_memory (Err refusal)) ≡ history
     go None e refusal h = ap (λ r. accepted_one old.machine old.bounds history command (wanted_memory (Err r))) h
     go (Some first) e refusal h = accepted_one-refused old.machine old.bounds history command (wanted_memory (Err refusal)) (ap (λ o. is_some o) e)
-
--- the same from what a command answers
-pub accepted_one-answered : (old new : SpaceState) (history : List Command) (command : Command) (result : Result (Unit {0}) Refusal) → StandsFor old history → IsAnswer old command result new → StandsFor new (accepted_one old.machine old.bounds history command (wanted_memory result))
-accepted_one-answered old new history command result stands answer =
-    accepted_one-applied old new history command result stands (answer-ok old new history command result stands answer) (answer-err old new history command result stands answer) (answer-unchanged old new command result answer)

@@ -2,20 +2,17 @@
 use Rattle.std.proofs.Common.{◌≡◌, ◌<◌, ◌+◌, ◌-◌, ℕ, Bool, true, false, not, ◌&&◌, Option, Some, None, is_some, Result, Ok, Err, List, [], ◌∷◌, length, refl, ap, ◌∙◌, subst, arith}
 use Rattle.std.specs.Prelude.{if◌then◌else◌, nat_le, ◌==◌}
 use Rattle.std.proofs.lemmas.Bool.{lt-leb}
-use Rattle.std.specs.List.{list_any}
-use Rattle.numa_mask.specs.NodeSet.{both, members}
 use Rattle.numa_mode.specs.Policy.{Specification, PolicyRecord, is_default, record_when_set}
 use Rattle.numa_ranges.specs.Runs.{page_at}
-use Rattle.numa_ranges.specs.Maps.{any_page, changed_span, changed_page}
+use Rattle.numa_ranges.specs.Maps.{any_page, changed_span}
 use Rattle.numa_ranges.specs.declared.run.Run.{Run}
-use Rattle.numa_space.specs.declared.command.Command.TheVariants.{Mbind, SetTask, SetMems}
+use Rattle.numa_space.specs.declared.command.Command.TheVariants.{Mbind, SetTask}
 use Rattle.numa_space.specs.declared.refusal.Refusal.{Refusal}
-use Rattle.numa_space.specs.declared.refusal.Refusal.TheVariants.{NoMemory, NoSuchNode, NodesNotAllowed}
 use Rattle.numa_space.specs.Edits.{PageRanges, IsEdit, hole_cause, too_many}
 use Rattle.numa_space.specs.History.{page_of, page_count}
 use Rattle.numa_space.specs.Refusals.{PageMap, bad_span, first_of, has_no_node, refusal_in}
 use Rattle.numa_space.specs.Standing.{SpaceState, record_of}
-use Rattle.numa_space.specs.Steps.{IsAnswer, IsNext, scene_in, record_now, rebound}
+use Rattle.numa_space.specs.Steps.{IsAnswer, IsNext, scene_in, record_now}
 
 -- ---- an Mbind
 
@@ -120,34 +117,3 @@ module _ (old : SpaceState) (task : ℕ) (spec : Specification) (room : old.vers
       counted : (r : Option PolicyRecord) → record_of old.tasks task ≡ r → length old.tasks + (if is_some r then 0 else 1) ≡ (length old.tasks - (if is_some r then 1 else 0)) + 1
       counted None e = omega arith
       counted (Some r) e = omega (arith, held old.tasks (ap is_some e))
-
-  pub starved-answer : (policy : PolicyRecord) → Some policy ≡ record_now old.allowed spec
-      → (not (is_some (record_of old.tasks task)) && nat_le old.bounds.max_tasks (length old.tasks)) ≡ false
-      → IsAnswer old (SetTask task spec) (Err NoMemory) old
-  starved-answer policy some place = rw (set-cause policy some place) (refl, refl)
-
--- ---- the allowed nodes
-
-module _ (old : SpaceState) (mask : ℕ) (room : old.version < old.bounds.max_commands) where
-  pub mems-no_node : list_any (λ node. nat_le old.machine.nodes node) (members mask) ≡ true → IsAnswer old (SetMems mask) (Err NoSuchNode) old
-  mems-no_node above = rw (lt-leb old.bounds.max_commands old.version room, above) (refl, refl)
-
-  pub mems-not_allowed : list_any (λ node. nat_le old.machine.nodes node) (members mask) ≡ false → (both mask old.machine.memory == 0) ≡ true → IsAnswer old (SetMems mask) (Err NodesNotAllowed) old
-  mems-not_allowed within none = rw (lt-leb old.bounds.max_commands old.version room, within, none) (refl, refl)
-
-  pub mems-answer : (runs : List (Run (Option PolicyRecord))) (tasks : List (ℕ × PolicyRecord))
-      → list_any (λ node. nat_le old.machine.nodes node) (members mask) ≡ false → (both mask old.machine.memory == 0) ≡ false
-      → ((page : ℕ) → page_at runs page ≡ changed_page (rebound old.allowed (both mask old.machine.memory)) (page_at old.ranges page))
-      → ((task : ℕ) → record_of tasks task ≡ rebound old.allowed (both mask old.machine.memory) (record_of old.tasks task))
-      → length tasks ≡ length old.tasks
-      → IsAnswer old (SetMems mask) (Ok tt) (record old { ranges = runs; tasks = tasks; allowed = both mask old.machine.memory; version = old.version + 1 })
-  mems-answer runs tasks within some pages records count = rw (lt-leb old.bounds.max_commands old.version room, within, some) (record {
-    machine = refl;
-    bounds = refl;
-    version = refl;
-    allowed = refl;
-    pages = pages;
-    tasks = records;
-    task_count = count;
-    weights = λ n. refl;
-  })

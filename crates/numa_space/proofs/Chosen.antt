@@ -1,9 +1,9 @@
 -- The nodes of an order that pass a test, one by one, and the nodes that a set's turns choose.
-use Rattle.std.proofs.Common.{zero, suc, slice_get, slice_index, Some, ◌≡◌, ◌<◌, ◌+◌, ◌%◌, ℕ, Bool, true, List, [], ◌∷◌, ◌++◌, length, get_or, drop, filter, drop-cons, add-one, length-append, refl, ap, ◌∙◌, arith}
+use Rattle.std.proofs.Common.{zero, suc, slice_get, slice_index, Some, ◌≡◌, ◌<◌, ◌+◌, ℕ, Bool, true, List, [], ◌∷◌, ◌++◌, length, get_or, drop, filter, drop-cons, add-one, length-append, refl, ap, ◌∙◌, arith}
 use Rattle.std.proofs.lemmas.List.Elements.{All-contains}
-use Rattle.numa_mask.specs.NodeSet.{has, members, weight_of}
+use Rattle.numa_mask.specs.NodeSet.{has, members}
 use Rattle.numa_mask.proofs.Sets.{members-have}
-use Rattle.numa_machine.specs.Weights.{interleave_node, total_weight, weighted_node}
+use Rattle.numa_machine.specs.Weights.{total_weight, weighted_node}
 use Rattle.numa_machine.proofs.Blocks.{IsWeightedNode-weighted_node}
 
 -- a list that the rest of an order is appended to is shorter than the whole, where the next node passes
@@ -15,10 +15,6 @@ room-next p items all order k within passes whole =
   where
     kept : (x : ℕ) (xs : List ℕ) → p x ≡ true → filter p (x ∷ xs) ≡ x ∷ filter p xs
     kept x xs t = rw t refl
-
-pub interleave-has : (set index : ℕ) → 0 < weight_of set → has set (interleave_node set index) ≡ true
-unfolding interleave_node
-interleave-has set index some = members-have set (index % weight_of set) 0 (omega arith)
 
 pub weighted-has : (weight : ℕ → ℕ) (set index : ℕ) → 0 < total_weight weight set → has set (weighted_node weight set index) ≡ true
 weighted-has weight set index some = All-contains (λ node. has set node ≡ true) (members set) (weighted_node weight set index) (members-have set) (IsWeightedNode-weighted_node weight set index some).member

@@ -6,7 +6,6 @@ use Rattle.numa_mode.specs.declared.modes.Mode.{Mode}
 use Rattle.numa_mode.specs.declared.modes.Mode.TheVariants.{Default, Preferred, Bind, Interleave, Local, PreferredMany, WeightedInterleave}
 use Rattle.numa_mode.specs.declared.modes.NodeFlag.{NodeFlag}
 use Rattle.numa_mode.specs.declared.modes.NodeFlag.TheVariants.{Plain, Static, Relative}
-use Rattle.numa_ranges.specs.Counts.{range_count}
 use Rattle.numa_space.specs.Same.{mode_number, same_flag, same_home, same_specification, same_record}
 
 mode_numbered-number : (mode : Mode) → mode_numbered (mode_number mode) ≡ Some mode
@@ -79,10 +78,3 @@ module _ {T : Type 0} (f g : T → T → Bool) (f-exact : (a b : T) → f a b �
         | inl t ↦ t ∙ sym (ap (g a) (sym (f-exact a b t)) ∙ g-refl a)
         | inr n ↦ n ∙ sym (false_from_ne_true (g a b) (λ t. both_ways (f a b) n (ap (f a) (sym (g-exact a b t)) ∙ f-refl a)))
       ]
-
-  pub range_count-agree : (at : ℕ → Option (ℕ × T)) → range_count f at ≡ range_count g at
-  range_count-agree at = ap (λ (same : T → T → Bool). range_count same at) (λ i a b. tests-agree a b i)
-
--- a test of records that is true of equal records alone counts the ranges
-pub range_count-exact : (same : Option PolicyRecord → Option PolicyRecord → Bool) → ((a b : Option PolicyRecord) → same a b ≡ true → a ≡ b) → ((a : Option PolicyRecord) → same a a ≡ true) → (at : ℕ → Option (ℕ × Option PolicyRecord)) → range_count same at ≡ range_count same_record at
-range_count-exact same exact itself at = range_count-agree same same_record exact itself same_record-exact same_record-refl at
