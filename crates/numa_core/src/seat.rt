@@ -84,7 +84,9 @@ fn take_row(nodes: &mut ArrayVec<u8, 256>, row: &[u8])
     ensures { nodes.new.items ≡ row.now }
 {
     nodes.clear();
-    let _fits = nodes.try_extend_from_slice(row);
+    let Ok(()) = nodes.try_extend_from_slice(row) else {
+        unreachable!()
+    };
 }
 
 impl Seat {

@@ -134,10 +134,11 @@ impl State {
         ensures owner { (n k : ℕ) → owner_at self.new.owners.items (place_in self.old.places n k) ≡ put_frame (λ n k. owner_at self.old.owners.items (place_in self.old.places n k)) frame (Some worker) n k }
         ensures others { self.new ≡ record self.old { owners = self.new.owners; taken = self.new.taken } }
     {
-        if let Some(place) = self.places.place(frame.node, frame.number) {
-            self.owners[place as usize] = Some(worker as u8);
-            self.taken[frame.node as usize] = frame.number as u32 + 1;
-        }
+        let Some(place) = self.places.place(frame.node, frame.number) else {
+            unreachable!()
+        };
+        self.owners[place as usize] = Some(worker as u8);
+        self.taken[frame.node as usize] = frame.number as u32 + 1;
     }
 }
 

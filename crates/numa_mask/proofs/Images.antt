@@ -3,11 +3,14 @@ use Rattle.std.proofs.Common.{◌≡◌, ℕ, zero, suc, ◌%◌, ◌^◌, ◌<�
 use Rattle.std.proofs.lemmas.Bool.{cases_lt, cases_eq, ne_eqb}
 use Rattle.std.specs.Int.{bit_at}
 use Rattle.std.specs.List.{filter_map, cons_option, list_any}
-use Rattle.std.proofs.lemmas.List.Elements.{All-cons, All-map, All-contains}
+use Rattle.std.proofs.lemmas.List.Elements.{All-cons, All-map, All-head, All-tail, All-contains}
 use Rattle.std.proofs.lemmas.Nat.Bits.{bit_at-zero, bit_at-lt, bit_at_or, bit_at_and, bit_at-pow_same, bit_at-pow_other, bit_at_above, same_from_bits}
+use Rattle.std.proofs.lemmas.Nat.{or_lt, pow_below}
+use Rattle.std.proofs.Math.Nat.{mod-le}
+use Rattle.std.proofs.lemmas.List.{length-map}
 use Rattle.numa_mask.specs.NodeSet.{has, members, weight_of, nth_member, ordinal_of, with_node, set_of, both, fold_set, onto_set, moved, remap_set}
-use Rattle.numa_mask.proofs.Sets.{contains-has, members-have, members-few}
-use Rattle.numa_mask.proofs.Ordinals.{nth-has}
+use Rattle.numa_mask.proofs.Sets.{contains-has, members-have, members-below, members-few}
+use Rattle.numa_mask.proofs.Ordinals.{nth-has, nth-within, nth-some}
 
 -- ---- one node at a time
 
@@ -103,6 +106,14 @@ set_of-contains nodes node h = any-contains nodes node (sym (has-set_of nodes no
 pub contains-set_of : (nodes : List ℕ) (node : ℕ) → Contains nodes node → has (set_of nodes) node ≡ true
 contains-set_of nodes node c = has-set_of nodes node ∙ contains-any nodes node c.0 c.1 c.2
 
+fold-below : (set : ℕ) (nodes : List ℕ) → set < 2 ^ 256 → All (λ m. m < 256) nodes → fold with_node set nodes < 2 ^ 256
+fold-below set [] h a = h
+fold-below set (m ∷ nodes) h a =
+    fold-below (with_node set m) nodes (or_lt 256 set (2 ^ m) h (pow_below m 256 (All-head (λ x. x < 256) m nodes a))) (All-tail (λ x. x < 256) m nodes a)
+
+pub set_of-below : (nodes : List ℕ) → All (λ m. m < 256) nodes → set_of nodes < 2 ^ 256
+set_of-below nodes a = fold-below 0 nodes (omega arith) a
+
 -- sets that hold one another's members are one
 pub same_members : (set other : ℕ) → ((node : ℕ) → has set node ≡ true → has other node ≡ true) → ((node : ℕ) → has other node ≡ true → has set node ≡ true) → set ≡ other
 same_members set other into from = same_set set other (λ node. elim (has set node) as (λ b. has set node ≡ b → b ≡ has other node) [
@@ -135,12 +146,20 @@ onto-within set other node h =
     (all_images (λ m. has other m ≡ true) (nth_member other) (members set) (λ m image e. nth-has other m image e))
     (set_of-contains (filter_map (nth_member other) (members set)) node h)
 
+pub onto-below : (set other : ℕ) → onto_set set other < 2 ^ 256
+onto-below set other = set_of-below (filter_map (nth_member other) (members set)) (all_images (λ m. m < 256) (nth_member other) (members set) (λ m image e. (nth-within other m image e).1))
+
 -- a folded set has only nodes below the size
 pub fold-within : (set size node : ℕ) → 1 ≤ size → has (fold_set set size) node ≡ true → node < size
 fold-within set size node h t =
     All-contains (λ m. m < size) (map (λ m. m % size) (members set)) node
     (All-map (λ m. m < size) (λ m. m % size) (members set) (λ k d l. omega arith))
     (set_of-contains (map (λ m. m % size) (members set)) node t)
+
+pub fold-small : (set size : ℕ) → 1 ≤ size → fold_set set size < 2 ^ 256
+fold-small set size h =
+    set_of-below (map (λ m. m % size) (members set))
+    (All-map (λ m. m < 256) (λ m. m % size) (members set) (λ k d l. let small : get_or (members set) k d < 256 = members-below set k d l in let shrinks : get_or (members set) k d % size ≤ get_or (members set) k d = mod-le (get_or (members set) k d) size in omega arith))
 
 pub members-some : (set : ℕ) → set < 2 ^ 256 → (set ≡ 0 → ⊥) → 0 < length (members set)
 members-some set h some = of (members set) refl
@@ -161,12 +180,30 @@ moved-has old new node h some t =
     let within : ordinal_of old node % weight_of new < weight_of new = omega arith in
     ap (has new) at ∙ members-have new (ordinal_of old node % weight_of new) 0 within
 
+pub moved-below : (old new node : ℕ) → new < 2 ^ 256 → node < 256 → moved old new node < 256
+moved-below old new node h l =
+    elim (has old node && not (eqb new 0)) as (λ b. (has old node && not (eqb new 0)) ≡ b → cond b (slice_index (members new) (ordinal_of old node % weight_of new)) node < 256) [
+      | true ↦ λ (t : (has old node && not (eqb new 0)) ≡ true).
+          let some : new ≡ 0 → ⊥ = λ none. and_not (has old node) new none t in
+          let positive : 0 < weight_of new = weight-some new h some in
+          members-below new (ordinal_of old node % weight_of new) 0 (omega arith)
+      | false ↦ λ (f : (has old node && not (eqb new 0)) ≡ false). l
+    ] refl
+  where
+    and_not : (b : Bool) (n : ℕ) → n ≡ 0 → (b && not (eqb n 0)) ≡ true → ⊥
+    and_not true n e t = let odd : false ≡ true = sym (ap not (eq-eqb n 0 e)) ∙ t in cc
+    and_not false n e t = cc
+
 -- a set inside old goes into new
 pub remap-within : (set old new node : ℕ) → new < 2 ^ 256 → (new ≡ 0 → ⊥) → ((m : ℕ) → has set m ≡ true → has old m ≡ true) → has (remap_set set old new) node ≡ true → has new node ≡ true
 remap-within set old new node h some inside t =
     All-contains (λ m. has new m ≡ true) (map (moved old new) (members set)) node
     (All-map (λ m. has new m ≡ true) (moved old new) (members set) (λ k d l. moved-has old new (get_or (members set) k d) h some (inside (get_or (members set) k d) (members-have set k d l))))
     (set_of-contains (map (moved old new) (members set)) node t)
+
+pub remap-below : (set old new : ℕ) → new < 2 ^ 256 → remap_set set old new < 2 ^ 256
+remap-below set old new h =
+    set_of-below (map (moved old new) (members set)) (All-map (λ m. m < 256) (moved old new) (members set) (λ k d l. moved-below old new (get_or (members set) k d) h (members-below set k d l)))
 
 -- ---- images that aren't empty
 
@@ -176,6 +213,35 @@ set_of-some (n ∷ ns) h none =
     let t : has (set_of (n ∷ ns)) n ≡ true = contains-set_of (n ∷ ns) n (zero, omega arith, refl) in
     let odd : true ≡ false = sym t ∙ ap (λ s. has s n) none ∙ has-none n in
     cc
+
+pub fold-some : (set size : ℕ) → set < 2 ^ 256 → (set ≡ 0 → ⊥) → fold_set set size ≡ 0 → ⊥
+fold-some set size h some = set_of-some (map (λ m. m % size) (members set)) (omega (arith, length-map (members set) (λ m. m % size), members-some set h some))
+
+pub remap-some : (set old new : ℕ) → set < 2 ^ 256 → (set ≡ 0 → ⊥) → remap_set set old new ≡ 0 → ⊥
+remap-some set old new h some = set_of-some (map (moved old new) (members set)) (omega (arith, length-map (members set) (moved old new), members-some set h some))
+
+-- a set that has a node below the other's weight has an image there
+pub onto-some : (set other node : ℕ) → node < 256 → has set node ≡ true → node < weight_of other → onto_set set other ≡ 0 → ⊥
+onto-some set other node l t within = set_of-some (filter_map (nth_member other) (members set)) (has_image (members set) (contains-has set node l t))
+  where
+    has_image : (ns : List ℕ) → Contains ns node → 0 < length (filter_map (nth_member other) ns)
+    has_image [] c = absurd (omega (arith, c.1))
+    has_image (n ∷ ns) (zero, _, e) =
+        let some : nth_member other n ≡ Some (slice_index (members other) node) = ap (nth_member other) e ∙ nth-some other node within in
+        rw some (omega arith)
+    has_image (n ∷ ns) (suc k, h, e) =
+        let rest : 0 < length (filter_map (nth_member other) ns) = has_image ns (k, omega arith, e) in
+        elim (nth_member other n) as (λ o. 0 < length (cons_option o (filter_map (nth_member other) ns))) [ None ↦ rest | Some image ↦ omega arith ]
+
+-- folded by the other's weight, a set that isn't empty has an image in each other that isn't
+pub onto-fold-some : (set other : ℕ) → set < 2 ^ 256 → other < 2 ^ 256 → (set ≡ 0 → ⊥) → (other ≡ 0 → ⊥) → onto_set (fold_set set (weight_of other)) other ≡ 0 → ⊥
+onto-fold-some set other h g some others =
+    let positive : 1 ≤ weight_of other = omega (arith, weight-some other g others) in
+    let folded : ℕ = fold_set set (weight_of other) in
+    let some_node : 0 < length (members folded) = members-some folded (fold-small set (weight_of other) positive) (fold-some set (weight_of other) h some) in
+    let node : ℕ = slice_index (members folded) 0 in
+    let member : has folded node ≡ true = members-have folded 0 0 some_node in
+    onto-some folded other node (members-below folded 0 0 some_node) member (fold-within set (weight_of other) node positive member)
 
 -- ---- a list that is a set's members
 

@@ -221,3 +221,13 @@ sound-answer old new command result sound small answer = go (refusal_in (scene_i
     go (Some r) e result h = subst IsSound (sym h.1) sound
 
 -- ---- a new space
+
+pub sound-new : (space : SpaceState) → space.version ≡ 0 → space.allowed ≡ space.machine.memory → space.machine.memory ≢ 0 → space.ranges ≡ [] → space.tasks ≡ [] → IsSound space
+sound-new space version allowed some ranges tasks = record {
+  allowed_some = λ empty. some (sym allowed ∙ empty);
+  allowed_memory = (λ i. both (allowed i) space.machine.memory) ∙ within-both space.machine.memory space.machine.memory (λ node member. member) ∙ sym allowed;
+  pages = λ page. page-for space.machine space.allowed (page_at space.ranges page) (subst (λ runs. PageHolds space.machine space.allowed (page_at runs page)) (sym ranges) tt);
+  tasks = λ task. for_some-from_if (record_of space.tasks task) (IsInForce space.machine space.allowed) (subst (λ held. Holds space.machine space.allowed (record_of held task)) (sym tasks) tt);
+  task_limit = omega (arith, ap (λ l. length l) tasks);
+  version_limit = omega (arith, version);
+}

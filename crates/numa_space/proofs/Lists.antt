@@ -1,18 +1,23 @@
 -- What a space answers about a page is what every history that it stands for says.
-use Rattle.std.proofs.Common.{◌≡◌, ℕ, true, false, not, List, Option, Some, None, is_some, refl, sym, ap, ◌∙◌}
+use Rattle.std.proofs.Common.{◌≡◌, ℕ, true, false, not, List, Option, Some, None, is_some, refl, sym, ap, ◌∙◌, length}
 use Rattle.std.specs.Option.{option_map_or}
 use Rattle.std.specs.Prelude.{if◌then◌else◌, option_and_then}
 use Rattle.numa_machine.specs.Machine.{Hardware}
 use Rattle.numa_mode.specs.Policy.{PolicyRecord}
-use Rattle.numa_ranges.specs.Runs.{page_at}
+use Rattle.numa_ranges.specs.Runs.{page_at, AreApart, AreMaximal}
+use Rattle.numa_ranges.specs.Counts.{range_count}
+use Rattle.numa_ranges.proofs.Counted.{range_count-length}
 use Rattle.numa_space.specs.History.{Place}
 use Rattle.numa_space.specs.Policies.{resolved}
 use Rattle.numa_space.specs.Pages.{cover_of, is_unmap, is_mapped, index_of, bound_by, range_record, page_in, resolved_policy}
 use Rattle.numa_space.specs.Lists.{list_for, setting_of, node_list}
+use Rattle.numa_space.specs.Same.{same_record}
+use Rattle.numa_space.specs.Refusals.{range_count_of}
 use Rattle.numa_space.specs.Standing.{SpaceState, StandsFor, setting_in, policy_in, list_in, place_refusal_in, place_refusal_of}
 use Rattle.numa_space.specs.declared.command.Command.{Command}
 use Rattle.numa_space.specs.declared.command.Command.TheVariants.{Map, Unmap, Mbind, SetTask, SetHome, SetWeight, SetMems}
 use Rattle.numa_space.proofs.Refused.{page-is_some}
+use Rattle.numa_space.proofs.Same.{same_record-exact, same_record-refl}
 
 -- whether a page is mapped
 pub mapped-same : (space : SpaceState) (history : List Command) (page : ℕ) → StandsFor space history → is_some (page_at space.ranges page) ≡ is_mapped history page
@@ -58,3 +63,9 @@ list-same space history task page cpu stands found =
 -- the refusal of a question about a page
 pub place-same : (space : SpaceState) (history : List Command) (page cpu : ℕ) → StandsFor space history → place_refusal_in space.machine.nodes (is_some (page_at space.ranges page)) cpu ≡ place_refusal_of space.machine history page cpu
 place-same space history page cpu stands = ap (λ mapped. place_refusal_in space.machine.nodes mapped cpu) (mapped-same space history page stands)
+
+-- the ranges of a space are those of the history
+pub ranges-same : (space : SpaceState) (history : List Command) → StandsFor space history → AreApart 0 space.ranges → AreMaximal space.ranges → length space.ranges ≡ range_count_of space.machine history
+ranges-same space history stands apart maximal =
+    let whole : page_at space.ranges ≡ page_in space.machine history = λ i page. stands.pages page i in
+    sym (range_count-length same_record same_record-exact same_record-refl space.ranges apart maximal) ∙ ap (λ at. range_count same_record at) whole

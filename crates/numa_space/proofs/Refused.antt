@@ -17,7 +17,7 @@ use Rattle.numa_space.specs.Steps.{pages_next, scene_in}
 use Rattle.numa_space.specs.declared.command.Command.{Command}
 use Rattle.numa_space.specs.declared.command.Command.TheVariants.{Map, Unmap, Mbind, SetTask, SetHome, SetWeight, SetMems}
 use Rattle.numa_space.specs.declared.refusal.Refusal.{Refusal}
-use Rattle.numa_space.specs.declared.refusal.Refusal.TheVariants.{CommandsSpent, Hole, NodesNotAllowed}
+use Rattle.numa_space.specs.declared.refusal.Refusal.TheVariants.{CommandsSpent, Unaligned, OutOfSpace, EmptyLength, BadOffset, Overlap, Hole, NoSuchNode, BadWeight, NodesNotAllowed, NotSupported, TooManyTasks, TooManyRanges, NoMemory}
 use Rattle.numa_space.proofs.Pages.{BindsMapped, pages-next}
 
 -- ---- pages of a span
@@ -135,3 +135,41 @@ binds-mapped machine bounds history (SetWeight node weight) none = tt
 binds-mapped machine bounds history (SetMems mask) none = tt
 
 -- ---- want of memory is no cause
+
+first_of-not_memory : (a b : Option Refusal) → (a ≡ Some NoMemory → ⊥) → (b ≡ Some NoMemory → ⊥) → first_of a b ≡ Some NoMemory → ⊥
+first_of-not_memory None b h k e = k e
+first_of-not_memory (Some cause) b h k e = h e
+
+when-not_memory : (b : Bool) (cause : Refusal) → (cause ≡ NoMemory → ⊥) → when b cause ≡ Some NoMemory → ⊥
+when-not_memory true cause h e = h (cc)
+when-not_memory false cause h e = cc
+
+choice-not_memory : (b : Bool) (a : Option Refusal) → (a ≡ Some NoMemory → ⊥) → (if b then None else a) ≡ Some NoMemory → ⊥
+choice-not_memory true a h e = cc
+choice-not_memory false a h e = h e
+
+bad_span-not_memory : (start bytes : ℕ) → bad_span start bytes ≡ Some NoMemory → ⊥
+bad_span-not_memory start bytes = first_of-not_memory _ _ (when-not_memory _ Unaligned (λ e. cc)) (when-not_memory _ OutOfSpace (λ e. cc))
+
+too_many-not_memory : (scene : Scene) → too_many_ranges scene ≡ Some NoMemory → ⊥
+too_many-not_memory scene = when-not_memory _ TooManyRanges (λ e. cc)
+
+cause-not_memory : (scene : Scene) (command : Command) → cause_in scene command ≡ Some NoMemory → ⊥
+cause-not_memory scene (Map start bytes offset) =
+    first_of-not_memory (bad_span start bytes) _ (bad_span-not_memory start bytes)
+    (first_of-not_memory _ _ (when-not_memory _ EmptyLength (λ e. cc))
+    (first_of-not_memory _ _ (when-not_memory _ BadOffset (λ e. cc)) (first_of-not_memory _ _ (when-not_memory _ Overlap (λ e. cc)) (too_many-not_memory scene))))
+cause-not_memory scene (Unmap start bytes) = first_of-not_memory (bad_span start bytes) _ (bad_span-not_memory start bytes) (choice-not_memory _ _ (too_many-not_memory scene))
+cause-not_memory scene (Mbind start bytes spec) =
+    first_of-not_memory (bad_span start bytes) _ (bad_span-not_memory start bytes)
+    (choice-not_memory _ _ (first_of-not_memory _ _ (when-not_memory _ Hole (λ e. cc)) (first_of-not_memory _ _ (when-not_memory _ NodesNotAllowed (λ e. cc)) (too_many-not_memory scene))))
+cause-not_memory scene (SetTask task spec) = first_of-not_memory _ _ (when-not_memory _ NodesNotAllowed (λ e. cc)) (when-not_memory _ TooManyTasks (λ e. cc))
+cause-not_memory scene (SetHome start bytes node) =
+    first_of-not_memory (bad_span start bytes) _ (bad_span-not_memory start bytes)
+    (first_of-not_memory _ _ (when-not_memory _ NoSuchNode (λ e. cc)) (choice-not_memory _ _ (first_of-not_memory _ _ (when-not_memory _ NotSupported (λ e. cc)) (too_many-not_memory scene))))
+cause-not_memory scene (SetWeight node weight) = first_of-not_memory _ _ (when-not_memory _ NoSuchNode (λ e. cc)) (when-not_memory _ BadWeight (λ e. cc))
+cause-not_memory scene (SetMems mask) = first_of-not_memory _ _ (when-not_memory _ NoSuchNode (λ e. cc)) (when-not_memory _ NodesNotAllowed (λ e. cc))
+
+-- no history refuses a command for want of memory
+pub refusal-not_memory : (scene : Scene) (command : Command) → refusal_in scene command ≡ Some NoMemory → ⊥
+refusal-not_memory scene command = first_of-not_memory _ _ (when-not_memory _ CommandsSpent (λ e. cc)) (cause-not_memory scene command)

@@ -6,13 +6,13 @@ use Rattle.numa_core.proofs.TouchStands.{owner-put}
 use Rattle.numa_core.proofs.TouchTaken.{taken-put, taken-raise, below-put}
 use Rattle.numa_core.proofs.state.State.own.Goals as goal
 
-pub returns-in-Some-clause-owner : goal.returns-in-Some-clause-owner
-returns-in-Some-clause-owner c n k =
+pub returns-clause-owner : goal.returns-clause-owner
+returns-clause-owner c n k =
     owner-put c.args.self.now.places c.args.self.now.owners.items c.args.frame c.in-Some.place (Some c.args.worker) c.requires.low.there (sym c.place.ensures.place ∙ c.in-Some.is)
     (omega (arith, c.in-Some.ensures.within, c.requires.kept.owners, c.args.self.now.owners.ok.0)) n k
 
-pub returns-in-Some-clause-kept : goal.returns-in-Some-clause-kept
-returns-in-Some-clause-kept c =
+pub returns-clause-kept : goal.returns-clause-kept
+returns-clause-kept c =
     let state = c.args.self.now in
     let frame = c.args.frame in
     let owners = slice_set state.owners.items c.in-Some.place (Some c.args.worker) in
