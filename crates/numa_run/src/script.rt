@@ -12,19 +12,21 @@ use numa_script::{RunFault, Watched, serve_script};
 use std::alloc::Global;
 use std::io::{Read, Write};
 
-/// Answers the script that a reader gives, and hands the answers to a writer, on which no call may have failed before. Whatever
+/// Answers the script that a reader gives, and hands the answers to a writer; on neither may a call have failed before. Whatever
 /// is answered is handed over before the next read. At most 4,294,967,295 reads are made.
 ///
-/// Faults: `Read` where a read failed, or one more was needed; `Write` where a write failed or took no byte, after which nothing
+/// # Errors
+/// `Read` where a read failed, or one more was needed; `Write` where a write failed or took no byte, after which nothing
 /// more is read or written; `Memory` where there was none for the open line and the answers, before anything is read.
 pub fn run<R: Read, W: Write>(
     alloc: Global,
     input: &mut Watched<R>,
     output: &mut Watched<W>,
 ) -> Result<(), RunFault>
-    requires { has_failed output.old ≡ false }
+    requires reader { has_failed input.old ≡ false }
+    requires writer { has_failed output.old ≡ false }
 
-    // The script was read to its end, its output was written, and no call failed.
+    // The script was read to its end, its output was written, and no failed call was noted.
     ensures ok { OnOk result ((script : List ℕ) × (refused : ℕ → Bool) × Consumes (R.remaining input.old.inner) (R.remaining input.new.inner) script
         × IsAtEnd (R.remaining input.new.inner)
         × Appends (W.contents output.old.inner) (W.contents output.new.inner) (output_of answer_of after start refused script)

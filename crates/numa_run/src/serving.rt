@@ -51,12 +51,8 @@ impl Running {
             × Adds (W.contents output.old.inner) (has_failed output.old) gathered.old (W.contents output.new.inner) (has_failed output.new) gathered.new (question_text refused self.old.core.space.machine state.world.history question) }
     {
         if let Question::Ranges = question {
-            say_count(
-                gathered,
-                output,
-                b"ranges ",
-                self.core.space().ranges() as u64,
-            );
+            let ranges = self.core.space().ranges() as u64;
+            say_count(gathered, output, b"ranges ", ranges);
             return;
         }
         if self.prepare(alloc).is_err() {
@@ -64,7 +60,7 @@ impl Running {
             return;
         }
         let Some(plan) = &self.plan else {
-            return;
+            unreachable!()
         };
         match question {
             Question::Place { task, address, cpu } => {
@@ -91,7 +87,7 @@ impl Running {
                 pages,
                 cpu,
             } => say_pages(plan, task, address / PAGE, pages, cpu, gathered, output),
-            Question::Ranges => {}
+            Question::Ranges => unreachable!(),
         }
     }
 
@@ -104,6 +100,7 @@ impl Running {
             return;
         }
         let space = self.core.space();
+        // Tells the proof that the ranges rise and are maximal.
         let _ = space.range_iter();
         let _ = write_maps(space, task, &self.resident, output);
     }

@@ -78,6 +78,15 @@ mapping = refl
 
 -- ---- whatever isn't of the language
 
+-- an empty word is judged before the list or the policy that it stands for
+empty-list : line_of (codes "mems ") ≡ line.Malformed
+unfolding line_of keyword_of setting_keyword command_keyword question_keyword work_keyword number_of numeral_of fitting
+empty-list = refl
+
+empty-policy : line_of (codes "task 1 ") ≡ line.Malformed
+unfolding line_of keyword_of setting_keyword command_keyword question_keyword work_keyword number_of numeral_of fitting
+empty-policy = refl
+
 spare-space : line_of (codes "touch 0 1  0") ≡ line.Malformed
 unfolding line_of keyword_of setting_keyword command_keyword question_keyword work_keyword number_of numeral_of fitting
 spare-space = refl

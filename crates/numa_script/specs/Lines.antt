@@ -1,5 +1,6 @@
 -- What a line of a script says.
 use Rattle.std.specs.Prelude.{ℕ, ◌==◌, Bool, true, List, [], ◌∷◌, length, codes, nat_lt, if◌then◌else◌, Option, Some, None, Result, Ok, Err, unwrap_or, option_and_then}
+use Rattle.std.specs.List.{list_any}
 use Rattle.std.specs.Option.{option_map, option_or}
 use Rattle.std.specs.Str.{bytes_eq}
 use Rattle.numa_mask.specs.Lists.{list_of}
@@ -183,9 +184,14 @@ abbrev pub is_silent : List ℕ → Bool
 is_silent [] = true
 is_silent (b ∷ bs) = b == 35
 
--- what a line says, whatever its length: more than 4,096 bytes say nothing that is understood
+-- a word of the line has no byte: there are two spaces in a row, or one at an end
+abbrev pub has_empty_word : List ℕ → Bool
+has_empty_word bytes = list_any (λ word. length word == 0) (words_of bytes)
+
+-- what a line says, whatever its length: more than 4,096 bytes say nothing that is understood, and neither do words of which one is empty
 unfoldable pub line_of : List ℕ → Line
 line_of bytes =
     if is_silent bytes then line.Silent
     else if nat_lt 4096 (length bytes) then line.Malformed
+    else if has_empty_word bytes then line.Malformed
     else unwrap_or (words_line (words_of bytes)) line.Malformed

@@ -1,6 +1,6 @@
 //! What a line of a script says.
 ghost use Rattle.std.specs.Prelude.{◌≡◌, ◌==◌, ◌+◌, ◌≤◌, ◌<◌, ℕ, List, length, Option};
-ghost use Rattle.numa_script.specs.Lines.{limits_line, machine_line, map_line, unmap_line, mbind_line, home_line, task_line, weight_line, mems_line, place_line, span_line, counts_line, ranges_line, maps_line, line_after, words_line, is_silent, line_of};
+ghost use Rattle.numa_script.specs.Lines.{limits_line, machine_line, map_line, unmap_line, mbind_line, home_line, task_line, weight_line, mems_line, place_line, span_line, counts_line, ranges_line, maps_line, line_after, words_line, is_silent, has_empty_word, line_of};
 
 use crate::keyword::{Keyword, read_keyword};
 use crate::machine::{Distances, Frames};
@@ -316,6 +316,13 @@ fn of_words(mut words: Parts) -> Option<Line>
     line_after(read_keyword(first)?, words)
 }
 
+/// Whether a word of the line has no byte: there are two spaces in a row, or one at an end.
+fn has_empty_word(line: &[u8]) -> bool
+    ensures { result ≡ has_empty_word line.now }
+{
+    words(line).any(|word| word.is_empty())
+}
+
 /// What a line says, without its line feed.
 #[tactic(auto, unfolding(crate::specs::Lines::line_of))]
 pub fn parse(line: &[u8]) -> Line<'_>
@@ -325,6 +332,9 @@ pub fn parse(line: &[u8]) -> Line<'_>
         return Line::Silent;
     }
     if line.len() > LIMIT {
+        return Line::Malformed;
+    }
+    if has_empty_word(line) {
         return Line::Malformed;
     }
     of_words(words(line)).unwrap_or(Line::Malformed)

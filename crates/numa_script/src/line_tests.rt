@@ -29,7 +29,7 @@ fn shown(alloc: Global, line: &[u8]) -> Result<String, AllocError> {
 
 #[test]
 fn lines(rt: HostRuntime) -> Result<(), Fail> {
-    let rows: [(&str, &str); 41] = [
+    let rows: [(&str, &str); 20] = [
         ("", "silent"),
         ("# map 1 2 3", "silent"),
         ("\r", "bad words"),
@@ -50,6 +50,17 @@ fn lines(rt: HostRuntime) -> Result<(), Fail> {
         ("machine 2 0-1 4294967296 flat", "bad words"),
         ("machine 2 0-1 00000000008 flat", "bad words"),
         ("machine 2 0-1 8 Flat", "bad words"),
+    ];
+    for (line, want) in rows {
+        let got = shown(rt.alloc(), line.as_bytes())?;
+        assert_eq!(rt; got.as_str(), want, "{line}");
+    }
+    Ok(())
+}
+
+#[test]
+fn command_lines(rt: HostRuntime) -> Result<(), Fail> {
+    let rows: [(&str, &str); 19] = [
         (
             "map 0x10000 0x2000 0",
             "Map { start: 65536, length: 8192, offset: 0 }",
@@ -81,11 +92,29 @@ fn lines(rt: HostRuntime) -> Result<(), Fail> {
         ("mems 3-1", "List(BackRange)"),
         ("mems 0,,1", "List(Empty)"),
         ("mems", "bad words"),
-        (
-            "place 1 0x10000 0",
-            "Place { task: 1, address: 65536, cpu: 0 }",
-        ),
+    ];
+    for (line, want) in rows {
+        let got = shown(rt.alloc(), line.as_bytes())?;
+        assert_eq!(rt; got.as_str(), want, "{line}");
+    }
+    Ok(())
+}
+
+#[test]
+fn empty_words(rt: HostRuntime) -> Result<(), Fail> {
+    let rows: [(&str, &str); 12] = [
+        ("mems ", "bad words"),
+        ("mems  0", "bad words"),
+        (" mems 0", "bad words"),
+        ("mems 0 ", "bad words"),
+        ("task 1 ", "bad words"),
+        ("mbind 0 4096 ", "bad words"),
+        ("machine 2  8 flat", "bad words"),
+        ("machine 2 0-1  flat", "bad words"),
+        ("machine 2 0-1 8 ", "bad words"),
         ("place 1  0 0", "bad words"),
+        (" ", "bad words"),
+        ("  #", "bad words"),
     ];
     for (line, want) in rows {
         let got = shown(rt.alloc(), line.as_bytes())?;
@@ -154,8 +183,12 @@ fn long_lines(rt: HostRuntime) -> Result<(), Fail> {
 }
 
 #[test]
-fn spans_and_listings(rt: HostRuntime) -> Result<(), Fail> {
-    let rows: [(&str, &str); 12] = [
+fn question_lines(rt: HostRuntime) -> Result<(), Fail> {
+    let rows: [(&str, &str); 13] = [
+        (
+            "place 1 0x10000 0",
+            "Place { task: 1, address: 65536, cpu: 0 }",
+        ),
         (
             "span 1 0 65536 0",
             "Span { task: 1, address: 0, pages: 65536, cpu: 0 }",
@@ -187,7 +220,7 @@ fn spans_and_listings(rt: HostRuntime) -> Result<(), Fail> {
 
 #[test]
 fn worker_lines(rt: HostRuntime) -> Result<(), Fail> {
-    let rows: [(&str, &str); 24] = [
+    let rows: [(&str, &str); 11] = [
         ("publish", "Event(Publish)"),
         ("publish ", "bad words"),
         ("publish 1", "bad words"),
@@ -205,6 +238,17 @@ fn worker_lines(rt: HostRuntime) -> Result<(), Fail> {
         ("look 1 0", "Event(Look(1, 0))"),
         ("look 0 4294967295", "Event(Look(0, 4294967295))"),
         ("look 0 4294967296", "bad words"),
+    ];
+    for (line, want) in rows {
+        let got = shown(rt.alloc(), line.as_bytes())?;
+        assert_eq!(rt; got.as_str(), want, "{line}");
+    }
+    Ok(())
+}
+
+#[test]
+fn frame_lines(rt: HostRuntime) -> Result<(), Fail> {
+    let rows: [(&str, &str); 13] = [
         (
             "try 1 0 65535",
             "Event(Try(1, Frame { node: 0, number: 65535 }))",

@@ -101,8 +101,8 @@ impl<'a> Frames<'a> {
     }
 }
 
-#[tactic(auto, using(crate::proofs::Eaches::row_more))]
 /// So many frames for each node with memory, and none for the others.
+#[tactic(auto, using(crate::proofs::Eaches::row_more))]
 fn frames_with_memory(
     alloc: Global,
     nodes: u32,
@@ -210,8 +210,8 @@ fn flat_distance(from: u32, to: u32) -> u8
     if from == to { 10 } else { 20 }
 }
 
-#[tactic(auto, using(crate::proofs::Eaches::row_more))]
 /// Appends the row of a node, which is 10 from itself and 20 from every other.
+#[tactic(auto, using(crate::proofs::Eaches::row_more))]
 fn add_flat_row(table: &mut Vec<u8>, nodes: u32, from: u32) -> Result<(), AllocError>
     ensures { OnOk result (table.new.items ≡ table.old.items ++ flat_row nodes from) }
 {
@@ -221,8 +221,8 @@ fn add_flat_row(table: &mut Vec<u8>, nodes: u32, from: u32) -> Result<(), AllocE
     Ok(())
 }
 
-#[tactic(auto, using(crate::proofs::Eaches::table_more))]
 /// The table in which each node is 10 from itself and 20 from every other.
+#[tactic(auto, using(crate::proofs::Eaches::table_more))]
 fn flat_table(alloc: Global, nodes: u32) -> Result<Vec<u8>, AllocError>
     ensures { IfOk result (λ v. v.items ≡ flat_map (flat_row nodes) (range_with_len 0 nodes)) }
 {

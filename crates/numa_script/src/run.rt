@@ -27,8 +27,12 @@ pub enum RunFault {
     Memory,
 }
 
-/// Answers the script that a reader gives, and hands the answers to a writer. Whatever is answered is handed over before
-/// the next read.
+/// Answers the script that a reader gives, and hands the answers to a writer; on neither may a call have failed before. The server
+/// stands for its first state. Whatever is answered is handed over before the next read. At most 4,294,967,295 reads are made.
+///
+/// # Errors
+/// `Read` where a read failed, or one more was needed; `Write` where a write failed or took no byte, after which nothing more is
+/// read or written; `Memory` where there was none for the open line and the answers, before anything is read.
 pub fn serve_script<S: Serve + Drop, R: Read, W: Write>(
     alloc: Global,
     server: S,
@@ -36,9 +40,10 @@ pub fn serve_script<S: Serve + Drop, R: Read, W: Write>(
     output: &mut Watched<W>,
 ) -> Result<(), RunFault>
     requires server { S.stands_for server S.start }
-    requires well { has_failed output.old ≡ false }
+    requires reader { has_failed input.old ≡ false }
+    requires writer { has_failed output.old ≡ false }
 
-    // The script was read to its end, its output was written, and no call failed.
+    // The script was read to its end, its output was written, and no failed call was noted.
     ensures ok { OnOk result ((script : List ℕ) × (refused : ℕ → Bool) × Consumes (R.remaining input.old.inner) (R.remaining input.new.inner) script
         × IsAtEnd (R.remaining input.new.inner)
         × Appends (W.contents output.old.inner) (W.contents output.new.inner) (output_of S.answer_of S.after S.start refused script)

@@ -43,7 +43,7 @@ fn frame(mut words: Parts) -> Option<Frame>
     })
 }
 
-/// `publish`
+/// `publish`. `None` is a malformed line.
 pub fn publish(mut words: Parts) -> Option<Work>
     ensures { result ≡ publish_work words.entry }
 {
@@ -53,7 +53,7 @@ pub fn publish(mut words: Parts) -> Option<Work>
     }
 }
 
-/// `begin W TASK ADDR CPU`
+/// `begin W TASK ADDR CPU`. `None` is a malformed line.
 pub fn begin(mut words: Parts) -> Option<Work>
     ensures { result ≡ begin_work words.entry }
 {
@@ -61,7 +61,7 @@ pub fn begin(mut words: Parts) -> Option<Work>
     Some(Work::Event(Event::Begin(worker, request(words)?)))
 }
 
-/// `look W WORD`
+/// `look W WORD`. `None` is a malformed line.
 pub fn look(mut words: Parts) -> Option<Work>
     ensures { result ≡ look_work words.entry }
 {
@@ -70,7 +70,7 @@ pub fn look(mut words: Parts) -> Option<Work>
     Some(Work::Event(Event::Look(small(worker)?, small(word)?)))
 }
 
-/// `try W NODE FRAME`
+/// `try W NODE FRAME`. `None` is a malformed line.
 pub fn try_frame(mut words: Parts) -> Option<Work>
     ensures { result ≡ try_work words.entry }
 {
@@ -78,7 +78,7 @@ pub fn try_frame(mut words: Parts) -> Option<Work>
     Some(Work::Event(Event::Try(worker, frame(words)?)))
 }
 
-/// `give W NODE FRAME`
+/// `give W NODE FRAME`. `None` is a malformed line.
 pub fn give(mut words: Parts) -> Option<Work>
     ensures { result ≡ give_work words.entry }
 {
@@ -86,7 +86,7 @@ pub fn give(mut words: Parts) -> Option<Work>
     Some(Work::Event(Event::Give(worker, frame(words)?)))
 }
 
-/// `touch W TASK ADDR CPU`
+/// `touch W TASK ADDR CPU`. `None` is a malformed line.
 pub fn touch(mut words: Parts) -> Option<Work>
     ensures { result ≡ touch_work words.entry }
 {
@@ -94,7 +94,7 @@ pub fn touch(mut words: Parts) -> Option<Work>
     Some(Work::Touch(worker, request(words)?))
 }
 
-/// `release W ADDR`
+/// `release W ADDR`. `None` is a malformed line.
 pub fn release(mut words: Parts) -> Option<Work>
     ensures { result ≡ release_work words.entry }
 {
