@@ -1,3 +1,4 @@
+pub mod Accepted
 pub mod AllowedLemmas
 pub mod CompileSteps
 pub mod CopyLemmas

@@ -1,9 +1,10 @@
 //! Compiling.
-ghost use Rattle.std.specs.Prelude.{◌≡◌, ℕ, ◌+◌, ◌-◌, ◌^◌, ◌<◌, ◌≤◌, IfOk, OnOk, List, Bool, [], length};
+ghost use Rattle.std.specs.Prelude.{◌≡◌, ℕ, ◌+◌, ◌-◌, ◌^◌, ◌<◌, ◌≤◌, IfOk, OnOk, List, [], length};
 ghost use Rattle.std.specs.Option.{ForSome};
 ghost use Rattle.numa_ranges.specs.Runs.{AreApart};
 ghost use Rattle.numa_plan.specs.Meaning.{planned_list};
 ghost use Rattle.numa_space.specs.declared.command.Command.{Command};
+ghost use Rattle.numa_space.specs.Policies.{allowed_nodes};
 ghost use Rattle.numa_space.specs.Standing.{StandsFor, IsNodeList, accepted_of};
 ghost use Rattle.numa_compile.specs.Copies.{AreCopies, HasTasks, IsUnderWay};
 ghost use Rattle.numa_compile.specs.Rules.{IsReady};
@@ -17,7 +18,7 @@ use numa_machine::Machine;
 use numa_mode::Record;
 use numa_plan::{NoMemory, Plan, Steps};
 use numa_ranges::Run;
-use numa_space::{Command, Limits, RangeRecord, Space};
+use numa_space::{Command, Limits, RangeRecord, Refusal, Space};
 use std::alloc::Global;
 
 /// Looks at what holds of every space and its machine.
@@ -26,6 +27,7 @@ fn survey(space: &Space)
     ensures ranges { length space.now.ranges ≤ 65536 }
     ensures tasks { length space.now.tasks ≤ 1024 }
 {
+    // Tells the proof that the space and its machine are sound, and how many ranges and tasks there can be.
     let machine = space.machine();
     let _ = machine.nodes();
     let _ = machine.memory().weight();
@@ -113,24 +115,39 @@ pub fn compile(alloc: Global, space: &Space) -> Result<Plan, NoMemory>
     add_runs(alloc, space, ranges, &mut plan, &mut records)?;
     set_tasks(alloc, space, &mut plan, &mut records)?;
     plan.set_version(space.version());
+    // Tells the proof that no record is there twice.
     let _ = records.len();
     Ok(plan)
 }
 
-/// The plan of a new space of the machine, after these commands, the first first; those that are refused, or for which there is no
-/// memory, are passed over.
+/// Carries out commands, the first first, up to the first for which there is no memory; those that are refused are passed over.
+fn carry_out(space: &mut Space, commands: &[Command]) -> Result<(), NoMemory>
+    ensures stands { (history : List Command) → StandsFor space.old history → OnOk result (StandsFor space.new (accepted_of space.old.machine space.old.bounds commands.now [] history)) }
+    ensures machine { space.new.machine ≡ space.old.machine }
+    ensures bounds { space.new.bounds ≡ space.old.bounds }
+{
+    for command in commands {
+        if let Err(Refusal::NoMemory) = space.apply(command) {
+            return Err(NoMemory);
+        }
+    }
+    Ok(())
+}
+
+/// The plan of a new space of the machine, after these commands, the first first; those that are refused are passed over.
 ///
 /// # Errors
-/// `NoMemory` where there is none for the plan.
+/// `NoMemory` where there is none for a command or for the plan.
 pub fn compile_commands(
     alloc: Global,
     machine: Machine,
     limits: Limits,
     commands: &[Command],
 ) -> Result<Plan, NoMemory>
-    ensures { IfOk result (λ plan. (starved : List Bool) × (length starved ≡ length commands.now) × PlanStandsFor machine plan (accepted_of machine limits commands.now starved [])) }
+    ensures stands { IfOk result (λ plan. PlanStandsFor machine plan (accepted_of machine limits commands.now [] [])) }
+    ensures sound { IfOk result (λ plan. (task page cpu : ℕ) → cpu < plan.nodes → ForSome (planned_list plan task page cpu) (IsNodeList (allowed_nodes machine (accepted_of machine limits commands.now [] [])))) }
 {
     let mut space = Space::new(alloc, machine, limits);
-    space.apply_all(commands);
+    carry_out(&mut space, commands)?;
     compile(alloc, &space)
 }

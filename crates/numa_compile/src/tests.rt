@@ -4,8 +4,8 @@
 use crate::compile_commands;
 use numa_space::{PlaceRefusal, Space};
 use played::Asked::{Home, Map, Mbind, Mems, Task, Weight};
-use played::Step::{Counts, Does, Fill, List, NoCounts, NoList, Runs, Version};
-use played::{command_of, flat, limits, machine_of, play, play_flat};
+use played::Step::{Counts, Does, Fill, List, LongFill, NoCounts, NoFill, NoList, Runs, Version};
+use played::{ask, command_of, flat, limits, machine_of, play, play_flat};
 use std::test::Fail;
 
 mod played;
@@ -101,6 +101,23 @@ fn spans_of_all_lengths_are_counted(rt: HostRuntime) -> Result<(), Fail> {
 }
 
 #[test]
+fn spans_of_all_lengths_are_filled(rt: HostRuntime) -> Result<(), Fail> {
+    let steps = [
+        Does(Map(0x10_0000, 0x2_1000, 0)),
+        Does(Mbind(0x10_a000, 0xa000, 2, &[1])),
+        LongFill(0x100, 0, (0, 0)),
+        LongFill(0x100, 31, (10, 20)),
+        LongFill(0x100, 32, (10, 20)),
+        LongFill(0x100, 33, (10, 20)),
+        NoFill(0x100, 34, PlaceRefusal::Unmapped),
+        Does(Map(0x100_0000, 0x200_1000, 0)),
+        LongFill(0x1000, 8193, (0, 0)),
+    ];
+    play_flat(&rt, rt.alloc(), 2, &steps)?;
+    Ok(())
+}
+
+#[test]
 fn refused_commands_are_passed_over(rt: HostRuntime) -> Result<(), Fail> {
     let table = flat(rt.alloc(), 2)?;
     let machine = machine_of(&rt, rt.alloc(), 2, table.as_slice());
@@ -111,7 +128,16 @@ fn refused_commands_are_passed_over(rt: HostRuntime) -> Result<(), Fail> {
     ];
     let plan = compile_commands(rt.alloc(), machine, limits(&rt), &commands);
     let plan = plan.expect(&rt, "a plan");
-    assert_eq!(&rt; plan.version(), 2);
-    assert_eq!(&rt; plan.run_count(), 2);
+    let questions = [
+        Version(2),
+        Runs(2),
+        List(1, 0x10, 0, &[0, 1]),
+        List(1, 0x10, 1, &[1, 0]),
+        List(1, 0x11, 0, &[1]),
+        NoList(1, 0x12, 0, PlaceRefusal::Unmapped),
+    ];
+    for (line, question) in questions.iter().enumerate() {
+        ask(&rt, rt.alloc(), &plan, question, line);
+    }
     Ok(())
 }

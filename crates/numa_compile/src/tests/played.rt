@@ -30,6 +30,11 @@ pub(super) enum Step<'a> {
     NoList(u32, u64, u32, PlaceRefusal),
     /// The first nodes of a task's pages from this one on, for faults on node 0.
     Fill(u32, u64, &'a [u8]),
+    /// A span of this many pages from a first one on, filled for task 1 and faults on node 0: its pages in this range are on
+    /// node 1, and its others on node 0.
+    LongFill(u64, usize, (usize, usize)),
+    /// A span of this many pages from a first one on, for which the same is refused so, with no byte written.
+    NoFill(u64, usize, PlaceRefusal),
     /// How many pages of a span are on nodes 0 and 1, for task 1 and faults on node 0: first page and pages.
     Counts(u64, u64, u64, u64),
     /// The same question, refused so.
@@ -41,7 +46,7 @@ pub(super) enum Step<'a> {
 }
 
 use Asked::{Home, Map, Mbind, Mems, Task, Weight};
-use Step::{Counts, Does, Fill, List, NoCounts, NoList, Runs, Version};
+use Step::{Counts, Does, Fill, List, LongFill, NoCounts, NoFill, NoList, Runs, Version};
 
 pub(super) fn set_of(nodes: &[u8]) -> NodeMask {
     let mut set = NodeMask::empty();
@@ -119,6 +124,44 @@ fn expect_fill(rt: &impl Abort, plan: &Plan, task: u32, first: u64, want: &[u8],
     assert_eq!(rt; &*pages, want, "line {line}");
 }
 
+/// A byte 9 for each of so many pages.
+fn nines(rt: &impl Abort, alloc: Global, pages: usize) -> Vec<u8> {
+    vec![in alloc; 9; pages].expect(rt, "bytes")
+}
+
+fn expect_bytes(rt: &impl Abort, found: &[u8], ones: (usize, usize), line: usize) {
+    for (place, byte) in found.iter().enumerate() {
+        let inside = ones.0 <= place && place < ones.1;
+        assert_eq!(rt; *byte, if inside { 1 } else { 0 }, "line {line}");
+    }
+}
+
+fn expect_long_fill(
+    rt: &impl Abort,
+    plan: &Plan,
+    first: u64,
+    out: &mut [u8],
+    ones: (usize, usize),
+    line: usize,
+) {
+    assert_eq!(rt; plan.fill(1, 0, first, out), Ok(()), "line {line}");
+    expect_bytes(rt, out, ones, line);
+}
+
+fn expect_no_fill(
+    rt: &impl Abort,
+    plan: &Plan,
+    first: u64,
+    out: &mut [u8],
+    want: PlaceRefusal,
+    line: usize,
+) {
+    assert_eq!(rt; plan.fill(1, 0, first, out), Err(want), "line {line}");
+    for byte in out.iter() {
+        assert_eq!(rt; *byte, 9, "line {line}");
+    }
+}
+
 fn expect_counts(rt: &impl Abort, plan: &Plan, span: (u64, u64), want: (u64, u64), line: usize) {
     let counts = plan.counts(1, 0, span.0, span.1).expect(rt, "counts");
     assert_eq!(rt; counts[0], want.0, "line {line}");
@@ -156,7 +199,8 @@ fn expect_number(rt: &impl Abort, found: u64, want: u64, line: usize) {
     assert_eq!(rt; found, want, "line {line}");
 }
 
-fn ask(rt: &impl Abort, plan: &Plan, step: &Step, line: usize) {
+/// Puts a question to a plan.
+pub(super) fn ask(rt: &impl Abort, alloc: Global, plan: &Plan, step: &Step, line: usize) {
     match step {
         Does(_) => {}
         List(task, page, cpu, want) => expect_list(rt, plan, (*task, *page, *cpu), want, line),
@@ -164,6 +208,14 @@ fn ask(rt: &impl Abort, plan: &Plan, step: &Step, line: usize) {
             expect_no_list(rt, plan, (*task, *page, *cpu), *want, line)
         }
         Fill(task, first, want) => expect_fill(rt, plan, *task, *first, want, line),
+        LongFill(first, pages, ones) => {
+            let mut out = nines(rt, alloc, *pages);
+            expect_long_fill(rt, plan, *first, out.as_mut_slice(), *ones, line)
+        }
+        NoFill(first, pages, want) => {
+            let mut out = nines(rt, alloc, *pages);
+            expect_no_fill(rt, plan, *first, out.as_mut_slice(), *want, line)
+        }
         Counts(first, pages, zero, one) => {
             expect_counts(rt, plan, (*first, *pages), (*zero, *one), line)
         }
@@ -176,7 +228,7 @@ fn ask(rt: &impl Abort, plan: &Plan, step: &Step, line: usize) {
 /// Puts a question to a plan of the space.
 fn answer(rt: &impl Abort, alloc: Global, space: &Space, step: &Step, line: usize) {
     let plan = compile(alloc, space).expect(rt, "a plan");
-    ask(rt, &plan, step, line);
+    ask(rt, alloc, &plan, step, line);
 }
 
 fn carry_out(rt: &impl Abort, space: &mut Space, asked: &Asked, line: usize) {
