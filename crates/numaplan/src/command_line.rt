@@ -7,7 +7,8 @@ use std::alloc::{AllocError, Global};
 /// What the help of the program says.
 const PROGRAM: &str =
     "Says where Linux would place memory under NUMA memory policies: which nodes a page may come from, in \
-which order, and which frame each fault gets.";
+which order, and which frame each fault gets. It reads a script on standard input and writes the answer to each line \
+to standard output.";
 
 /// What the help of `run` says in full.
 const RUN: &str =
@@ -16,13 +17,13 @@ line for each line of the script, but none for an empty line or a comment, and f
 
 /// What stands at the end of both helps.
 const MORE: &str =
-    "Example:\n  numaplan run < examples/first-run.numaplan\n\nThe language of scripts is told in docs/SCRIPT.md of \
+    "Example, from the top of the repository:\n  ./numaplan run < examples/first-run.numaplan\n\nThe language of scripts is told in docs/SCRIPT.md of \
 the repository.";
 
 /// The commands that the program knows.
 fn command<'a>(alloc: Global) -> Result<Command<'a>, AllocError> {
     let run = Command::new(alloc, "run")
-        .about("Answers the script on standard input")
+        .about("Reads a script on standard input and writes the answers to standard output")
         .long_about(RUN)
         .after_help(MORE);
     Command::new(alloc, "numaplan")

@@ -10,8 +10,12 @@ use command_line::job;
 use jobs::{Job, JobFault};
 use numa_run::run;
 use numa_script::{RunFault, Watched};
+use std::env::Env;
 use std::process::ExitCode;
 use std::{env, io};
+
+/// What is told of an argument that isn't UTF-8.
+const NOT_UTF_8: &str = "error: an argument isn't UTF-8\n\nFor more information, try '--help'.\n";
 
 /// Ends with a fault's text on standard error.
 fn fail(rt: &impl Eprint, fault: RunFault) -> ExitCode {
@@ -29,15 +33,23 @@ fn answer_script<R: Input + Print + Eprint + AllocGlobal>(rt: &R) -> ExitCode {
     }
 }
 
+/// The words of the command line, the program's name first. `Usage` where one of them isn't UTF-8.
+fn command_words<R: Env + AllocGlobal>(rt: &R) -> Result<Vec<String>, JobFault> {
+    match env::args(rt) {
+        Ok(words) => Ok(words.collect(rt.alloc())?),
+        Err(error) if error.kind() == io::ErrorKind::OutOfMemory => Err(JobFault::NoMemory),
+        Err(_) => Err(JobFault::Usage(String::from_str(rt.alloc(), NOT_UTF_8)?)),
+    }
+}
+
+/// The job that the command line asks for.
+fn asked_job<R: Env + AllocGlobal>(rt: &R) -> Result<Job, JobFault> {
+    let words = command_words(rt)?;
+    job(rt.alloc(), words.as_slice())
+}
+
 fn main(rt: HostRuntime) -> ExitCode {
-    let Ok(words) = env::args(&rt) else {
-        return fail(&rt, RunFault::Memory);
-    };
-    let words: Result<Vec<String>, _> = words.collect(rt.alloc());
-    let Ok(words) = words else {
-        return fail(&rt, RunFault::Memory);
-    };
-    match job(rt.alloc(), words.as_slice()) {
+    match asked_job(&rt) {
         Ok(Job::Run) => answer_script(&rt),
         Err(JobFault::Help(text)) => {
             let _ = print!(rt; "{text}");

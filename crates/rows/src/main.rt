@@ -10,10 +10,11 @@ use std::{fs, io};
 
 /// The scripts, by the names of their files. Those whose names begin with `example-` are the scripts of the folder
 /// examples/, which the gate compares with these copies.
-const NAMES: [&str; 42] = [
+const NAMES: [&str; 44] = [
     "bad-lines",
     "default-local-and-task",
     "empty-script",
+    "empty-words",
     "ends",
     "example-homes",
     "example-interleaved-range",
@@ -23,6 +24,7 @@ const NAMES: [&str; 42] = [
     "example-touch-and-release",
     "example-weights",
     "example-why-refused",
+    "example-worker-steps",
     "exhausted",
     "first-run",
     "hole",
