@@ -1,20 +1,16 @@
 -- What a core stands for before and after a step.
-use Rattle.std.proofs.Common.{zero, suc, ◌≡◌, ◌≢◌, ℕ, ◌+◌, ◌-◌, ◌<◌, ◌≤◌, ◌==◌, ◌||◌, ◌⊎◌, inl, inr, Bool, true, false, not, Option, Some, None, Result, Ok, Err, is_some, is_none, is_ok, List, [], ◌∷◌, length, drop, refl, sym, ap, subst, ◌∙◌, arith, nat_le, if◌then◌else◌, slice_get, slice_index, get_or, OnErr, MatchBool, MatchOption, unwrap_or, map}
+use Rattle.std.proofs.Common.{zero, suc, ◌≡◌, ◌≢◌, ℕ, ◌+◌, ◌-◌, ◌<◌, ◌≤◌, ◌==◌, ◌||◌, ◌⊎◌, inl, inr, Bool, true, false, not, Option, Some, None, Result, Ok, Err, is_some, is_none, is_ok, List, [], ◌∷◌, length, drop, refl, sym, ap, subst, ◌∙◌, arith, if◌then◌else◌, slice_get, slice_index, get_or, OnErr, MatchBool, MatchOption, unwrap_or, map}
 use Rattle.std.specs.Option.{option_map, option_map_or, option_and_then}
 use Rattle.std.specs.List.{list_any}
 use Rattle.std.proofs.Math.ListN.{set}
 use Rattle.std.proofs.lemmas.List.{map-set, length-map, length-drop}
-use Rattle.std.proofs.lemmas.Bool.{eq-eqb, leb-false}
+use Rattle.std.proofs.lemmas.Bool.{eq-eqb}
 use Rattle.std.proofs.lemmas.Bool.Decides.{eqb_tells}
 use Rattle.std.proofs.lemmas.Option.{slice_get-map}
 use Rattle.numa_space.specs.declared.command.Command.{Command}
 use Rattle.numa_space.specs.Standing.{SpaceState, StandsFor}
 use Rattle.numa_space.specs.Refusals.{refusal_of as command_refusal}
-use Rattle.numa_space.specs.Pages.{is_mapped}
-use Rattle.numa_space.specs.Lists.{node_list}
-use Rattle.numa_plan.specs.Meaning.{PlanData, planned_list, place_refusal, rule_for}
-use Rattle.numa_plan.specs.Rows.{row_of}
-use Rattle.numa_space.specs.declared.refusal.PlaceRefusal.TheVariants.{BadCpu as NoCpu, Unmapped as NoPage}
+use Rattle.numa_plan.specs.Meaning.{PlanData}
 use Rattle.numa_compile.specs.Standing.{PlanStandsFor}
 use Rattle.numa_machine.specs.Machine.{Hardware}
 use Rattle.numa_core.specs.declared.request.Request.{Request}
@@ -24,14 +20,16 @@ use Rattle.numa_core.specs.declared.event.Event.TheVariants.{Accept, Publish, Be
 use Rattle.numa_core.specs.declared.event.Reply.{Reply}
 use Rattle.numa_core.specs.declared.event.Reply.TheVariants.{Accepted, Published, Still, Won, Given}
 use Rattle.numa_core.specs.declared.event.CoreRefusal.{CoreRefusal}
-use Rattle.numa_core.specs.declared.event.CoreRefusal.TheVariants.{Idle, BadTry, Unmapped}
+use Rattle.numa_core.specs.declared.event.CoreRefusal.TheVariants.{Idle, BadTry}
 use Rattle.numa_core.specs.World.{Setup, Hunt, Worker, World, opening, newest_published, first_commands, hunt_of, last_of, owner_of, is_frame, list_at, may_look, may_try, looked, missed, begun}
 use Rattle.numa_core.specs.Steps.{because, refusal_of, reply_of, effect_of, goes_on, going_on, placement_of, with_worker, with_owner, refused_or, IsAnswer, world_after, MayTake}
 use Rattle.numa_core.specs.Runs.{Moment, IsLegalRun, world_of}
 use Rattle.numa_core.specs.Standing.{Busy, CoreState, CoreStandsFor, LeadsTo, place_in, place_of, owner_at, hunt_by, setup_of, frames_before, moment_after}
 use Rattle.numa_core.specs.declared.seat.Job.{Job}
 use Rattle.numa_core.specs.declared.seat.Seat.{Seat}
-use Rattle.numa_core.specs.Seats.{busy_by, busy_of, seat_hunt, hunt_in, hunt_of_busy, fresh, SeatLooks, SeatTries}
+use Rattle.numa_core.specs.Judging.{IsJudged, IsListed}
+use Rattle.numa_core.specs.Kept.{Follows}
+use Rattle.numa_core.specs.Seats.{core_of, busy_by, busy_of, seat_hunt, hunt_in, hunt_of_busy, fresh, SeatLooks, SeatTries}
 use Rattle.numa_core.proofs.Seating.{tries-nowhere}
 use Rattle.numa_core.proofs.InARow.{not_le, is_at, same_place, place-some}
 use Rattle.numa_core.proofs.Versions.{by_itself}
@@ -218,33 +216,8 @@ give_answer s world version w frame low idle owner = answered s world version (G
 
 -- ---- a Begin
 
-pub list-is : (machine : Hardware) (plan : PlanData) (history : List Command) (version : ℕ) (request : Request) (row : List ℕ) → PlanStandsFor machine plan (first_commands version history) → request.cpu < machine.nodes → planned_list plan request.task request.page request.cpu ≡ Some row → list_at machine history version request ≡ Some row
-unfolding list_at
-list-is machine plan history version request row stands cpu planned = go (is_mapped (first_commands version history) request.page) refl
-  where
-    go : (b : Bool) → is_mapped (first_commands version history) request.page ≡ b → (if b then Some (node_list machine (first_commands version history) request.task request.page request.cpu) else None) ≡ Some row
-    go true is = sym (stands.lists request.task request.page request.cpu cpu is) ∙ planned
-    go false is = absurd (let odd : false ≡ true = ap is_some (sym (stands.unmapped request.task request.page request.cpu is) ∙ planned) in cc)
-
--- a page that the plan lacks
-refused_parts : (b : Bool) (o : Option (ℕ × Option ℕ)) → (if b then Some NoCpu else if is_some o then None else Some NoPage) ≡ Some NoPage → (b ≡ false) × (o ≡ None)
-refused_parts true o e = absurd (cc)
-refused_parts false (Some found) e = absurd (let odd : false ≡ true = ap is_some e in cc)
-refused_parts false None e = (refl, refl)
-
-pub list-none : (machine : Hardware) (plan : PlanData) (history : List Command) (version : ℕ) (request : Request) → PlanStandsFor machine plan (first_commands version history) → place_refusal plan request.page request.cpu ≡ Some NoPage → (request.cpu < machine.nodes) × (list_at machine history version request ≡ None)
-unfolding list_at
-list-none machine plan history version request stands refused =
-    let parts = refused_parts (nat_le plan.nodes request.cpu) _ refused in
-    let cpu : request.cpu < machine.nodes = subst (λ n. request.cpu < n) stands.nodes (leb-false plan.nodes request.cpu parts.0) in
-    (cpu, listed (is_mapped (first_commands version history) request.page) refl cpu (ap (option_map (λ at. row_of (rule_for plan request.task at.1) request.cpu at.0)) parts.1))
-  where
-    listed : (b : Bool) → is_mapped (first_commands version history) request.page ≡ b → request.cpu < machine.nodes → planned_list plan request.task request.page request.cpu ≡ None → (if b then Some (node_list machine (first_commands version history) request.task request.page request.cpu) else None) ≡ None
-    listed true is cpu none = absurd (let odd : true ≡ false = ap is_some (sym (stands.lists request.task request.page request.cpu cpu is) ∙ none) in cc)
-    listed false is cpu none = refl
-
-pub begin_answer : (s : Setup) (world : World) (version w : ℕ) (request : Request) (row : List ℕ) (reply : Reply) → w < s.workers → hunt_of world w ≡ None → request.cpu < s.machine.nodes → list_at s.machine world.history version request ≡ Some row → reply ≡ goes_on s (fresh request version row) → IsAnswer s world version (Begin w request) (Ok reply)
-begin_answer s world version w request row reply low idle cpu listed is = answered s world version (Begin w request) None (Ok reply) (rw (not_le s.workers w low, idle, not_le s.machine.nodes request.cpu cpu, listed) refl) (ap Ok (is ∙ ap (λ o. goes_on s (fresh request version (unwrap_or o []))) (sym listed)))
+pub begin_answer : (s : Setup) (world : World) (version w : ℕ) (request : Request) (row : List ℕ) (reply : Reply) → refusal_of s world version (Begin w request) ≡ None → list_at s.machine world.history version request ≡ Some row → reply ≡ goes_on s (fresh request version row) → IsAnswer s world version (Begin w request) (Ok reply)
+begin_answer s world version w request row reply allowed listed is = answered s world version (Begin w request) None (Ok reply) allowed (ap Ok (is ∙ ap (λ o. goes_on s (fresh request version (unwrap_or o []))) (sym listed)))
 
 pub begin_hunt : (s : Setup) (world : World) (version : ℕ) (request : Request) (row : List ℕ) → list_at s.machine world.history version request ≡ Some row → going_on s (fresh request version row) ≡ going_on s (begun s world version request)
 begin_hunt s world version request row listed = ap (λ o. going_on s (fresh request version (unwrap_or o []))) (sym listed)
@@ -281,8 +254,9 @@ pick_second : (b : Bool) (P : World → Type 0) (x y : World) → b ≡ false �
 pick_second false P x y e h = h
 pick_second true P x y e h = absurd (cc)
 
-abbrev pub core_of : SpaceState → PlanData → List Seat → List (Option ℕ) → CoreState
-core_of space plan seats owners = record { space = space; plan = plan; workers = map busy_of seats; owners = owners }
+-- a refused Begin changes nothing
+pub refused-begin : (core : CoreState) (w : ℕ) (request : Request) (refusal : CoreRefusal) → IsJudged core w request (Some refusal) → Follows core (Begin w request) (Err refusal) core
+refused-begin core w request refusal judged world stands = (answered (setup_of core) world (newest_published world) (Begin w request) (Some refusal) (Err refusal) (judged world stands) refl, stands)
 
 module _ (space : SpaceState) (plan : PlanData) (places : List ℕ) (seats : List Seat) (owners : List (Option ℕ)) (world : World) (same : places ≡ space.machine.frames) (stands : CoreStandsFor (core_of space plan seats owners) world) where
   -- the owners that the table says
@@ -323,24 +297,14 @@ module _ (space : SpaceState) (plan : PlanData) (places : List ℕ) (seats : Lis
               (λ ok. with_new new (last_of world w) _ (answer.1 ok) (stands.not_newer w)) (seen_err new result err) shown_there stands),
         )
 
-    pub begin-follows : (request : Request) (row : List ℕ) (version : ℕ) (new : Seat) (reply : Reply) → old.job ≡ None → version ≡ plan.version → request.cpu < plan.nodes → planned_list plan request.task request.page request.cpu ≡ Some row
+    pub begin-follows : (request : Request) (row : List ℕ) (version : ℕ) (new : Seat) (reply : Reply) → version ≡ plan.version → IsJudged (core_of space plan seats owners) w request None → IsListed (core_of space plan seats owners) request row
         → ((s : Setup) → places ≡ s.machine.frames → reply ≡ goes_on s (fresh request version row)) → ((s : Setup) → places ≡ s.machine.frames → seat_hunt places new ≡ going_on s (fresh request version row))
         → IsAnswer (setup_of (core_of space plan seats owners)) world (newest_published world) (Begin w request) (Ok reply) × CoreStandsFor (core_of space plan (set seats w new) owners) (effect_of (setup_of (core_of space plan seats owners)) world (newest_published world) (Begin w request))
-    begin-follows request row version new reply idle is cpu planned answer hunt =
-        let newest : version ≡ newest_published world = is ∙ version-is (core_of space plan seats owners) world stands in
-        let inside : request.cpu < space.machine.nodes = subst (λ n. request.cpu < n) stands.plan.nodes cpu in
-        let listed = list-is space.machine plan world.history (newest_published world) request row stands.plan inside planned in (
-          begin_answer (setup_of (core_of space plan seats owners)) world (newest_published world) w request row reply few (idle_hunt idle) inside listed (answer (setup_of (core_of space plan seats owners)) same ∙ ap (λ v. goes_on (setup_of (core_of space plan seats owners)) (fresh request v row)) newest),
-          moved new owners _ (with_new new (newest_published world) _ (hunt (setup_of (core_of space plan seats owners)) same ∙ ap (λ v. going_on (setup_of (core_of space plan seats owners)) (fresh request v row)) newest ∙ begin_hunt (setup_of (core_of space plan seats owners)) world (newest_published world) request row listed) (omega arith)),
+    begin-follows request row version new reply is allowed listed answer hunt =
+        let newest : version ≡ newest_published world = is ∙ version-is (core_of space plan seats owners) world stands in (
+          begin_answer (setup_of (core_of space plan seats owners)) world (newest_published world) w request row reply (allowed world stands) (listed world stands) (answer (setup_of (core_of space plan seats owners)) same ∙ ap (λ v. goes_on (setup_of (core_of space plan seats owners)) (fresh request v row)) newest),
+          moved new owners _ (with_new new (newest_published world) _ (hunt (setup_of (core_of space plan seats owners)) same ∙ ap (λ v. going_on (setup_of (core_of space plan seats owners)) (fresh request v row)) newest ∙ begin_hunt (setup_of (core_of space plan seats owners)) world (newest_published world) request row (listed world stands)) (omega arith)),
         )
-
-    -- a Begin at a page that isn't mapped
-    pub unmapped-follows : (request : Request) (version : ℕ) → old.job ≡ None → version ≡ plan.version → place_refusal plan request.page request.cpu ≡ Some NoPage → IsAnswer (setup_of (core_of space plan seats owners)) world (newest_published world) (Begin w request) (Err (Unmapped version))
-    unmapped-follows request version idle is refused =
-        let found = list-none space.machine plan world.history (newest_published world) request stands.plan refused in
-        let newest : version ≡ newest_published world = is ∙ version-is (core_of space plan seats owners) world stands in
-        answered (setup_of (core_of space plan seats owners)) world (newest_published world) (Begin w request) (Some (Unmapped (newest_published world))) (Err (Unmapped version))
-        (rw (not_le (length (map busy_of seats)) w few, idle_hunt idle, not_le space.machine.nodes request.cpu found.0, found.1) refl) (ap (λ v. Err (Unmapped v)) newest)
 
     -- a Try of an owned frame
     pub owned-follows : (frame : Frame) (place : ℕ) (new : Seat) (result : Result Reply CoreRefusal) → place_in places frame.node frame.number ≡ Some place → is_some (owner_at owners (Some place)) ≡ true → OnErr result (new ≡ old) → SeatTries places (setup_of (core_of space plan seats owners)) true frame old result new

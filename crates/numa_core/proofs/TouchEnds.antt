@@ -1,9 +1,10 @@
 -- How a touch ends in a core that stands for a world.
-use Rattle.std.proofs.Common.{◌≡◌, ℕ, false, Option, Some, None, Ok, is_some, is_none, unwrap_or, List, [], nat_le, refl, sym, ap, subst, ◌∙◌}
+use Rattle.std.proofs.Common.{◌≡◌, ℕ, false, Option, Some, None, Ok, Err, is_some, is_none, unwrap_or, List, [], nat_le, refl, sym, ap, subst, ◌∙◌}
 use Rattle.numa_core.specs.declared.request.Request.{Request}
 use Rattle.numa_core.specs.declared.state.State.{State}
 use Rattle.numa_core.specs.declared.touching.Spot.{Spot}
 use Rattle.numa_core.specs.declared.event.Reply.TheVariants.{Exhausted, Won}
+use Rattle.numa_core.specs.declared.event.CoreRefusal.{CoreRefusal}
 use Rattle.numa_core.specs.declared.event.CoreRefusal.TheVariants.{NoSuchWorker, Busy, BadCpu, Unmapped}
 use Rattle.numa_core.specs.World.{Hunt, World, newest_published, hunt_of, list_at}
 use Rattle.numa_core.specs.Steps.{with_owner, put_frame}
@@ -29,6 +30,13 @@ no_hunt (Some hunt) e = absurd (cc)
 -- a worker whose Begin isn't refused is idle
 idle : (core : CoreState) (world : World) (w : ℕ) (request : Request) → touch_refusal (setup_of core) world w request ≡ None → hunt_of world w ≡ None
 idle core world w request e = no_hunt (hunt_of world w) (four_rows (nat_le (setup_of core).workers w) (is_some (hunt_of world w)) (nat_le core.space.machine.nodes request.cpu) (is_none (list_at core.space.machine world.history (newest_published world) request)) NoSuchWorker Busy BadCpu (Unmapped (newest_published world)) e).1
+
+-- the Begin is refused
+pub refuses : (core : CoreState) (w : ℕ) (request : Request) (refusal : CoreRefusal) (world : World) → CoreStandsFor core world → IsJudged core w request (Some refusal)
+    → (Err refusal ≡ touch_answer (setup_of core) world w request) × CoreStandsFor core (touch_world (setup_of core) world w request)
+refuses core w request refusal world stands judged =
+    let is : touch_refusal (setup_of core) world w request ≡ Some refusal = judged world stands in
+    (sym (rw is refl), rw is stands)
 
 -- no listed node has a free frame
 pub exhausts : (core : CoreState) (w : ℕ) (request : Request) (nodes : List ℕ) (world : World) → CoreStandsFor core world → IsJudged core w request None → IsListed core request nodes → first_free (setup_of core) world nodes ≡ None

@@ -6,6 +6,10 @@ use Rattle.numa_core.specs.declared.event.CoreRefusal.{CoreRefusal}
 use Rattle.numa_core.specs.World.{World, newest_published, list_at}
 use Rattle.numa_core.specs.Steps.{refusal_of}
 use Rattle.numa_core.specs.Standing.{CoreState, CoreStandsFor, setup_of}
+use Rattle.numa_core.specs.Seats.{core_of}
+use Rattle.numa_core.specs.declared.seat.Seat.{Seat}
+use Rattle.numa_space.specs.Standing.{SpaceState}
+use Rattle.numa_plan.specs.Meaning.{PlanData}
 
 -- in each world that the core stands for, the worker's Begin of the request is refused so, or not at all
 abbrev pub IsJudged : CoreState → ℕ → Request → Option CoreRefusal → Type 0
@@ -14,3 +18,10 @@ IsJudged core w request refusal = (world : World) → CoreStandsFor core world �
 -- in each such world these nodes are the list of the newest published version for the request
 abbrev pub IsListed : CoreState → Request → List ℕ → Type 0
 IsListed core request nodes = (world : World) → CoreStandsFor core world → list_at core.space.machine world.history (newest_published world) request ≡ Some nodes
+
+-- so it is in each core with this plan and these seats
+abbrev pub Judges : PlanData → List Seat → ℕ → Request → Option CoreRefusal → Type 0
+Judges plan seats w request refusal = (space : SpaceState) (owners : List (Option ℕ)) → IsJudged (core_of space plan seats owners) w request refusal
+
+abbrev pub Lists : PlanData → List Seat → Request → List ℕ → Type 0
+Lists plan seats request nodes = (space : SpaceState) (owners : List (Option ℕ)) → IsListed (core_of space plan seats owners) request nodes

@@ -1,5 +1,5 @@
 -- What a core keeps of its tables, and what it shows.
-use Rattle.std.specs.Prelude.{◌≡◌, ℕ, ◌≤◌, Some, length, vec_len, slice_get, map, Result}
+use Rattle.std.specs.Prelude.{◌≡◌, ℕ, ◌≤◌, Some, length, vec_len, slice_get, Result}
 use Rattle.numa_core.specs.declared.state.State.{State}
 use Rattle.numa_core.specs.declared.seat.Seat.{Seat}
 use Rattle.numa_core.specs.declared.event.Event.{Event}
@@ -8,11 +8,11 @@ use Rattle.numa_core.specs.declared.event.CoreRefusal.{CoreRefusal}
 use Rattle.numa_core.specs.World.{World, newest_published}
 use Rattle.numa_core.specs.Steps.{IsAnswer, world_after}
 use Rattle.numa_core.specs.Standing.{CoreState, CoreStandsFor, setup_of, frames_before}
-use Rattle.numa_core.specs.Seats.{busy_of, SeatFits}
+use Rattle.numa_core.specs.Seats.{core_of, SeatFits}
 use Rattle.numa_core.specs.Hints.{AreTaken}
 
 abbrev pub shown : State → CoreState
-shown state = record { space = state.space; plan = state.plan; workers = map busy_of state.seats.items; owners = state.owners.items }
+shown state = core_of state.space state.plan state.seats.items state.owners.items
 
 -- the table of places is the machine's; each seat has its room and a cursor that stands right; there is an owner's place for each frame;
 -- a worker's number has room in a byte; for each node there is a number below which all its frames are owned

@@ -1,5 +1,5 @@
 -- What a worker's seat shows, and what its cursor means.
-use Rattle.std.specs.Prelude.{◌≡◌, ℕ, ◌*◌, ◌<◌, ◌≤◌, Bool, true, false, Option, Some, None, Result, Ok, Err, List, length, vec_len, slice_index, MatchOption, MatchBool}
+use Rattle.std.specs.Prelude.{◌≡◌, ℕ, ◌*◌, ◌<◌, ◌≤◌, Bool, true, false, Option, Some, None, Result, Ok, Err, List, length, vec_len, slice_index, MatchOption, MatchBool, map}
 use Rattle.numa_core.specs.declared.frame.Frame.{Frame}
 use Rattle.numa_core.specs.declared.request.Request.{Request}
 use Rattle.numa_core.specs.declared.event.Reply.{Reply}
@@ -10,7 +10,9 @@ use Rattle.numa_core.specs.declared.seat.Job.{Job}
 use Rattle.numa_core.specs.declared.seat.Seat.{Seat}
 use Rattle.numa_core.specs.World.{Setup, Hunt, World, may_look, may_try, looked, missed}
 use Rattle.numa_core.specs.Steps.{goes_on, going_on, placement_of}
-use Rattle.numa_core.specs.Standing.{Busy, frames_before, place_in, is_met}
+use Rattle.numa_space.specs.Standing.{SpaceState}
+use Rattle.numa_plan.specs.Meaning.{PlanData}
+use Rattle.numa_core.specs.Standing.{Busy, CoreState, frames_before, place_in, is_met}
 
 -- the frame is met, where each node has as many frames as the list says
 abbrev pub met_at : List ℕ → List ℕ → ℕ → ℕ → Bool
@@ -47,6 +49,10 @@ busy_by (Some job) nodes words = Some (busy_at job nodes words)
 -- what the seat's worker is about
 abbrev pub busy_of : Seat → Option Busy
 busy_of seat = busy_by seat.job seat.nodes.items seat.met.items
+
+-- the core with this space, this plan, these seats and these owners
+abbrev pub core_of : SpaceState → PlanData → List Seat → List (Option ℕ) → CoreState
+core_of space plan seats owners = record { space = space; plan = plan; workers = map busy_of seats; owners = owners }
 
 -- the hunt of it
 abbrev pub hunt_in : List ℕ → Busy → Hunt

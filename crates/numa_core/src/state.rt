@@ -9,6 +9,7 @@ ghost use Rattle.numa_core.specs.declared.event.Event.{Event};
 
 use crate::event::{CoreRefusal, Reply};
 use crate::frame::Frame;
+use crate::judging::row_for;
 use crate::places::Places;
 use crate::request::Request;
 use crate::seat::Seat;
@@ -16,8 +17,8 @@ use crate::tables::none_owned;
 use crate::touching::{lower, none_taken};
 use numa_compile::compile;
 use numa_machine::Machine;
-use numa_plan::{NoMemory, Plan, Steps};
-use numa_space::{Command, Limits, PlaceRefusal, Space};
+use numa_plan::{NoMemory, Plan};
+use numa_space::{Command, Limits, Space};
 use std::alloc::Global;
 
 /// The space of all accepted commands, the plan of those that are published, the workers' seats, the owner of each frame, and
@@ -114,22 +115,8 @@ impl State {
         ensures unchanged { OnErr result (shown self.new ≡ shown self.old) }
         ensures setup { setup_of (shown self.new) ≡ setup_of (shown self.old) }
     {
-        if worker as usize >= self.seats.len() {
-            return Err(CoreRefusal::NoSuchWorker);
-        }
-        let seat = &self.seats[worker as usize];
-        if seat.job.is_some() {
-            return Err(CoreRefusal::Busy);
-        }
+        let row = row_for(&self.plan, &self.seats, worker, request)?;
         let version = self.plan.version();
-        let row = match self
-            .plan
-            .choice(request.task, request.page, request.cpu, &mut Steps::new())
-        {
-            Ok(row) => row,
-            Err(PlaceRefusal::BadCpu) => return Err(CoreRefusal::BadCpu),
-            Err(PlaceRefusal::Unmapped) => return Err(CoreRefusal::Unmapped(version)),
-        };
         Ok(self.seats[worker as usize].begin(&self.places, request, version, row))
     }
 

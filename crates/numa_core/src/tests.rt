@@ -6,7 +6,7 @@ use crate::{Core, CoreRefusal, Event, Frame, Reply, Request};
 use numa_machine::Machine;
 use numa_mask::{NodeId, NodeMask};
 use numa_mode::PolicySpec;
-use numa_space::{Command, Limits};
+use numa_space::{Command, Limits, Refusal};
 use std::alloc::{AllocError, Global};
 use std::process::Abort;
 use std::test::Fail;
@@ -73,7 +73,11 @@ fn task(rt: &impl Abort, task: u32, word: u32, nodes: &[u8]) -> Event {
 }
 
 fn begin(worker: u32, task: u32, page: u64) -> Event {
-    Event::Begin(worker, Request { task, page, cpu: 0 })
+    begin_on(worker, task, page, 0)
+}
+
+fn begin_on(worker: u32, task: u32, page: u64, cpu: u32) -> Event {
+    Event::Begin(worker, Request { task, page, cpu })
 }
 
 fn try_frame(worker: u32, node: u8, number: u16) -> Event {
@@ -113,10 +117,16 @@ fn versions(rt: HostRuntime) -> Result<(), Fail> {
     let mut core = core_of(&rt, rt.alloc(), &[8, 8], 1)?;
     let steps = [
         (map(0x10000, 0x1000), Accepted(1)),
+        (
+            map(0x10000, 0x1000),
+            Refused(CoreRefusal::Command(Refusal::Overlap)),
+        ),
         (task(&rt, 1, 1, &[1]), Accepted(2)),
         (begin(0, 1, 16), Refused(CoreRefusal::Unmapped(0))),
+        (begin_on(0, 1, 16, 2), Refused(CoreRefusal::BadCpu)),
         (Event::Publish, Published(2)),
         (Event::Publish, Published(2)),
+        (begin_on(0, 1, 16, 2), Refused(CoreRefusal::BadCpu)),
         (begin(0, 1, 16), Still),
         (try_frame(0, 0, 0), Refused(CoreRefusal::BadTry)),
         (try_frame(0, 1, 0), Won(2, 1, 0, 0)),
@@ -129,24 +139,29 @@ fn versions(rt: HostRuntime) -> Result<(), Fail> {
 
 #[test]
 fn touches(rt: HostRuntime) -> Result<(), Fail> {
-    let mut core = core_of(&rt, rt.alloc(), &[1, 1], 1)?;
+    let mut core = core_of(&rt, rt.alloc(), &[1, 1], 2)?;
     let steps = [
         (map(0x10000, 0x3000), Accepted(1)),
         (task(&rt, 1, 2, &[0]), Accepted(2)),
         (task(&rt, 2, 5, &[0]), Accepted(3)),
         (Event::Publish, Published(3)),
+        (begin(1, 1, 16), Still),
+        (begin(2, 1, 16), Refused(CoreRefusal::NoSuchWorker)),
     ];
     play(&rt, &mut core, &steps);
     let asked = [
-        (0, 1, 16, Won(3, 0, 0, 0)),
-        (0, 1, 17, Exhausted(3)),
-        (0, 2, 17, Won(3, 1, 0, 1)),
-        (0, 2, 18, Exhausted(3)),
-        (0, 2, 19, Refused(CoreRefusal::Unmapped(3))),
-        (1, 2, 18, Refused(CoreRefusal::NoSuchWorker)),
+        (1, 1, 16, 0, Refused(CoreRefusal::Busy)),
+        (0, 1, 16, 0, Won(3, 0, 0, 0)),
+        (0, 1, 17, 0, Exhausted(3)),
+        (0, 2, 17, 1, Won(3, 1, 0, 1)),
+        (0, 2, 18, 0, Exhausted(3)),
+        (0, 2, 19, 0, Refused(CoreRefusal::Unmapped(3))),
+        (0, 2, 19, 2, Refused(CoreRefusal::BadCpu)),
+        (2, 2, 18, 0, Refused(CoreRefusal::NoSuchWorker)),
+        (2, 2, 19, 2, Refused(CoreRefusal::NoSuchWorker)),
     ];
-    for (worker, task, page, want) in asked {
-        let request = Request { task, page, cpu: 0 };
+    for (worker, task, page, cpu, want) in asked {
+        let request = Request { task, page, cpu };
         assert_eq!(&rt; answer_of(core.touch(worker, request)), want, "page {page}");
     }
     Ok(())

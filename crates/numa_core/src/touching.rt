@@ -11,6 +11,7 @@ ghost use Rattle.numa_core.specs.Touching.{lowest_free, first_free, touched, tou
 
 use crate::event::{CoreRefusal, Reply};
 use crate::frame::Frame;
+use crate::judging::row_for;
 use crate::placement::Placement;
 use crate::places::Places;
 use crate::request::Request;
@@ -107,7 +108,7 @@ impl State {
         ensures unchanged { OnErr result (shown self.new ≡ shown self.old) }
         ensures setup { setup_of (shown self.new) ≡ setup_of (shown self.old) }
     {
-        let row = self.row_for(worker, request)?;
+        let row = row_for(&self.plan, &self.seats, worker, request)?;
         let found = first_free(&self.places, &self.owners, &self.taken, row);
         let version = self.plan.version();
         let Some(spot) = found else {

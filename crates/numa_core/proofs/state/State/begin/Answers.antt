@@ -1,16 +1,17 @@
-use Rattle.std.proofs.Common.{◌<◌, Some, length, arith, sym, ap, ◌∙◌}
+use Rattle.std.proofs.Common.{◌<◌, length, arith}
+use Rattle.std.proofs.lemmas.Result.{err_from_is_err_and}
+use Rattle.numa_core.specs.Kept.{shown}
 use Rattle.numa_core.specs.Seats.{SeatFits}
-use Rattle.numa_core.proofs.CoreSteps.{there_at, each-set, no_job, begin-follows, unmapped-follows}
+use Rattle.numa_core.proofs.CoreSteps.{there_at, each-set, refused-begin, begin-follows}
 use Rattle.numa_core.proofs.state.State.begin.Goals as goal
 
-pub returns-in-Err-Unmapped-clause-follows : goal.returns-in-Err-Unmapped-clause-follows
-returns-in-Err-Unmapped-clause-follows c world stands =
-    let low : c.args.worker < length c.args.self.now.seats.items = omega (arith, c.len.ensures, c.args.self.now.seats.ok.0) in
-    let there = there_at c.args.self.now.seats.items c.args.worker c.index-seat.result.now low c.index-seat.ensures in
-    (unmapped-follows c.args.self.now.space c.args.self.now.plan c.args.self.now.places c.args.self.now.seats.items c.args.self.now.owners.items world c.requires.kept.places stands c.args.worker c.index-seat.result.now low there c.args.request c.version-version.result (no_job c.index-seat.result.now.job (sym c.is_some.ensures ∙ c.if-is_some.false)) c.version-version.ensures (c.in-Err-Unmapped.ensures.err ∙ ap Some c.in-Err-Unmapped.field-0-is), stands)
+pub returns-in_err-row-clause-follows : goal.returns-in_err-row-clause-follows
+returns-in_err-row-clause-follows c =
+    let exit = err_from_is_err_and c.from_residual.result c.from_residual.ensures.1 in
+    rw (exit.1, exit.2) (refused-begin (shown c.args.self.now) c.args.worker c.args.request c.in_err-row.field-0.0 (c.in_err-row.ensures.refused c.args.self.now.space c.args.self.now.owners.items))
 
 pub begin-requires-clause-fits : goal.begin-requires-clause-fits
-begin-requires-clause-fits c = c.requires.kept.seats c.args.worker c.index_mut.result.now (there_at c.args.self.now.seats.items c.args.worker c.index_mut.result.now (omega (arith, c.len.ensures, c.args.self.now.seats.ok.0)) c.index_mut.ensures.value)
+begin-requires-clause-fits c = c.requires.kept.seats c.args.worker c.index_mut.result.now (there_at c.args.self.now.seats.items c.args.worker c.index_mut.result.now (omega (arith, c.in_ok-row.ensures.seated, c.args.self.now.seats.ok.0)) c.index_mut.ensures.value)
 
 pub returns-clause-kept : goal.returns-clause-kept
 returns-clause-kept c = record {
@@ -23,7 +24,7 @@ returns-clause-kept c = record {
 
 pub returns-clause-follows : goal.returns-clause-follows
 returns-clause-follows c world stands =
-    let low : c.args.worker < length c.args.self.now.seats.items = omega (arith, c.len.ensures, c.args.self.now.seats.ok.0) in
-    let there = there_at c.args.self.now.seats.items c.args.worker c.index-seat.result.now low c.index-seat.ensures in
-    begin-follows c.args.self.now.space c.args.self.now.plan c.args.self.now.places c.args.self.now.seats.items c.args.self.now.owners.items world c.requires.kept.places stands c.args.worker c.index-seat.result.now low there c.args.request c.in-Ok.row.now c.version-version.result c.begin.new.self c.begin.result (no_job c.index-seat.result.now.job (sym c.is_some.ensures ∙ c.if-is_some.false)) c.version-version.ensures
-    c.in-Ok.ensures.ok.0 c.in-Ok.ensures.ok.1 c.begin.ensures.reply c.begin.ensures.hunt
+    let low : c.args.worker < length c.args.self.now.seats.items = omega (arith, c.in_ok-row.ensures.seated, c.args.self.now.seats.ok.0) in
+    let there = there_at c.args.self.now.seats.items c.args.worker c.index_mut.result.now low c.index_mut.ensures.value in
+    begin-follows c.args.self.now.space c.args.self.now.plan c.args.self.now.places c.args.self.now.seats.items c.args.self.now.owners.items world c.requires.kept.places stands c.args.worker c.index_mut.result.now low there c.args.request c.in_ok-row.row.now c.version-version.result c.begin.new.self c.begin.result c.version-version.ensures
+    (c.in_ok-row.ensures.allowed c.args.self.now.space c.args.self.now.owners.items) (c.in_ok-row.ensures.listed c.args.self.now.space c.args.self.now.owners.items) c.begin.ensures.reply c.begin.ensures.hunt
