@@ -1,6 +1,8 @@
+use crate::asked_job;
 use crate::command_line::job;
 use crate::jobs::{Job, JobFault};
 use std::alloc::{AllocError, Global};
+use std::env::{Env, FillError};
 use std::test::Fail;
 
 // What a command line asks for, by name.
@@ -29,5 +31,39 @@ fn jobs(rt: HostRuntime) -> Result<(), Fail> {
         "usage"
     );
     assert_eq!(rt; asked(rt.alloc(), &["numaplan", "--version"])?, "usage");
+    Ok(())
+}
+
+// The command line of a program that is handed one byte which no UTF-8 text has.
+#[derive(Drop)]
+struct NotUtf8;
+
+impl Env for NotUtf8 {
+    fn arg(&self, i: usize, buf: &mut [u8]) -> Result<usize, FillError> {
+        if i > 1 {
+            return Err(FillError::NotPresent);
+        }
+        match buf.first_mut() {
+            None => Err(FillError::TooLong),
+            Some(first) => {
+                *first = if i == 0 { b'n' } else { 0xff };
+                Ok(1)
+            }
+        }
+    }
+
+    fn var(&self, _name: &str, _buf: &mut [u8]) -> Result<usize, FillError> {
+        Err(FillError::NotPresent)
+    }
+
+    fn var_at(&self, _i: usize, _buf: &mut [u8]) -> Result<usize, FillError> {
+        Err(FillError::NotPresent)
+    }
+}
+
+#[test]
+fn argument_not_utf_8(rt: HostRuntime) -> Result<(), Fail> {
+    let asked = asked_job(&(NotUtf8, rt.alloc()));
+    assert!(rt; matches!(asked, Err(JobFault::Usage(_))));
     Ok(())
 }
