@@ -3,7 +3,7 @@ use Rattle.std.proofs.Common.{zero, suc, ◌≡◌, ◌≢◌, ℕ, ◌+◌, ◌
 use Rattle.std.specs.Option.{option_map, option_map_or, option_and_then}
 use Rattle.std.specs.List.{list_any}
 use Rattle.std.proofs.Math.ListN.{set}
-use Rattle.std.proofs.lemmas.List.{map-set, length-map, length-drop}
+use Rattle.std.proofs.lemmas.List.{map-set, length-map}
 use Rattle.std.proofs.lemmas.Bool.{eq-eqb}
 use Rattle.std.proofs.lemmas.Bool.Decides.{eqb_tells}
 use Rattle.std.proofs.lemmas.Option.{slice_get-map}
@@ -33,6 +33,7 @@ use Rattle.numa_core.specs.Seats.{core_of, busy_by, busy_of, seat_hunt, hunt_in,
 use Rattle.numa_core.proofs.Seating.{tries-nowhere}
 use Rattle.numa_core.proofs.InARow.{not_le, is_at, same_place, place-some}
 use Rattle.numa_core.proofs.Versions.{by_itself}
+use Rattle.numa_core.proofs.TouchJudged.{version-newest}
 use Rattle.numa_core.proofs.Tracking.{first_commands-more}
 
 -- ---- tables
@@ -132,14 +133,6 @@ stands-owner core world frame place x stands here is low = record {
   known = stands.known;
   not_newer = stands.not_newer;
 }
-
--- the plan's version is the newest published one
-pub version-is : (core : CoreState) (world : World) → CoreStandsFor core world → core.plan.version ≡ newest_published world
-version-is core world stands =
-    let known : newest_published world ≤ length world.history = stands.known in
-    let cut : length (first_commands (newest_published world) world.history) ≡ length world.history - (length world.history - newest_published world) = length-drop (length world.history - newest_published world) world.history in
-    let plan : core.plan.version ≡ length (first_commands (newest_published world) world.history) = stands.plan.version in
-    omega arith
 
 -- a refused event leaves the worker as it was
 pub stands-result : (core : CoreState) (world after : World) (w : ℕ) (old new : Option Busy) (result : Result Reply CoreRefusal) → (is_ok result ≡ true → CoreStandsFor (with_seat core w new) after) → OnErr result (new ≡ old) → slice_get core.workers w ≡ Some old → CoreStandsFor core world → CoreStandsFor (with_seat core w new) (if is_ok result then after else world)
@@ -301,7 +294,7 @@ module _ (space : SpaceState) (plan : PlanData) (places : List ℕ) (seats : Lis
         → ((s : Setup) → places ≡ s.machine.frames → reply ≡ goes_on s (fresh request version row)) → ((s : Setup) → places ≡ s.machine.frames → seat_hunt places new ≡ going_on s (fresh request version row))
         → IsAnswer (setup_of (core_of space plan seats owners)) world (newest_published world) (Begin w request) (Ok reply) × CoreStandsFor (core_of space plan (set seats w new) owners) (effect_of (setup_of (core_of space plan seats owners)) world (newest_published world) (Begin w request))
     begin-follows request row version new reply is allowed listed answer hunt =
-        let newest : version ≡ newest_published world = is ∙ version-is (core_of space plan seats owners) world stands in (
+        let newest : version ≡ newest_published world = is ∙ version-newest (core_of space plan seats owners) world stands in (
           begin_answer (setup_of (core_of space plan seats owners)) world (newest_published world) w request row reply (allowed world stands) (listed world stands) (answer (setup_of (core_of space plan seats owners)) same ∙ ap (λ v. goes_on (setup_of (core_of space plan seats owners)) (fresh request v row)) newest),
           moved new owners _ (with_new new (newest_published world) _ (hunt (setup_of (core_of space plan seats owners)) same ∙ ap (λ v. going_on (setup_of (core_of space plan seats owners)) (fresh request v row)) newest ∙ begin_hunt (setup_of (core_of space plan seats owners)) world (newest_published world) request row (listed world stands)) (omega arith)),
         )

@@ -7,7 +7,7 @@ use Rattle.numa_core.specs.Steps.{goes_on, going_on}
 use Rattle.numa_core.specs.Standing.{Busy}
 use Rattle.numa_core.specs.Seats.{met_at, hunt_in, IsPassed, IsCursor, IsAllMet}
 
-or_true : (a b : Bool) → b ≡ true → (a || b) ≡ true
+pub or_true : (a b : Bool) → b ≡ true → (a || b) ≡ true
 or_true true b e = refl
 or_true false b e = e
 

@@ -13,6 +13,7 @@ use Rattle.numa_core.specs.declared.touching.Spot.{Spot}
 use Rattle.numa_core.specs.World.{Setup, Hunt, World, newest_published, hunt_of, last_of, list_at, is_frame, current_rank, has_unmet, may_try, missed, begun}
 use Rattle.numa_core.specs.Steps.{goes_on, going_on, with_worker, with_owner}
 use Rattle.numa_core.specs.Touching.{Answered, lowest_unmet, next_frame, next_try, answered_with, tried_on, touched, lowest_free, first_free, touch_reply, touch_effect, touch_refusal, touch_answer, touch_world}
+use Rattle.numa_core.proofs.Cursors.{or_true}
 use Rattle.numa_core.proofs.Answered.{four_rows, one_frame}
 use Rattle.numa_core.proofs.Placing.{any_below-none, first_place-some, first_place-none, not_false-is}
 use Rattle.numa_core.proofs.TouchLowest.{IsLowest, lowest-none, lowest-some, lowest-is, first_place-there, unmet, unmet-less, unmet-all}
@@ -26,10 +27,6 @@ some_not_none (Some v) e = refl
 idle : (s : Setup) (w : ℕ) (n : ℕ) (so_far : Answered) → hunt_of so_far.world w ≡ None → tried_on s n w so_far ≡ so_far
 idle s w zero so_far is = refl
 idle s w (suc n) so_far is = ap (λ o. option_map_or (λ event. tried_on s n w (answered_with s so_far.world event)) (option_map (Try w) (option_and_then (next_frame s) o)) so_far) is
-
-or_true : (a b : Bool) → b ≡ true → (a || b) ≡ true
-or_true true b h = refl
-or_true false b h = h
 
 not_true : (b : Bool) → not b ≡ true → b ≡ false
 not_true true h = absurd (cc)

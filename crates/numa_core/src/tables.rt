@@ -59,7 +59,7 @@ pub(crate) fn clear(met: &mut Vec<u64>)
 pub(crate) fn none_met(alloc: Global, total: u32) -> Result<Vec<u64>, AllocError>
     ensures { IfOk result (λ met. total ≤ 64 * vec_len met) }
 {
-    vec![in alloc; 0; total as usize / 64 + 1]
+    vec![in alloc; 0; (total as usize + 63) / 64]
 }
 
 /// A table of this many frames, none of them owned.
