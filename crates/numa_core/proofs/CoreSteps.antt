@@ -24,12 +24,12 @@ use Rattle.numa_core.specs.declared.event.CoreRefusal.TheVariants.{Idle, BadTry}
 use Rattle.numa_core.specs.World.{Setup, Hunt, Worker, World, opening, newest_published, first_commands, hunt_of, last_of, owner_of, is_frame, list_at, may_look, may_try, looked, missed, begun}
 use Rattle.numa_core.specs.Steps.{because, refusal_of, reply_of, effect_of, goes_on, going_on, placement_of, with_worker, with_owner, refused_or, IsAnswer, world_after, MayTake}
 use Rattle.numa_core.specs.Runs.{Moment, IsLegalRun, world_of}
-use Rattle.numa_core.specs.Standing.{Busy, CoreState, CoreStandsFor, LeadsTo, place_in, place_of, owner_at, hunt_by, setup_of, frames_before, moment_after}
+use Rattle.numa_core.specs.Standing.{Busy, CoreState, CoreStandsFor, LeadsTo, place_in, place_of, owner_at, hunt_by, setup_of, frames_before, moment_after, hunt_in, hunt_of_busy}
 use Rattle.numa_core.specs.declared.seat.Job.{Job}
 use Rattle.numa_core.specs.declared.seat.Seat.{Seat}
 use Rattle.numa_core.specs.Judging.{IsJudged, IsListed}
 use Rattle.numa_core.specs.Kept.{Follows}
-use Rattle.numa_core.specs.Seats.{core_of, busy_by, busy_of, seat_hunt, hunt_in, hunt_of_busy, fresh, SeatLooks, SeatTries}
+use Rattle.numa_core.specs.Seats.{core_of, busy_by, busy_of, seat_hunt, fresh, SeatLooks, SeatTries}
 use Rattle.numa_core.proofs.Seating.{tries-nowhere}
 use Rattle.numa_core.proofs.InARow.{not_le, is_at, same_place, place-some}
 use Rattle.numa_core.proofs.Versions.{by_itself}

@@ -4,8 +4,8 @@ use Rattle.std.proofs.lemmas.Bool.Decides.{eqb_tells}
 use Rattle.numa_core.specs.declared.event.Reply.TheVariants.{Still, Exhausted}
 use Rattle.numa_core.specs.World.{Setup, Hunt, any_below, first_place, current_rank}
 use Rattle.numa_core.specs.Steps.{goes_on, going_on}
-use Rattle.numa_core.specs.Standing.{Busy}
-use Rattle.numa_core.specs.Seats.{met_at, hunt_in, IsPassed, IsCursor, IsAllMet}
+use Rattle.numa_core.specs.Standing.{Busy, met_at, hunt_in}
+use Rattle.numa_core.specs.Seats.{IsPassed, IsCursor, IsAllMet}
 
 pub or_true : (a b : Bool) → b ≡ true → (a || b) ≡ true
 or_true true b e = refl

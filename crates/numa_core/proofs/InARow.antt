@@ -8,8 +8,7 @@ use Rattle.std.proofs.lemmas.Bool.{eq-eqb, ltb-true}
 use Rattle.std.proofs.lemmas.Bool.Decides.{eqb_tells, nat_tests}
 use Rattle.std.proofs.lemmas.List.{get_or-set_same, get_or-set_other}
 use Rattle.std.proofs.lemmas.Nat.Bits.{bit_at_set_same, bit_at_set_other}
-use Rattle.numa_core.specs.Standing.{frames_before, place_in, is_met, owner_at}
-use Rattle.numa_core.specs.Seats.{met_at}
+use Rattle.numa_core.specs.Standing.{frames_before, place_in, is_met, owner_at, met_at}
 
 pub not_lt : (a b : ℕ) → b ≤ a → nat_lt a b ≡ false
 not_lt a b h = grind (arith, nat_tests)

@@ -15,8 +15,8 @@ use Rattle.numa_core.specs.declared.seat.Job.{Job}
 use Rattle.numa_core.specs.declared.seat.Seat.{Seat}
 use Rattle.numa_core.specs.World.{Setup, Hunt, World, current_rank, may_try, looked, missed, is_frame}
 use Rattle.numa_core.specs.Steps.{goes_on, going_on, placement_of}
-use Rattle.numa_core.specs.Standing.{place_in, is_met, owner_at}
-use Rattle.numa_core.specs.Seats.{met_at, busy_at, hunt_in, seat_hunt, fresh, JobStands, IsPassed, IsCursor, SeatLooks, SeatTries}
+use Rattle.numa_core.specs.Standing.{place_in, is_met, owner_at, met_at, hunt_in}
+use Rattle.numa_core.specs.Seats.{busy_at, seat_hunt, fresh, JobStands, IsPassed, IsCursor, SeatLooks, SeatTries}
 use Rattle.numa_core.proofs.Cursors.{rank-at}
 use Rattle.numa_core.proofs.InARow.{is_lt, not_lt, place-not}
 

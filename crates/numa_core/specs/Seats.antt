@@ -12,11 +12,7 @@ use Rattle.numa_core.specs.World.{Setup, Hunt, World, may_look, may_try, looked,
 use Rattle.numa_core.specs.Steps.{goes_on, going_on, placement_of}
 use Rattle.numa_space.specs.Standing.{SpaceState}
 use Rattle.numa_plan.specs.Meaning.{PlanData}
-use Rattle.numa_core.specs.Standing.{Busy, CoreState, frames_before, place_in, is_met}
-
--- the frame is met, where each node has as many frames as the list says
-abbrev pub met_at : List ℕ → List ℕ → ℕ → ℕ → Bool
-met_at frames words n k = is_met words (place_in frames n k)
+use Rattle.numa_core.specs.Standing.{Busy, CoreState, frames_before, met_at, hunt_of_busy}
 
 -- ---- the cursor
 
@@ -54,14 +50,7 @@ busy_of seat = busy_by seat.job seat.nodes.items seat.met.items
 abbrev pub core_of : SpaceState → PlanData → List Seat → List (Option ℕ) → CoreState
 core_of space plan seats owners = record { space = space; plan = plan; workers = map busy_of seats; owners = owners }
 
--- the hunt of it
-abbrev pub hunt_in : List ℕ → Busy → Hunt
-hunt_in frames busy = record { request = busy.request; version = busy.version; nodes = busy.nodes; met = λ n k. met_at frames busy.met n k }
-
-abbrev pub hunt_of_busy : List ℕ → Option Busy → Option Hunt
-hunt_of_busy frames None = None
-hunt_of_busy frames (Some busy) = Some (hunt_in frames busy)
-
+-- the hunt of its worker
 abbrev pub seat_hunt : List ℕ → Seat → Option Hunt
 seat_hunt frames seat = hunt_of_busy frames (busy_of seat)
 

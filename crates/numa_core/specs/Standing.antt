@@ -49,10 +49,20 @@ abbrev pub is_met : List ℕ → Option ℕ → Bool
 is_met words None = false
 is_met words (Some place) = bit_at (slice_index words (place / 64)) (place % 64) == 1
 
--- the worker's hunt
+-- the frame is met, where each node has as many frames as the list says
+abbrev pub met_at : List ℕ → List ℕ → ℕ → ℕ → Bool
+met_at frames words n k = is_met words (place_in frames n k)
+
+-- what a busy worker's hunt is, and a worker's
+abbrev pub hunt_in : List ℕ → Busy → Hunt
+hunt_in frames busy = record { request = busy.request; version = busy.version; nodes = busy.nodes; met = λ n k. met_at frames busy.met n k }
+
+abbrev pub hunt_of_busy : List ℕ → Option Busy → Option Hunt
+hunt_of_busy frames None = None
+hunt_of_busy frames (Some busy) = Some (hunt_in frames busy)
+
 abbrev pub hunt_by : Hardware → Option Busy → Option Hunt
-hunt_by machine None = None
-hunt_by machine (Some busy) = Some (record { request = busy.request; version = busy.version; nodes = busy.nodes; met = λ n k. is_met busy.met (place_of machine n k) })
+hunt_by machine = hunt_of_busy machine.frames
 
 abbrev pub shown_hunt : CoreState → ℕ → Option Hunt
 shown_hunt core w = hunt_by core.space.machine (option_and_then (λ busy. busy) (slice_get core.workers w))

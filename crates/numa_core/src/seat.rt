@@ -2,8 +2,8 @@
 ghost use Rattle.std.specs.Prelude.{◌≡◌, ℕ, ◌<◌, ◌≤◌, true, false, None, Some, IfOk, IfSome, OnOk, OnErr, MatchOption, is_some, length, vec_len, slice_index};
 ghost use Rattle.numa_core.specs.World.{Setup, World};
 ghost use Rattle.numa_core.specs.Steps.{goes_on, going_on};
-ghost use Rattle.numa_core.specs.Standing.{frames_before, owner_at, place_in};
-ghost use Rattle.numa_core.specs.Seats.{met_at, busy_at, hunt_in, busy_of, seat_hunt, fresh, HasRoom, IsPassed, IsCursor, IsAllMet, SeatFits, SeatLooks, SeatTries};
+ghost use Rattle.numa_core.specs.Standing.{frames_before, owner_at, place_in, met_at, hunt_in};
+ghost use Rattle.numa_core.specs.Seats.{busy_at, busy_of, seat_hunt, fresh, HasRoom, IsPassed, IsCursor, IsAllMet, SeatFits, SeatLooks, SeatTries};
 
 use crate::event::{CoreRefusal, Reply};
 use crate::frame::Frame;

@@ -1,5 +1,5 @@
 use Rattle.std.proofs.Common.{◌≡◌, ℕ, ◌<◌, ◌≤◌, true}
-use Rattle.numa_core.specs.Seats.{met_at}
+use Rattle.numa_core.specs.Standing.{met_at}
 use Rattle.numa_core.proofs.seat.first_unmet.Given as goal
 
 abbrev pub invariant-loop-number : goal.invariant-loop-number

@@ -1,7 +1,6 @@
 use Rattle.std.proofs.Common.{◌≡◌, ◌==◌, ◌||◌, ℕ, Some, None, ap, ◌∙◌, sym, subst, slice_index, false, refl}
 use Rattle.numa_core.specs.World.{is_frame}
-use Rattle.numa_core.specs.Standing.{is_met}
-use Rattle.numa_core.specs.Seats.{met_at}
+use Rattle.numa_core.specs.Standing.{is_met, met_at}
 use Rattle.numa_core.proofs.InARow.{place-some, met-more}
 use Rattle.numa_core.proofs.Seating.{cursor-of, passed-keeps, or_met, next-true, next-other, tries-bad, tries-owned, tries-free}
 use Rattle.numa_core.proofs.seat.Seat.attempt.Goals as goal

@@ -1,6 +1,7 @@
 use Rattle.std.proofs.Common.{◌≡◌, ap, ◌∙◌}
 use Rattle.numa_core.specs.Steps.{goes_on, going_on}
-use Rattle.numa_core.specs.Seats.{busy_at, hunt_in, fresh}
+use Rattle.numa_core.specs.Standing.{hunt_in}
+use Rattle.numa_core.specs.Seats.{busy_at, fresh}
 use Rattle.numa_core.proofs.Seating.{fresh-is}
 use Rattle.numa_core.proofs.seat.Seat.begin.Goals as goal
 
