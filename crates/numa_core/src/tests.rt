@@ -88,20 +88,32 @@ fn give(worker: u32, node: u8, number: u16) -> Event {
     Event::Give(worker, Frame { node, number })
 }
 
+/// Adds the distances from a node to each of so many nodes.
+fn push_row(distances: &mut Vec<u8>, nodes: usize, from: usize) -> Result<(), AllocError> {
+    for to in 0..nodes {
+        distances.push(if from == to { 10 } else { 20 })?;
+    }
+    Ok(())
+}
+
+/// The distances of so many nodes that are 20 apart.
+fn twenty_apart(alloc: Global, nodes: usize) -> Result<Vec<u8>, AllocError> {
+    let mut distances = Vec::new(alloc);
+    for from in 0..nodes {
+        push_row(&mut distances, nodes, from)?;
+    }
+    Ok(distances)
+}
+
 /// A core of a machine whose nodes are 20 apart and all have memory, with these frames.
 fn core_of(rt: &impl Abort, alloc: Global, frames: &[u32], workers: u32) -> Result<Core, AllocError>
     requires some { 1 ≤ workers }
     requires few { workers ≤ 16 }
 {
-    let mut distances = Vec::new(alloc);
+    let distances = twenty_apart(alloc, frames.len())?;
     let mut memory = NodeMask::empty();
-    for from in 0..frames.len() {
-        for to in 0..frames.len() {
-            distances.push(if from == to { 10 } else { 20 })?;
-        }
-        if from < 256
-            && let Some(node) = NodeId::new(from as u8)
-        {
+    for number in 0..frames.len().min(256) {
+        if let Some(node) = NodeId::new(number as u8) {
             memory.insert(node);
         }
     }
@@ -249,27 +261,25 @@ fn nodes_without_frames(rt: HostRuntime) -> Result<(), Fail> {
     Ok(())
 }
 
-#[test]
-fn sixteen_workers(rt: HostRuntime) -> Result<(), Fail> {
-    let mut core = core_of(&rt, rt.alloc(), &[8, 8], 16)?;
-    play(
-        &rt,
-        &mut core,
-        &[
-            (map(0x10000, 0x1000), Accepted(1)),
-            (Event::Publish, Published(1)),
-        ],
-    );
+fn begin_all(rt: &impl Abort, core: &mut Core) {
     for worker in 0..16u32 {
-        play(&rt, &mut core, &[(begin(worker, 1, 16), Still)]);
+        play(rt, core, &[(begin(worker, 1, 16), Still)]);
     }
+}
+
+/// The first eight workers win the frames of node 0, and after each win the last worker looks there.
+fn win_node_0(rt: &impl Abort, core: &mut Core) {
     for worker in 0..8u16 {
         let steps = [
             (try_frame(worker as u32, 0, worker), Won(1, 0, worker, 0)),
             (Event::Look(15, 0), Still),
         ];
-        play(&rt, &mut core, &steps);
+        play(rt, core, &steps);
     }
+}
+
+/// The next seven workers find node 0 full, and win frames of node 1.
+fn win_node_1(rt: &impl Abort, core: &mut Core) {
     for number in 0..7u16 {
         let worker = number as u32 + 8;
         let steps = [
@@ -277,20 +287,30 @@ fn sixteen_workers(rt: HostRuntime) -> Result<(), Fail> {
             (Event::Look(worker, 0), Still),
             (try_frame(worker, 1, number), Won(1, 1, number, 1)),
         ];
-        play(&rt, &mut core, &steps);
+        play(rt, core, &steps);
     }
-    play(
-        &rt,
-        &mut core,
-        &[
-            (try_frame(15, 1, 7), Won(1, 1, 7, 1)),
-            (begin(0, 1, 16), Still),
-            (Event::Look(0, 0), Still),
-            (Event::Look(0, 0), Exhausted(1)),
-            (give(14, 1, 7), Refused(CoreRefusal::NotOwned)),
-            (give(15, 1, 7), Given),
-        ],
-    );
+}
+
+#[test]
+fn sixteen_workers(rt: HostRuntime) -> Result<(), Fail> {
+    let mut core = core_of(&rt, rt.alloc(), &[8, 8], 16)?;
+    let opens = [
+        (map(0x10000, 0x1000), Accepted(1)),
+        (Event::Publish, Published(1)),
+    ];
+    play(&rt, &mut core, &opens);
+    begin_all(&rt, &mut core);
+    win_node_0(&rt, &mut core);
+    win_node_1(&rt, &mut core);
+    let ends = [
+        (try_frame(15, 1, 7), Won(1, 1, 7, 1)),
+        (begin(0, 1, 16), Still),
+        (Event::Look(0, 0), Still),
+        (Event::Look(0, 0), Exhausted(1)),
+        (give(14, 1, 7), Refused(CoreRefusal::NotOwned)),
+        (give(15, 1, 7), Given),
+    ];
+    play(&rt, &mut core, &ends);
     Ok(())
 }
 
@@ -317,41 +337,42 @@ fn as_many_frames_as_a_machine_has(rt: HostRuntime) -> Result<(), Fail> {
     Ok(())
 }
 
+/// Worker 0 wins each frame of node 15, the last node.
+fn win_node_15(rt: &impl Abort, core: &mut Core) {
+    for number in 0..4_096u16 {
+        let steps = [
+            (begin(0, 1, 16), Still),
+            (try_frame(0, 15, number), Won(2, 15, number, 0)),
+        ];
+        play(rt, core, &steps);
+    }
+}
+
+/// Worker 1 looks at each word of its node but the last.
+fn look_at_63_words(rt: &impl Abort, core: &mut Core) {
+    for word in 0..63u32 {
+        play(rt, core, &[(Event::Look(1, word), Still)]);
+    }
+}
+
 #[test]
 fn the_last_of_all_frames(rt: HostRuntime) -> Result<(), Fail> {
     let mut core = core_of(&rt, rt.alloc(), &[4_096; 16], 2)?;
-    play(
-        &rt,
-        &mut core,
-        &[
-            (map(0x10000, 0x1000), Accepted(1)),
-            (task(&rt, 1, 2, &[15]), Accepted(2)),
-            (Event::Publish, Published(2)),
-        ],
-    );
-    for number in 0..4_096u16 {
-        play(
-            &rt,
-            &mut core,
-            &[
-                (begin(0, 1, 16), Still),
-                (try_frame(0, 15, number), Won(2, 15, number, 0)),
-            ],
-        );
-    }
+    let opens = [
+        (map(0x10000, 0x1000), Accepted(1)),
+        (task(&rt, 1, 2, &[15]), Accepted(2)),
+        (Event::Publish, Published(2)),
+    ];
+    play(&rt, &mut core, &opens);
+    win_node_15(&rt, &mut core);
     play(&rt, &mut core, &[(begin(1, 1, 16), Still)]);
-    for word in 0..63u32 {
-        play(&rt, &mut core, &[(Event::Look(1, word), Still)]);
-    }
-    play(
-        &rt,
-        &mut core,
-        &[
-            (Event::Look(1, 63), Exhausted(2)),
-            (give(0, 15, 4_095), Given),
-            (begin(1, 1, 16), Still),
-            (try_frame(1, 15, 4_095), Won(2, 15, 4_095, 0)),
-        ],
-    );
+    look_at_63_words(&rt, &mut core);
+    let ends = [
+        (Event::Look(1, 63), Exhausted(2)),
+        (give(0, 15, 4_095), Given),
+        (begin(1, 1, 16), Still),
+        (try_frame(1, 15, 4_095), Won(2, 15, 4_095, 0)),
+    ];
+    play(&rt, &mut core, &ends);
     Ok(())
 }
