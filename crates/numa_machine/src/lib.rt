@@ -1,16 +1,20 @@
 //! The machine on which memory is placed: its nodes, the distances between them, their frames, and the weights by
-//! which nodes take turns.
+//! which nodes take turns. Want of memory, as the crates above answer it, stands here too.
 #![tactic(auto)]
 
 mod description;
 pub mod fault;
+pub mod frame;
 pub mod laws;
 pub mod machine;
+pub mod no_memory;
 mod orders;
 pub mod weights;
 
 pub use fault::{MachineFault, WeightFault};
+pub use frame::Frame;
 pub use machine::Machine;
+pub use no_memory::NoMemory;
 pub use weights::Weights;
 
 #[cfg(test)]
