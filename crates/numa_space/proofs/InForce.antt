@@ -11,7 +11,7 @@ use Rattle.numa_mode.proofs.Subsets.{both-within, effect_when_set-within, effect
 use Rattle.numa_ranges.specs.Runs.{page_at, in_pages}
 use Rattle.numa_ranges.specs.Maps.{changed_page}
 use Rattle.numa_space.specs.History.{page_of, page_count}
-use Rattle.numa_space.specs.Refusals.{Scene, when, bad_span, has_no_node, cause_in, refusal_in}
+use Rattle.numa_space.specs.Refusals.{Scene, PageMap, when, bad_span, has_no_node, cause_in, refusal_in}
 use Rattle.numa_space.specs.Standing.{SpaceState, record_of, IsInForce, IsSound}
 use Rattle.numa_space.specs.Steps.{record_now, homed, rebound, allowed_next, pages_next, task_next, task_count_next, IsNext, scene_in, IsAnswer}
 use Rattle.numa_space.specs.declared.command.Command.{Command}
@@ -53,7 +53,7 @@ if_some-from_for None P h = tt
 if_some-from_for (Some x) P h = h x refl
 
 -- the record, if there is one, is in force
-abbrev Holds : Hardware → ℕ → Option PolicyRecord → Type 0
+abbrev pub Holds : Hardware → ℕ → Option PolicyRecord → Type 0
 Holds machine allowed r = IfSome r (IsInForce machine allowed)
 
 holds-now : (machine : Hardware) (allowed : ℕ) (spec : Specification) → Holds machine allowed (record_now allowed spec)
@@ -68,7 +68,7 @@ holds-rebound machine old new None some h = tt
 holds-rebound machine old new (Some r) some h = in_force-after machine old new r some h
 
 -- the page's record, if it is mapped and has one, is in force
-abbrev PageHolds : Hardware → ℕ → Option (ℕ × Option PolicyRecord) → Type 0
+abbrev pub PageHolds : Hardware → ℕ → Option (ℕ × Option PolicyRecord) → Type 0
 PageHolds machine allowed at = IfSome at (λ p. Holds machine allowed p.1)
 
 page-changed : (machine : Hardware) (old new : ℕ) (change : Option PolicyRecord → Option PolicyRecord) (at : Option (ℕ × Option PolicyRecord)) → ((r : Option PolicyRecord) → Holds machine old r → Holds machine new (change r)) → PageHolds machine old at → PageHolds machine new (changed_page change at)
@@ -114,31 +114,76 @@ task-room scene task spec none set new =
     let test = when-none (not (is_default spec) && (not (is_some (scene.task task)) && leb scene.bounds.max_tasks scene.task_count)) TooManyTasks rest.1 in
     leb-false scene.bounds.max_tasks scene.task_count (rw (set, new) at test)
 
+-- ---- what is in force
+
+-- some nodes are allowed, all of them with memory, and each record of a page or a task is in force
+pub record AreInForce (machine : Hardware) (allowed : ℕ) (pages : PageMap) (tasks : ℕ → Option PolicyRecord) : Type 0 where
+  pub some : allowed ≢ 0
+  pub memory : both allowed machine.memory ≡ allowed
+  pub at_pages : (page : ℕ) → PageHolds machine allowed (pages page)
+  pub at_tasks : (task : ℕ) → Holds machine allowed (tasks task)
+
+module _ (scene : Scene) (small : scene.machine.memory < 2 ^ 256) (force : AreInForce scene.machine scene.allowed scene.pages scene.task) where
+  some-next : (command : Command) → refusal_in scene command ≡ None → allowed_next scene.machine scene.allowed command ≢ 0
+  some-next (Map start bytes offset) none = force.some
+  some-next (Unmap start bytes) none = force.some
+  some-next (Mbind start bytes spec) none = force.some
+  some-next (SetTask task spec) none = force.some
+  some-next (SetHome start bytes node) none = force.some
+  some-next (SetWeight node weight) none = force.some
+  some-next (SetMems mask) none = mems-some scene mask none
+
+  memory-next : (command : Command) → both (allowed_next scene.machine scene.allowed command) scene.machine.memory ≡ allowed_next scene.machine scene.allowed command
+  memory-next (Map start bytes offset) = force.memory
+  memory-next (Unmap start bytes) = force.memory
+  memory-next (Mbind start bytes spec) = force.memory
+  memory-next (SetTask task spec) = force.memory
+  memory-next (SetHome start bytes node) = force.memory
+  memory-next (SetWeight node weight) = force.memory
+  memory-next (SetMems mask) = within-both (both mask scene.machine.memory) scene.machine.memory (both-within mask scene.machine.memory)
+
+  some-mems : (mask : ℕ) → refusal_in scene (SetMems mask) ≡ None → 0 < weight_of (both mask scene.machine.memory)
+  some-mems mask none =
+      weight-some (both mask scene.machine.memory) (small-inside (both mask scene.machine.memory) scene.machine.memory (within-both (both mask scene.machine.memory) scene.machine.memory (both-within mask scene.machine.memory)) small) (mems-some scene mask none)
+
+  page-next : (command : Command) (page : ℕ) → refusal_in scene command ≡ None → PageHolds scene.machine (allowed_next scene.machine scene.allowed command) (pages_next scene.machine scene.allowed scene.pages command page)
+  page-next (Map start bytes offset) page none = cond_both (in_pages (page_of start) (page_count bytes) page) (Some (offset + (page - page_of start), None)) (scene.pages page) (PageHolds scene.machine scene.allowed) (λ e. tt) (λ e. force.at_pages page)
+  page-next (Unmap start bytes) page none = cond_both (in_pages (page_of start) (page_count bytes) page) None (scene.pages page) (PageHolds scene.machine scene.allowed) (λ e. tt) (λ e. force.at_pages page)
+  page-next (Mbind start bytes spec) page none =
+      cond_both (in_pages (page_of start) (page_count bytes) page) (changed_page (λ r. record_now scene.allowed spec) (scene.pages page)) (scene.pages page) (PageHolds scene.machine scene.allowed)
+      (λ e. page-changed scene.machine scene.allowed scene.allowed (λ r. record_now scene.allowed spec) (scene.pages page) (λ r h. holds-now scene.machine scene.allowed spec) (force.at_pages page))
+      (λ e. force.at_pages page)
+  page-next (SetTask task spec) page none = force.at_pages page
+  page-next (SetHome start bytes node) page none =
+      cond_both (in_pages (page_of start) (page_count bytes) page) (changed_page (homed node) (scene.pages page)) (scene.pages page) (PageHolds scene.machine scene.allowed)
+      (λ e. page-changed scene.machine scene.allowed scene.allowed (homed node) (scene.pages page) (λ r h. holds-homed scene.machine scene.allowed node r (home-node scene start bytes node none) h) (force.at_pages page))
+      (λ e. force.at_pages page)
+  page-next (SetWeight node weight) page none = force.at_pages page
+  page-next (SetMems mask) page none =
+      page-changed scene.machine scene.allowed (both mask scene.machine.memory) (rebound scene.allowed (both mask scene.machine.memory)) (scene.pages page) (λ r h. holds-rebound scene.machine scene.allowed (both mask scene.machine.memory) r (some-mems mask none) h) (force.at_pages page)
+
+  held-next : (command : Command) (task : ℕ) → refusal_in scene command ≡ None → Holds scene.machine (allowed_next scene.machine scene.allowed command) (task_next scene.machine scene.allowed scene.task command task)
+  held-next (Map start bytes offset) task none = force.at_tasks task
+  held-next (Unmap start bytes) task none = force.at_tasks task
+  held-next (Mbind start bytes spec) task none = force.at_tasks task
+  held-next (SetTask set spec) task none = cond_both (eqb set task) (record_now scene.allowed spec) (scene.task task) (Holds scene.machine scene.allowed) (λ e. holds-now scene.machine scene.allowed spec) (λ e. force.at_tasks task)
+  held-next (SetHome start bytes node) task none = force.at_tasks task
+  held-next (SetWeight node weight) task none = force.at_tasks task
+  held-next (SetMems mask) task none = holds-rebound scene.machine scene.allowed (both mask scene.machine.memory) (scene.task task) (some-mems mask none) (force.at_tasks task)
+
+  -- what is in force after an accepted command
+  pub in_force-next : (command : Command) → refusal_in scene command ≡ None
+      → AreInForce scene.machine (allowed_next scene.machine scene.allowed command) (pages_next scene.machine scene.allowed scene.pages command) (task_next scene.machine scene.allowed scene.task command)
+  in_force-next command none = record {
+    some = some-next command none;
+    memory = memory-next command;
+    at_pages = λ page. page-next command page none;
+    at_tasks = λ task. held-next command task none;
+  }
+
 -- ---- the parts of a space
 
 module _ (old : SpaceState) (sound : IsSound old) (small : old.machine.memory < 2 ^ 256) where
-  pub allowed_some-next : (command : Command) → refusal_in (scene_in old command) command ≡ None → allowed_next old.machine old.allowed command ≢ 0
-  allowed_some-next (Map start bytes offset) none = sound.allowed_some
-  allowed_some-next (Unmap start bytes) none = sound.allowed_some
-  allowed_some-next (Mbind start bytes spec) none = sound.allowed_some
-  allowed_some-next (SetTask task spec) none = sound.allowed_some
-  allowed_some-next (SetHome start bytes node) none = sound.allowed_some
-  allowed_some-next (SetWeight node weight) none = sound.allowed_some
-  allowed_some-next (SetMems mask) none = mems-some (scene_in old (SetMems mask)) mask none
-
-  pub allowed_memory-next : (command : Command) → both (allowed_next old.machine old.allowed command) old.machine.memory ≡ allowed_next old.machine old.allowed command
-  allowed_memory-next (Map start bytes offset) = sound.allowed_memory
-  allowed_memory-next (Unmap start bytes) = sound.allowed_memory
-  allowed_memory-next (Mbind start bytes spec) = sound.allowed_memory
-  allowed_memory-next (SetTask task spec) = sound.allowed_memory
-  allowed_memory-next (SetHome start bytes node) = sound.allowed_memory
-  allowed_memory-next (SetWeight node weight) = sound.allowed_memory
-  allowed_memory-next (SetMems mask) = within-both (both mask old.machine.memory) old.machine.memory (both-within mask old.machine.memory)
-
-  some-mems : (mask : ℕ) → refusal_in (scene_in old (SetMems mask)) (SetMems mask) ≡ None → 0 < weight_of (both mask old.machine.memory)
-  some-mems mask none =
-      weight-some (both mask old.machine.memory) (small-inside (both mask old.machine.memory) old.machine.memory (within-both (both mask old.machine.memory) old.machine.memory (both-within mask old.machine.memory)) small) (mems-some (scene_in old (SetMems mask)) mask none)
-
   page-old : (page : ℕ) → PageHolds old.machine old.allowed (page_at old.ranges page)
   page-old page = of (page_at old.ranges page) (sound.pages page)
     where
@@ -146,33 +191,13 @@ module _ (old : SpaceState) (sound : IsSound old) (small : old.machine.memory < 
       of None h = tt
       of (Some at) h = if_some-from_for at.1 (IsInForce old.machine old.allowed) (h at refl)
 
-  task-old : (task : ℕ) → Holds old.machine old.allowed (record_of old.tasks task)
-  task-old task = if_some-from_for (record_of old.tasks task) (IsInForce old.machine old.allowed) (sound.tasks task)
-
-  page-next : (command : Command) (page : ℕ) → refusal_in (scene_in old command) command ≡ None → PageHolds old.machine (allowed_next old.machine old.allowed command) (pages_next old.machine old.allowed (page_at old.ranges) command page)
-  page-next (Map start bytes offset) page none = cond_both (in_pages (page_of start) (page_count bytes) page) (Some (offset + (page - page_of start), None)) (page_at old.ranges page) (PageHolds old.machine old.allowed) (λ e. tt) (λ e. page-old page)
-  page-next (Unmap start bytes) page none = cond_both (in_pages (page_of start) (page_count bytes) page) None (page_at old.ranges page) (PageHolds old.machine old.allowed) (λ e. tt) (λ e. page-old page)
-  page-next (Mbind start bytes spec) page none =
-      cond_both (in_pages (page_of start) (page_count bytes) page) (changed_page (λ r. record_now old.allowed spec) (page_at old.ranges page)) (page_at old.ranges page) (PageHolds old.machine old.allowed)
-      (λ e. page-changed old.machine old.allowed old.allowed (λ r. record_now old.allowed spec) (page_at old.ranges page) (λ r h. holds-now old.machine old.allowed spec) (page-old page))
-      (λ e. page-old page)
-  page-next (SetTask task spec) page none = page-old page
-  page-next (SetHome start bytes node) page none =
-      cond_both (in_pages (page_of start) (page_count bytes) page) (changed_page (homed node) (page_at old.ranges page)) (page_at old.ranges page) (PageHolds old.machine old.allowed)
-      (λ e. page-changed old.machine old.allowed old.allowed (homed node) (page_at old.ranges page) (λ r h. holds-homed old.machine old.allowed node r (home-node (scene_in old (SetHome start bytes node)) start bytes node none) h) (page-old page))
-      (λ e. page-old page)
-  page-next (SetWeight node weight) page none = page-old page
-  page-next (SetMems mask) page none =
-      page-changed old.machine old.allowed (both mask old.machine.memory) (rebound old.allowed (both mask old.machine.memory)) (page_at old.ranges page) (λ r h. holds-rebound old.machine old.allowed (both mask old.machine.memory) r (some-mems mask none) h) (page-old page)
-
-  held-next : (command : Command) (task : ℕ) → refusal_in (scene_in old command) command ≡ None → Holds old.machine (allowed_next old.machine old.allowed command) (task_next old.machine old.allowed (record_of old.tasks) command task)
-  held-next (Map start bytes offset) task none = task-old task
-  held-next (Unmap start bytes) task none = task-old task
-  held-next (Mbind start bytes spec) task none = task-old task
-  held-next (SetTask set spec) task none = cond_both (eqb set task) (record_now old.allowed spec) (record_of old.tasks task) (Holds old.machine old.allowed) (λ e. holds-now old.machine old.allowed spec) (λ e. task-old task)
-  held-next (SetHome start bytes node) task none = task-old task
-  held-next (SetWeight node weight) task none = task-old task
-  held-next (SetMems mask) task none = holds-rebound old.machine old.allowed (both mask old.machine.memory) (record_of old.tasks task) (some-mems mask none) (task-old task)
+  force-old : AreInForce old.machine old.allowed (page_at old.ranges) (record_of old.tasks)
+  force-old = record {
+    some = sound.allowed_some;
+    memory = sound.allowed_memory;
+    at_pages = page-old;
+    at_tasks = λ task. if_some-from_for (record_of old.tasks task) (IsInForce old.machine old.allowed) (sound.tasks task);
+  }
 
   -- a task's policy takes up one of the places for tasks
   task-counted : (tasks : List (ℕ × PolicyRecord)) (task : ℕ) → is_some (record_of tasks task) ≡ true → 0 < length tasks
@@ -202,11 +227,12 @@ module _ (old : SpaceState) (sound : IsSound old) (small : old.machine.memory < 
       let machine : old.machine ≡ new.machine = sym next.machine in
       let max_tasks : new.bounds.max_tasks ≡ old.bounds.max_tasks = ap (λ b. b.max_tasks) next.bounds in
       let max_commands : new.bounds.max_commands ≡ old.bounds.max_commands = ap (λ b. b.max_commands) next.bounds in
+      let force = in_force-next (scene_in old command) small force-old command none in
       record {
-        allowed_some = λ empty. allowed_some-next command none (allowed ∙ empty);
-        allowed_memory = (λ i. both (next.allowed i) (next.machine i).memory) ∙ allowed_memory-next command ∙ allowed;
-        pages = λ page. page-for new.machine new.allowed (page_at new.ranges page) (page-moved _ _ _ _ _ _ machine allowed (sym (next.pages page)) (page-next command page none));
-        tasks = λ task. for_some-from_if (record_of new.tasks task) (IsInForce new.machine new.allowed) (held-moved _ _ _ _ _ _ machine allowed (sym (next.tasks task)) (held-next command task none));
+        allowed_some = λ empty. force.some (allowed ∙ empty);
+        allowed_memory = (λ i. both (next.allowed i) (next.machine i).memory) ∙ force.memory ∙ allowed;
+        pages = λ page. page-for new.machine new.allowed (page_at new.ranges page) (page-moved _ _ _ _ _ _ machine allowed (sym (next.pages page)) (force.at_pages page));
+        tasks = λ task. for_some-from_if (record_of new.tasks task) (IsInForce new.machine new.allowed) (held-moved _ _ _ _ _ _ machine allowed (sym (next.tasks task)) (force.at_tasks task));
         task_limit = omega (arith, next.task_count, task_limit-next command none);
         version_limit = omega (arith, next.version, version-room (scene_in old command) command none);
       }

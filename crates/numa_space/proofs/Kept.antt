@@ -8,14 +8,39 @@ use Rattle.numa_space.specs.Limited.{Bounds}
 use Rattle.numa_space.specs.declared.command.Command.{Command}
 use Rattle.numa_space.specs.declared.refusal.Refusal.{Refusal}
 use Rattle.numa_space.specs.declared.space.Space.TheInside.{Inside}
-use Rattle.numa_space.proofs.Answers.{answer-kept}
+use Rattle.std.proofs.Common.{◌∷◌, Option, Some, None, Ok, Err}
+use Rattle.numa_space.specs.Standing.{SpaceState, HasHistory, IsAccepted}
+use Rattle.numa_space.specs.Steps.{scene_in}
+use Rattle.numa_space.specs.Refusals.{refusal_in, refusal_of}
+use Rattle.numa_space.proofs.Refused.{refusal-same}
+use Rattle.numa_space.proofs.Answers.{answer-kept, AnswersBy, stands-next}
 use Rattle.numa_space.proofs.InForce.{sound-answer}
+
+-- a space that has a history has one after an answer too
+pub history-answer : (old new : SpaceState) (command : Command) (result : Result (Unit {0}) Refusal) → HasHistory old → IsAnswer old command result new → HasHistory new
+history-answer old new command result had answer = go (refusal_in (scene_in old command) command) (sym (refusal-same old had.history command had.stands)) result answer
+  where
+    kept : new ≡ old → HasHistory new
+    kept e = subst HasHistory (sym e) had
+
+    go : (o : Option Refusal) → refusal_of old.machine old.bounds had.history command ≡ o → (result : Result (Unit {0}) Refusal) → AnswersBy o old command result new → HasHistory new
+    go None e (Ok u) h = record {
+      history = command ∷ had.history;
+      accepted = (
+        (λ i. refusal_of (h.machine i) (h.bounds i) had.history command) ∙ e,
+        subst (λ (b : Bounds). IsAccepted new.machine b had.history) (sym h.bounds) (subst (λ (m : Hardware). IsAccepted m old.bounds had.history) (sym h.machine) had.accepted),
+      );
+      stands = stands-next old new had.history command had.stands e h;
+    }
+    go None e (Err r) h = kept h.1
+    go (Some r) e result h = kept h.1
 
 pub kept-answer : (old new : Inside) (command : Command) (result : Result (Unit {0}) Refusal) → IsKept old → new.pages.limit ≡ old.pages.limit → new.weights.nodes ≡ old.weights.nodes → IsAnswer (shown_of old) command result (shown_of new) → IsKept new
 kept-answer old new command result kept limit nodes answer =
     let same = answer-kept (shown_of old) (shown_of new) command result answer in
     record {
       sound = sound-answer (shown_of old) (shown_of new) command result kept.sound kept.memory answer;
+      history = history-answer (shown_of old) (shown_of new) command result kept.history answer;
       limit = limit ∙ kept.limit ∙ sym (ap (λ (b : Bounds). b.max_ranges) same.1);
       nodes = nodes ∙ kept.nodes ∙ sym (ap (λ (m : Hardware). m.nodes) same.0);
       memory = omega (arith, kept.memory, ap (λ (m : Hardware). m.memory) same.0);

@@ -20,3 +20,6 @@ pub mod Looked
 pub mod Changes
 pub mod RangeRows
 pub mod ListSizes
+pub mod Meant
+pub mod ModeRows
+pub mod RangeCounts

@@ -1,7 +1,7 @@
 -- How a space is kept.
 use Rattle.std.specs.Prelude.{◌≡◌, ◌<◌, ◌^◌, All}
 use Rattle.numa_mask.specs.NodeSet.{members}
-use Rattle.numa_space.specs.Standing.{SpaceState, IsSound}
+use Rattle.numa_space.specs.Standing.{SpaceState, IsSound, HasHistory}
 use Rattle.numa_space.specs.declared.space.Space.TheInside.{Inside}
 
 abbrev pub shown_of : Inside → SpaceState
@@ -17,6 +17,7 @@ shown_of a = record {
 
 pub record IsKept (a : Inside) : Type 0 where
   pub sound : IsSound (shown_of a)
+  pub history : HasHistory (shown_of a)
   pub limit : a.pages.limit ≡ a.limits.max_ranges
   pub nodes : a.weights.nodes ≡ a.machine.nodes
   pub memory : a.machine.memory < 2 ^ 256

@@ -4,6 +4,7 @@ pub mod History
 pub mod Policies
 pub mod Pages
 pub mod Lists
+pub mod Rows
 pub mod Same
 pub mod Exact
 pub mod Refusals

@@ -41,6 +41,18 @@ pub record StandsFor (space : SpaceState) (history : List Command) : Type 0 wher
   pub task_count : length space.tasks ≡ length (tasks_of history)
   pub weights : (node : ℕ) → weight_at space.weights node ≡ node_weight history node
 
+-- against no command of the history did a cause stand when it came
+abbrev pub IsAccepted : Hardware → Bounds → List Command → Type 0
+IsAccepted machine bounds [] = Unit {0}
+IsAccepted machine bounds (command ∷ history) =
+    (refusal_of machine bounds history command ≡ None) × IsAccepted machine bounds history
+
+-- the space stands for a history of accepted commands
+pub record HasHistory (space : SpaceState) : Type 0 where
+  pub history : List Command
+  pub accepted : IsAccepted space.machine space.bounds history
+  pub stands : StandsFor space history
+
 -- ---- what a space answers
 
 abbrev pub setting_in : SpaceState → Setting
@@ -84,8 +96,13 @@ pub record IsSound (space : SpaceState) : Type 0 where
 
 -- ---- lists of commands
 
--- the history after a list of commands, the oldest first, of which those were refused for want of memory that `starved` says
-abbrev pub accepted_of : Hardware → Bounds → List Command → List Bool → List Command → List Command
-accepted_of machine bounds [] starved history = history
-accepted_of machine bounds (command ∷ commands) [] history = accepted_of machine bounds commands [] (if is_some (refusal_of machine bounds history command) then history else command ∷ history)
-accepted_of machine bounds (command ∷ commands) (want ∷ starved) history = accepted_of machine bounds commands starved (if want then history else if is_some (refusal_of machine bounds history command) then history else command ∷ history)
+-- the history once one command more came: with it, where no cause stands against it
+abbrev pub accepted_next : Hardware → Bounds → List Command → Command → List Command
+accepted_next machine bounds history command =
+    if is_some (refusal_of machine bounds history command) then history else command ∷ history
+
+-- the history after a list of commands, the oldest first, none of which wanted memory
+abbrev pub accepted_of : Hardware → Bounds → List Command → List Command → List Command
+accepted_of machine bounds [] history = history
+accepted_of machine bounds (command ∷ commands) history =
+    accepted_of machine bounds commands (accepted_next machine bounds history command)

@@ -1,5 +1,5 @@
 -- What one command makes of what a space shows.
-use Rattle.std.specs.Prelude.{◌≡◌, ℕ, ◌+◌, ◌-◌, ◌==◌, is_some, Option, Some, None, Result, Err, MatchOption, MatchResult, length, if◌then◌else◌}
+use Rattle.std.specs.Prelude.{◌≡◌, ◌≢◌, ℕ, false, ◌+◌, ◌-◌, ◌==◌, is_some, Option, Some, None, Result, Err, MatchOption, MatchResult, List, length, slice_get, take, if◌then◌else◌}
 use Rattle.std.specs.Option.{option_map}
 use Rattle.numa_mask.specs.NodeSet.{both}
 use Rattle.numa_machine.specs.Machine.{Hardware}
@@ -7,13 +7,14 @@ use Rattle.numa_machine.specs.Weights.{weight_at}
 use Rattle.numa_mode.specs.Policy.{Specification, PolicyRecord, is_default, takes_home, with_home, record_when_set, record_after}
 use Rattle.numa_ranges.specs.Runs.{page_at}
 use Rattle.numa_ranges.specs.Maps.{with_span, without_span, changed_page, changed_span}
+use Rattle.numa_space.specs.Limited.{Bounds}
 use Rattle.numa_space.specs.declared.command.Command.{Command}
 use Rattle.numa_space.specs.declared.command.Command.TheVariants.{Map, Unmap, Mbind, SetTask, SetHome, SetWeight, SetMems}
 use Rattle.numa_space.specs.declared.refusal.Refusal.{Refusal}
 use Rattle.numa_space.specs.declared.refusal.Refusal.TheVariants.{NoMemory}
 use Rattle.numa_space.specs.History.{page_of, page_count}
-use Rattle.numa_space.specs.Refusals.{Scene, PageMap, refusal_in}
-use Rattle.numa_space.specs.Standing.{SpaceState, record_of}
+use Rattle.numa_space.specs.Refusals.{Scene, PageMap, refusal_in, refusal_of}
+use Rattle.numa_space.specs.Standing.{SpaceState, accepted_of, record_of}
 
 -- the record of a policy that is set now; DEFAULT has none
 abbrev pub record_now : ℕ → Specification → Option PolicyRecord
@@ -75,6 +76,23 @@ scene_in space command = record {
   task = record_of space.tasks;
   task_count = length space.tasks;
 }
+
+-- the command may need room for a range or for a task's policy; the others never want memory
+abbrev pub MayNeedRoom : Command → Type 0
+MayNeedRoom (Map start bytes offset) = Unit {0}
+MayNeedRoom (Unmap start bytes) = bytes ≢ 0
+MayNeedRoom (Mbind start bytes spec) = bytes ≢ 0
+MayNeedRoom (SetHome start bytes node) = bytes ≢ 0
+MayNeedRoom (SetTask task spec) = is_default spec ≡ false
+MayNeedRoom (SetWeight node weight) = ⊥
+MayNeedRoom (SetMems mask) = ⊥
+
+-- the command at this place of a list may need room, and no cause stands against it after those before it
+pub record MayStopAt (machine : Hardware) (bounds : Bounds) (commands history : List Command) (place : ℕ) : Type 0 where
+  pub command : Command
+  pub there : slice_get commands place ≡ Some command
+  pub no_cause : refusal_of machine bounds (accepted_of machine bounds (take place commands) history) command ≡ None
+  pub room : MayNeedRoom command
 
 -- what a command answers, and the space after it
 abbrev pub IsAnswer : SpaceState → Command → Result (Unit {0}) Refusal → SpaceState → Type 0

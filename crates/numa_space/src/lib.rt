@@ -56,14 +56,20 @@
 //! **Refusals.** A command is refused by the first cause that applies, in the order of `Refusal`, and a refusal changes
 //! nothing. Want of memory is the last, and the only one that the history doesn't decide. Mbind and Unmap of no bytes change
 //! nothing but the version; so does SetHome of no bytes, once its node is one of the machine's.
+//!
+//! **Faults.** What a page fault asks for is a `Request`, and what it gets a `Placement`. The space answers neither: they are
+//! the plain types of the crates that publish its policies and take frames by them.
 #![tactic(auto)]
 
 mod choice;
 pub mod command;
+pub mod laws;
 pub mod limits;
 mod page_ranges;
+pub mod placement;
 pub mod range_record;
 pub mod refusal;
+pub mod request;
 pub mod space;
 mod task_policies;
 #[cfg(test)]
@@ -72,6 +78,8 @@ mod tests;
 pub use command::Command;
 pub use limits::Limits;
 pub use numa_ranges::Run;
+pub use placement::Placement;
 pub use range_record::RangeRecord;
 pub use refusal::{Errno, PlaceRefusal, Refusal};
+pub use request::Request;
 pub use space::Space;

@@ -1,17 +1,18 @@
 //! A space of pages and its policies.
-ghost use Rattle.std.specs.Prelude.{◌≡◌, ◌≢◌, ◌≤◌, ◌<◌, ℕ, OnOk, OnErr, IfErr, IfSome, None, Option, Some, List, [], ◌∷◌, length, MatchOption, slice_get, Bool, AllPairs, Contains, ◌↔◌};
+ghost use Rattle.std.specs.Prelude.{◌≡◌, ◌≢◌, ◌≤◌, ◌<◌, ℕ, OnOk, OnErr, IfErr, IfSome, None, Option, Some, List, [], ◌∷◌, length, MatchOption, slice_get, take, AllPairs, Contains, ◌↔◌};
 ghost use Rattle.numa_machine.specs.Machine.{Hardware};
+ghost use Rattle.numa_machine.specs.Weights.{weight_at};
 ghost use Rattle.numa_mode.specs.Policy.{PolicyRecord};
 ghost use Rattle.numa_ranges.specs.Counts.{IsRange, range_count};
 ghost use Rattle.numa_ranges.specs.Runs.{AreApart, AreMaximal, page_at};
 ghost use Rattle.numa_ranges.specs.declared.run.Run.{Run};
 ghost use Rattle.numa_space.specs.declared.command.Command.{Command};
-ghost use Rattle.numa_space.specs.Policies.{task_record};
+ghost use Rattle.numa_space.specs.Policies.{allowed_nodes, node_weight, task_record, tasks_of};
 ghost use Rattle.numa_space.specs.Pages.{page_in};
 ghost use Rattle.numa_space.specs.Refusals.{refusal_of, range_count_of};
 ghost use Rattle.numa_space.specs.Same.{same_record};
-ghost use Rattle.numa_space.specs.Standing.{IsSound, SpaceState, StandsFor, accepted_of, record_of};
-ghost use Rattle.numa_space.specs.Steps.{IsAnswer};
+ghost use Rattle.numa_space.specs.Standing.{HasHistory, IsSound, SpaceState, StandsFor, accepted_of, record_of};
+ghost use Rattle.numa_space.specs.Steps.{IsAnswer, MayNeedRoom, MayStopAt};
 
 use crate::command::Command;
 use crate::limits::Limits;
@@ -82,28 +83,39 @@ impl Space {
         ensures ok { (history : List Command) → StandsFor self.old history → OnOk result ((refusal_of self.old.machine self.old.bounds history command.now ≡ None) × StandsFor self.new (command.now ∷ history)) }
         ensures err { (history : List Command) → StandsFor self.old history → IfErr result (λ refusal. MatchOption (refusal_of self.old.machine self.old.bounds history command.now) (refusal ≡ Refusal.NoMemory) (λ first. refusal ≡ first)) }
         ensures unchanged { OnErr result (self.new ≡ self.old) }
+        ensures room { IfErr result (λ refusal. refusal ≡ Refusal.NoMemory → MayNeedRoom command.now) }
         ensures machine { self.new.machine ≡ self.old.machine }
         ensures bounds { self.new.bounds ≡ self.old.bounds }
     {
         self.answer(command)
     }
 
-    /// Carries out commands, the first first, and passes over those that are refused. The space then stands for the history
-    /// with those that were accepted: each against which nothing stood and which didn't want memory.
-    pub fn apply_all(&mut self, commands: &[Command])
-        ensures stands { (history : List Command) → StandsFor self.old history → (starved : List Bool) × (length starved ≡ length commands.now) × StandsFor self.new (accepted_of self.old.machine self.old.bounds commands.now starved history) }
+    /// Carries out commands, the first first, and passes over those against which a cause stands. Ends at the first for
+    /// which there is no memory, and then answers how many commands came before it.
+    pub fn apply_all(&mut self, commands: &[Command]) -> Result<(), usize>
+        ensures ok { (history : List Command) → StandsFor self.old history → OnOk result
+            (StandsFor self.new (accepted_of self.old.machine self.old.bounds commands.now history)) }
+        ensures err { (history : List Command) → StandsFor self.old history → IfErr result (λ done. StandsFor self.new
+            (accepted_of self.old.machine self.old.bounds (take done commands.now) history)) }
+        ensures stop { (history : List Command) → StandsFor self.old history → IfErr result
+            (MayStopAt self.old.machine self.old.bounds commands.now history) }
         ensures machine { self.new.machine ≡ self.old.machine }
         ensures bounds { self.new.bounds ≡ self.old.bounds }
     {
-        for command in commands {
-            let _ = self.apply(command);
+        for (done, command) in commands.iter().enumerate() {
+            if let Err(Refusal::NoMemory) = self.apply(command) {
+                return Err(done);
+            }
         }
+        Ok(())
     }
 
-    /// How many commands were accepted.
+    /// How many commands were accepted. Every space stands for the history of those.
     pub fn version(&self) -> u64
         ensures version { result ≡ self.now.version }
+        ensures meaning { (history : List Command) → StandsFor self.now history → result ≡ length history }
         ensures limit { result ≤ self.now.bounds.max_commands }
+        ensures history { HasHistory self.now }
     {
         self.version
     }
@@ -118,6 +130,8 @@ impl Space {
     /// The nodes on which memory may be placed: some, all of them with memory.
     pub fn allowed(&self) -> NodeMask
         ensures allowed { result ≡ self.now.allowed }
+        ensures meaning { (history : List Command) → StandsFor self.now history
+            → result ≡ allowed_nodes self.now.machine history }
         ensures some { result ≢ 0 }
         ensures sound { IsSound self.now }
     {
@@ -126,7 +140,9 @@ impl Space {
 
     /// The weights of the nodes.
     pub fn weights(&self) -> &Weights
-        ensures { result.now ≡ self.now.weights }
+        ensures weights { result.now ≡ self.now.weights }
+        ensures meaning { (history : List Command) → StandsFor self.now history
+            → (node : ℕ) → weight_at result.now node ≡ node_weight history node }
     {
         &self.weights
     }
@@ -159,6 +175,8 @@ impl Space {
     /// How many tasks have a policy. Each task is there once.
     pub fn task_count(&self) -> usize
         ensures tasks { result ≡ length self.now.tasks }
+        ensures meaning { (history : List Command) → StandsFor self.now history
+            → result ≡ length (tasks_of history) }
         ensures limit { result ≤ self.now.bounds.max_tasks }
         ensures at_most { result ≤ 1024 }
         ensures each_once { AllPairs (λ earlier later. earlier.0 ≢ later.0) self.now.tasks }
@@ -167,9 +185,11 @@ impl Space {
         self.tasks.len()
     }
 
-    /// The k-th task that has a policy, and the policy; None from `task_count` on.
+    /// The k-th task that has a policy, and the policy; None from `task_count` on. Each task that has one is at some place.
     pub fn task_at(&self, k: usize) -> Option<(u32, Record)>
         ensures task { result ≡ slice_get self.now.tasks k }
+        ensures every { (task : ℕ) (policy : PolicyRecord) → record_of self.now.tasks task ≡ Some policy
+            → (place : ℕ) × (slice_get self.now.tasks place ≡ Some (task, policy)) }
         ensures policy { IfSome result (λ held. record_of self.now.tasks held.0 ≡ Some held.1) }
         ensures meaning { (history : List Command) → StandsFor self.now history → IfSome result (λ held. task_record self.now.machine history held.0 ≡ Some held.1) }
     {

@@ -274,7 +274,7 @@ fn told_space(rt: &impl Abort, alloc: Global) -> Result<Space, AllocError> {
     }
     let limits = limits_of(rt, 64, 8, 1000);
     let mut space = space_of(rt, alloc, 2, &[0, 1], &[10, 20, 20, 10], limits)?;
-    space.apply_all(commands.as_slice());
+    assert!(rt; space.apply_all(commands.as_slice()).is_ok());
     Ok(space)
 }
 

@@ -1,5 +1,5 @@
 //! What each command changes.
-ghost use Rattle.std.specs.Prelude.{◌≡◌, ◌+◌, ◌<◌, ◌≤◌, ◌^◌, ◌&&◌, ℕ, true, false, not, nat_le, is_some, length, Option, Some, None, MatchResult};
+ghost use Rattle.std.specs.Prelude.{◌≡◌, ◌+◌, ◌<◌, ◌≤◌, ◌^◌, ◌&&◌, ℕ, true, false, not, nat_le, is_some, length, Option, Some, None, MatchResult, IfErr};
 ghost use Rattle.std.specs.List.{list_any};
 ghost use Rattle.numa_mask.specs.NodeSet.{members};
 ghost use Rattle.numa_mode.specs.Policy.{PolicyRecord};
@@ -7,7 +7,7 @@ ghost use Rattle.numa_space.specs.declared.command.Command.{Command};
 ghost use Rattle.numa_space.specs.History.{page_of, page_count};
 ghost use Rattle.numa_space.specs.Refusals.{bad_span, has_no_node};
 ghost use Rattle.numa_space.specs.Standing.{SpaceState, record_of};
-ghost use Rattle.numa_space.specs.Steps.{IsAnswer, record_now};
+ghost use Rattle.numa_space.specs.Steps.{IsAnswer, MayNeedRoom, record_now};
 
 use crate::command::Command;
 use crate::refusal::Refusal;
@@ -41,7 +41,8 @@ fn has_node_from(mask: &NodeMask, first: u32) -> bool
 impl Space {
     /// Carries out a command, or refuses it.
     pub(super) fn answer(&mut self, command: &Command) -> Result<(), Refusal>
-        ensures { IsAnswer self.old command.now result self.new }
+        ensures answer { IsAnswer self.old command.now result self.new }
+        ensures room { IfErr result (λ refusal. refusal ≡ Refusal.NoMemory → MayNeedRoom command.now) }
     {
         if self.version >= u64::from(self.limits.max_commands()) {
             return Err(Refusal::CommandsSpent);
@@ -84,7 +85,8 @@ impl Space {
 
     fn map(&mut self, start: u64, length: u64, offset: u64) -> Result<(), Refusal>
         requires { self.old.version < self.old.bounds.max_commands }
-        ensures { IsAnswer self.old (Command.Map start length offset) result self.new }
+        ensures answer { IsAnswer self.old (Command.Map start length offset) result self.new }
+        ensures room { IfErr result (λ refusal. refusal ≡ Refusal.NoMemory → MayNeedRoom (Command.Map start length offset)) }
     {
         let (first, pages) = span_of(start, length)?;
         if length == 0 {
@@ -100,7 +102,8 @@ impl Space {
 
     fn unmap(&mut self, start: u64, length: u64) -> Result<(), Refusal>
         requires { self.old.version < self.old.bounds.max_commands }
-        ensures { IsAnswer self.old (Command.Unmap start length) result self.new }
+        ensures answer { IsAnswer self.old (Command.Unmap start length) result self.new }
+        ensures room { IfErr result (λ refusal. refusal ≡ Refusal.NoMemory → MayNeedRoom (Command.Unmap start length)) }
     {
         let (first, pages) = span_of(start, length)?;
         if length == 0 {
@@ -114,7 +117,8 @@ impl Space {
 
     fn bind(&mut self, start: u64, length: u64, spec: PolicySpec) -> Result<(), Refusal>
         requires { self.old.version < self.old.bounds.max_commands }
-        ensures { IsAnswer self.old (Command.Mbind start length spec) result self.new }
+        ensures answer { IsAnswer self.old (Command.Mbind start length spec) result self.new }
+        ensures room { IfErr result (λ refusal. refusal ≡ Refusal.NoMemory → MayNeedRoom (Command.Mbind start length spec)) }
     {
         let (first, pages) = span_of(start, length)?;
         if length == 0 {
@@ -140,7 +144,8 @@ impl Space {
 
     fn set_task(&mut self, task: u32, spec: PolicySpec) -> Result<(), Refusal>
         requires { self.old.version < self.old.bounds.max_commands }
-        ensures { IsAnswer self.old (Command.SetTask task spec) result self.new }
+        ensures answer { IsAnswer self.old (Command.SetTask task spec) result self.new }
+        ensures room { IfErr result (λ refusal. refusal ≡ Refusal.NoMemory → MayNeedRoom (Command.SetTask task spec)) }
     {
         let Some(policy) = self.policy_of(spec)? else {
             self.tasks.clear(task);
@@ -159,7 +164,8 @@ impl Space {
 
     fn set_home(&mut self, start: u64, length: u64, node: u32) -> Result<(), Refusal>
         requires { self.old.version < self.old.bounds.max_commands }
-        ensures { IsAnswer self.old (Command.SetHome start length node) result self.new }
+        ensures answer { IsAnswer self.old (Command.SetHome start length node) result self.new }
+        ensures room { IfErr result (λ refusal. refusal ≡ Refusal.NoMemory → MayNeedRoom (Command.SetHome start length node)) }
     {
         let (first, pages) = span_of(start, length)?;
         if node >= self.machine.nodes() {
@@ -179,7 +185,8 @@ impl Space {
 
     fn set_weight(&mut self, node: u32, weight: u32) -> Result<(), Refusal>
         requires { self.old.version < self.old.bounds.max_commands }
-        ensures { IsAnswer self.old (Command.SetWeight node weight) result self.new }
+        ensures answer { IsAnswer self.old (Command.SetWeight node weight) result self.new }
+        ensures room { IfErr result (λ refusal. refusal ≡ Refusal.NoMemory → MayNeedRoom (Command.SetWeight node weight)) }
     {
         match self.weights.set(node, weight) {
             Ok(()) => {}
@@ -192,7 +199,8 @@ impl Space {
 
     fn set_mems(&mut self, mask: NodeMask) -> Result<(), Refusal>
         requires { self.old.version < self.old.bounds.max_commands }
-        ensures { IsAnswer self.old (Command.SetMems mask) result self.new }
+        ensures answer { IsAnswer self.old (Command.SetMems mask) result self.new }
+        ensures room { IfErr result (λ refusal. refusal ≡ Refusal.NoMemory → MayNeedRoom (Command.SetMems mask)) }
     {
         if has_node_from(&mask, self.machine.nodes()) {
             return Err(Refusal::NoSuchNode);

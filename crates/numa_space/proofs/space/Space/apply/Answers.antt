@@ -3,9 +3,10 @@ use Rattle.numa_space.proofs.space.Space.apply.Goals as goal
 
 pub returns : goal.returns
 returns c = record {
-  ok = λ history stands. answer-ok c.args.self.now c.answer.new.self history c.args.command.now c.answer.result stands c.answer.ensures;
-  err = λ history stands. answer-err c.args.self.now c.answer.new.self history c.args.command.now c.answer.result stands c.answer.ensures;
-  unchanged = answer-unchanged c.args.self.now c.answer.new.self c.args.command.now c.answer.result c.answer.ensures;
-  machine = (answer-kept c.args.self.now c.answer.new.self c.args.command.now c.answer.result c.answer.ensures).0;
-  bounds = (answer-kept c.args.self.now c.answer.new.self c.args.command.now c.answer.result c.answer.ensures).1;
+  ok = λ history stands. answer-ok c.args.self.now c.answer.new.self history c.args.command.now c.answer.result stands c.answer.ensures.answer;
+  err = λ history stands. answer-err c.args.self.now c.answer.new.self history c.args.command.now c.answer.result stands c.answer.ensures.answer;
+  unchanged = answer-unchanged c.args.self.now c.answer.new.self c.args.command.now c.answer.result c.answer.ensures.answer;
+  room = c.answer.ensures.room;
+  machine = (answer-kept c.args.self.now c.answer.new.self c.args.command.now c.answer.result c.answer.ensures.answer).0;
+  bounds = (answer-kept c.args.self.now c.answer.new.self c.args.command.now c.answer.result c.answer.ensures.answer).1;
 }

@@ -40,8 +40,8 @@ invariant_of-self-2 c =
     let done : IsAnswer (shown_of c.self.inside) (SetTask c.args.task c.args.spec) (Ok tt) (shown_of new) = set-answer (shown_of c.self.inside) c.args.task c.args.spec room node c.in-Some.policy c.set.new.self (sym c.in-Some.is ∙ is) place records count in
     kept-answer c.self.inside new (SetTask c.args.task c.args.spec) (Ok tt) c.self.invariant refl refl done
 
-pub returns : goal.returns
-returns c =
+pub returns-clause-answer : goal.returns-clause-answer
+returns-clause-answer c =
     let node : has_no_node (shown_of c.self.inside).allowed c.args.spec ≡ false = ap (λ (s : SpaceState). has_no_node s.allowed c.args.spec) c.self.view_is ∙ c.in_ok-policy.ensures.0 in
     let is : c.in_ok-policy.field-0 ≡ record_now (shown_of c.self.inside).allowed c.args.spec = c.in_ok-policy.ensures.1 ∙ ap (λ (s : SpaceState). record_now s.allowed c.args.spec) (sym c.self.view_is) in
     let room : c.self.inside.version < c.self.inside.limits.max_commands = omega (arith, c.requires, ap (λ (s : SpaceState). s.version) c.self.view_is, ap (λ (s : SpaceState). s.bounds.max_commands) c.self.view_is) in
