@@ -55,6 +55,14 @@ length-put slots number slot le =
       | inr ge ↦ rw (le-ltb number (length slots) ge) (let long = length-append slots (slot ∷ []) in (omega arith, omega arith))
     ]
 
+-- a slot written is one more at most
+pub put-sized : (slots : List Slot) (number : ℕ) (slot : Slot) → length (put_slot slots number slot) ≤ length slots + 1
+put-sized slots number slot =
+    elim (cases_lt number (length slots)) [
+      | inl lt ↦ rw (lt-ltb number (length slots) lt) (omega (arith, length-set slots number slot))
+      | inr ge ↦ rw (le-ltb number (length slots) ge) (omega (arith, length-append slots (slot ∷ [])))
+    ]
+
 -- the rule that was written is there, and each that was there is there still
 pub rule_in-put : (slots : List Slot) (number : ℕ) (rule : RuleData) → number ≤ length slots → rule_in (put_slot slots number (Taken 0 rule)) number ≡ Some rule
 rule_in-put slots number rule le = ap rule_of_slot (put-same slots number (Taken 0 rule) le)
@@ -114,6 +122,10 @@ length-used slots (Some number) = length-set slots number (one_use_more (slot_at
 pub length-unused : (slots : List Slot) (number : Option ℕ) → length (unused slots number) ≡ length slots
 length-unused slots None = refl
 length-unused slots (Some number) = length-set slots number (one_use_less (slot_at slots number))
+
+-- as a task's rule changes there are as many slots
+pub length-changed : (slots : List Slot) (number had : Option ℕ) → length (unused (used slots number) had) ≡ length slots
+length-changed slots number had = length-unused (used slots number) had ∙ length-used slots number
 
 pub uses_in-used : (slots : List Slot) (number k : ℕ) → IsSome (rule_in slots number) → uses_in (used slots (Some number)) k ≡ uses_in slots k + cond (number == k) 1 0
 uses_in-used slots number k some =

@@ -11,7 +11,6 @@
 //! building calls make of the data in `specs/Building.antt`.
 #![tactic(auto)]
 
-mod no_memory;
 mod plan;
 mod rows;
 mod rule;
@@ -22,7 +21,7 @@ mod tally;
 #[cfg(test)]
 mod tests;
 
-pub use no_memory::NoMemory;
+pub use numa_machine::NoMemory;
 pub use plan::Plan;
 pub use rule::Rule;
 pub use steps::Steps;

@@ -1,6 +1,7 @@
 //! A plan, and what readers ask of it.
 ghost use Rattle.std.specs.Prelude.{◌≡◌, ℕ, ◌+◌, ◌<◌, ◌≤◌, length, Some, None, IfOk, IfErr, OnOk, OnErr, IfSome, MatchOption, EachIndex, slice_index};
 ghost use Rattle.numa_plan.specs.Counted.{FindsQuickly};
+ghost use Rattle.numa_ranges.specs.Runs.{AreApart};
 ghost use Rattle.numa_plan.specs.Found.{IsMapped};
 ghost use Rattle.numa_plan.specs.Rows.{HasRows};
 ghost use Rattle.numa_plan.specs.Slots.{rule_in};
@@ -53,9 +54,10 @@ impl Plan {
         self.version
     }
 
-    /// How many runs the plan has.
+    /// How many runs the plan has. They rise, no two share a page, and the last ends by page 2^35.
     pub fn run_count(&self) -> usize
-        ensures { result ≡ length self.now.runs }
+        ensures count { result ≡ length self.now.runs }
+        ensures apart { AreApart 0 self.now.runs }
     {
         self.runs.len()
     }

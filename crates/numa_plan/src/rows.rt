@@ -2,8 +2,8 @@
 ghost use Rattle.std.specs.Prelude.{◌≡◌, ◌+◌, ◌*◌, ◌<◌, ◌≤◌, length, slice_index, slice_range, IfOk};
 ghost use Rattle.numa_plan.specs.Rules.{first_nodes};
 
-use crate::no_memory::NoMemory;
 use numa_lanes::Cycle;
+use numa_machine::NoMemory;
 use std::alloc::Global;
 
 /// The row of this number, of rows of `width` nodes.

@@ -4,10 +4,10 @@ ghost use Rattle.numa_ranges.specs.Counts.{count_pages};
 ghost use Rattle.numa_plan.specs.Tally.{Adds, HasRoom};
 ghost use Rattle.numa_plan.specs.Rows.{row_number, row_of, first_of, HasRow, Faulting, Fixed, InTurns};
 
-use crate::no_memory::NoMemory;
 use crate::rows::{first_cycle, row_at};
 use crate::tally::add_turns;
 use numa_lanes::{Cycle, fill_cycle, fill_one};
+use numa_machine::NoMemory;
 use std::alloc::Global;
 use std::marker::Model;
 

@@ -6,8 +6,8 @@ ghost use Rattle.numa_ranges.specs.declared.run.Run.{Run};
 ghost use Rattle.numa_plan.specs.Counted.{one_comparison, one_run, FindsQuickly};
 ghost use Rattle.numa_plan.specs.Found.{IsFound, IsPartOf, IsMapped, HasHole};
 
-use crate::no_memory::NoMemory;
 use crate::steps::Steps;
+use numa_machine::NoMemory;
 use numa_ranges::Run;
 use std::alloc::Global;
 use std::marker::Model;

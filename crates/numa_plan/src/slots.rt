@@ -3,8 +3,8 @@ ghost use Rattle.std.specs.Prelude.{◌≡◌, ◌+◌, ◌-◌, ◌<◌, ◌≤
 ghost use Rattle.numa_plan.specs.Slots.{rule_in, uses_in, AreTaken, IsLowestFree, put_slot, used, unused};
 ghost use Rattle.numa_plan.specs.declared.slots.Slot.TheVariants.{Taken};
 
-use crate::no_memory::NoMemory;
 use crate::rule::Rule;
+use numa_machine::NoMemory;
 
 /// A place for a rule.
 #[derive(Drop)]

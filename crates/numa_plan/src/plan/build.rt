@@ -8,12 +8,12 @@ ghost use Rattle.numa_plan.specs.Meaning.{number_of, planned_list};
 ghost use Rattle.numa_plan.specs.Slots.{rule_in, IsLowestFree};
 ghost use Rattle.numa_plan.specs.Building.{empty_plan, with_rule, with_run, with_task};
 
-use crate::no_memory::NoMemory;
 use crate::plan::Plan;
 use crate::rule::Rule;
 use crate::runs::Runs;
 use crate::slots::{leave_rule, lowest_free, put_rule, use_rule};
 use crate::steps::Steps;
+use numa_machine::NoMemory;
 use numa_ranges::Run;
 use std::alloc::Global;
 use std::collections::BTreeMap;
@@ -40,23 +40,22 @@ impl Plan {
     /// where none is free. Answers the slot's number. No run and no task uses the rule yet, so that no list changes.
     ///
     /// # Errors
-    /// `NoMemory` where there is none for a slot more, or no number below 2^32 for it; the plan is as it was.
+    /// `NoMemory` where there is none for a slot more; the plan is as it was.
     pub fn add_rule(&mut self, rule: Rule, steps: &mut Steps) -> Result<u32, NoMemory>
-        requires { HasRows self.old.nodes rule }
+        requires rows { HasRows self.old.nodes rule }
+        requires few { length self.old.slots < 2 ^ 32 }
         ensures ok { IfOk result (λ number. IsLowestFree self.old.slots number
             × (self.new ≡ with_rule self.old number rule) × (steps.new ≡ one_rule steps.old)) }
+        ensures sized { OnOk result (length self.new.slots ≤ length self.old.slots + 1) }
         ensures lists { OnOk result ((task page cpu : ℕ)
             → planned_list self.new task page cpu ≡ planned_list self.old task page cpu) }
         ensures err { OnErr result ((self.new ≡ self.old) × (steps.new ≡ steps.old)) }
     {
         let place = lowest_free(&self.slots, self.lowest_free);
-        let Ok(number) = u32::try_from(place) else {
-            return Err(NoMemory);
-        };
         put_rule(&mut self.slots, place, rule)?;
         self.lowest_free = place + 1;
         steps.rule_written();
-        Ok(number)
+        Ok(place as u32)
     }
 
     /// Adds a run behind the others. It begins where they end or later, has a page, ends below page 2^35 and has indexes below
@@ -92,6 +91,7 @@ impl Plan {
         ensures others { OnOk result ((other : ℕ) → other ≢ task
             → number_of self.new.tasks other ≡ number_of self.old.tasks other) }
         ensures sized { OnOk result (length self.new.tasks ≤ length self.old.tasks + 1) }
+        ensures slots { OnOk result (length self.new.slots ≡ length self.old.slots) }
         ensures err { OnErr result (self.new ≡ self.old) }
     {
         match number {

@@ -1,6 +1,8 @@
-use Rattle.std.proofs.Common.{List, ap, ◌∙◌}
+use Rattle.std.proofs.Common.{List, length, ap, ◌∙◌, arith}
 use Rattle.numa_plan.specs.Meaning.{PlanData, planned_list}
 use Rattle.numa_plan.specs.declared.slots.Slot.{Slot}
+use Rattle.numa_plan.specs.declared.slots.Slot.TheVariants.{Taken}
+use Rattle.numa_plan.proofs.SlotLemmas.{put-sized}
 use Rattle.numa_plan.proofs.BuildLemmas.{keeps_with_rule, lists-with_rule}
 use Rattle.numa_plan.proofs.plan.Plan.add_rule.Goals as goal
 
@@ -8,7 +10,11 @@ pub invariant_of-self-2 : goal.invariant_of-self-2
 invariant_of-self-2 c =
     rw c.in_ok-put_rule.ensures.ok
     (keeps_with_rule c.self.inside.nodes c.self.inside.runs c.self.inside.slots.items c.self.inside.lowest_free c.self.inside.tasks.entries c.self.inside.local c.lowest_free-place.result c.args.rule c.self.invariant c.lowest_free-place.ensures
-    (rw (ap (λ (p : PlanData). p.nodes) c.self.view_is) c.requires))
+    (rw (ap (λ (p : PlanData). p.nodes) c.self.view_is) c.requires.rows))
+
+pub returns-clause-sized : goal.returns-clause-sized
+returns-clause-sized c =
+    omega (arith, put-sized c.self.inside.slots.items c.lowest_free-place.result (Taken 0 c.args.rule), ap length c.in_ok-put_rule.ensures.ok, ap (λ (p : PlanData). length p.slots) c.self.view_is)
 
 pub returns-clause-lists : goal.returns-clause-lists
 returns-clause-lists c task page cpu =
