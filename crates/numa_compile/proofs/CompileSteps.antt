@@ -7,9 +7,8 @@ use Rattle.numa_space.specs.Standing.{SpaceState, setting_in}
 use Rattle.numa_plan.specs.Building.{empty_plan, with_run, with_task}
 use Rattle.numa_plan.specs.Meaning.{PlanData}
 use Rattle.numa_plan.specs.Rows.{RuleData}
-use Rattle.numa_compile.specs.Copies.{AreCopies, AreUsed, Grows, HasTasks, IsCopy, IsNumber, IsUnderWay, Serves}
+use Rattle.numa_compile.specs.Copies.{AreCopies, AreUsed, Grows, HasTasks, IsCopy, IsNumber, IsUnderWay, Serves, SharesRules}
 use Rattle.numa_compile.specs.Rules.{IsRuleOf}
-use Rattle.numa_compile.specs.Sharing.{SharesRules}
 use Rattle.numa_compile.specs.Standing.{IsPlanOf}
 use Rattle.numa_compile.proofs.CopyLemmas.{copies-grow, copies-next}
 use Rattle.numa_compile.proofs.PlanLemmas.{plan-of, shares}

@@ -1,5 +1,5 @@
 -- Runs that copy ranges, and tasks that have the rules of their policies.
-use Rattle.std.proofs.Common.{◌≡◌, ◌≢◌, ℕ, zero, suc, ◌+◌, ◌-◌, ◌<◌, ◌≤◌, Bool, true, false, cond, Option, Some, None, List, [], ◌∷◌, ◌++◌, length, take, get_or, is_some, AllPairs, Contains, refl, sym, ap, subst, ◌∙◌, arith, inl, inr, nat_eq}
+use Rattle.std.proofs.Common.{◌≡◌, ◌≢◌, ℕ, zero, suc, ◌+◌, ◌-◌, ◌<◌, ◌≤◌, Bool, true, false, cond, Option, Some, None, List, [], ◌∷◌, ◌++◌, length, take, get_or, is_some, AllPairs, Contains, refl, sym, ap, subst, ◌∙◌, arith, inl, inr, nat_eq, length-append}
 use Rattle.std.proofs.lemmas.Bool.{cases_Bool, eqb-true, eq-eqb, false_from_ne_true}
 use Rattle.std.proofs.lemmas.List.{take_more, length-take-le, get_or_default, get_or-take}
 use Rattle.std.proofs.lemmas.Option.{same_Some, slice_get_within, get_or_from_slice_get}
@@ -171,3 +171,7 @@ tasks-next records tasks k task r old new number is once before own here others 
     earlier lt at j d short same =
         let inside : j < k = omega (arith, short, lt, length-take-le k tasks (let le : k ≤ length tasks = omega arith in le)) in
         once j k (task, r) inside lt (ap (λ (held : ℕ × PolicyRecord). held.0) (get_or_default tasks j (task, r) d (omega (arith, inside, lt)) ∙ sym (get_or-take k tasks j d inside)) ∙ same ∙ sym (ap (λ (held : ℕ × PolicyRecord). held.0) at))
+
+-- one policy more is one record more at most
+pub grows-one : (old : List PolicyRecord) (policy : Option PolicyRecord) (new : List PolicyRecord) → Grows old policy new → length new ≤ length old + 1
+grows-one old policy new grows = elim grows [ inl same ↦ omega (arith, ap length same) | inr more ↦ omega (arith, ap length more.2, length-append old (more.0 ∷ [])) ]

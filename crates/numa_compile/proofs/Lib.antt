@@ -1,4 +1,3 @@
-pub mod Accepted
 pub mod AllowedLemmas
 pub mod CompileSteps
 pub mod CopyLemmas

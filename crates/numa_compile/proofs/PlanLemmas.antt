@@ -13,9 +13,9 @@ use Rattle.numa_space.specs.Standing.{SpaceState, IsNodeList, record_of, setting
 use Rattle.numa_plan.specs.Rows.{RuleData, row_of}
 use Rattle.numa_plan.specs.Slots.{rule_in}
 use Rattle.numa_plan.specs.Meaning.{PlanData, planned_list, number_of, rule_for}
-use Rattle.numa_compile.specs.Copies.{IsNumber, AreCopies, HasTasks, Serves, Grows, AreUsed}
+use Rattle.numa_compile.specs.Copies.{IsNumber, AreCopies, HasTasks, Serves, Grows, AreUsed, SharesRules}
 use Rattle.numa_compile.specs.Rules.{IsRuleOf, IsReady}
-use Rattle.numa_compile.specs.Sharing.{IsUsed, SharesRules}
+use Rattle.numa_compile.specs.Sharing.{IsUsed}
 use Rattle.numa_compile.specs.Standing.{IsPlanOf}
 use Rattle.numa_compile.proofs.CopyLemmas.{live-some, live-there, number-contains, copies-length, copies-pages, copies-related, copies-contain}
 use Rattle.numa_compile.proofs.Soundness.{planned-sound}
@@ -90,6 +90,8 @@ shares space plan rules once are_used copies tasks serves = record {
   exactly = λ r. (are_used r, λ one. has r one.0 one.1);
   as_many = serves.as_many;
   served = serves.served;
+  copies = copies;
+  tasks = tasks;
 }
   where
     has : (r : PolicyRecord) → is_live r ≡ true → ((run : Run (Option PolicyRecord)) × Contains space.ranges run × (run.value ≡ Some r)) ⊎ ((task : ℕ) × (record_of space.tasks task ≡ Some r)) → Contains rules r

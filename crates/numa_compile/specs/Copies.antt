@@ -1,5 +1,5 @@
 -- How the runs and tasks of a space become those of a plan.
-use Rattle.std.specs.Prelude.{◌≡◌, ℕ, ◌⊎◌, Option, Some, None, List, [], ◌∷◌, ◌++◌, length, Contains, slice_get}
+use Rattle.std.specs.Prelude.{◌≡◌, ◌≢◌, ◌↔◌, AllPairs, ℕ, ◌⊎◌, Option, Some, None, List, [], ◌∷◌, ◌++◌, length, Contains, slice_get}
 use Rattle.numa_mode.specs.Policy.{PolicyRecord}
 use Rattle.numa_ranges.specs.declared.run.Run.{Run}
 use Rattle.numa_space.specs.Lists.{Setting}
@@ -51,3 +51,14 @@ pub record IsUnderWay (space : SpaceState) (plan : PlanData) (records : List Pol
   pub local : IsRuleOf (setting_in space) plan.local None
   pub serves : Serves (setting_in space) plan records
   pub used : AreUsed space records
+
+-- the plan's rules are one for each distinct live record of ranges and tasks, and no more: the slots serve these records one by one. Its
+-- runs are the ranges, one by one, each with the rule of its record, and its tasks are the space's
+pub record SharesRules (space : SpaceState) (plan : PlanData) : Type 0 where
+  pub records : List PolicyRecord
+  pub each_once : AllPairs (λ earlier later. earlier ≢ later) records
+  pub exactly : (r : PolicyRecord) → Contains records r ↔ IsUsed space r
+  pub as_many : length plan.slots ≡ length records
+  pub served : (number : ℕ) (r : PolicyRecord) → slice_get records number ≡ Some r → IsServed (setting_in space) plan number r
+  pub copies : AreCopies records space.ranges plan.runs
+  pub tasks : HasTasks records space.tasks plan

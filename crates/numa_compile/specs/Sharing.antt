@@ -1,5 +1,5 @@
 -- How records share rules.
-use Rattle.std.specs.Prelude.{◌≡◌, ◌≢◌, ℕ, ◌<◌, ◌⊎◌, ◌↔◌, true, Option, Some, List, length, AllPairs, Contains, slice_get}
+use Rattle.std.specs.Prelude.{◌≡◌, ℕ, ◌<◌, ◌⊎◌, true, Option, Some, Contains}
 use Rattle.numa_mode.specs.Policy.{PolicyRecord, is_live}
 use Rattle.numa_ranges.specs.declared.run.Run.{Run}
 use Rattle.numa_space.specs.Lists.{Setting, list_for}
@@ -19,11 +19,3 @@ IsServed setting plan number r = (rule : RuleData) × (rule_in plan.slots number
 -- a range or a task has the record, and it is live
 abbrev pub IsUsed : SpaceState → PolicyRecord → Type 0
 IsUsed space r = (is_live r ≡ true) × (((run : Run (Option PolicyRecord)) × Contains space.ranges run × (run.value ≡ Some r)) ⊎ ((task : ℕ) × (record_of space.tasks task ≡ Some r)))
-
--- the plan's rules are one for each distinct live record of ranges and tasks, and no more: the slots serve these records one by one
-pub record SharesRules (space : SpaceState) (plan : PlanData) : Type 0 where
-  pub records : List PolicyRecord
-  pub each_once : AllPairs (λ earlier later. earlier ≢ later) records
-  pub exactly : (r : PolicyRecord) → Contains records r ↔ IsUsed space r
-  pub as_many : length plan.slots ≡ length records
-  pub served : (number : ℕ) (r : PolicyRecord) → slice_get records number ≡ Some r → IsServed (setting_in space) plan number r

@@ -6,10 +6,9 @@ ghost use Rattle.numa_plan.specs.Meaning.{planned_list};
 ghost use Rattle.numa_space.specs.declared.command.Command.{Command};
 ghost use Rattle.numa_space.specs.Policies.{allowed_nodes};
 ghost use Rattle.numa_space.specs.Standing.{StandsFor, IsNodeList, accepted_of};
-ghost use Rattle.numa_compile.specs.Copies.{AreCopies, HasTasks, IsUnderWay};
+ghost use Rattle.numa_compile.specs.Copies.{AreCopies, HasTasks, IsUnderWay, SharesRules};
 ghost use Rattle.numa_compile.specs.Rules.{IsReady};
 ghost use Rattle.numa_compile.specs.Standing.{IsPlanOf, PlanStandsFor};
-ghost use Rattle.numa_compile.specs.Sharing.{SharesRules};
 
 use crate::numbers::number_for;
 use crate::rules::local_rule;
@@ -18,7 +17,7 @@ use numa_machine::Machine;
 use numa_mode::Record;
 use numa_plan::{NoMemory, Plan, Steps};
 use numa_ranges::Run;
-use numa_space::{Command, Limits, RangeRecord, Refusal, Space};
+use numa_space::{Command, Limits, RangeRecord, Space};
 use std::alloc::Global;
 
 /// Looks at what holds of every space and its machine.
@@ -48,12 +47,14 @@ fn add_runs(
     requires ranges { ranges.now ≡ space.now.ranges }
     requires apart { AreApart 0 ranges.now }
     requires few { length ranges.now < 2 ^ 31 }
+    requires none { records.old.keys ≡ [] }
     requires under_way { IsUnderWay space.now plan.old records.old.keys }
     requires runs { plan.old.runs ≡ [] }
     requires tasks { plan.old.tasks ≡ [] }
     ensures under_way { OnOk result (IsUnderWay space.now plan.new records.new.keys) }
     ensures copies { OnOk result (AreCopies records.new.keys ranges.now plan.new.runs) }
     ensures tasks { OnOk result (plan.new.tasks ≡ []) }
+    ensures room { OnOk result (length records.new.keys ≤ length ranges.now) }
 {
     for range in ranges {
         let value = number_for(alloc, space, range.value.policy(), plan, records)?;
@@ -77,6 +78,7 @@ fn set_tasks(
 ) -> Result<(), NoMemory>
     requires ready { IsReady space.now }
     requires few { length plan.old.runs + length space.now.tasks < 2 ^ 32 - 1 }
+    requires room { length records.old.keys + length space.now.tasks < 2 ^ 32 }
     requires under_way { IsUnderWay space.now plan.old records.old.keys }
     requires copies { AreCopies records.old.keys space.now.ranges plan.old.runs }
     requires tasks { plan.old.tasks ≡ [] }
@@ -120,20 +122,6 @@ pub fn compile(alloc: Global, space: &Space) -> Result<Plan, NoMemory>
     Ok(plan)
 }
 
-/// Carries out commands, the first first, up to the first for which there is no memory; those that are refused are passed over.
-fn carry_out(space: &mut Space, commands: &[Command]) -> Result<(), NoMemory>
-    ensures stands { (history : List Command) → StandsFor space.old history → OnOk result (StandsFor space.new (accepted_of space.old.machine space.old.bounds commands.now [] history)) }
-    ensures machine { space.new.machine ≡ space.old.machine }
-    ensures bounds { space.new.bounds ≡ space.old.bounds }
-{
-    for command in commands {
-        if let Err(Refusal::NoMemory) = space.apply(command) {
-            return Err(NoMemory);
-        }
-    }
-    Ok(())
-}
-
 /// The plan of a new space of the machine, after these commands, the first first; those that are refused are passed over.
 ///
 /// # Errors
@@ -144,10 +132,12 @@ pub fn compile_commands(
     limits: Limits,
     commands: &[Command],
 ) -> Result<Plan, NoMemory>
-    ensures stands { IfOk result (λ plan. PlanStandsFor machine plan (accepted_of machine limits commands.now [] [])) }
-    ensures sound { IfOk result (λ plan. (task page cpu : ℕ) → cpu < plan.nodes → ForSome (planned_list plan task page cpu) (IsNodeList (allowed_nodes machine (accepted_of machine limits commands.now [] [])))) }
+    ensures stands { IfOk result (λ plan. PlanStandsFor machine plan (accepted_of machine limits commands.now [])) }
+    ensures sound { IfOk result (λ plan. (task page cpu : ℕ) → cpu < plan.nodes → ForSome (planned_list plan task page cpu) (IsNodeList (allowed_nodes machine (accepted_of machine limits commands.now [])))) }
 {
     let mut space = Space::new(alloc, machine, limits);
-    carry_out(&mut space, commands)?;
+    let Ok(()) = space.apply_all(commands) else {
+        return Err(NoMemory);
+    };
     compile(alloc, &space)
 }

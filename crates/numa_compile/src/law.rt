@@ -1,12 +1,14 @@
 //! What a plan answers, by the history that it stands for.
-ghost use Rattle.std.specs.Prelude.{◌≡◌, ℕ, ◌<◌, ◌↔◌, true, Some, List, slice_index};
+ghost use Rattle.std.specs.Prelude.{◌≡◌, ◌≢◌, ℕ, ◌^◌, ◌<◌, ◌↔◌, true, Some, List, slice_index};
 ghost use Rattle.numa_machine.specs.Machine.{Hardware};
 ghost use Rattle.numa_plan.specs.Meaning.{PlanData, planned_list, planned_first, planned_count, place_refusal, RefusesSpan};
 ghost use Rattle.numa_space.specs.declared.command.Command.{Command};
 ghost use Rattle.numa_space.specs.declared.refusal.PlaceRefusal.{PlaceRefusal};
 ghost use Rattle.numa_space.specs.Lists.{node_list};
 ghost use Rattle.numa_space.specs.Pages.{is_mapped};
-ghost use Rattle.numa_space.specs.Standing.{place_refusal_of};
+ghost use Rattle.numa_space.specs.Limited.{Bounds};
+ghost use Rattle.numa_space.specs.Policies.{allowed_nodes};
+ghost use Rattle.numa_space.specs.Standing.{IsAccepted, IsNodeList, place_refusal_of};
 ghost use Rattle.numa_compile.specs.Standing.{PlanStandsFor};
 ghost use Rattle.numa_compile.specs.Spans.{first_node, meant_count, SpanIsRefused};
 
@@ -14,7 +16,8 @@ ghost use Rattle.numa_compile.specs.Spans.{first_node, meant_count, SpanIsRefuse
 /// list that the plan has is the node list of a mapped page; a question about a page is refused exactly where the history
 /// refuses it, and for the same cause; the first node that the plan has is the first of the node list; a node is counted
 /// once for each mapped page of the span whose node list begins with it; and a span is refused exactly where the history
-/// refuses it, a faulting node that the machine lacks before a page that isn't mapped.
+/// refuses it, a faulting node that the machine lacks before a page that isn't mapped. Each list that a plan of accepted
+/// commands lends, for a machine of which some nodes have memory, has a node, each once, and only allowed ones.
 pub fn every_plan()
     ensures choice { (machine : Hardware) (plan : PlanData) (history : List Command) (task page cpu : ℕ) (nodes : List ℕ)
         → PlanStandsFor machine plan history → cpu < plan.nodes → planned_list plan task page cpu ≡ Some nodes
@@ -30,4 +33,8 @@ pub fn every_plan()
     ensures span { (machine : Hardware) (plan : PlanData) (history : List Command) (first pages cpu : ℕ) (refusal : PlaceRefusal)
         → PlanStandsFor machine plan history
         → RefusesSpan plan first pages cpu refusal ↔ SpanIsRefused machine history first pages cpu refusal }
+    ensures sound { (machine : Hardware) (bounds : Bounds) (plan : PlanData) (history : List Command) (task page cpu : ℕ) (nodes : List ℕ)
+        → machine.memory ≢ 0 → machine.memory < 2 ^ 256 → IsAccepted machine bounds history
+        → PlanStandsFor machine plan history → cpu < plan.nodes → planned_list plan task page cpu ≡ Some nodes
+        → IsNodeList (allowed_nodes machine history) nodes }
 {}

@@ -1,5 +1,5 @@
 //! The numbers of rules.
-ghost use Rattle.std.specs.Prelude.{◌≡◌, Some, IfOk, OnOk, slice_get, true};
+ghost use Rattle.std.specs.Prelude.{◌≡◌, ◌^◌, ◌<◌, Some, IfOk, OnOk, length, slice_get, true};
 ghost use Rattle.std.specs.Option.{ForSome};
 ghost use Rattle.numa_mode.specs.Policy.{is_live};
 ghost use Rattle.numa_space.specs.Policies.{where_live};
@@ -27,6 +27,7 @@ fn number_of(
     requires live { is_live policy ≡ true }
     requires nodes { plan.old.nodes ≡ space.now.machine.nodes }
     requires serves { Serves (setting_in space.now) plan.old records.old.keys }
+    requires room { length records.old.keys < 2 ^ 32 }
     ensures number { IfOk result (λ number. slice_get records.new.keys number ≡ Some policy) }
     ensures serves { OnOk result (Serves (setting_in space.now) plan.new records.new.keys) }
     ensures grows { OnOk result (Grows records.old.keys (Some policy) records.new.keys) }
@@ -34,7 +35,7 @@ fn number_of(
 {
     let (place, is_new) = records.insert_full(policy)?;
     let Ok(number) = u32::try_from(place) else {
-        return Err(NoMemory);
+        unreachable!()
     };
     if is_new {
         let rule = rule_of(alloc, space, &policy)?;
@@ -55,6 +56,7 @@ pub(crate) fn number_for(
     requires in_force { ForSome policy (IsInForce space.now.machine space.now.allowed) }
     requires nodes { plan.old.nodes ≡ space.now.machine.nodes }
     requires serves { Serves (setting_in space.now) plan.old records.old.keys }
+    requires room { length records.old.keys < 2 ^ 32 }
     ensures number { IfOk result (λ number. IsNumber records.new.keys (where_live policy) number) }
     ensures serves { OnOk result (Serves (setting_in space.now) plan.new records.new.keys) }
     ensures grows { OnOk result (Grows records.old.keys policy records.new.keys) }

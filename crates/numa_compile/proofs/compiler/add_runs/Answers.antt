@@ -6,7 +6,7 @@ use Rattle.numa_ranges.specs.declared.run.Run.{Run}
 use Rattle.numa_plan.specs.Meaning.{PlanData}
 use Rattle.numa_compile.specs.Copies.{AreCopies, AreUsed, Grows}
 use Rattle.numa_compile.proofs.CompileSteps.{copied-next, under-run}
-use Rattle.numa_compile.proofs.CopyLemmas.{copies-apart, apart-take, copies-length}
+use Rattle.numa_compile.proofs.CopyLemmas.{copies-apart, apart-take, copies-length, grows-one}
 use Rattle.numa_compile.proofs.PlanLemmas.{used-range}
 use Rattle.numa_compile.proofs.RangeLemmas.{range-in_force}
 use Rattle.numa_compile.proofs.compiler.add_runs.Goals as goal
@@ -45,4 +45,5 @@ loop-range-preserved c =
           (copied-next c.loop-range.records.keys c.number_for.new.records.keys c.args.ranges.now c.number_for.new.plan.runs c.loop-range.plan.runs c.loop-range.range-index c.range-item.result c.policy.result c.in_ok-value.value
           c.loop-range-test.true c.range-item.is c.policy.ensures (ap (λ (p : PlanData). p.runs) c.in_ok-value.ensures.rest) c.in_ok-value.ensures.grows c.in_ok-value.ensures.number c.loop-range.invariant.copies);
       tasks = ap (λ (p : PlanData). p.tasks) pushed ∙ ap (λ (p : PlanData). p.tasks) c.in_ok-value.ensures.rest ∙ c.loop-range.invariant.tasks;
+      room = omega (arith, grows-one c.loop-range.records.keys c.policy.result c.number_for.new.records.keys c.in_ok-value.ensures.grows, c.loop-range.invariant.room);
     }

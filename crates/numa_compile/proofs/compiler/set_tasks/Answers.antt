@@ -3,7 +3,7 @@ use Rattle.numa_ranges.specs.declared.run.Run.{Run}
 use Rattle.numa_plan.specs.Meaning.{PlanData, number_of}
 use Rattle.numa_compile.specs.Copies.{AreCopies, AreUsed, HasTasks}
 use Rattle.numa_compile.proofs.CompileSteps.{under-task}
-use Rattle.numa_compile.proofs.CopyLemmas.{copies-grow, tasks-grow, tasks-next}
+use Rattle.numa_compile.proofs.CopyLemmas.{copies-grow, grows-one, tasks-grow, tasks-next}
 use Rattle.numa_compile.proofs.PlanLemmas.{used-task}
 use Rattle.numa_compile.proofs.compiler.set_tasks.Goals as goal
 
@@ -23,5 +23,6 @@ loop-k-preserved c =
       tasks = tasks-next c.number_for.new.records.keys c.args.space.now.tasks c.loop-k.k c.in-Some.held.0 c.in-Some.held.1 c.loop-k.plan c.set_task.new.self c.in_ok-number.number (sym c.in-Some.ensures.task) c.task_count-k-end.ensures.each_once before c.in_ok-number.ensures.number c.in_ok-set_task.ensures.given
           (λ other ne. c.in_ok-set_task.ensures.others other ne ∙ ap (λ ts. number_of ts other) tasks);
       runs = runs ∙ c.loop-k.invariant.runs;
+      room = omega (arith, grows-one c.loop-k.records.keys (Some c.in-Some.held.1) c.number_for.new.records.keys c.in_ok-number.ensures.grows, c.loop-k.invariant.room);
       few = omega (arith, c.in_ok-set_task.ensures.sized, ap length tasks, c.loop-k.invariant.few);
     }

@@ -1,4 +1,4 @@
-use Rattle.std.proofs.Common.{◌≡◌, ◌≤◌, take, length}
+use Rattle.std.proofs.Common.{◌≡◌, ◌+◌, ◌≤◌, take, length}
 use Rattle.numa_compile.specs.Copies.{AreCopies, HasTasks, IsUnderWay}
 use Rattle.numa_compile.proofs.compiler.set_tasks.Given as goal
 
@@ -9,4 +9,5 @@ invariant-loop-k l = record {
   tasks : HasTasks l.records.keys (take l.k l.space.tasks) l.plan;
   runs : l.plan.runs ≡ l.initial.plan.runs;
   few : length l.plan.tasks ≤ l.k;
+  room : length l.records.keys ≤ length l.initial.records.keys + l.k;
 }

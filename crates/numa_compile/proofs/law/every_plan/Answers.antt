@@ -1,3 +1,7 @@
+use Rattle.std.proofs.Common.{List, ℕ, sym, subst}
+use Rattle.numa_space.specs.Policies.{allowed_nodes}
+use Rattle.numa_space.specs.Standing.{IsNodeList}
+use Rattle.numa_space.proofs.Meant.{meant-list}
 use Rattle.numa_compile.proofs.Replies.{choice-meant, refusal-meant, fill-meant, counts-meant, span-meant}
 use Rattle.numa_compile.proofs.law.every_plan.Goals as goal
 
@@ -15,3 +19,7 @@ returns-clause-counts c machine plan history task cpu first pages node stands lt
 
 pub returns-clause-span : goal.returns-clause-span
 returns-clause-span c machine plan history first pages cpu refusal stands = span-meant machine plan history stands first pages cpu refusal
+
+pub returns-clause-sound : goal.returns-clause-sound
+returns-clause-sound c machine bounds plan history task page cpu nodes some small accepted stands lt is =
+    subst (λ (list : List ℕ). IsNodeList (allowed_nodes machine history) list) (sym (choice-meant machine plan history stands task page cpu nodes lt is).2) (meant-list machine bounds some small history task page cpu accepted)

@@ -21,7 +21,7 @@ turns_rule-requires-clause-places c = weighted-below (weight_at c.weights.result
 pub returns : goal.returns
 returns c =
     let weight : ℕ → ℕ = weight_at c.args.space.now.weights in
-    let cycle : c.in_ok-cycle.cycle.items ≡ places_from 0 weight (members c.args.set.now) = c.in_ok-cycle.ensures.places ∙ ap (λ (w : NodeWeights). places_from 0 (weight_at w) (members c.args.set.now)) c.weights.ensures in
+    let cycle : c.in_ok-cycle.cycle.items ≡ places_from 0 weight (members c.args.set.now) = c.in_ok-cycle.ensures.places ∙ ap (λ (w : NodeWeights). places_from 0 (weight_at w) (members c.args.set.now)) c.weights.ensures.weights in
     let filled : 0 < length c.in_ok-cycle.cycle.items = some c.args.set.now c.in_ok-cycle.cycle.items c.in_ok-cycle.ensures.each (allowed-small c.args.space.now c.args.set.now c.requires.ready c.requires.allowed) c.requires.some in
     let total : 0 < total_weight weight c.args.set.now = omega (arith, filled, weighted-length weight c.args.set.now c.in_ok-cycle.cycle.items cycle) in
     IfOk-weaker c.turns_rule.result _ _
