@@ -2,15 +2,16 @@
 use Rattle.std.proofs.Common.{◌≡◌, ℕ, ◌==◌, ◌⊎◌, inl, inr, Bool, true, false, Option, Some, None, Result, Ok, Err, is_some, List, [], ◌∷◌, ◌++◌, refl, sym, ap, ◌∙◌, arith, nat_le, not, is_none, unwrap_or, if◌then◌else◌}
 use Rattle.std.specs.Option.{option_map_or}
 use Rattle.std.proofs.lemmas.Bool.Decides.{nat_tests}
-use Rattle.numa_core.specs.declared.request.Request.{Request}
-use Rattle.numa_core.specs.declared.frame.Frame.{Frame}
-use Rattle.numa_core.specs.declared.placement.Placement.{Placement}
+use Rattle.numa_space.specs.declared.request.Request.{Request}
+use Rattle.numa_machine.specs.declared.frame.Frame.{Frame}
+use Rattle.numa_space.specs.declared.placement.Placement.{Placement}
 use Rattle.numa_core.specs.declared.event.Event.{Event}
 use Rattle.numa_core.specs.declared.event.Event.TheVariants.{Accept, Publish, Begin, Look, Try, Give}
 use Rattle.numa_core.specs.declared.event.Reply.{Reply}
 use Rattle.numa_core.specs.declared.event.Reply.TheVariants.{Still, Exhausted, Won}
 use Rattle.numa_core.specs.declared.event.CoreRefusal.{CoreRefusal}
-use Rattle.numa_core.specs.declared.event.CoreRefusal.TheVariants.{NoSuchWorker, Busy, Idle, BadTry, NotOwned, BadCpu, Unmapped}
+use Rattle.numa_core.specs.declared.event.CoreRefusal.TheVariants.{Command as Because, NoSuchWorker, Busy, Idle, BadTry, NotOwned, BadCpu, Unmapped}
+use Rattle.numa_space.specs.declared.refusal.Refusal.TheVariants.{NoMemory as NoRoom}
 use Rattle.numa_core.specs.World.{Setup, Hunt, World, hunt_of, owner_of, is_frame, list_at, current_rank, looked, missed, may_try, begun}
 use Rattle.numa_core.specs.Steps.{first_refusal, refusal_of, reply_of, refused_or, goes_on, placement_of, owns, IsAnswer, IsOutOfMemory}
 use Rattle.numa_core.specs.Runs.{Moment, IsLegalRun}
@@ -21,7 +22,7 @@ legal_before s [] rest legal = legal
 legal_before s (m ∷ later) rest legal = legal_before s later rest legal.0
 
 not_ok : (event : Event) (reply : Reply) → IsOutOfMemory event (Ok reply) → ⊥
-not_ok (Accept command) reply h = cc
+not_ok (Accept command) reply h = let odd : ◌≡◌ {A = Result Reply CoreRefusal} (Ok reply) (Err (Because NoRoom)) = h.0 in cc
 not_ok Publish reply h = cc
 not_ok (Begin w request) reply h = h
 not_ok (Look w word) reply h = h

@@ -3,6 +3,7 @@ pub mod GivenBack
 pub mod Versions
 pub mod Newest
 pub mod Tracking
+pub mod CommandsOfRuns
 pub mod Placing
 pub mod Exhausting
 pub mod Rows

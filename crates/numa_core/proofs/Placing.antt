@@ -4,9 +4,9 @@ use Rattle.std.specs.Option.{option_map_or}
 use Rattle.std.proofs.lemmas.Bool.{eqb-true, ltb-true}
 use Rattle.std.proofs.lemmas.Bool.Decides.{eqb_tells}
 use Rattle.numa_machine.specs.Machine.{frames_of}
-use Rattle.numa_core.specs.declared.request.Request.{Request}
-use Rattle.numa_core.specs.declared.frame.Frame.{Frame}
-use Rattle.numa_core.specs.declared.placement.Placement.{Placement}
+use Rattle.numa_space.specs.declared.request.Request.{Request}
+use Rattle.numa_machine.specs.declared.frame.Frame.{Frame}
+use Rattle.numa_space.specs.declared.placement.Placement.{Placement}
 use Rattle.numa_core.specs.declared.event.Event.TheVariants.{Try}
 use Rattle.numa_core.specs.declared.event.Reply.TheVariants.{Won}
 use Rattle.numa_core.specs.World.{Setup, Hunt, owner_of, any_below, first_place, one_further, current_rank, at_current, has_unmet}

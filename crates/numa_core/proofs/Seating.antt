@@ -3,9 +3,9 @@ use Rattle.std.proofs.Common.{◌≡◌, ◌≢◌, ℕ, ◌*◌, ◌/◌, ◌<�
 use Rattle.std.specs.Option.{option_map_or}
 use Rattle.std.proofs.lemmas.Bool.{eq-eqb}
 use Rattle.std.proofs.lemmas.Bool.Decides.{eqb_tells}
-use Rattle.numa_core.specs.declared.request.Request.{Request}
-use Rattle.numa_core.specs.declared.frame.Frame.{Frame}
-use Rattle.numa_core.specs.declared.placement.Placement.{Placement}
+use Rattle.numa_space.specs.declared.request.Request.{Request}
+use Rattle.numa_machine.specs.declared.frame.Frame.{Frame}
+use Rattle.numa_space.specs.declared.placement.Placement.{Placement}
 use Rattle.numa_core.specs.declared.event.Reply.{Reply}
 use Rattle.numa_core.specs.declared.event.Reply.TheVariants.{Won}
 use Rattle.numa_core.specs.declared.event.CoreRefusal.{CoreRefusal}

@@ -1,6 +1,6 @@
 -- How a touch ends in a core that stands for a world.
 use Rattle.std.proofs.Common.{◌≡◌, ℕ, false, Option, Some, None, Ok, Err, is_some, is_none, unwrap_or, List, [], nat_le, refl, sym, ap, subst, ◌∙◌}
-use Rattle.numa_core.specs.declared.request.Request.{Request}
+use Rattle.numa_space.specs.declared.request.Request.{Request}
 use Rattle.numa_core.specs.declared.state.State.{State}
 use Rattle.numa_core.specs.declared.touching.Spot.{Spot}
 use Rattle.numa_core.specs.declared.event.Reply.TheVariants.{Exhausted, Won}

@@ -9,7 +9,7 @@ use Rattle.numa_space.specs.Pages.{is_mapped}
 use Rattle.numa_space.specs.declared.refusal.PlaceRefusal.{PlaceRefusal}
 use Rattle.numa_space.specs.declared.refusal.PlaceRefusal.TheVariants.{BadCpu as NoCpu, Unmapped as NoPage}
 use Rattle.numa_plan.specs.Meaning.{PlanData, planned_list, place_refusal}
-use Rattle.numa_core.specs.declared.request.Request.{Request}
+use Rattle.numa_space.specs.declared.request.Request.{Request}
 use Rattle.numa_core.specs.declared.seat.Job.{Job}
 use Rattle.numa_core.specs.declared.seat.Seat.{Seat}
 use Rattle.numa_core.specs.declared.event.Event.TheVariants.{Begin}

@@ -3,8 +3,8 @@ use Rattle.std.proofs.Common.{zero, suc, ◌≡◌, ℕ, ◌<◌, ◌≤◌, ◌
 use Rattle.std.specs.Option.{option_map, option_map_or}
 use Rattle.std.proofs.lemmas.Bool.{eq-eqb, lt-ltb}
 use Rattle.numa_machine.specs.Machine.{frames_of}
-use Rattle.numa_core.specs.declared.frame.Frame.{Frame}
-use Rattle.numa_core.specs.declared.request.Request.{Request}
+use Rattle.numa_machine.specs.declared.frame.Frame.{Frame}
+use Rattle.numa_space.specs.declared.request.Request.{Request}
 use Rattle.numa_core.specs.declared.event.Event.TheVariants.{Try}
 use Rattle.numa_core.specs.declared.event.Reply.TheVariants.{Still, Exhausted, Won}
 use Rattle.numa_core.specs.declared.event.CoreRefusal.{CoreRefusal}

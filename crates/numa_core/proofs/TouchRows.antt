@@ -8,7 +8,7 @@ use Rattle.numa_mode.specs.declared.modes.NodeFlag.TheVariants.{Plain}
 use Rattle.numa_space.specs.declared.command.Command.{Command}
 use Rattle.numa_space.specs.declared.command.Command.TheVariants.{Map, Mbind, SetTask}
 use Rattle.numa_space.proofs.Rows.{asked}
-use Rattle.numa_core.specs.declared.request.Request.{Request}
+use Rattle.numa_space.specs.declared.request.Request.{Request}
 use Rattle.numa_core.specs.declared.event.Reply.{Reply}
 use Rattle.numa_core.specs.declared.event.Reply.TheVariants.{Exhausted}
 use Rattle.numa_core.specs.declared.event.CoreRefusal.{CoreRefusal}

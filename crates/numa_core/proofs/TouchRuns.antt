@@ -1,8 +1,8 @@
 -- A touch is a list of legal moments: a Begin and Trys.
 use Rattle.std.proofs.Common.{zero, suc, ◌≡◌, ℕ, Bool, true, false, Option, Some, None, is_ok, List, [], ◌∷◌, ◌++◌, sum, refl, inl, if◌then◌else◌}
 use Rattle.std.specs.Option.{option_map, option_map_or}
-use Rattle.numa_core.specs.declared.frame.Frame.{Frame}
-use Rattle.numa_core.specs.declared.request.Request.{Request}
+use Rattle.numa_machine.specs.declared.frame.Frame.{Frame}
+use Rattle.numa_space.specs.declared.request.Request.{Request}
 use Rattle.numa_core.specs.declared.event.Event.{Event}
 use Rattle.numa_core.specs.declared.event.Event.TheVariants.{Begin, Try}
 use Rattle.numa_core.specs.World.{Setup, newest_published}

@@ -1,7 +1,7 @@
 -- One step of a touch: what a Try of a busy worker does, and which spot is the first free one of a list.
 use Rattle.std.proofs.Common.{zero, suc, ◌≡◌, ℕ, ◌+◌, ◌<◌, ◌==◌, Bool, true, false, Option, Some, None, Ok, List, [], ◌∷◌, length, refl, ap, arith, nat_le, if◌then◌else◌, slice_index}
 use Rattle.std.proofs.lemmas.Bool.{eq-eqb}
-use Rattle.numa_core.specs.declared.frame.Frame.{Frame}
+use Rattle.numa_machine.specs.declared.frame.Frame.{Frame}
 use Rattle.numa_core.specs.declared.event.Event.TheVariants.{Try}
 use Rattle.numa_core.specs.declared.event.Reply.TheVariants.{Won}
 use Rattle.numa_core.specs.World.{Setup, Hunt, Worker, World, newest_published, hunt_of, last_of, owner_of, may_try, missed}

@@ -2,8 +2,8 @@
 use Rattle.std.proofs.Common.{suc, ◌≡◌, ℕ, ◌-◌, ◌/◌, ◌≤◌, ◌==◌, ◌&&◌, ◌||◌, Bool, true, false, Option, Some, None, Result, Ok, Err, is_some, is_ok, List, [], ◌∷◌, length, refl, sym, ap, subst, ◌∙◌, arith, if◌then◌else◌}
 use Rattle.std.specs.Option.{option_map_or}
 use Rattle.std.proofs.lemmas.Bool.{eqb-true}
-use Rattle.numa_core.specs.declared.request.Request.{Request}
-use Rattle.numa_core.specs.declared.frame.Frame.{Frame}
+use Rattle.numa_space.specs.declared.request.Request.{Request}
+use Rattle.numa_machine.specs.declared.frame.Frame.{Frame}
 use Rattle.numa_core.specs.declared.event.Event.{Event}
 use Rattle.numa_core.specs.declared.event.Event.TheVariants.{Accept, Publish, Begin, Look, Try, Give}
 use Rattle.numa_core.specs.declared.event.Reply.{Reply}

@@ -1,6 +1,6 @@
 -- How far each node's lowest frames are known to be owned.
 use Rattle.std.specs.Prelude.{◌≡◌, ℕ, ◌<◌, true, Option, is_some, List, length, slice_index}
-use Rattle.numa_core.specs.declared.frame.Frame.{Frame}
+use Rattle.numa_machine.specs.declared.frame.Frame.{Frame}
 use Rattle.numa_core.specs.Standing.{owner_at, place_in}
 
 -- for each node a number below which all its frames are owned

@@ -2,9 +2,9 @@
 use Rattle.std.specs.Prelude.{◌≡◌, ℕ, ◌/◌, ◌<◌, ◌==◌, ◌&&◌, ◌||◌, Bool, true, false, Option, Some, None, Result, Ok, Err, is_some, is_ok, List, [], ◌∷◌, length, slice_index, if◌then◌else◌}
 use Rattle.std.specs.Option.{option_map_or}
 use Rattle.numa_machine.specs.Machine.{frames_of}
-use Rattle.numa_core.specs.declared.frame.Frame.{Frame}
-use Rattle.numa_core.specs.declared.placement.Placement.{Placement}
-use Rattle.numa_core.specs.declared.request.Request.{Request}
+use Rattle.numa_machine.specs.declared.frame.Frame.{Frame}
+use Rattle.numa_space.specs.declared.placement.Placement.{Placement}
+use Rattle.numa_space.specs.declared.request.Request.{Request}
 use Rattle.numa_core.specs.declared.event.Event.{Event}
 use Rattle.numa_core.specs.declared.event.Event.TheVariants.{Accept, Publish, Begin, Look, Try, Give}
 use Rattle.numa_core.specs.declared.event.Reply.{Reply}
@@ -27,6 +27,19 @@ worker_of (Begin w request) = Some w
 worker_of (Look w word) = Some w
 worker_of (Try w frame) = Some w
 worker_of (Give w frame) = Some w
+
+-- the event is a command
+abbrev pub is_accept : Event → Bool
+is_accept (Accept command) = true
+is_accept Publish = false
+is_accept (Begin w request) = false
+is_accept (Look w word) = false
+is_accept (Try w frame) = false
+is_accept (Give w frame) = false
+
+-- a command was accepted at the moment
+abbrev pub accepts : Moment → Bool
+accepts m = is_ok m.answer && is_accept m.event
 
 -- ---- legal runs
 

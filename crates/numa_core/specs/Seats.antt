@@ -1,7 +1,7 @@
 -- What a worker's seat shows, and what its cursor means.
 use Rattle.std.specs.Prelude.{◌≡◌, ℕ, ◌*◌, ◌<◌, ◌≤◌, Bool, true, false, Option, Some, None, Result, Ok, Err, List, length, vec_len, slice_index, MatchOption, MatchBool, map}
-use Rattle.numa_core.specs.declared.frame.Frame.{Frame}
-use Rattle.numa_core.specs.declared.request.Request.{Request}
+use Rattle.numa_machine.specs.declared.frame.Frame.{Frame}
+use Rattle.numa_space.specs.declared.request.Request.{Request}
 use Rattle.numa_core.specs.declared.event.Reply.{Reply}
 use Rattle.numa_core.specs.declared.event.Reply.TheVariants.{Won}
 use Rattle.numa_core.specs.declared.event.CoreRefusal.{CoreRefusal}

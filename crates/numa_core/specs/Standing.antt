@@ -7,7 +7,7 @@ use Rattle.numa_plan.specs.Meaning.{PlanData}
 use Rattle.numa_compile.specs.Standing.{PlanStandsFor}
 use Rattle.numa_core.specs.World.{Setup, Hunt, World, newest_published, is_published, first_commands, hunt_of, last_of}
 use Rattle.numa_core.specs.Runs.{Moment, IsLegalRun, world_of}
-use Rattle.numa_core.specs.declared.request.Request.{Request}
+use Rattle.numa_space.specs.declared.request.Request.{Request}
 use Rattle.numa_core.specs.declared.event.Event.{Event}
 use Rattle.numa_core.specs.declared.event.Reply.{Reply}
 use Rattle.numa_core.specs.declared.event.CoreRefusal.{CoreRefusal}
@@ -90,10 +90,22 @@ pub record CoreStandsFor (core : CoreState) (world : World) : Type 0 where
   pub known : newest_published world ≤ length world.history
   pub not_newer : (w : ℕ) → last_of world w ≤ newest_published world
 
+-- the core shows the world's space, published plan, hunts and owners
+pub record ShowsWorld (core : CoreState) (world : World) : Type 0 where
+  pub space : StandsFor core.space world.history
+  pub plan : PlanStandsFor core.space.machine core.plan (first_commands (newest_published world) world.history)
+  pub hunts : (w : ℕ) → shown_hunt core w ≡ hunt_of world w
+  pub owners : (n k : ℕ) → shown_owner core n k ≡ world.owner n k
+
 -- the run is legal and leads to a world that the core stands for
 pub record LeadsTo (run : List Moment) (core : CoreState) : Type 0 where
   pub legal : IsLegalRun (setup_of core) run
   pub stands : CoreStandsFor core (world_of (setup_of core) run)
+
+-- some legal run leads to the core
+pub record HasRun (core : CoreState) : Type 0 where
+  pub run : List Moment
+  pub leads : LeadsTo run core
 
 -- the moment of an event that comes after a run and was answered so; a Begin takes the newest published version
 abbrev pub moment_after : Setup → List Moment → Event → Result Reply CoreRefusal → Moment

@@ -2,10 +2,11 @@
 use Rattle.std.specs.Prelude.{◌≡◌, ℕ, ◌+◌, ◌≤◌, ◌==◌, ◌⊎◌, Bool, true, false, not, Option, Some, None, Result, Ok, Err, is_ok, is_some, is_none, unwrap_or, List, [], ◌∷◌, length, nat_le, if◌then◌else◌}
 use Rattle.std.specs.Option.{option_map_or}
 use Rattle.numa_space.specs.Refusals.{refusal_of as command_refusal}
+use Rattle.numa_space.specs.Steps.{MayNeedRoom}
 use Rattle.numa_space.specs.declared.refusal.Refusal.{Refusal}
 use Rattle.numa_space.specs.declared.refusal.Refusal.TheVariants.{NoMemory as NoRoom}
-use Rattle.numa_core.specs.declared.frame.Frame.{Frame}
-use Rattle.numa_core.specs.declared.placement.Placement.{Placement}
+use Rattle.numa_machine.specs.declared.frame.Frame.{Frame}
+use Rattle.numa_space.specs.declared.placement.Placement.{Placement}
 use Rattle.numa_core.specs.declared.event.Event.{Event}
 use Rattle.numa_core.specs.declared.event.Event.TheVariants.{Accept, Publish, Begin, Look, Try, Give}
 use Rattle.numa_core.specs.declared.event.Reply.{Reply}
@@ -145,9 +146,9 @@ abbrev pub refused_or : Option CoreRefusal → Reply → Result Reply CoreRefusa
 refused_or None reply = Ok reply
 refused_or (Some refusal) reply = Err refusal
 
--- memory may be wanting for an Accept and for a Publish
+-- memory may be wanting for a command that may need room, and for a Publish
 abbrev pub IsOutOfMemory : Event → Result Reply CoreRefusal → Type 0
-IsOutOfMemory (Accept command) answer = answer ≡ Err (Because NoRoom)
+IsOutOfMemory (Accept command) answer = (answer ≡ Err (Because NoRoom)) × MayNeedRoom command
 IsOutOfMemory Publish answer = answer ≡ Err NoMemory
 IsOutOfMemory (Begin w request) answer = ⊥
 IsOutOfMemory (Look w word) answer = ⊥

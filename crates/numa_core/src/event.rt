@@ -1,8 +1,6 @@
 //! Events, replies and refusals of the core.
-use crate::frame::Frame;
-use crate::placement::Placement;
-use crate::request::Request;
-use numa_space::{Command, Refusal};
+use numa_machine::Frame;
+use numa_space::{Command, Placement, Refusal, Request};
 
 /// One atomic step of the core. Workers are numbered from 0. A word is 64 frames of a node: word 0 is the frames 0 to 63,
 /// word 1 the frames 64 to 127, and so on.

@@ -1,14 +1,14 @@
 //! The core.
 ghost use Rattle.std.specs.Prelude.{◌≡◌, ℕ, ◌≤◌, List, [], ◌∷◌, ◌++◌, IfOk, OnErr};
+ghost use Rattle.numa_space.specs.Standing.{StandsFor};
 ghost use Rattle.numa_core.specs.World.{World, newest_published};
 ghost use Rattle.numa_core.specs.Steps.{IsAnswer, world_after};
 ghost use Rattle.numa_core.specs.Runs.{Moment};
-ghost use Rattle.numa_core.specs.Standing.{CoreState, CoreStandsFor, LeadsTo, moment_after, setup_of};
+ghost use Rattle.numa_core.specs.Standing.{CoreState, CoreStandsFor, HasRun, LeadsTo, moment_after, setup_of};
 
 use crate::event::{CoreRefusal, Event, Reply};
 use crate::state::State;
-use numa_machine::Machine;
-use numa_plan::NoMemory;
+use numa_machine::{Machine, NoMemory};
 use numa_space::{Limits, Space};
 use std::alloc::Global;
 use std::marker::Model;
@@ -20,14 +20,14 @@ pub struct Core {
 }
 
 impl Model for Core {
-    ghost use Rattle.numa_core.specs.Standing.{CoreState};
+    ghost use Rattle.numa_core.specs.Standing.{CoreState, HasRun};
     ghost use Rattle.numa_core.specs.Kept.{shown, IsKept};
 
     ghost Value = { CoreState };
 
     ghost view = { λ a. shown a.state };
 
-    ghost invariant = { λ a. IsKept a.state };
+    ghost invariant = { λ a. IsKept a.state × HasRun (shown a.state) };
 }
 
 impl Core {
@@ -81,15 +81,17 @@ impl Core {
 
     /// The space of all accepted commands.
     pub fn space(&self) -> &Space
-        ensures { result.now ≡ self.now.space }
+        ensures space { result.now ≡ self.now.space }
+        ensures meaning { (world : World) → CoreStandsFor self.now world → StandsFor result.now world.history }
     {
         &self.state.space
     }
 
-    /// The newest published version.
+    /// The newest published version. Some legal run leads to every core.
     pub fn published(&self) -> u64
         ensures published { result ≡ self.now.plan.version }
         ensures meaning { (world : World) → CoreStandsFor self.now world → result ≡ newest_published world }
+        ensures run { HasRun self.now }
     {
         self.state.plan.version()
     }

@@ -6,12 +6,11 @@ ghost use Rattle.numa_core.specs.Standing.{frames_before, owner_at, place_in, me
 ghost use Rattle.numa_core.specs.Seats.{busy_at, busy_of, seat_hunt, fresh, HasRoom, IsPassed, IsCursor, IsAllMet, SeatFits, SeatLooks, SeatTries};
 
 use crate::event::{CoreRefusal, Reply};
-use crate::frame::Frame;
-use crate::placement::Placement;
 use crate::places::Places;
-use crate::request::Request;
 use crate::tables::{clear, is_met, meet, meet_owned, none_met};
 use arrayvec::ArrayVec;
+use numa_machine::Frame;
+use numa_space::{Placement, Request};
 use std::alloc::{AllocError, Global};
 
 /// A place in a list of nodes, from 0, and a frame of the node there, by its number.

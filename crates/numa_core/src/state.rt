@@ -8,17 +8,15 @@ ghost use Rattle.numa_core.specs.declared.seat.Seat.{Seat};
 ghost use Rattle.numa_core.specs.declared.event.Event.{Event};
 
 use crate::event::{CoreRefusal, Reply};
-use crate::frame::Frame;
 use crate::judging::row_for;
 use crate::places::Places;
-use crate::request::Request;
 use crate::seat::Seat;
 use crate::tables::none_owned;
 use crate::touching::{lower, none_taken};
 use numa_compile::compile;
-use numa_machine::Machine;
-use numa_plan::{NoMemory, Plan};
-use numa_space::{Command, Limits, Space};
+use numa_machine::{Frame, Machine, NoMemory};
+use numa_plan::Plan;
+use numa_space::{Command, Limits, Request, Space};
 use std::alloc::Global;
 
 /// The space of all accepted commands, the plan of those that are published, the workers' seats, the owner of each frame, and

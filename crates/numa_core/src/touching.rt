@@ -10,13 +10,12 @@ ghost use Rattle.numa_core.specs.Hints.{AreTaken, IsLow};
 ghost use Rattle.numa_core.specs.Touching.{lowest_free, first_free, touched, touch_answer, touch_world, IsTouch, Shows};
 
 use crate::event::{CoreRefusal, Reply};
-use crate::frame::Frame;
 use crate::judging::row_for;
-use crate::placement::Placement;
 use crate::places::Places;
-use crate::request::Request;
 use crate::running::Core;
 use crate::state::State;
+use numa_machine::Frame;
+use numa_space::{Placement, Request};
 use std::alloc::{AllocError, Global};
 
 /// A frame without an owner on a node of a list, and the place of that node in the list, from 0.

@@ -1,9 +1,43 @@
 use Rattle.std.proofs.Common.{◌∷◌, List, sym, subst}
 use Rattle.numa_core.specs.Runs.{Moment}
-use Rattle.numa_core.specs.Standing.{CoreState, LeadsTo, setup_of, moment_after}
+use Rattle.numa_core.specs.Standing.{CoreState, HasRun, LeadsTo, setup_of, moment_after}
+use Rattle.numa_core.specs.declared.event.Event.{Event}
+use Rattle.numa_core.specs.declared.event.Reply.{Reply}
+use Rattle.numa_core.specs.declared.event.CoreRefusal.{CoreRefusal}
+use Rattle.numa_core.specs.declared.event.Event.TheVariants.{Accept, Publish, Begin, Look, Try, Give}
+use Rattle.std.proofs.Common.{◌≡◌, Result}
 use Rattle.numa_core.specs.Kept.{shown, Follows}
 use Rattle.numa_core.proofs.CoreSteps.{leads_on}
 use Rattle.numa_core.proofs.running.Core.step.Goals as goal
+
+ran : (old new : CoreState) (event : Event) (answer : Result Reply CoreRefusal) → setup_of new ≡ setup_of old → Follows old event answer new → HasRun old → HasRun new
+ran old new event answer same follows had = record {
+  run = moment_after (setup_of old) had.run event answer ∷ had.run;
+  leads = leads_on old new event answer same follows had.run had.leads;
+}
+
+pub invariant_of-self : goal.invariant_of-self
+invariant_of-self c = (c.accept.ensures.kept, ran (shown c.self.inside.state) (shown c.accept.new.self) (Accept c.in-Accept.command) c.accept.result c.accept.ensures.setup c.accept.ensures.follows c.self.invariant.1)
+
+pub invariant_of-self-in-Publish : goal.invariant_of-self-in-Publish
+invariant_of-self-in-Publish c = (c.publish.ensures.kept, ran (shown c.self.inside.state) (shown c.publish.new.self) (Publish) c.publish.result c.publish.ensures.setup c.publish.ensures.follows c.self.invariant.1)
+
+pub invariant_of-self-in-Begin : goal.invariant_of-self-in-Begin
+invariant_of-self-in-Begin c = (c.begin.ensures.kept, ran (shown c.self.inside.state) (shown c.begin.new.self) (Begin c.in-Begin.worker c.in-Begin.request) c.begin.result c.begin.ensures.setup c.begin.ensures.follows c.self.invariant.1)
+
+pub invariant_of-self-in-Look : goal.invariant_of-self-in-Look
+invariant_of-self-in-Look c = (c.look.ensures.kept, ran (shown c.self.inside.state) (shown c.look.new.self) (Look c.in-Look.worker c.in-Look.word) c.look.result c.look.ensures.setup c.look.ensures.follows c.self.invariant.1)
+
+pub invariant_of-self-in-Try : goal.invariant_of-self-in-Try
+invariant_of-self-in-Try c = (c.attempt.ensures.kept, ran (shown c.self.inside.state) (shown c.attempt.new.self) (Try c.in-Try.worker c.in-Try.frame) c.attempt.result c.attempt.ensures.setup c.attempt.ensures.follows c.self.invariant.1)
+
+pub invariant_of-self-in-Give : goal.invariant_of-self-in-Give
+invariant_of-self-in-Give c = (c.give.ensures.kept, ran (shown c.self.inside.state) (shown c.give.new.self) (Give c.in-Give.worker c.in-Give.frame) c.give.result c.give.ensures.setup c.give.ensures.follows c.self.invariant.1)
+
+pub returns-in-Accept-clause-runs : goal.returns-in-Accept-clause-runs
+returns-in-Accept-clause-runs c =
+    let P : CoreState → Type 0 = λ old. (run : List Moment) → LeadsTo run old → LeadsTo (moment_after (setup_of old) run c.args.event c.accept.result ∷ run) (shown c.accept.new.self) in
+    subst P c.self.view_is (leads_on (shown c.self.inside.state) (shown c.accept.new.self) c.args.event c.accept.result c.accept.ensures.setup (subst (λ e. Follows (shown c.self.inside.state) e c.accept.result (shown c.accept.new.self)) (sym c.in-Accept.is) c.accept.ensures.follows))
 
 pub returns-in-Begin-clause-runs : goal.returns-in-Begin-clause-runs
 returns-in-Begin-clause-runs c =

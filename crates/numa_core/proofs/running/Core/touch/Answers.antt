@@ -2,7 +2,7 @@ use Rattle.std.proofs.Common.{◌≡◌, ◌++◌, sym, ap, subst, ◌∙◌}
 use Rattle.numa_core.specs.Kept.{shown}
 use Rattle.numa_core.specs.World.{World}
 use Rattle.numa_core.specs.Runs.{IsLegalRun, world_of}
-use Rattle.numa_core.specs.Standing.{CoreStandsFor, setup_of}
+use Rattle.numa_core.specs.Standing.{CoreState, CoreStandsFor, HasRun, LeadsTo, setup_of}
 use Rattle.numa_core.specs.Touching.{Answered, IsTouch, touched, touch_answer, touch_world}
 use Rattle.numa_core.proofs.TouchLaw.{touch_law}
 use Rattle.numa_core.proofs.TouchRuns.{touches}
@@ -19,6 +19,24 @@ ends c world stands =
 
 pub returns-clause-answer : goal.returns-clause-answer
 returns-clause-answer c world stands = ends c world stands
+
+pub invariant_of-self : goal.invariant_of-self
+invariant_of-self c =
+    let had = subst HasRun c.self.view_is c.self.invariant.1 in
+    let old = setup_of c.args.self.now in
+    let new = shown c.touch.new.self in
+    let last = ends c (world_of old had.run) had.leads.stands in
+    let steps = touches old had.run c.args.worker c.args.request had.leads.legal in
+    let same = c.touch.ensures.setup ∙ ap setup_of c.self.view_is in (
+      c.touch.ensures.kept,
+      record {
+        run = steps.moments ++ had.run;
+        leads = record {
+          legal = subst (λ s. IsLegalRun s (steps.moments ++ had.run)) (sym same) steps.legal;
+          stands = subst (λ s. CoreStandsFor new (world_of s (steps.moments ++ had.run))) (sym same) (subst (λ w. CoreStandsFor new w) (sym steps.world) last.1);
+        };
+      },
+    )
 
 pub returns-clause-runs : goal.returns-clause-runs
 returns-clause-runs c run leads =
