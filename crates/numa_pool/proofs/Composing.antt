@@ -7,7 +7,7 @@ use Rattle.std.specs.Prelude.{slice_index, ◌==◌, ◌&&◌, ◌||◌}
 use native.Mathlib.Decide.{ℕ_discrete}
 use Rattle.std.proofs.Math.Seq.{drop-cons}
 use Rattle.std.proofs.lemmas.List.{take-append-drop, take_more}
-use Rattle.numa_core.specs.declared.frame.Frame.{Frame}
+use Rattle.numa_machine.specs.declared.frame.Frame.{Frame}
 use Rattle.numa_pool.specs.declared.view.Entry.{Entry}
 use Rattle.numa_pool.specs.declared.view.Entry.TheVariants.{Load, Won, Lost, Gave}
 use Rattle.numa_pool.specs.Frames.{is_frame, one_if}
@@ -154,7 +154,7 @@ new_in m [] (suc r) l h = absurd (omega arith)
 new_in m (n ∷ ns) (suc r) l h = (h 0 (omega arith), new_in m ns r (omega arith) (λ i k. h (suc i) (omega arith)))
 
 pub new_at : (ns : List ℕ) (r : ℕ) → r < length ns → IsDistinct ns → IsNew (slice_index ns r) (take r ns)
-new_at ns r l d = new_in (slice_index ns r) ns r (omega arith) (λ i k. d i r k l)
+new_at ns r l d = new_in (slice_index ns r) ns r (omega arith) (λ i k. d i r 0 k l)
 
 new_here : (done : List ℕ) (n : ℕ) (ns : List ℕ) → IsDistinct (done ++ n ∷ ns) → IsNew n done
 new_here done n ns distinct =

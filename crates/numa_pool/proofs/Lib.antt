@@ -5,3 +5,5 @@ pub mod Counting
 pub mod Composing
 pub mod Sparing
 pub mod Ruling
+pub mod Winning
+pub mod Closing

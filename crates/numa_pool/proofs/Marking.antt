@@ -7,7 +7,7 @@ use Rattle.std.proofs.lemmas.Nat.Bits.{bit_at-lt, bit_at-zero, bit_at_or, bit_at
 use native.Mathlib.Decide.{dec_le}
 use lib.ListN.{length-replicate}
 use mir.Syntax.{w64}
-use Rattle.numa_core.specs.declared.frame.Frame.{Frame}
+use Rattle.numa_machine.specs.declared.frame.Frame.{Frame}
 use Rattle.numa_pool.specs.Frames.{frame_of, is_frame, one_if, times, bit_in, without}
 use Rattle.numa_pool.specs.Rule.{Counted}
 use Rattle.numa_pool.specs.Seats.{Marks}

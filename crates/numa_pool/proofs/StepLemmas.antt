@@ -10,12 +10,12 @@ use native.Mathlib.Decide.{ℕ_discrete}
 use lib.ListN.{get_elem?}
 use mir.Syntax.{w64}
 use Rattle.atomic_table.specs.Table.{State, Me, step, keeps, Allows, Splits, Joins}
-use Rattle.numa_core.specs.declared.frame.Frame.{Frame}
+use Rattle.numa_machine.specs.declared.frame.Frame.{Frame}
 use Rattle.numa_pool.specs.declared.view.Entry.TheVariants.{Load}
 use Rattle.numa_pool.specs.declared.view.View.{View}
 use Rattle.numa_pool.specs.Frames.{frame_of, is_frame, one_if, times, bit_in, without}
 use Rattle.numa_pool.specs.Rule.{total, holdings, Counted}
-use Rattle.numa_pool.specs.Steps.{newcomer, logged, tried, gave, poured, frame_at, looked, attempted, returned}
+use Rattle.numa_pool.specs.Steps.{newcomer, logged, tried, gave, divided, poured, frame_at, looked, attempted, returned}
 
 -- the total after a change of one view
 pub total_set : (h : View → ℕ) (views : List View) (id : ℕ) (v w : View) → get_elem? views id ≡ some v → total h (set views id w) + h v ≡ total h views + h w
@@ -271,17 +271,17 @@ module _ {S : Type 0} (frames : List ℕ) (slots id : ℕ) (me : Me S View) (i :
       told_gave (slice_index s.words i),
     )
 
-pub splits : {S : Type 0} (frames : List ℕ) (id : ℕ) (v : View) → Splits {S = S} (λ s. Counted frames s.words s.views) id v v newcomer
+pub splits : {S : Type 0} (frames : List ℕ) (id : ℕ) (v : View) → Splits {S = S} (λ s. Counted frames s.words s.views) id v (divided v) newcomer
 splits frames id v s r at = record {
   wide = r.wide;
   exact = λ n k low.
-      let t = total_snoc (λ u. times n k u.held) (set s.views id v) newcomer in
-      let u = total_set (λ u. times n k u.held) s.views id v v at in
+      let t = total_snoc (λ u. times n k u.held) (set s.views id (divided v)) newcomer in
+      let u = total_set (λ u. times n k u.held) s.views id v (divided v) at in
       let b = r.exact n k low in
       omega arith;
   past = λ n k high.
-      let t = total_snoc (λ u. times n k u.held) (set s.views id v) newcomer in
-      let u = total_set (λ u. times n k u.held) s.views id v v at in
+      let t = total_snoc (λ u. times n k u.held) (set s.views id (divided v)) newcomer in
+      let u = total_set (λ u. times n k u.held) s.views id v (divided v) at in
       let b = r.past n k high in
       omega arith;
 }

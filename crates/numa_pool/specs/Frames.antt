@@ -2,7 +2,7 @@
 -- Each node has 64 words. Frame k of node n is bit k % 64 of word 64 * n + k / 64.
 use Rattle.std.specs.Prelude.{ℕ, zero, suc, ◌+◌, ◌*◌, ◌/◌, ◌%◌, ◌<◌, ◌==◌, ◌&&◌, Bool, cond, List, [], ◌∷◌, slice_index, Option, Some, None}
 use Rattle.std.specs.Int.{bit_at}
-use Rattle.numa_core.specs.declared.frame.Frame.{Frame}
+use Rattle.numa_machine.specs.declared.frame.Frame.{Frame}
 
 abbrev pub frame_of : ℕ → ℕ → Frame
 frame_of n k = record { node = n; number = k }
@@ -19,6 +19,11 @@ abbrev pub times : ℕ → ℕ → List Frame → ℕ
 times n k [] = 0
 times n k (f ∷ fs) = one_if (is_frame f n k) + times n k fs
 
+-- how many of these are frames of node n
+abbrev pub held_on : ℕ → List Frame → ℕ
+held_on n [] = 0
+held_on n (f ∷ fs) = one_if (f.node == n) + held_on n fs
+
 -- the frame is among these
 abbrev pub Holds : List Frame → Frame → Type 0
 Holds held f = 0 < times f.node f.number held
@@ -32,6 +37,11 @@ without n k (f ∷ fs) = cond (is_frame f n k) (without n k fs) (f ∷ without n
 abbrev pub gained : Option Frame → List Frame → List Frame
 gained None held = held
 gained (Some f) held = f ∷ held
+
+-- these and each frame that was found, one after the other
+abbrev pub gained_each : List (Option Frame) → List Frame → List Frame
+gained_each [] held = held
+gained_each (found ∷ more) held = gained_each more (gained found held)
 
 -- the bit of frame k of node n
 abbrev pub bit_in : List ℕ → ℕ → ℕ → ℕ

@@ -3,7 +3,7 @@ use Rattle.std.specs.Prelude.{◌≡◌, ℕ, ◌*◌, ◌<◌, ◌≤◌, min, 
 use mathlib.Core.Option.{some}
 use lib.ListN.{get_elem?}
 use Rattle.atomic_table.specs.Seated.{TableId}
-use Rattle.numa_core.specs.declared.frame.Frame.{Frame}
+use Rattle.numa_machine.specs.declared.frame.Frame.{Frame}
 use Rattle.numa_pool.specs.declared.view.Entry.{Entry}
 use Rattle.numa_pool.specs.declared.view.View.{View}
 use Rattle.numa_pool.specs.Frames.{times, bit_in, set_below}
@@ -14,11 +14,18 @@ pub record PoolsView : Type 0 where
   pub table : TableId
   pub frames : List ℕ
 
--- the pools that a seat belongs to, the frames that it holds, and its own steps, the newest first
+-- the pools that a seat belongs to, the frames that it holds, its own steps, the newest first,
+-- and how many steps it made that the log leaves out: splits and joins
 pub record SeatView : Type 0 where
   pub table : TableId
   pub held : List Frame
   pub log : List Entry
+  pub unlogged : ℕ
+
+-- which words a token steps on, and what its seat shows
+pub record TokenView : Type 0 where
+  pub table : TableId
+  pub view : View
 
 -- a table has 64 words for each node, and no slots
 pub record IsShaped (table : TableId) (frames : List ℕ) : Type 0 where

@@ -3,7 +3,7 @@ use Rattle.std.specs.Prelude.{◌≡◌, ℕ, ◌+◌, ◌*◌, ◌/◌, ◌%◌
 use Rattle.std.specs.Int.{bit_at, bit_not}
 use mir.Syntax.{w64}
 use Rattle.atomic_table.specs.Table.{Me, Step}
-use Rattle.numa_core.specs.declared.frame.Frame.{Frame}
+use Rattle.numa_machine.specs.declared.frame.Frame.{Frame}
 use Rattle.numa_pool.specs.declared.view.Entry.{Entry}
 use Rattle.numa_pool.specs.declared.view.Entry.TheVariants.{Load, Won, Lost, Gave}
 use Rattle.numa_pool.specs.declared.view.View.{View}
@@ -11,23 +11,27 @@ use Rattle.numa_pool.specs.Frames.{frame_of, times, without}
 
 -- a new seat holds nothing and has made no step
 abbrev pub newcomer : View
-newcomer = record { held = []; log = [] }
+newcomer = record { held = []; log = []; unlogged = 0 }
 
 abbrev pub logged : View → Entry → View
-logged v e = record { held = v.held; log = e ∷ v.log }
+logged v e = record v { log = e ∷ v.log }
 
 -- after a try of the frame, which was free or not
 abbrev pub tried : View → Frame → Bool → View
-tried v f true = record { held = f ∷ v.held; log = Won f ∷ v.log }
+tried v f true = record v { held = f ∷ v.held; log = Won f ∷ v.log }
 tried v f false = logged v (Lost f)
 
 -- after the frame was given up
 abbrev pub gave : View → Frame → View
-gave v f = record { held = without f.node f.number v.held; log = Gave f ∷ v.log }
+gave v f = record v { held = without f.node f.number v.held; log = Gave f ∷ v.log }
 
--- the first seat has the frames of both, and its log as it was
+-- after a split: one step more, which the log leaves out
+abbrev pub divided : View → View
+divided v = record v { unlogged = v.unlogged + 1 }
+
+-- after a join: the first seat has the frames of both, and one step more, which the log leaves out
 abbrev pub poured : View → View → View
-poured v w = record { held = v.held ++ w.held; log = v.log }
+poured v w = record v { held = v.held ++ w.held; unlogged = v.unlogged + 1 }
 
 -- the frame of a bit of a word
 abbrev pub frame_at : ℕ → ℕ → Frame

@@ -1,7 +1,7 @@
 -- Walks: what the steps of a search for a free frame show, the newest step first.
-use Rattle.std.specs.Prelude.{◌≡◌, ℕ, ◌+◌, ◌*◌, ◌/◌, ◌%◌, ◌<◌, ◌≤◌, ◌≢◌, length, ◌==◌, ◌&&◌, ◌||◌, ◌⊎◌, Bool, true, false, List, [], ◌∷◌, ◌++◌, slice_index, Option, Some, None, IsSome}
+use Rattle.std.specs.Prelude.{◌≡◌, ℕ, ◌+◌, ◌*◌, ◌/◌, ◌%◌, ◌<◌, ◌≤◌, ◌≢◌, ◌==◌, ◌&&◌, ◌||◌, ◌⊎◌, Bool, true, false, List, [], ◌∷◌, ◌++◌, AllPairs, slice_index, Option, Some, None, IsSome}
 use Rattle.std.specs.Int.{bit_at}
-use Rattle.numa_core.specs.declared.frame.Frame.{Frame}
+use Rattle.numa_machine.specs.declared.frame.Frame.{Frame}
 use Rattle.numa_pool.specs.declared.view.Entry.{Entry}
 use Rattle.numa_pool.specs.declared.view.Entry.TheVariants.{Load, Won, Lost, Gave}
 use Rattle.numa_pool.specs.Frames.{is_frame, one_if}
@@ -39,6 +39,14 @@ is_try (Gave f) n k = false
 abbrev pub tries_of : ℕ → ℕ → List Entry → ℕ
 tries_of n k [] = 0
 tries_of n k (e ∷ es) = one_if (is_try e n k) + tries_of n k es
+
+-- the frames that these steps won, the newest first
+abbrev pub won_in : List Entry → List Frame
+won_in [] = []
+won_in (Won f ∷ es) = f ∷ won_in es
+won_in (Load m v x ∷ es) = won_in es
+won_in (Lost f ∷ es) = won_in es
+won_in (Gave f ∷ es) = won_in es
 
 -- no word is loaded twice
 abbrev pub LoadsOnce : List Entry → Type 0
@@ -98,6 +106,15 @@ module _ (frames : List ℕ) where
       ⊎ ((first : List Entry) × (later : List Entry) × (es ≡ later ++ first)
       × IsWalk (n ∷ []) None first × LoadsOnce first × WalksInOrder ns found later)
 
+  -- walks one after the other, each of a list of nodes of its own and with what it found; none of them loads a word
+  -- twice
+  abbrev pub WalksEach : List (List ℕ) → List (Option Frame) → List Entry → Type 0
+  WalksEach [] [] es = es ≡ []
+  WalksEach [] (found ∷ more) es = ⊥
+  WalksEach (ns ∷ rows) [] es = ⊥
+  WalksEach (ns ∷ rows) (found ∷ more) es = (first : List Entry) × (later : List Entry) × (es ≡ later ++ first)
+      × IsWalk ns found first × LoadsOnce first × WalksEach rows more later
+
 -- no node stands twice
 abbrev pub IsDistinct : List ℕ → Type 0
-IsDistinct ns = (i j : ℕ) → i < j → j < length ns → slice_index ns i ≢ slice_index ns j
+IsDistinct ns = AllPairs (λ earlier later. earlier ≢ later) ns

@@ -6,10 +6,7 @@ ghost use Rattle.numa_pool.specs.Frames.{bit_in, set_below};
 ghost use Rattle.numa_pool.specs.Seats.{Closes, IsShaped, Marks};
 
 use crate::closed::Closed;
-use crate::rule::{Token, Words};
-use std::alloc::Global;
-
-type Rest = atomic_table::Closed<Option<()>, Global>;
+use crate::steps::{Rest, Token, Words, close};
 
 /// Whether the bit is set.
 fn is_set(word: u64, bit: usize) -> bool
@@ -91,12 +88,12 @@ fn count_all(rest: &Rest, frames: &[u32]) -> [u32; 256]
 
 /// Counts what is taken, and frees the words.
 pub(crate) fn counted(words: Words, token: Token, bits: &[u64], frames: &[u32]) -> Closed
-    requires shape { (token.table_id ≡ words.shared.table_id)
-        × (words.shared.key.items ≡ frames.now) × IsShaped words.shared.table_id frames.now }
-    requires marks { Marks words.shared.table_id.words bits.now token.me.0.held }
-    ensures { Closes frames.now token.me.0.held result.taken result.alone }
+    requires shape { (token.table ≡ words.table) × (words.frames ≡ frames.now)
+        × IsShaped words.table frames.now }
+    requires marks { Marks words.table.words bits.now token.view.held }
+    ensures { Closes frames.now token.view.held result.taken result.alone }
 {
-    let rest = words.close_with(token);
+    let rest = close(words, token);
     let taken = count_all(&rest, frames);
     let alone = is_alone(&rest, bits, frames);
     rest.free();

@@ -1,10 +1,11 @@
 //! Laws of the definitions that contracts cite.
-ghost use Rattle.std.specs.Prelude.{ℕ, ◌≤◌, List, slice_index, Option};
+ghost use Rattle.std.specs.Prelude.{◌≡◌, ℕ, ◌<◌, ◌≤◌, true, false, List, [], ◌∷◌, ◌++◌, length, slice_index, slice_get, Option, Some, None};
+ghost use Rattle.numa_pool.specs.Frames.{gained, gained_each};
 ghost use Rattle.numa_pool.specs.Rule.{PoolRule, Counted};
-ghost use Rattle.numa_pool.specs.Walk.{IsWalk, WalksInOrder, IsDistinct, LoadsOnce, TriesOnce};
+ghost use Rattle.numa_pool.specs.Walk.{met, won_in, IsWalk, WalksInOrder, WalksEach, IsDistinct, LoadsOnce, TriesOnce};
 ghost use Rattle.numa_pool.specs.declared.view.Entry.{Entry};
 ghost use Rattle.numa_pool.specs.declared.view.View.{View};
-ghost use Rattle.numa_core.specs.declared.frame.Frame.{Frame};
+ghost use Rattle.numa_machine.specs.declared.frame.Frame.{Frame};
 
 /// The counts that each step keeps say the rule of the pools: a bit is set exactly where one seat holds its frame, no
 /// two seats hold one frame, and the bits past a node's frames are clear.
@@ -26,4 +27,50 @@ pub fn walks_compose()
     ensures { (frames nodes : List ℕ) (found : Option Frame) (es : List Entry)
         → IsDistinct nodes → WalksInOrder frames nodes found es
         → IsWalk frames nodes found es × LoadsOnce es }
+{}
+
+/// A walk that found a frame won that one and no other, and a walk that found none won none.
+pub fn walk_wins_what_it_found()
+    ensures { (frames nodes : List ℕ) (found : Option Frame) (es : List Entry)
+        → IsWalk frames nodes found es → won_in es ≡ gained found [] }
+{}
+
+/// A walk that won a frame found each frame of each node before the frame's own taken, at one of its steps: a load that
+/// found the bit set, or a try that was lost. The frame itself is one of its node's, and was not found taken before.
+pub fn win_means()
+    ensures listed { (frames nodes : List ℕ) (frame : Frame) (es : List Entry)
+        → IsWalk frames nodes (Some frame) es
+        → (rank : ℕ) × (slice_get nodes rank ≡ Some frame.node)
+        × ((i k : ℕ) → i < rank → k < slice_index frames (slice_index nodes i)
+        → met es (slice_index nodes i) k ≡ true) }
+    ensures earlier { (frames nodes : List ℕ) (frame : Frame) (es : List Entry) (rank : ℕ)
+        → IsDistinct nodes → IsWalk frames nodes (Some frame) es
+        → slice_get nodes rank ≡ Some frame.node
+        → (i k : ℕ) → i < rank → k < slice_index frames (slice_index nodes i)
+        → met es (slice_index nodes i) k ≡ true }
+    ensures frame { (frames nodes : List ℕ) (frame : Frame) (es : List Entry)
+        → IsWalk frames nodes (Some frame) es
+        → (frame.number < slice_index frames frame.node) × (met es frame.node frame.number ≡ false) }
+{}
+
+/// A walk that won no frame found each frame of each listed node taken, at one of its steps.
+pub fn exhaustion_means()
+    ensures { (frames nodes : List ℕ) (es : List Entry) → IsWalk frames nodes None es
+        → (i k : ℕ) → i < length nodes → k < slice_index frames (slice_index nodes i)
+        → met es (slice_index nodes i) k ≡ true }
+{}
+
+/// Walks one after the other: one walk is such a row of walks, two such rows after each other are one, and what they won
+/// is what each of them found.
+pub fn walks_follow()
+    ensures one { (frames nodes : List ℕ) (found : Option Frame) (es : List Entry)
+        → IsWalk frames nodes found es → LoadsOnce es
+        → WalksEach frames (nodes ∷ []) (found ∷ []) es }
+    ensures more { (frames : List ℕ) (rows others : List (List ℕ)) (found more : List (Option Frame))
+        (es later : List Entry)
+        → WalksEach frames rows found es → WalksEach frames others more later
+        → WalksEach frames (rows ++ others) (found ++ more) (later ++ es) }
+    ensures won { (frames : List ℕ) (rows : List (List ℕ)) (found : List (Option Frame))
+        (es : List Entry) (held : List Frame)
+        → WalksEach frames rows found es → won_in es ++ held ≡ gained_each found held }
 {}

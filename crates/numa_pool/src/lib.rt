@@ -2,13 +2,12 @@
 //! setting its bit in one atomic step and gives it up by clearing it, and each thread works with a seat of its own.
 #![tactic(auto)]
 
+pub mod alone;
 mod close;
 pub mod closed;
 pub mod law;
 mod marks;
-pub mod no_memory;
 pub mod pools;
-mod rule;
 mod search;
 pub mod seat;
 mod steps;
@@ -17,6 +16,6 @@ mod tests;
 pub mod view;
 
 pub use closed::Closed;
-pub use no_memory::NoMemory;
+pub use numa_machine::no_memory::{self, NoMemory};
 pub use pools::Pools;
 pub use seat::PoolSeat;

@@ -2,7 +2,7 @@
 ghost use Rattle.std.specs.Prelude.{ℕ, ◌+◌, ◌-◌, ◌*◌, ◌/◌, ◌<◌, ◌≤◌, min, max, length, IsTrue, ◌↔◌, ◌≡◌, IfOk, slice_index};
 ghost use Rattle.numa_pool.specs.Frames.{bit_in, one_if, is_frame};
 
-use numa_core::Frame;
+use numa_machine::Frame;
 use std::alloc::{AllocError, Global};
 
 /// So many words, in which no bit is set.

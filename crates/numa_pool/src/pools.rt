@@ -1,5 +1,5 @@
 //! The pools of a machine's frames.
-ghost use Rattle.std.specs.Prelude.{◌≡◌, ℕ, ◌+◌, ◌*◌, ◌<◌, ◌≤◌, ◌∷◌, ◌++◌, [], List, length, slice_index, IfOk, IfSome, IsTrue, MatchOption, ◌↔◌};
+ghost use Rattle.std.specs.Prelude.{◌≡◌, ℕ, ◌+◌, ◌*◌, ◌<◌, ◌≤◌, ◌∷◌, ◌++◌, [], List, length, slice_index, IfOk, MatchResult, IfSome, IsTrue, MatchOption, ◌↔◌};
 ghost use Rattle.numa_pool.specs.Frames.{times, without, gained, Holds};
 ghost use Rattle.numa_pool.specs.Seats.{Closes};
 ghost use Rattle.numa_pool.specs.Walk.{IsWalk, LoadsOnce, TriesOnce};
@@ -9,14 +9,10 @@ ghost use Rattle.numa_pool.specs.declared.view.Entry.TheVariants.{Gave};
 use crate::close::counted;
 use crate::closed::Closed;
 use crate::marks::{add_marks, blank, mark, unmark};
-use crate::no_memory::NoMemory;
-use crate::rule::Words;
 use crate::search::take_frame;
 use crate::seat::PoolSeat;
-use crate::steps::{another, clear, pour};
-use atomic_table::Table;
-use numa_core::Frame;
-use numa_machine::Machine;
+use crate::steps::{Words, another, clear, opening, pour};
+use numa_machine::{Frame, Machine, NoMemory};
 use std::alloc::{AllocError, Global};
 use std::marker::Model;
 
@@ -35,9 +31,9 @@ impl Model for Pools {
 
     ghost Value = { PoolsView };
 
-    ghost view = { λ p. record { table = p.words.shared.table_id; frames = p.frames.items } };
+    ghost view = { λ p. p.words };
 
-    ghost invariant = { λ p. IsShaped p.words.shared.table_id p.frames.items × (p.words.shared.key ≡ p.frames) };
+    ghost invariant = { λ p. IsShaped p.words.table p.words.frames × (p.words.frames ≡ p.frames.items) };
 }
 
 /// How many frames each node has.
@@ -59,11 +55,11 @@ impl Pools {
     pub fn open(alloc: Global, machine: &Machine) -> Result<(Pools, PoolSeat), NoMemory>
         ensures frames { IfOk result (λ opened. opened.0.frames ≡ machine.now.frames) }
         ensures seat { IfOk result (λ opened. (opened.1.table ≡ opened.0.table)
-            × (opened.1.held ≡ []) × (opened.1.log ≡ [])) }
+            × (opened.1.held ≡ []) × (opened.1.log ≡ []) × (opened.1.unlogged ≡ 0)) }
     {
         let frames = frame_counts(alloc, machine)?;
         let bits = blank(alloc, 64 * frames.len())?;
-        let (words, token) = Table::vacant(alloc, bits.as_slice(), 0, &frames)?;
+        let (words, token) = opening(alloc, bits.as_slice(), &frames)?;
         let pools = Pools { words, frames };
         Ok((pools, PoolSeat { token, bits }))
     }
@@ -81,34 +77,39 @@ impl Pools {
     /// A new seat of these pools, which holds nothing, for another thread. `NoMemory` where there was no memory for it.
     pub fn split(&self, alloc: Global, seat: &mut PoolSeat) -> Result<PoolSeat, NoMemory>
         requires { seat.old.table ≡ self.now.table }
-        ensures same { seat.new ≡ seat.old }
+        ensures same { (seat.new.table ≡ seat.old.table) × (seat.new.held ≡ seat.old.held)
+            × (seat.new.log ≡ seat.old.log) }
+        ensures step { MatchResult result (λ _. seat.new.unlogged ≡ seat.old.unlogged + 1)
+            (λ _. seat.new.unlogged ≡ seat.old.unlogged) }
         ensures fresh { IfOk result (λ other. (other.table ≡ self.now.table) × (other.held ≡ [])
-            × (other.log ≡ [])) }
+            × (other.log ≡ []) × (other.unlogged ≡ 0)) }
     {
         let bits = blank(alloc, 64 * self.frames.len())?;
-        let token = another(&self.words.shared, &mut seat.token);
+        let token = another(&self.words, &mut seat.token);
         Ok(PoolSeat { token, bits })
     }
 
     /// The first seat gets the frames of the second, which is spent. Takes no memory.
     pub fn join(&self, seat: &mut PoolSeat, other: PoolSeat)
         requires { (seat.old.table ≡ self.now.table) × (other.table ≡ self.now.table) }
-        ensures { (seat.new.table ≡ seat.old.table)
+        ensures frames { (seat.new.table ≡ seat.old.table)
             × (seat.new.held ≡ seat.old.held ++ other.held) × (seat.new.log ≡ seat.old.log) }
+        ensures step { seat.new.unlogged ≡ seat.old.unlogged + 1 }
     {
         let PoolSeat { token, bits } = other;
-        pour(&self.words.shared, &mut seat.token, token);
+        pour(&self.words, &mut seat.token, token);
         add_marks(&mut seat.bits, bits.as_slice());
     }
 
     /// Takes a free frame of the node, the first that it finds. `None` only where each frame of the node was found
     /// taken at a step of this call, so also for a node without frames and for one that is not of the machine. Each
-    /// word of the node is loaded at most once, and each frame tried at most once. Takes no memory.
+    /// word of the node is loaded at most once, and each frame tried at most once; no other step is made. Takes no memory.
     pub fn take(&self, seat: &mut PoolSeat, node: u8) -> Option<Frame>
         requires { seat.old.table ≡ self.now.table }
         ensures same { seat.new.table ≡ seat.old.table }
         ensures walk { (es : List Entry) × (seat.new.log ≡ es ++ seat.old.log)
             × IsWalk self.now.frames (node ∷ []) result es × LoadsOnce es × TriesOnce es }
+        ensures no_other { seat.new.unlogged ≡ seat.old.unlogged }
         ensures held { seat.new.held ≡ gained result seat.old.held }
         ensures found { IfSome result (λ f. (f.node ≡ node)
             × (f.number < slice_index self.now.frames node)
@@ -118,7 +119,7 @@ impl Pools {
         if frames == 0 {
             return None;
         }
-        let Some(frame) = take_frame(&self.words.shared, &mut seat.token, node, frames) else {
+        let Some(frame) = take_frame(&self.words, &mut seat.token, node, frames) else {
             return None;
         };
         mark(&mut seat.bits, frame);
@@ -128,13 +129,14 @@ impl Pools {
     /// Gives up a frame that the seat holds, and no other. Takes no memory.
     pub fn give(&self, seat: &mut PoolSeat, frame: Frame)
         requires { (seat.old.table ≡ self.now.table) × Holds seat.old.held frame }
-        ensures { (seat.new.table ≡ seat.old.table)
+        ensures frame { (seat.new.table ≡ seat.old.table)
             × (seat.new.held ≡ without frame.node frame.number seat.old.held)
             × (seat.new.log ≡ Gave frame ∷ seat.old.log) }
+        ensures no_other { seat.new.unlogged ≡ seat.old.unlogged }
     {
         let number = frame.number as usize;
         clear(
-            &self.words.shared,
+            &self.words,
             &mut seat.token,
             frame.node as usize,
             number / 64,

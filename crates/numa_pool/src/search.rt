@@ -6,41 +6,40 @@ ghost use Rattle.numa_pool.specs.Walk.{IsWalk, LoadsOnce, TriesOnce};
 ghost use Rattle.numa_pool.specs.Search.{Reached, SearchedWord};
 ghost use Rattle.numa_pool.specs.declared.view.Entry.{Entry};
 
-use crate::rule::{Board, Token};
-use crate::steps::{attempt, look};
-use numa_core::Frame;
+use crate::steps::{Token, Words, attempt, look};
+use numa_machine::Frame;
 
 /// Takes a free frame of a word, of which the node has `limit` frames.
 fn take_word(
-    board: &Board,
-    seat: &mut Token,
+    words: &Words,
+    token: &mut Token,
     node: usize,
     word: usize,
     limit: usize,
 ) -> Option<usize>
-    requires shape { (seat.old.table_id ≡ board.now.table_id)
-        × IsShaped board.now.table_id board.now.key.items }
-    requires word { (node < length board.now.key.items) × (word < 64) × (0 < limit) × (limit ≤ 64)
-        × (64 * word + limit ≤ slice_index board.now.key.items node)
-        × ((64 * word + limit ≡ slice_index board.now.key.items node) ⊎ (limit ≡ 64)) }
-    ensures same { (seat.new.table_id ≡ seat.old.table_id) × (seat.new.id ≡ seat.old.id)
-        × (seat.new.me.1 ≡ seat.old.me.1) }
-    ensures held { MatchOption result (seat.new.me.0.held ≡ seat.old.me.0.held)
+    requires shape { (token.old.table ≡ words.now.table)
+        × IsShaped words.now.table words.now.frames }
+    requires word { (node < length words.now.frames) × (word < 64) × (0 < limit) × (limit ≤ 64)
+        × (64 * word + limit ≤ slice_index words.now.frames node)
+        × ((64 * word + limit ≡ slice_index words.now.frames node) ⊎ (limit ≡ 64)) }
+    ensures same { (token.new.table ≡ token.old.table)
+        × (token.new.view.unlogged ≡ token.old.view.unlogged) }
+    ensures held { MatchOption result (token.new.view.held ≡ token.old.view.held)
         (λ bit. (bit < limit)
-        × (seat.new.me.0.held ≡ frame_of node (64 * word + bit) ∷ seat.old.me.0.held)
-        × (times node (64 * word + bit) seat.old.me.0.held ≡ 0)) }
+        × (token.new.view.held ≡ frame_of node (64 * word + bit) ∷ token.old.view.held)
+        × (times node (64 * word + bit) token.old.view.held ≡ 0)) }
     ensures steps { (base : List Entry)
-        → Reached board.now.key.items node word base seat.old.me.0.log
-        → SearchedWord board.now.key.items node word result base seat.new.me.0.log }
+        → Reached words.now.frames node word base token.old.view.log
+        → SearchedWord words.now.frames node word result base token.new.view.log }
 {
     // The bits that were found set, by the load or by a lost try.
-    let mut taken = look(board, seat, node, word);
+    let mut taken = look(words, token, node, word);
     while taken != u64::MAX {
         let bit = taken.trailing_ones() as usize;
         if bit >= limit {
             return None;
         }
-        if attempt(board, seat, node, word, bit) {
+        if attempt(words, token, node, word, bit) {
             return Some(bit);
         }
         taken |= 1u64 << bit;
@@ -49,23 +48,22 @@ fn take_word(
 }
 
 /// Takes a free frame of the node.
-pub(crate) fn take_frame(board: &Board, seat: &mut Token, node: u8, frames: usize) -> Option<Frame>
-    requires shape { (seat.old.table_id ≡ board.now.table_id)
-        × IsShaped board.now.table_id board.now.key.items }
-    requires frames { (node < length board.now.key.items)
-        × (frames ≡ slice_index board.now.key.items node) }
-    ensures same { (seat.new.table_id ≡ seat.old.table_id) × (seat.new.id ≡ seat.old.id)
-        × (seat.new.me.1 ≡ seat.old.me.1) }
-    ensures held { seat.new.me.0.held ≡ gained result seat.old.me.0.held }
+pub(crate) fn take_frame(words: &Words, token: &mut Token, node: u8, frames: usize) -> Option<Frame>
+    requires shape { (token.old.table ≡ words.now.table)
+        × IsShaped words.now.table words.now.frames }
+    requires frames { (node < length words.now.frames)
+        × (frames ≡ slice_index words.now.frames node) }
+    ensures same { (token.new.table ≡ token.old.table)
+        × (token.new.view.unlogged ≡ token.old.view.unlogged) }
+    ensures held { token.new.view.held ≡ gained result token.old.view.held }
     ensures found { IfSome result (λ f. (f.node ≡ node) × (f.number < frames)
-        × (times f.node f.number seat.old.me.0.held ≡ 0)) }
-    ensures walk { (es : List Entry) × (seat.new.me.0.log ≡ es ++ seat.old.me.0.log)
-        × IsWalk board.now.key.items (node ∷ []) result es × LoadsOnce es × TriesOnce es }
+        × (times f.node f.number token.old.view.held ≡ 0)) }
+    ensures walk { (es : List Entry) × (token.new.view.log ≡ es ++ token.old.view.log)
+        × IsWalk words.now.frames (node ∷ []) result es × LoadsOnce es × TriesOnce es }
 {
-    let words = frames.div_ceil(64);
-    for word in 0..words {
+    for word in 0..frames.div_ceil(64) {
         let limit = (frames - 64 * word).min(64);
-        if let Some(bit) = take_word(board, seat, node as usize, word, limit) {
+        if let Some(bit) = take_word(words, token, node as usize, word, limit) {
             let number = (64 * word + bit) as u16;
             return Some(Frame { node, number });
         }

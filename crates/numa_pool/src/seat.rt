@@ -3,13 +3,14 @@ ghost use Rattle.std.specs.Prelude.{◌≡◌, ◌*◌, ◌+◌, ◌<◌, ◌≤
 ghost use Rattle.numa_pool.specs.Frames.{Holds};
 
 use crate::marks::is_marked;
-use crate::rule::Token;
-use numa_core::Frame;
+use crate::steps::Token;
+use numa_machine::Frame;
 use std::marker::Model;
 
 /// The frames that one thread holds of some pools, and the right to take more and to give them up. A contract sees the
-/// pools that the seat belongs to, the frames that it holds, and its own steps. At run time a seat is one bit for each
-/// frame that its nodes may have, 64 words for each node of the machine. A seat that is dropped keeps its frames taken.
+/// pools that the seat belongs to, the frames that it holds, and its own steps: a load, a try and a return stand in its
+/// log, and splits and joins are counted. At run time a seat is one bit for each frame that its nodes may have, 64
+/// words for each node of the machine. A seat that is dropped keeps its frames taken.
 #[derive(Drop)]
 pub struct PoolSeat {
     pub(crate) token: Token,
@@ -17,14 +18,13 @@ pub struct PoolSeat {
 }
 
 impl Model for PoolSeat {
-    ghost use Rattle.std.specs.Prelude.{◌≡◌, []};
     ghost use Rattle.numa_pool.specs.Seats.{SeatView, Marks};
 
     ghost Value = { SeatView };
 
-    ghost view = { λ s. record { table = s.token.table_id; held = s.token.me.0.held; log = s.token.me.0.log } };
+    ghost view = { λ s. record { table = s.token.table; held = s.token.view.held; log = s.token.view.log; unlogged = s.token.view.unlogged } };
 
-    ghost invariant = { λ s. (s.token.me.1 ≡ []) × Marks s.token.table_id.words s.bits.items s.token.me.0.held };
+    ghost invariant = { λ s. Marks s.token.table.words s.bits.items s.token.view.held };
 }
 
 impl PoolSeat {

@@ -1,67 +1,214 @@
-//! The steps on the frame words, one function for each kind.
-ghost use Rattle.std.specs.Prelude.{◌≡◌, ℕ, ◌+◌, ◌*◌, ◌<◌, ◌≤◌, [], false, true, length, slice_index};
-ghost use Rattle.numa_pool.specs.Frames.{frame_of, times};
-ghost use Rattle.numa_pool.specs.Steps.{logged, tried, gave, poured, newcomer};
-ghost use Rattle.numa_pool.specs.Seats.{IsShaped};
+//! The frame words of the pools, and every step on them.
+//!
+//! There are seven kinds of step and no other: the opening, a split and a join of seats (each a load), a load of a
+//! frame word, a fetch_or of one bit that finds it clear or finds it set, and a fetch_and of all bits but one.
+//!
+//! The words and the right to step on them lie in two types whose fields have no name outside this file. So the
+//! functions below are all that the rest of the crate, or a crate above it, can do to them. Each makes one atomic step
+//! and shows it: a load, a try and a return in the log of the seat, a split and a join in its count of the others.
+ghost use Rattle.std.specs.Prelude.{◌≡◌, ℕ, ◌+◌, ◌*◌, ◌<◌, ◌≤◌, [], true, length, slice_index, IfOk};
+ghost use Rattle.std.specs.Mem.Slots.{slots_items, slots_len, IsFull};
+ghost use Rattle.numa_pool.specs.Frames.{frame_of, times, bit_in};
+ghost use Rattle.numa_pool.specs.Seats.{IsShaped, IsLast};
+ghost use Rattle.numa_pool.specs.Steps.{newcomer, logged, tried, gave, divided, poured};
 ghost use Rattle.numa_pool.specs.declared.view.Entry.TheVariants.{Load};
 
-use crate::rule::{Attempt, Board, Fresh, Look, Pour, Return, Token};
+use crate::view::View;
+use atomic_table::{Join, Play, Seat, Split, Table, TableRule};
+use std::alloc::{AllocError, Global};
+use std::marker::Model;
+
+/// A bit is set exactly where one seat holds its frame, kept as counts.
+struct CountedRule;
+
+impl TableRule<Option<()>, View, Vec<u32>> for CountedRule {
+    ghost use Rattle.numa_pool.specs.Rule.{Counted};
+    ghost use Rattle.numa_pool.specs.Steps.{newcomer};
+
+    ghost holds = { λ frames s. Counted frames.items s.words s.views };
+
+    ghost first = { λ _. newcomer };
+}
+
+/// A load of a frame word.
+struct LoadWord;
+
+impl Play<Option<()>, View> for LoadWord {
+    ghost use Rattle.numa_pool.specs.Steps.{looked};
+
+    ghost then = { looked };
+}
+
+/// A fetch_or of one bit.
+struct SetBit;
+
+impl Play<Option<()>, View> for SetBit {
+    ghost use Rattle.numa_pool.specs.Steps.{attempted};
+
+    ghost then = { attempted };
+}
+
+/// A fetch_and of all bits but one.
+struct ClearBit;
+
+impl Play<Option<()>, View> for ClearBit {
+    ghost use Rattle.numa_pool.specs.Steps.{returned};
+
+    ghost then = { returned };
+}
+
+/// A new seat, which holds nothing.
+struct NewSeat;
+
+impl Split<View> for NewSeat {
+    ghost use Rattle.numa_pool.specs.Steps.{divided, newcomer};
+
+    ghost left = { divided };
+
+    ghost right = { λ _. newcomer };
+}
+
+/// The first seat gets the frames of the second.
+struct JoinSeats;
+
+impl Join<View> for JoinSeats {
+    ghost use Rattle.numa_pool.specs.Steps.{newcomer, poured};
+
+    ghost both = { poured };
+
+    ghost spent = { newcomer };
+}
+
+/// The frame words, with their memory.
+#[derive(Drop)]
+pub(crate) struct Words {
+    table: Table<Option<()>, View, Vec<u32>, CountedRule, Global>,
+}
+
+impl Model for Words {
+    ghost use Rattle.numa_pool.specs.Seats.{PoolsView, IsShaped};
+
+    ghost Value = { PoolsView };
+
+    ghost view = { λ w. record { table = w.table.shared.table_id; frames = w.table.shared.key.items } };
+
+    ghost invariant = { λ w. IsShaped w.table.shared.table_id w.table.shared.key.items };
+}
+
+/// The right to step on the words, of no bytes.
+#[derive(Drop)]
+pub(crate) struct Token {
+    seat: Seat<Option<()>, View>,
+}
+
+impl Model for Token {
+    ghost use Rattle.std.specs.Prelude.{◌≡◌, []};
+    ghost use Rattle.numa_pool.specs.Seats.{TokenView};
+
+    ghost Value = { TokenView };
+
+    ghost view = { λ t. record { table = t.seat.table_id; view = t.seat.me.0 } };
+
+    ghost invariant = { λ t. t.seat.me.1 ≡ [] };
+}
+
+/// The words once no thread can step on them any more.
+pub(crate) type Rest = atomic_table::Closed<Option<()>, Global>;
+
+/// The words with these bits, in which none is set, for nodes with so many frames each.
+pub(crate) fn opening(
+    alloc: Global,
+    bits: &[u64],
+    frames: &Vec<u32>,
+) -> Result<(Words, Token), AllocError>
+    requires nodes { (0 < length frames.now.items) × (length frames.now.items ≤ 256)
+        × ((n : ℕ) → slice_index frames.now.items n ≤ 4096) }
+    requires bits { (length bits.now ≡ 64 * length frames.now.items)
+        × ((i : ℕ) → slice_index bits.now i ≡ 0) }
+    ensures words { IfOk result (λ opened. (opened.0.frames ≡ frames.now.items)
+        × IsShaped opened.0.table opened.0.frames) }
+    ensures token { IfOk result (λ opened. (opened.1.table ≡ opened.0.table)
+        × (opened.1.view ≡ newcomer)) }
+{
+    let (table, seat) = Table::vacant(alloc, bits, 0, frames)?;
+    Ok((Words { table }, Token { seat }))
+}
 
 /// Loads a word of a node.
-pub(crate) fn look(board: &Board, seat: &mut Token, node: usize, word: usize) -> u64
-    requires shape { (seat.old.table_id ≡ board.now.table_id)
-        × IsShaped board.now.table_id board.now.key.items }
-    requires word { (node < length board.now.key.items) × (word < 64) }
-    ensures { (seat.new.table_id ≡ seat.old.table_id) × (seat.new.id ≡ seat.old.id)
-        × (seat.new.me ≡ (logged seat.old.me.0 (Load node word result), seat.old.me.1)) }
+pub(crate) fn look(words: &Words, token: &mut Token, node: usize, word: usize) -> u64
+    requires table { token.old.table ≡ words.now.table }
+    requires word { (node < length words.now.frames) × (word < 64) }
+    ensures { (token.new.table ≡ token.old.table)
+        × (token.new.view ≡ logged token.old.view (Load node word result)) }
 {
-    board.load::<Look>(seat, 64 * node + word)
+    let board = &words.table.shared;
+    board.load::<LoadWord>(&mut token.seat, 64 * node + word)
 }
 
 /// Sets the bit of a frame, and tells whether it was clear.
-pub(crate) fn attempt(board: &Board, seat: &mut Token, node: usize, word: usize, bit: usize) -> bool
-    requires shape { (seat.old.table_id ≡ board.now.table_id)
-        × IsShaped board.now.table_id board.now.key.items }
-    requires place { (node < length board.now.key.items) × (word < 64) × (bit < 64)
-        × (64 * word + bit < slice_index board.now.key.items node) }
-    ensures step { (seat.new.table_id ≡ seat.old.table_id) × (seat.new.id ≡ seat.old.id)
-        × (seat.new.me ≡ (tried seat.old.me.0 (frame_of node (64 * word + bit)) result, seat.old.me.1)) }
-    ensures free { result ≡ true → times node (64 * word + bit) seat.old.me.0.held ≡ 0 }
+pub(crate) fn attempt(
+    words: &Words,
+    token: &mut Token,
+    node: usize,
+    word: usize,
+    bit: usize,
+) -> bool
+    requires table { token.old.table ≡ words.now.table }
+    requires place { (node < length words.now.frames) × (word < 64) × (bit < 64)
+        × (64 * word + bit < slice_index words.now.frames node) }
+    ensures step { (token.new.table ≡ token.old.table)
+        × (token.new.view ≡ tried token.old.view (frame_of node (64 * word + bit)) result) }
+    ensures free { result ≡ true → times node (64 * word + bit) token.old.view.held ≡ 0 }
 {
-    let found = board.fetch_or::<Attempt>(seat, 64 * node + word, 1u64 << bit);
+    let board = &words.table.shared;
+    let found = board.fetch_or::<SetBit>(&mut token.seat, 64 * node + word, 1u64 << bit);
     (found >> bit) & 1 == 0
 }
 
 /// Clears the bit of a frame that the seat holds.
-pub(crate) fn clear(board: &Board, seat: &mut Token, node: usize, word: usize, bit: usize)
-    requires shape { (seat.old.table_id ≡ board.now.table_id)
-        × IsShaped board.now.table_id board.now.key.items }
-    requires place { (node < length board.now.key.items) × (word < 64) × (bit < 64) }
-    requires held { 0 < times node (64 * word + bit) seat.old.me.0.held }
-    ensures { (seat.new.table_id ≡ seat.old.table_id) × (seat.new.id ≡ seat.old.id)
-        × (seat.new.me ≡ (gave seat.old.me.0 (frame_of node (64 * word + bit)), seat.old.me.1)) }
+pub(crate) fn clear(words: &Words, token: &mut Token, node: usize, word: usize, bit: usize)
+    requires table { token.old.table ≡ words.now.table }
+    requires place { (node < length words.now.frames) × (word < 64) × (bit < 64) }
+    requires held { 0 < times node (64 * word + bit) token.old.view.held }
+    ensures { (token.new.table ≡ token.old.table)
+        × (token.new.view ≡ gave token.old.view (frame_of node (64 * word + bit))) }
 {
-    board.fetch_and::<Return>(seat, 64 * node + word, !(1u64 << bit));
+    let board = &words.table.shared;
+    board.fetch_and::<ClearBit>(&mut token.seat, 64 * node + word, !(1u64 << bit));
 }
 
 /// A new seat, which holds nothing.
-pub(crate) fn another(board: &Board, seat: &mut Token) -> Token
-    requires { (seat.old.table_id ≡ board.now.table_id)
-        × IsShaped board.now.table_id board.now.key.items }
-    ensures same { (seat.new.table_id ≡ seat.old.table_id) × (seat.new.id ≡ seat.old.id)
-        × (seat.new.me ≡ seat.old.me) }
-    ensures fresh { (result.table_id ≡ seat.old.table_id) × (result.me ≡ (newcomer, [])) }
+pub(crate) fn another(words: &Words, token: &mut Token) -> Token
+    requires { token.old.table ≡ words.now.table }
+    ensures same { (token.new.table ≡ token.old.table) × (token.new.view ≡ divided token.old.view) }
+    ensures fresh { (result.table ≡ token.old.table) × (result.view ≡ newcomer) }
 {
-    board.split_seat::<Fresh>(seat)
+    let board = &words.table.shared;
+    let seat = board.split_seat::<NewSeat>(&mut token.seat);
+    Token { seat }
 }
 
 /// The first seat gets the frames of the second.
-pub(crate) fn pour(board: &Board, seat: &mut Token, other: Token)
-    requires shape { (seat.old.table_id ≡ board.now.table_id)
-        × IsShaped board.now.table_id board.now.key.items }
-    requires other { (other.table_id ≡ board.now.table_id) × (other.me.1 ≡ []) }
-    ensures { (seat.new.table_id ≡ seat.old.table_id) × (seat.new.id ≡ seat.old.id)
-        × (seat.new.me ≡ (poured seat.old.me.0 other.me.0, seat.old.me.1)) }
+pub(crate) fn pour(words: &Words, token: &mut Token, other: Token)
+    requires { (token.old.table ≡ words.now.table) × (other.table ≡ words.now.table) }
+    ensures { (token.new.table ≡ token.old.table)
+        × (token.new.view ≡ poured token.old.view other.view) }
 {
-    board.join_seat::<Pour>(seat, other);
+    let Token { seat } = other;
+    let board = &words.table.shared;
+    board.join_seat::<JoinSeats>(&mut token.seat, seat);
+}
+
+/// The last words, with what is known of them by the rule.
+pub(crate) fn close(words: Words, token: Token) -> Rest
+    requires { token.table ≡ words.table }
+    ensures words { IsFull result.words × (slots_len result.words ≡ 64 * length words.frames)
+        × (slots_len result.slots ≡ 0) }
+    ensures last { IsLast words.frames token.view.held (slots_items result.words) }
+    ensures held { (n k : ℕ) → 0 < times n k token.view.held
+        → (k < slice_index words.frames n) × (bit_in (slots_items result.words) n k ≡ 1) }
+{
+    let Words { table } = words;
+    let Token { seat } = token;
+    table.close_with(seat)
 }

@@ -4,8 +4,7 @@ ghost use Rattle.std.specs.Thread.{IsSync};
 
 use crate::pools::Pools;
 use crate::seat::PoolSeat;
-use numa_core::Frame;
-use numa_machine::Machine;
+use numa_machine::{Frame, Machine};
 use numa_mask::{NodeId, NodeMask};
 use std::alloc::Global;
 use std::process::Abort;

@@ -1,5 +1,5 @@
 //! What a seat shows: the frames that it holds, and its own steps.
-use numa_core::Frame;
+use numa_machine::Frame;
 use std::collections::LinkedList;
 
 /// One step of a seat on a frame word.
@@ -14,8 +14,10 @@ pub enum Entry {
     Gave(Frame),
 }
 
-/// The frames that a seat holds, and its steps, the newest first. It stands in contracts alone: no value of it is made.
+/// The frames that a seat holds, its steps, the newest first, and how many steps it made that its log leaves out: splits
+/// and joins. It stands in contracts alone: no value of it is made.
 pub struct View {
     pub held: LinkedList<Frame>,
     pub log: LinkedList<Entry>,
+    pub unlogged: u64,
 }

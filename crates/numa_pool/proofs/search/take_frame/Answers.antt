@@ -1,6 +1,6 @@
 use Rattle.std.proofs.Common.{List, ◌≡◌, ◌∷◌, [], ◌∙◌, ◌+◌, ◌*◌, ap, subst, refl, arith}
 use Rattle.std.specs.Prelude.{Some, None}
-use Rattle.numa_core.specs.declared.frame.Frame.{Frame}
+use Rattle.numa_machine.specs.declared.frame.Frame.{Frame}
 use Rattle.numa_pool.specs.Frames.{frame_of, times}
 use Rattle.numa_pool.proofs.Searching.{ends}
 use Rattle.numa_pool.proofs.Sparing.{tries_once}
@@ -17,12 +17,12 @@ returns-in-Some-clause-found c =
 
 pub returns-in-Some-clause-walk : goal.returns-in-Some-clause-walk
 returns-in-Some-clause-walk c =
-    let w = c.in-Some.ensures.steps c.args.seat.now.me.0.log c.loop-word.invariant.steps in
+    let w = c.in-Some.ensures.steps c.args.token.now.view.log c.loop-word.invariant.steps in
     let found = Some (frame_of c.args.node (64 * c.loop-word.word + c.in-Some.bit)) in
-    (w.0, w.1, w.2, w.3, tries_once c.args.board.now.key.items (c.args.node ∷ []) found w.0 w.2)
+    (w.0, w.1, w.2, w.3, tries_once c.args.words.now.frames (c.args.node ∷ []) found w.0 w.2)
 
 pub returns-clause-walk : goal.returns-clause-walk
 returns-clause-walk c =
     let i = c.loop-word.invariant in
-    let w = ends c.args.board.now.key.items c.args.node c.loop-word.word c.args.seat.now.me.0.log c.loop-word.seat.me.0.log (omega arith) i.steps in
-    (w.0, w.1, w.2, w.3, tries_once c.args.board.now.key.items (c.args.node ∷ []) None w.0 w.2)
+    let w = ends c.args.words.now.frames c.args.node c.loop-word.word c.args.token.now.view.log c.loop-word.token.view.log (omega arith) i.steps in
+    (w.0, w.1, w.2, w.3, tries_once c.args.words.now.frames (c.args.node ∷ []) None w.0 w.2)

@@ -4,7 +4,7 @@ use Rattle.numa_pool.proofs.search.take_frame.Given as goal
 
 abbrev pub invariant-loop-word : goal.invariant-loop-word
 invariant-loop-word l = record {
-  seat : (l.seat.table_id ≡ l.fn.seat.table_id) × (l.seat.id ≡ l.fn.seat.id) × (l.seat.me.1 ≡ l.fn.seat.me.1);
-  held : l.seat.me.0.held ≡ l.fn.seat.me.0.held;
-  steps : Reached l.board.key.items l.node l.word l.fn.seat.me.0.log l.seat.me.0.log;
+  seat : (l.token.table ≡ l.fn.token.table) × (l.token.view.unlogged ≡ l.fn.token.view.unlogged);
+  held : l.token.view.held ≡ l.fn.token.view.held;
+  steps : Reached l.words.frames l.node l.word l.fn.token.view.log l.token.view.log;
 }

@@ -6,7 +6,7 @@ use Rattle.std.proofs.lemmas.Nat.Bits.{bit_at_set_same, bit_at_set_other, bit_at
 use native.Mathlib.Decide.{ℕ_discrete}
 use mir.Syntax.{w64}
 use Rattle.numa_pool.specs.declared.view.Entry.{Entry}
-use Rattle.numa_core.specs.declared.frame.Frame.{Frame}
+use Rattle.numa_machine.specs.declared.frame.Frame.{Frame}
 use Rattle.numa_pool.specs.Frames.{frame_of, times}
 use Rattle.numa_pool.specs.Steps.{tried}
 use Rattle.numa_pool.specs.Search.{Within, WonSince}
@@ -16,19 +16,19 @@ use Rattle.numa_pool.proofs.search.take_word.Goals as goal
 pub loop-taken-init : goal.loop-taken-init
 loop-taken-init c =
     let e = c.look-taken.ensures in
-    let now = ap (λ m. m.0.log) e.2 in
+    let now = ap (λ v. v.log) e.1 in
     record {
-      seat = (e.0, e.1, ap (λ m. m.1) e.2);
-      held = ap (λ m. m.0.held) e.2;
-      steps = λ base r. subst (λ (l : List Entry). Within c.args.board.now.key.items c.args.node c.args.word c.look-taken.result base l) (sym now)
-          (loads c.args.board.now.key.items c.args.node c.args.word base c.args.seat.now.me.0.log c.look-taken.result (omega arith) r);
+      seat = (e.0, ap (λ v. v.unlogged) e.1);
+      held = ap (λ v. v.held) e.1;
+      steps = λ base r. subst (λ (l : List Entry). Within c.args.words.now.frames c.args.node c.args.word c.look-taken.result base l) (sym now)
+          (loads c.args.words.now.frames c.args.node c.args.word base c.args.token.now.view.log c.look-taken.result (omega arith) r);
     }
 
 pub returns-then-bit-limit-clause-steps : goal.returns-then-bit-limit-clause-steps
 returns-then-bit-limit-clause-steps c base reached =
     let w = c.requires.word in
     let low = lowest_clear c.loop-taken.taken c.trailing_ones-bit.result (omega arith) c.loop-taken-test.true c.trailing_ones-bit.ensures in
-    done_word c.args.board.now.key.items c.args.node c.args.word base c.loop-taken.seat.me.0.log c.args.limit c.loop-taken.taken w.3 w.5
+    done_word c.args.words.now.frames c.args.node c.args.word base c.loop-taken.token.view.log c.args.limit c.loop-taken.taken w.3 w.5
     (λ j l. low.2 j (omega arith)) (c.loop-taken.invariant.steps base reached)
 
 pub returns-then-attempt-clause-held : goal.returns-then-attempt-clause-held
@@ -36,7 +36,7 @@ returns-then-attempt-clause-held c =
     let i = c.loop-taken.invariant in
     let bit = c.trailing_ones-bit.result in
     let f : Frame = frame_of c.args.node (64 * c.args.word + bit) in
-    let now : c.attempt.new.seat.me.0 ≡ tried c.loop-taken.seat.me.0 f true = ap (λ m. m.0) c.attempt.ensures.step.2 ∙ ap (tried c.loop-taken.seat.me.0 f) c.if-attempt.true in (
+    let now : c.attempt.new.token.view ≡ tried c.loop-taken.token.view f true = c.attempt.ensures.step.1 ∙ ap (tried c.loop-taken.token.view f) c.if-attempt.true in (
       omega arith,
       ap (λ v. v.held) now ∙ ap (λ fs. f ∷ fs) i.held,
       subst (λ (fs : List Frame). times c.args.node (64 * c.args.word + bit) fs ≡ 0) i.held (c.attempt.ensures.free c.if-attempt.true),
@@ -48,10 +48,10 @@ returns-then-attempt-clause-steps c base reached =
     let w = c.requires.word in
     let bit = c.trailing_ones-bit.result in
     let f : Frame = frame_of c.args.node (64 * c.args.word + bit) in
-    let now : c.attempt.new.seat.me.0 ≡ tried c.loop-taken.seat.me.0 f true = ap (λ m. m.0) c.attempt.ensures.step.2 ∙ ap (tried c.loop-taken.seat.me.0 f) c.if-attempt.true in
+    let now : c.attempt.new.token.view ≡ tried c.loop-taken.token.view f true = c.attempt.ensures.step.1 ∙ ap (tried c.loop-taken.token.view f) c.if-attempt.true in
     let low = lowest_clear c.loop-taken.taken bit (omega arith) c.loop-taken-test.true c.trailing_ones-bit.ensures in
-    subst (λ (l : List Entry). WonSince c.args.board.now.key.items c.args.node f base l) (sym (ap (λ v. v.log) now))
-    (gains c.args.board.now.key.items c.args.node c.args.word base c.loop-taken.seat.me.0.log bit c.loop-taken.taken low.0 low.1 (omega arith) (i.steps base reached))
+    subst (λ (l : List Entry). WonSince c.args.words.now.frames c.args.node f base l) (sym (ap (λ v. v.log) now))
+    (gains c.args.words.now.frames c.args.node c.args.word base c.loop-taken.token.view.log bit c.loop-taken.taken low.0 low.1 (omega arith) (i.steps base reached))
 
 pub loop-taken-preserved : goal.loop-taken-preserved
 loop-taken-preserved c =
@@ -59,15 +59,15 @@ loop-taken-preserved c =
     let bit = c.trailing_ones-bit.result in
     let e = c.attempt.ensures.step in
     let f : Frame = frame_of c.args.node (64 * c.args.word + bit) in
-    let now : c.attempt.new.seat.me.0 ≡ tried c.loop-taken.seat.me.0 f false = ap (λ m. m.0) e.2 ∙ ap (tried c.loop-taken.seat.me.0 f) c.if-attempt.false in
+    let now : c.attempt.new.token.view ≡ tried c.loop-taken.token.view f false = e.1 ∙ ap (tried c.loop-taken.token.view f) c.if-attempt.false in
     let low = lowest_clear c.loop-taken.taken bit (omega arith) c.loop-taken-test.true c.trailing_ones-bit.ensures in
     let w = c.requires.word in
     let more = bit_or c.loop-taken.taken (1 * 2 ^ bit % 2 ^ 64) in
     record {
-      seat = (e.0 ∙ i.seat.0, e.1 ∙ i.seat.1, ap (λ m. m.1) e.2 ∙ i.seat.2);
+      seat = (e.0 ∙ i.seat.0, ap (λ v. v.unlogged) now ∙ i.seat.1);
       held = ap (λ v. v.held) now ∙ i.held;
-      steps = λ base r. subst (λ (l : List Entry). Within c.args.board.now.key.items c.args.node c.args.word more base l) (sym (ap (λ v. v.log) now))
-          (misses c.args.board.now.key.items c.args.node c.args.word base c.loop-taken.seat.me.0.log bit c.loop-taken.taken low.0 low.1 (omega arith) (i.steps base r) more
+      steps = λ base r. subst (λ (l : List Entry). Within c.args.words.now.frames c.args.node c.args.word more base l) (sym (ap (λ v. v.log) now))
+          (misses c.args.words.now.frames c.args.node c.args.word base c.loop-taken.token.view.log bit c.loop-taken.taken low.0 low.1 (omega arith) (i.steps base r) more
           (bit_at_set_same w64 c.loop-taken.taken bit low.0) (λ j d. bit_at_set_other w64 c.loop-taken.taken bit low.0 j d));
     }
 
@@ -89,5 +89,5 @@ loop-taken-smaller c =
 pub returns-clause-steps : goal.returns-clause-steps
 returns-clause-steps c base reached =
     let w = c.requires.word in
-    done_word c.args.board.now.key.items c.args.node c.args.word base c.loop-taken.seat.me.0.log c.args.limit c.loop-taken.taken w.3 w.5
+    done_word c.args.words.now.frames c.args.node c.args.word base c.loop-taken.token.view.log c.args.limit c.loop-taken.taken w.3 w.5
     (λ j l. ap (λ x. bit_at x j) c.loop-taken-test.false ∙ bit_at_ones 64 j (omega arith)) (c.loop-taken.invariant.steps base reached)

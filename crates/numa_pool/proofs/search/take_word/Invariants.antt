@@ -7,9 +7,9 @@ use Rattle.numa_pool.proofs.search.take_word.Given as goal
 
 abbrev pub invariant-loop-taken : goal.invariant-loop-taken
 invariant-loop-taken l = record {
-  seat : (l.seat.table_id ≡ l.fn.seat.table_id) × (l.seat.id ≡ l.fn.seat.id) × (l.seat.me.1 ≡ l.fn.seat.me.1);
-  held : l.seat.me.0.held ≡ l.fn.seat.me.0.held;
-  steps : (base : List Entry) → Reached l.board.key.items l.node l.word base l.fn.seat.me.0.log → Within l.board.key.items l.node l.word l.taken base l.seat.me.0.log;
+  seat : (l.token.table ≡ l.fn.token.table) × (l.token.view.unlogged ≡ l.fn.token.view.unlogged);
+  held : l.token.view.held ≡ l.fn.token.view.held;
+  steps : (base : List Entry) → Reached l.words.frames l.node l.word base l.fn.token.view.log → Within l.words.frames l.node l.word l.taken base l.token.view.log;
 }
 
 abbrev pub decreases-loop-taken : goal.decreases-loop-taken

@@ -1,4 +1,4 @@
-use Rattle.std.proofs.Common.{ℕ, List, subst}
+use Rattle.std.proofs.Common.{ℕ, List, ◌∙◌, sym, subst}
 use Rattle.numa_pool.specs.Seats.{Closes, PoolsView, SeatView}
 use Rattle.numa_pool.proofs.pools.Pools.close.Goals as goal
 
@@ -6,6 +6,6 @@ pub returns : goal.returns
 returns c =
     let taken = c.counted.result.taken in
     let alone = c.counted.result.alone in
-    let inside = subst (λ (fs : List ℕ). Closes fs c.seat.inside.token.me.0.held taken alone) c.as_slice-2.ensures.value c.counted.ensures in
+    let inside = subst (λ (fs : List ℕ). Closes fs c.seat.inside.token.view.held taken alone) (c.as_slice-2.ensures.value ∙ sym c.self.invariant.1) c.counted.ensures in
     subst (λ (p : PoolsView). Closes p.frames c.args.seat.held taken alone) c.self.view_is
-    (subst (λ (s : SeatView). Closes c.self.inside.frames.items s.held taken alone) c.seat.view_is inside)
+    (subst (λ (s : SeatView). Closes c.self.inside.words.frames s.held taken alone) c.seat.view_is inside)

@@ -1,5 +1,5 @@
 use Rattle.std.proofs.Common.{ℕ, ◌≡◌, ◌∙◌, ◌+◌, ◌*◌, ◌/◌, ◌%◌, ap, sym, subst, arith, List}
-use Rattle.numa_core.specs.declared.frame.Frame.{Frame}
+use Rattle.numa_machine.specs.declared.frame.Frame.{Frame}
 use Rattle.numa_pool.specs.Frames.{without}
 use Rattle.numa_pool.specs.Seats.{Marks}
 use Rattle.numa_pool.proofs.Marking.{marks_without}
@@ -11,5 +11,6 @@ invariant_of-seat c =
     let i = c.seat.invariant in
     let f = c.args.frame in
     let same : 64 * (f.number / 64) + f.number % 64 ≡ f.number = omega arith in
-    let held = ap (λ m. m.0.held) e.2 ∙ ap (λ j. without f.node j c.seat.inside.token.me.0.held) same in
-    (ap (λ m. m.1) e.2 ∙ i.0, subst (λ (p : ℕ × List Frame). Marks p.0 c.unmark.new.bits.items p.1) (λ j. (sym (ap (λ t. t.words) e.0) j, sym held j)) (marks_without c.seat.inside.token.table_id.words c.seat.inside.bits.items c.unmark.new.bits.items c.seat.inside.token.me.0.held f (c.unmark.ensures.same_length ∙ i.1.words) c.unmark.ensures.bits i.1))
+    let held = ap (λ v. v.held) e.1 ∙ ap (λ j. without f.node j c.seat.inside.token.view.held) same in
+    subst (λ (p : ℕ × List Frame). Marks p.0 c.unmark.new.bits.items p.1) (λ j. (sym (ap (λ t. t.words) e.0) j, sym held j))
+    (marks_without c.seat.inside.token.table.words c.seat.inside.bits.items c.unmark.new.bits.items c.seat.inside.token.view.held f (c.unmark.ensures.same_length ∙ i.words) c.unmark.ensures.bits i)
