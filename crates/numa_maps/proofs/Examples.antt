@@ -1,7 +1,7 @@
 -- Worked examples: the lines that the definitions give.
 use Rattle.std.proofs.Common.{◌≡◌, ℕ, Option, None, List, [], ◌∷◌, codes, refl}
 use Rattle.std.specs.Fmt.{digits}
-use Rattle.numa_core.specs.declared.placement.Placement.{Placement}
+use Rattle.numa_space.specs.declared.placement.Placement.{Placement}
 use Rattle.numa_mask.specs.NodeSet.{members}
 use Rattle.numa_mode.specs.Policy.{PolicyRecord}
 use Rattle.numa_mode.specs.declared.modes.Mode.TheVariants.{Bind, Interleave, Local, Preferred, PreferredMany, WeightedInterleave}

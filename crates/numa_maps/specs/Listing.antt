@@ -3,7 +3,7 @@ use Rattle.std.specs.Prelude.{◌≡◌, ℕ, ◌*◌, ◌-◌, ◌==◌, Bool, 
 use Rattle.std.specs.Fmt.{digits}
 use Rattle.std.specs.List.{flat_map, range_with_len}
 use Rattle.numa_machine.specs.Machine.{Hardware}
-use Rattle.numa_core.specs.declared.placement.Placement.{Placement}
+use Rattle.numa_space.specs.declared.placement.Placement.{Placement}
 use Rattle.numa_mode.specs.Policy.{PolicyRecord, policy_text}
 use Rattle.numa_ranges.specs.Counts.{IsRange}
 use Rattle.numa_ranges.specs.Runs.{AreApart, in_pages}

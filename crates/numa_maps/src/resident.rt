@@ -4,8 +4,7 @@ ghost use Rattle.numa_maps.specs.Listing.{pages_on, placed_in};
 ghost use Rattle.numa_ranges.specs.Runs.{end_of};
 ghost use Rattle.numa_maps.specs.Residents.{placed_at, with_placement, without_page, IsRefusal, IsRising};
 
-use numa_core::Placement;
-use numa_space::{RangeRecord, Run};
+use numa_space::{Placement, RangeRecord, Run};
 use std::alloc::Global;
 use std::collections::BTreeMap;
 use std::collections::btree_map::Range;
@@ -20,7 +19,7 @@ pub struct Resident {
 
 impl Model for Resident {
     ghost use Rattle.std.specs.Prelude.{List, ℕ};
-    ghost use Rattle.numa_core.specs.declared.placement.Placement.{Placement};
+    ghost use Rattle.numa_space.specs.declared.placement.Placement.{Placement};
     ghost use Rattle.numa_maps.specs.Residents.{AreKept};
 
     ghost Value = { List (ℕ × Placement) };

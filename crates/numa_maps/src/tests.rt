@@ -1,11 +1,10 @@
 //! Worked listings, in the form of numa_maps (numa(7)), and readers and writers that fail. Mode words are those of
 //! set_mempolicy(2): 1 is PREFERRED, 2 BIND, 3 INTERLEAVE, 5 PREFERRED_MANY, 6 WEIGHTED_INTERLEAVE, 0x8000 STATIC_NODES.
 use super::*;
-use numa_core::{Frame, Placement};
-use numa_machine::Machine;
+use numa_machine::{Frame, Machine};
 use numa_mask::{NodeId, NodeMask};
 use numa_mode::PolicySpec;
-use numa_space::{Command, Limits, Space};
+use numa_space::{Command, Limits, Placement, Space};
 use std::alloc::{AllocError, Global};
 use std::io;
 use std::io::{Read, Write};

@@ -13,7 +13,7 @@ use Rattle.numa_ranges.specs.Maps.{any_page}
 use Rattle.numa_space.specs.declared.command.Command.TheVariants.{Map, Mbind}
 use Rattle.numa_core.specs.World.{World, opening, list_at}
 use Rattle.numa_core.specs.Touching.{touched}
-use Rattle.numa_core.specs.declared.placement.Placement.{Placement}
+use Rattle.numa_space.specs.declared.placement.Placement.{Placement}
 use Rattle.numa_maps.specs.Listing.{nodes_text as counts_text}
 use Rattle.numa_script.specs.Lines.{line_of, keyword_of, setting_keyword, command_keyword, question_keyword, work_keyword}
 use Rattle.numa_script.specs.Machines.{distances_of}

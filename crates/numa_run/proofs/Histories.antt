@@ -6,8 +6,8 @@ use Rattle.numa_space.specs.declared.refusal.Refusal.TheVariants.{NoMemory as No
 use Rattle.numa_core.specs.World.{Setup, World, newest_published, owner_of, hunt_of}
 use Rattle.numa_core.specs.Steps.{answer_of, effect_of, world_after, because, refusal_of, reply_of, refused_or, IsAnswer, IsOutOfMemory}
 use Rattle.numa_core.specs.Touching.{Answered, answered_with, next_frame, next_try, tried_on, touched}
-use Rattle.numa_core.specs.declared.frame.Frame.{Frame}
-use Rattle.numa_core.specs.declared.request.Request.{Request}
+use Rattle.numa_machine.specs.declared.frame.Frame.{Frame}
+use Rattle.numa_space.specs.declared.request.Request.{Request}
 use Rattle.numa_core.specs.declared.event.Event.{Event}
 use Rattle.numa_core.specs.declared.event.Event.TheVariants.{Accept, Publish, Begin, Look, Try, Give}
 use Rattle.numa_core.specs.declared.event.Reply.{Reply as CoreReply}
@@ -49,7 +49,7 @@ kept-unless_accepted s world version (Accept command) (Ok done) (inl is) other =
     by_refusal : (o : Option CoreRefusal) → Ok done ≡ refused_or o (reply_of s world version (Accept command)) → (world_after s world version (Accept command) (Ok done)).history ≡ world.history
     by_refusal None e = let odd : true ≡ false = ap is_accepted (sym e) ∙ other in cc
     by_refusal (Some cause) e = let odd : true ≡ false = ap is_ok e in cc
-kept-unless_accepted s world version (Accept command) (Ok done) (inr want) other = let odd : true ≡ false = ap is_ok want.1 in cc
+kept-unless_accepted s world version (Accept command) (Ok done) (inr want) other = let odd : true ≡ false = ap is_ok want.1.0 in cc
 
 -- a touch leaves them
 tried-kept : (s : Setup) (n w : ℕ) (so_far : Answered) → (tried_on s n w so_far).world.history ≡ so_far.world.history
@@ -83,7 +83,7 @@ touched-kept s world w request =
 pub answer-told : (s : Setup) (world : World) (event : Event) (answer : Result CoreReply CoreRefusal) → IsAnswer s world (newest_published world) event answer
     → (refused : Bool) × (answer ≡ event_answer refused s world event)
 answer-told s world event answer (inl is) = (false, is)
-answer-told s world (Accept command) answer (inr want) = (true, want.1 ∙ sym (ap (λ o. unless_wanting (Some (Because NoRoom)) (refused_or o (reply_of s world (newest_published world) (Accept command)))) want.0))
+answer-told s world (Accept command) answer (inr want) = (true, want.1.0 ∙ sym (ap (λ o. unless_wanting (Some (Because NoRoom)) (refused_or o (reply_of s world (newest_published world) (Accept command)))) want.0))
 answer-told s world Publish answer (inr want) = (true, want.1)
 answer-told s world (Begin w request) answer (inr want) = absurd want.1
 answer-told s world (Look w word) answer (inr want) = absurd want.1

@@ -11,8 +11,8 @@ use Rattle.numa_run.proofs.running.Running.answer.Goals as goal
 pub returns-in-Ranges : goal.returns-in-Ranges
 returns-in-Ranges g c =
     λ state stands.
-    let there = subst (λ s. StandsFor s state.world.history) (sym c.space.ensures) stands.world.space in
-    let count = c.ranges-ranges.ensures.meaning state.world.history there ∙ ap (λ (s : SpaceState). range_count_of s.machine state.world.history) c.space.ensures in
+    let there = subst (λ s. StandsFor s state.world.history) (sym c.space.ensures.space) stands.world.space in
+    let count = c.ranges-ranges.ensures.meaning state.world.history there ∙ ap (λ (s : SpaceState). range_count_of s.machine state.world.history) c.space.ensures.space in
     rw c.in-Ranges.is (false, stands, adds_same (g.W.Write.contents c.args.output.now.inner) (g.W.Write.contents c.say_count.new.output.inner) (has_failed c.args.output.now) (has_failed c.say_count.new.output) c.args.gathered.now c.say_count.new.gathered _ _ (ap (λ (n : ℕ). codes "ranges " ++ decimal n ++ codes "\n") count) c.say_count.ensures)
 
 pub returns-in-Place : goal.returns-in-Place

@@ -19,9 +19,9 @@ pub returns : goal.returns
 returns g c =
     λ state stands.
     let space : SpaceState = c.space-space.result.now in
-    let there : StandsFor space state.world.history = subst (λ s. StandsFor s state.world.history) (sym c.space-space.ensures) stands.world.space in
+    let there : StandsFor space state.world.history = subst (λ s. StandsFor s state.world.history) (sym c.space-space.ensures.space) stands.world.space in
     let text = listing-same space state.world.history c.args.task c.args.self.now.resident there c.range_iter.ensures.rising c.range_iter.ensures.maximal
-    ∙ ap (λ (s : SpaceState). listing_of s.machine state.world.history c.args.task c.args.self.now.resident) c.space-space.ensures
+    ∙ ap (λ (s : SpaceState). listing_of s.machine state.world.history c.args.task c.args.self.now.resident) c.space-space.ensures.space
     ∙ ap (λ kept. listing_of c.args.self.now.core.space.machine state.world.history c.args.task kept) stands.resident in
     adds_same (g.W.Write.contents c.args.output.now.inner) (g.W.Write.contents c.write_maps.new.output.inner) (has_failed c.args.output.now) (has_failed c.write_maps.new.output) c.args.gathered.now c.hand_over.new.self _ _ text
     (past_put (g.W.Write.contents c.args.output.now.inner) (g.W.Write.contents c.hand_over.new.output.inner) (g.W.Write.contents c.write_maps.new.output.inner)
