@@ -1,0 +1,34 @@
+//! What a plan answers, and with the argument `measure` how long its answers take.
+//!
+//! Without arguments checksums are printed, which are the same in each run. A figure of `measure` is a ratio: the best time
+//! of a call over the best time, in the same run, of the least that anything needs for it. Times alone say little about
+//! another machine.
+mod checks;
+mod plans;
+mod times;
+
+use std::alloc::Global;
+use std::io;
+use std::rt::Clock;
+
+/// Prints checksums of what two large plans answer.
+pub fn checksums(rt: &impl Print, alloc: Global) -> io::Result<()> {
+    let Ok(spread) = plans::spread(alloc) else {
+        return println!(rt; "no memory");
+    };
+    let Ok(whole) = plans::whole(alloc) else {
+        return println!(rt; "no memory");
+    };
+    checks::print(rt, &spread, &whole)
+}
+
+/// Prints how long the calls take.
+pub fn measure<R: Print + Clock>(rt: &R, alloc: Global) -> io::Result<()> {
+    let Ok(spread) = plans::spread(alloc) else {
+        return println!(rt; "no memory");
+    };
+    let Ok(whole) = plans::whole(alloc) else {
+        return println!(rt; "no memory");
+    };
+    times::print(rt, alloc, &spread, &whole)
+}

@@ -1,0 +1,111 @@
+//! The speed of the lane kernels: with the argument `measure`, how long each takes beside a plain form of the same work.
+//! Without it, checksums of what the kernels answer, which are the same in each run.
+mod checks;
+mod mixes;
+mod work;
+
+use crate::lanes::work::{Tools, Work, time_beside};
+use numa_lanes::Cycle;
+use numa_mask::{NodeId, NodeMask};
+use std::alloc::Global;
+use std::io;
+use std::rt::Clock;
+
+/// The sizes of the spans: 4 KiB, 1 MiB and 64 MiB.
+const SIZES: [usize; 3] = [4_096, 1_048_576, 67_108_864];
+
+/// The set of the first so many nodes.
+fn first_nodes(count: u16) -> NodeMask {
+    let mut set = NodeMask::empty();
+    for number in 0..=255u8 {
+        if u16::from(number) < count
+            && let Some(node) = NodeId::new(number)
+        {
+            set.insert(node);
+        }
+    }
+    set
+}
+
+/// Measures the fills and the count of one node over a span of each size.
+fn measure_spans<R: Print + Clock>(
+    rt: &R,
+    span: &mut [u8],
+    out: &mut [u8],
+    tools: &mut Tools,
+) -> io::Result<()> {
+    mixes::place(mixes::CYCLE, span);
+    for size in SIZES {
+        time_beside(rt, Work::FillOne, "seven in turn", size, span, out, tools)?;
+        time_beside(rt, Work::FillCycle, "seven in turn", size, span, out, tools)?;
+        time_beside(rt, Work::CountNode, "seven in turn", size, span, out, tools)?;
+    }
+    Ok(())
+}
+
+/// Measures the count of every node over a span of each mix and size.
+fn measure_mixes<R: Print + Clock>(
+    rt: &R,
+    span: &mut [u8],
+    out: &mut [u8],
+    tools: &mut Tools,
+) -> io::Result<()> {
+    for (mix, name) in mixes::ALL {
+        mixes::place(mix, span);
+        for size in [64, 1_024, 4_096, 1_048_576, 67_108_864] {
+            time_beside(rt, Work::CountAll, name, size, span, out, tools)?;
+        }
+    }
+    Ok(())
+}
+
+/// Measures the count in sets of 4, 64 and 256 nodes over a span of each size, of seven nodes in turn and of all at random.
+fn measure_sets<R: Print + Clock>(
+    rt: &R,
+    span: &mut [u8],
+    out: &mut [u8],
+    tools: &mut Tools,
+) -> io::Result<()> {
+    for (mix, name) in [
+        (mixes::CYCLE, "seven in turn"),
+        (mixes::RANDOM, "all at random"),
+    ] {
+        mixes::place(mix, span);
+        for count in [4, 64, 256] {
+            tools.set = first_nodes(count);
+            println!(rt; "a set of {count} nodes:")?;
+            for size in SIZES {
+                time_beside(rt, Work::CountIn, name, size, span, out, tools)?;
+            }
+        }
+    }
+    Ok(())
+}
+
+/// Prints checksums of what the kernels answer.
+pub fn checksums<R: Print + AllocGlobal>(rt: &R, alloc: Global) -> io::Result<()> {
+    let cycle = cycle_of_seven(alloc)?;
+    checks::print(rt, &cycle)
+}
+
+/// Prints how long each kernel takes beside a plain form of the same work.
+pub fn measure<R: Print + Clock>(rt: &R, alloc: Global) -> io::Result<()> {
+    let mut tools = Tools {
+        cycle: cycle_of_seven(alloc)?,
+        set: first_nodes(4),
+        counts: [0; 256],
+        answers: 0,
+    };
+    let mut span = vec![in alloc; 0u8; 67_108_864]?;
+    let mut out = vec![in alloc; 0u8; 67_108_864]?;
+    measure_spans(rt, &mut span, &mut out, &mut tools)?;
+    measure_mixes(rt, &mut span, &mut out, &mut tools)?;
+    measure_sets(rt, &mut span, &mut out, &mut tools)?;
+    let answers = tools.answers;
+    println!(rt; "sum of answers {answers}")
+}
+
+/// A cycle of seven nodes.
+fn cycle_of_seven(alloc: Global) -> io::Result<Cycle> {
+    Ok(Cycle::new(alloc, &[3, 1, 4, 0, 5, 2, 6])?)
+}

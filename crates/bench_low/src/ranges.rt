@@ -1,0 +1,179 @@
+//! Checksums of a large range map, and with the argument `measure` how long its calls take.
+//!
+//! A figure of `measure` is a ratio: the best time of a call over the best time, in the same run, of the least that
+//! any sorted vector needs for it. Times alone say little about another machine.
+ghost use Rattle.std.specs.Prelude.{◌<◌, ◌^◌};
+
+use crate::times::{nanos, print_ratio};
+use numa_ranges::RangeMap;
+use std::alloc::{AllocError, Global};
+use std::hint::black_box;
+use std::io;
+use std::rt::Clock;
+use std::time::Instant;
+
+/// How many ranges stand.
+const RANGES: u64 = 65_536;
+
+/// How many ranges may stand.
+const MAX_RANGES: u32 = 131_072;
+
+/// The page in the middle of the middle range.
+const MIDDLE: u64 = 131_073;
+
+/// How many pages a round looks up.
+const ROUND: u64 = 100_000;
+
+/// A row of the plain vectors, as large as a range with a value of 8 bytes.
+type Row = [u64; 4];
+
+/// A map of `RANGES` ranges of 3 pages, each with a hole of one page behind it.
+fn spread(alloc: Global) -> RangeMap<u64> {
+    let mut map = RangeMap::new(alloc, MAX_RANGES);
+    for i in 0..RANGES {
+        let _ = map.map_span(4 * i, 3, 4 * i, 1);
+    }
+    map
+}
+
+/// The same ranges as rows of a plain vector.
+fn rows_of(alloc: Global) -> Result<Vec<Row>, AllocError> {
+    let mut rows = Vec::new(alloc);
+    for i in 0..RANGES {
+        rows.push([4 * i, 3, 4 * i, 1])?;
+    }
+    Ok(rows)
+}
+
+/// A number that nearly any other list of ranges would change.
+fn checksum(map: &RangeMap<u64>) -> u64 {
+    let mut sum = 0u64;
+    for range in map.iter() {
+        for word in [range.first, range.pages, range.index, range.value] {
+            sum = sum
+                .wrapping_mul(6_364_136_223_846_793_005)
+                .wrapping_add(word);
+        }
+    }
+    sum
+}
+
+fn tell(rt: &impl Print, what: &str, map: &RangeMap<u64>) -> io::Result<()> {
+    let ranges = map.len();
+    let sum = checksum(map);
+    println!(rt; "{what}: {ranges} ranges, checksum {sum}")
+}
+
+/// Runs each call once on the large map and prints what it left.
+fn print_checksums(rt: &impl Print, map: &mut RangeMap<u64>) -> io::Result<()> {
+    tell(rt, "spread", map)?;
+    let _ = map.set_span(MIDDLE, 1, 2);
+    tell(rt, "one page set apart", map)?;
+    let _ = map.set_span(MIDDLE, 1, 1);
+    tell(rt, "and joined back", map)?;
+    let _ = map.update_span(100_000, 60_000, |value| *value / 2);
+    tell(rt, "a span updated", map)?;
+    let _ = map.unmap_span(50_001, 100_001);
+    tell(rt, "a span unmapped", map)?;
+    let _ = map.map_span(50_001, 100_001, 50_001, 1);
+    tell(rt, "and mapped again", map)?;
+    map.update_all(|value| *value / 2);
+    tell(rt, "all made equal", map)
+}
+
+/// The page that look-up `i` of a round asks for: the pages jump over the whole map.
+fn page_of(i: u64) -> u64
+    requires { i < 2 ^ 20 }
+{
+    i * 40_503 % (4 * RANGES)
+}
+
+/// The best time of a split of the middle range and the join that undoes it.
+fn time_edits<R: Clock>(rt: &R, map: &mut RangeMap<u64>) -> io::Result<u64> {
+    let mut best = u64::MAX;
+    for _ in 0..400 {
+        let start = Instant::now(rt)?;
+        let _ = black_box(map.set_span(MIDDLE, 1, 2));
+        let _ = black_box(map.set_span(MIDDLE, 1, 1));
+        best = best.min(nanos(start.elapsed(rt)?));
+    }
+    Ok(best)
+}
+
+/// The best time of moving half of a vector one row up and down again.
+fn time_moves<R: Clock>(rt: &R, rows: &mut Vec<Row>) -> io::Result<u64> {
+    let mut best = u64::MAX;
+    for _ in 0..400 {
+        let middle = rows.len() / 2;
+        let start = Instant::now(rt)?;
+        if black_box(rows.insert(middle, [0; 4])).is_ok() {
+            black_box(rows.remove(middle));
+        }
+        best = best.min(nanos(start.elapsed(rt)?));
+    }
+    Ok(best)
+}
+
+/// The best time of a round of `at`, and the sum of what all rounds found, so that no round is left out.
+fn time_at<R: Clock>(rt: &R, map: &RangeMap<u64>) -> io::Result<(u64, u64)> {
+    let mut best = u64::MAX;
+    let mut sum = 0u64;
+    for _ in 0..40 {
+        let start = Instant::now(rt)?;
+        for i in 0..ROUND {
+            if let Some((index, value)) = map.at(black_box(page_of(i))) {
+                sum = sum.wrapping_add(index).wrapping_add(value);
+            }
+        }
+        best = best.min(nanos(start.elapsed(rt)?));
+    }
+    Ok((best, sum))
+}
+
+/// The same of std's partition point over rows as large.
+fn time_partition_point<R: Clock>(rt: &R, rows: &[Row]) -> io::Result<(u64, u64)> {
+    let mut best = u64::MAX;
+    let mut sum = 0u64;
+    for _ in 0..40 {
+        let start = Instant::now(rt)?;
+        for i in 0..ROUND {
+            let page = black_box(page_of(i));
+            let place = rows.partition_point(|row| row[0] <= page);
+            sum = sum.wrapping_add(place as u64);
+        }
+        best = best.min(nanos(start.elapsed(rt)?));
+    }
+    Ok((best, sum))
+}
+
+fn measure_calls<R: Clock + Print>(
+    rt: &R,
+    map: &mut RangeMap<u64>,
+    rows: &mut Vec<Row>,
+) -> io::Result<()> {
+    let edits = time_edits(rt, map)?;
+    let moves = time_moves(rt, rows)?;
+    print_ratio(
+        rt,
+        "set_span of a middle page, split and joined back, over two moves of half the vector",
+        edits,
+        moves,
+    )?;
+    let (looks, found) = time_at(rt, map)?;
+    let (points, counted) = time_partition_point(rt, rows)?;
+    print_ratio(rt, "at over partition_point", looks, points)?;
+    println!(rt; "sums {found} {counted}")
+}
+
+/// Prints checksums of what the calls leave.
+pub fn checksums(rt: &impl Print, alloc: Global) -> io::Result<()> {
+    let mut map = spread(alloc);
+    print_checksums(rt, &mut map)
+}
+
+/// Prints how long the calls take beside the least that a sorted vector needs.
+pub fn measure<R: Print + Clock>(rt: &R, alloc: Global) -> io::Result<()> {
+    let mut map = spread(alloc);
+    let mut rows = rows_of(alloc)?;
+    measure_calls(rt, &mut map, &mut rows)
+}
