@@ -1,0 +1,54 @@
+-- Beginnings of a log, and what a history extends.
+use Rattle.std.proofs.Common.{◌≡◌, ◌≤◌, List, [], ◌∷◌, ◌++◌, length, refl, ap, sym, ◌∙◌, arith, append_assoc, length-append}
+use Rattle.std.proofs.lemmas.List.{append-nil}
+use mathlib.Core.List.{IsPrefix}
+use Rattle.numa_space.specs.declared.command.Command.{Command}
+use Rattle.numa_publish.specs.Batches.{history_of, Extends}
+
+pub prefix_self : {A : Type 0} (xs : List A) → IsPrefix xs xs
+prefix_self xs = ([], append-nil xs)
+
+pub prefix_trans : {A : Type 0} (xs ys zs : List A) → IsPrefix xs ys → IsPrefix ys zs → IsPrefix xs zs
+prefix_trans xs ys zs p q = (p.0 ++ q.0, sym (append_assoc xs p.0 q.0) ∙ (ap (λ w. w ++ q.0) p.1 ∙ q.1))
+
+pub extends_self : {A : Type 0} (xs : List A) → Extends xs xs
+extends_self xs = ([], refl)
+
+pub extends_trans : {A : Type 0} (xs ys zs : List A) → Extends xs ys → Extends ys zs → Extends xs zs
+extends_trans xs ys zs p q = (q.0 ++ p.0, q.1 ∙ (ap (λ w. q.0 ++ w) p.1 ∙ sym (append_assoc q.0 p.0 xs)))
+
+no_length : {A : Type 0} (xs : List A) → length xs ≤ 0 → xs ≡ []
+no_length [] le = refl
+no_length (x ∷ xs) le = absurd (omega arith)
+
+-- of two ends of one list the longer extends the shorter
+pub extends_shorter : {A : Type 0} (a b xs ys : List A) → a ++ xs ≡ b ++ ys → length xs ≤ length ys → Extends xs ys
+extends_shorter [] b xs ys e le =
+    let n : length b ≤ 0 = omega (arith, ap (λ w. length w) e, length-append b ys) in
+    ([], sym (e ∙ ap (λ w. w ++ ys) (no_length b n)))
+extends_shorter (x ∷ a) [] xs ys e le = (x ∷ a, sym e)
+extends_shorter (x ∷ a) (y ∷ b) xs ys e le = extends_shorter a b xs ys (cc (e)) le
+
+pub history-append : (xs ys : List (List Command)) → history_of (xs ++ ys) ≡ history_of ys ++ history_of xs
+history-append [] ys = sym (append-nil (history_of ys))
+history-append (x ∷ xs) ys = ap (λ w. w ++ x) (history-append xs ys) ∙ append_assoc (history_of ys) (history_of xs) x
+
+pub history-snoc : (xs : List (List Command)) (b : List Command) → history_of (xs ++ b ∷ []) ≡ b ++ history_of xs
+history-snoc xs b = history-append xs (b ∷ [])
+
+pub prefix_extends : (xs ys : List (List Command)) → IsPrefix xs ys → Extends (history_of xs) (history_of ys)
+prefix_extends xs ys p = (history_of p.0, sym (ap history_of p.1) ∙ history-append xs p.0)
+
+-- of two beginnings of one log the one with more commands extends the other
+pub history_shorter : (xs ys both : List (List Command)) → IsPrefix xs both → IsPrefix ys both → length (history_of xs) ≤ length (history_of ys) → Extends (history_of xs) (history_of ys)
+history_shorter xs ys both p q le =
+    let a = prefix_extends xs both p in
+    let b = prefix_extends ys both q in
+    extends_shorter a.0 b.0 (history_of xs) (history_of ys) (sym a.1 ∙ b.1) le
+
+-- a beginning with as many commands as the whole has the whole's history
+pub history_whole : (xs ys : List (List Command)) → IsPrefix xs ys → length (history_of ys) ≤ length (history_of xs) → history_of ys ≡ history_of xs
+history_whole xs ys p le =
+    let a = prefix_extends xs ys p in
+    let n : length a.0 ≤ 0 = omega (arith, ap (λ w. length w) a.1, length-append a.0 (history_of xs)) in
+    a.1 ∙ ap (λ w. w ++ history_of xs) (no_length a.0 n)

@@ -1,0 +1,35 @@
+-- What holds of every desk, reader and view.
+use Rattle.std.specs.Prelude.{ℕ, ◌≡◌, ◌≤◌, true, List, ◌++◌, length, reverse}
+use mathlib.Core.List.{IsPrefix}
+use Rattle.logbook.specs.Pages.{Book}
+use Rattle.numa_space.specs.declared.command.Command.{Command}
+use Rattle.numa_space.specs.Standing.{SpaceState, StandsFor}
+use Rattle.numa_publish.specs.declared.issue.Issue.{Issue}
+use Rattle.numa_publish.specs.declared.rule.Knows.{Knows}
+use Rattle.numa_publish.specs.Batches.{history_of, not_logged}
+
+-- a desk with this space, which shows this issue: `commands` are pending, the oldest first, and the
+-- log of this book has the first `logged` of them
+pub record IsDeskKept (space : SpaceState) (issue : Issue) (log : List (List Command)) (book : Book)
+    (commands : List Command) (logged : ℕ) : Type 0 where
+  pub stands : StandsFor space (reverse commands ++ history_of issue.front.log)
+  pub machine_is : issue.machine ≡ space.machine
+  pub book_is : issue.front.book ≡ book
+  pub begins : IsPrefix issue.front.log log
+  pub accepted :
+      not_logged commands logged ++ history_of log ≡ reverse commands ++ history_of issue.front.log
+  pub room : logged ≤ length commands
+
+-- a reader that has seen this beginning of the log of this book, and knows so much
+pub record IsReaderKept (version : ℕ) (log : List (List Command)) (book : Book)
+    (known : Knows) : Type 0 where
+  pub version_is : version ≡ length (history_of log)
+  pub named : known.named ≡ true
+  pub book_is : known.front.book ≡ book
+
+-- a view, by such a reader, of this issue
+pub record IsViewKept (version : ℕ) (log : List (List Command)) (book : Book) (known : Knows)
+    (issue : Issue) : Type 0 where
+  pub reader : IsReaderKept version log book known
+  pub log_is : log ≡ issue.front.log
+  pub machine_is : known.machine ≡ issue.machine

@@ -1,0 +1,74 @@
+-- What each thread knows was published, and the rule that is kept.
+use Rattle.std.specs.Prelude.{ℕ, ◌≡◌, true, false, List, []}
+use mathlib.Core.Option.{some}
+use mathlib.Core.List.{IsPrefix}
+use lib.ListN.{get_elem?}
+use Rattle.std.specs.Arc.{arc_value}
+use Rattle.logbook.specs.Pages.{Book}
+use Rattle.numa_publish.specs.declared.issue.Issue.{Issue}
+use Rattle.numa_publish.specs.declared.issue.Shown.{Shown}
+use Rattle.numa_publish.specs.declared.rule.Knows.{Knows}
+use Rattle.numa_publish.specs.Batches.{Extends}
+use Rattle.numa_publish.specs.Ghosts.{no_machine}
+use Rattle.numa_publish.specs.Shown.{DeskIdentity}
+
+-- stands for the log where none is known yet
+abbrev pub no_book : Book
+no_book = record { number = 0; log_name = 0; cells_name = 0 }
+
+-- what a new seat knows
+abbrev pub newcomer : Knows
+newcomer = record {
+  named = false;
+  machine = no_machine;
+  front = record { marker = record {}; book = no_book; names = []; log = [] };
+  versions = [];
+}
+
+-- all that an issue tells
+abbrev pub told_by : Issue → Knows
+told_by issue = record {
+  named = true;
+  machine = issue.machine;
+  front = issue.front;
+  versions = issue.versions;
+}
+
+-- all that the shown issue tells
+abbrev pub told : Shown → Knows
+told shown = told_by (arc_value shown.issue)
+
+-- the desk of which a thread knows
+abbrev pub desk_of : Knows → DeskIdentity
+desk_of known = record { book = known.front.book; machine = known.machine }
+
+-- the first is what a thread may have known before the second was shown: a beginning of the log, an
+-- earlier list of versions, and the same desk once it is named
+pub record IsEarlier (before after : Knows) : Type 0 where
+  pub log : IsPrefix before.front.log after.front.log
+  pub versions : Extends before.versions after.versions
+  pub desk : before.named ≡ true → desk_of before ≡ desk_of after
+
+-- the rule: what each seat knows was published before what is shown now
+abbrev pub KnowsThePast : Shown → List Knows → Type 0
+KnowsThePast shown seats =
+    (seat : ℕ) (known : Knows) → get_elem? seats seat ≡ some known → IsEarlier known (told shown)
+
+-- what a look or a publishing tells its thread: all of what is shown then, which comes after what
+-- the thread knew
+abbrev pub Sees : Knows → Shown → Shown → Knows → Type 0
+Sees known before shown after = IsEarlier known (told shown) × (after ≡ told shown)
+
+-- a reader takes in which desk it is of, by a note of the writer, and nothing of what was published
+abbrev pub introduced : Knows → Knows → Knows
+introduced known note = record {
+  named = note.named;
+  machine = note.machine;
+  front = record {
+    marker = note.front.marker;
+    book = note.front.book;
+    names = note.front.names;
+    log = [];
+  };
+  versions = [];
+}

@@ -1,0 +1,8 @@
+pub mod Ghosts
+pub mod Batches
+pub mod LogRule
+pub mod Knowing
+pub mod Shown
+pub mod Kept
+pub mod Spans
+pub mod Submits

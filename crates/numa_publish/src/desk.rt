@@ -1,0 +1,253 @@
+//! The desk, which accepts commands and publishes plans.
+ghost use Rattle.std.specs.Prelude.{◌≡◌, ◌+◌, ◌≤◌, ◌∷◌, ◌++◌, [], length, reverse, slice_index, None, IfOk, IfErr, OnOk, OnErr};
+ghost use Rattle.std.specs.Arc.{arc_value};
+ghost use Rattle.left_right.specs.Sides.{view as place_view};
+ghost use Rattle.numa_space.specs.Refusals.{refusal_of};
+ghost use Rattle.numa_space.specs.Standing.{StandsFor};
+ghost use Rattle.numa_publish.specs.Shown.{Refuses, accepted, new_reader, versions_after};
+ghost use Rattle.numa_publish.specs.Submits.{LeavesAfter};
+
+use crate::issue::Issue;
+use crate::log::{Log, Pending};
+use crate::publishing::{first_issue, next_issue, opened, show_at};
+use crate::reader::PlanReader;
+use crate::receipt::Receipt;
+use crate::rule::{Introduces, ShownWriter};
+use crate::shared::SubmitRefusal;
+use numa_machine::{Machine, NoMemory};
+use numa_space::{Command, Limits, Refusal, Space};
+use std::alloc::Global;
+use std::marker::Model;
+use std::sync::Wait;
+
+/// Accepts commands and publishes plans of all that was accepted, for 1 to 64 readers at once. A
+/// version is a number of accepted commands; version 0 is published from the start. A desk can't be
+/// dropped: `end` it.
+///
+/// Clauses see which desk it is and its machine, its limits, the published history, the versions
+/// published so far and the pending commands, which are accepted and not published; each list has
+/// its newest in front. The accepted history is the pending commands in front of the published
+/// history.
+pub struct Desk {
+    alloc: Global,
+    writer: ShownWriter,
+    log: Log,
+    pending: Pending,
+    space: Space,
+}
+
+impl Model for Desk {
+    ghost use Rattle.std.specs.Prelude.{◌≡◌, reverse};
+    ghost use Rattle.std.specs.Arc.{arc_value};
+    ghost use Rattle.left_right.specs.Sides.{view as place_view};
+    ghost use Rattle.numa_publish.specs.Batches.{history_of};
+    ghost use Rattle.numa_publish.specs.Kept.{IsDeskKept};
+    ghost use Rattle.numa_publish.specs.Knowing.{told_by};
+    ghost use Rattle.numa_publish.specs.Shown.{DeskState};
+
+    ghost Value = { DeskState };
+
+    ghost view = { λ d. record {
+      desk = record { book = d.log.seen.book; machine = d.space.machine };
+      bounds = d.space.bounds;
+      published = history_of (arc_value d.writer.desk.shown.value.issue).front.log;
+      versions = (arc_value d.writer.desk.shown.value.issue).versions;
+      pending = reverse d.pending.commands.items;
+    } };
+
+    ghost invariant = { λ d.
+        IsDeskKept d.space (arc_value d.writer.desk.shown.value.issue)
+        d.log.seen.log d.log.seen.book d.pending.commands.items d.pending.logged
+        × (place_view d.writer.desk.place ≡ told_by (arc_value d.writer.desk.shown.value.issue)) };
+}
+
+/// No place for one reader more was found.
+#[derive(Clone, Copy, Debug, PartialEq, Eq, Drop)]
+pub struct NoReader;
+
+impl Desk {
+    /// A desk of this machine, with these limits, for at most `readers` readers at once. Nothing is
+    /// accepted, and version 0 is published. It takes a `Wait` for one step by which its writer
+    /// learns which desk it is of; there is no reader yet for whom that step could wait.
+    ///
+    /// # Errors
+    /// `NoMemory` where there is none for the plan of version 0 or for the readers' places.
+    pub fn new<R: Wait>(
+        rt: &R,
+        alloc: Global,
+        machine: Machine,
+        limits: Limits,
+        readers: u32,
+    ) -> Result<Desk, NoMemory>
+        requires some { 1 ≤ readers }
+        requires few { readers ≤ 64 }
+        ensures machine { IfOk result (λ d. (d.desk.machine ≡ machine) × (d.bounds ≡ limits)) }
+        ensures empty { IfOk result (λ d. (d.published ≡ []) × (d.pending ≡ [])) }
+        ensures versions { IfOk result (λ d. d.versions ≡ 0 ∷ []) }
+    {
+        let space = Space::new(alloc, machine, limits);
+        let log = Log::new();
+        let issue = first_issue(alloc, &space, &log)?;
+        let writer = opened(rt, alloc, issue, readers as usize)?;
+        Ok(Desk {
+            alloc,
+            writer,
+            log,
+            pending: Pending {
+                commands: Vec::new(alloc),
+                logged: 0,
+            },
+            space,
+        })
+    }
+
+    /// How many commands are accepted and not published.
+    pub fn pending(&self) -> usize
+        ensures { result ≡ length self.now.pending }
+    {
+        self.pending.commands.len()
+    }
+
+    /// The published version.
+    pub fn published(&self) -> u64
+        ensures length { result ≡ length self.now.published }
+        ensures newest { result ≡ slice_index self.now.versions 0 }
+    {
+        let issue: &Issue = &self.writer.published().issue;
+        issue.plan.version()
+    }
+
+    /// The space of all accepted commands.
+    pub fn space(&self) -> &Space
+        ensures stands { StandsFor result.now (accepted self.now) }
+        ensures machine { result.now.machine ≡ self.now.desk.machine }
+        ensures bounds { result.now.bounds ≡ self.now.bounds }
+    {
+        &self.space
+    }
+
+    /// Accepts a command, or refuses it as the space does, and answers how many commands are
+    /// accepted then. It is pending until the next publish that is Ok. A refusal changes nothing.
+    ///
+    /// # Errors
+    /// What refuses the command after all that was accepted; or `NoMemory`, also in place of
+    /// another refusal, since the room for one pending command more is made before the command is
+    /// looked at.
+    pub fn accept(&mut self, command: &Command) -> Result<u64, Refusal>
+        ensures allowed { OnOk result (refusal_of self.old.desk.machine self.old.bounds
+            (accepted self.old) command.now ≡ None) }
+        ensures version { IfOk result (λ version. version ≡ length (accepted self.old) + 1) }
+        ensures added { OnOk result
+            (self.new ≡ record self.old { pending = command.now ∷ self.old.pending }) }
+        ensures err { IfErr result (λ refusal. Refuses self.old command.now refusal) }
+        ensures unchanged { OnErr result (self.new ≡ self.old) }
+        ensures desk { (self.new.desk ≡ self.old.desk) × (self.new.bounds ≡ self.old.bounds) }
+        ensures published { (self.new.published ≡ self.old.published)
+            × (self.new.versions ≡ self.old.versions) }
+    {
+        if self.pending.commands.reserve(1).is_err() {
+            return Err(Refusal::NoMemory);
+        }
+        if let Err(refusal) = self.space.apply(command) {
+            return Err(refusal);
+        }
+        self.pending.commands.push_reserved(*command);
+        Ok(self.space.version())
+    }
+
+    /// A receipt of the published version.
+    fn receipt(&self) -> Receipt
+        ensures { (result.desk ≡ self.now.desk) × (result.history ≡ self.now.published) }
+    {
+        let issue: &Issue = &self.writer.published().issue;
+        Receipt::new(&issue.front, self.space.machine(), issue.plan.version())
+    }
+
+    /// Publishes all that was accepted, and gives a receipt of it; with nothing pending, a receipt
+    /// of the published version, and nothing else is done. Looks that begin later see it. It waits
+    /// for views of the version before the published one.
+    ///
+    /// # Errors
+    /// `NoMemory`: what is published and what is pending are as they were, and the next publish
+    /// takes the same.
+    pub fn publish<R: Wait>(&mut self, rt: &R) -> Result<Receipt, NoMemory>
+        ensures ok { OnOk result
+            ((self.new.published ≡ accepted self.old) × (self.new.pending ≡ [])) }
+        ensures receipt { IfOk result (λ r.
+            (r.desk ≡ self.new.desk) × (r.history ≡ self.new.published)) }
+        ensures versions { OnOk result (self.new.versions ≡ versions_after self.old) }
+        ensures desk { (self.new.desk ≡ self.old.desk) × (self.new.bounds ≡ self.old.bounds) }
+        ensures unchanged { OnErr result (self.new ≡ self.old) }
+    {
+        if self.pending.commands.is_empty() {
+            return Ok(self.receipt());
+        }
+        let issue = next_issue(
+            self.alloc,
+            &self.space,
+            &mut self.log,
+            &mut self.pending,
+            &self.writer.published().issue,
+        )?;
+        show_at(&mut self.writer, rt, issue)?;
+        self.pending.commands.clear();
+        self.pending.logged = 0;
+        Ok(self.receipt())
+    }
+
+    /// Accepts a command and publishes.
+    ///
+    /// # Errors
+    /// `Refused` as `accept` refuses, and nothing changed; else `Held` where `publish` has no
+    /// memory, and the command is pending.
+    pub(crate) fn submit<R: Wait>(
+        &mut self,
+        rt: &R,
+        command: &Command,
+    ) -> Result<Receipt, SubmitRefusal>
+        ensures receipt { IfOk result (λ r. (r.desk ≡ self.new.desk)
+            × (r.history ≡ command.now ∷ accepted self.old)) }
+        ensures published { OnOk result ((self.new.published ≡ command.now ∷ accepted self.old)
+            × (self.new.pending ≡ [])) }
+        ensures err { IfErr result (λ refusal. LeavesAfter self.old self.new command.now refusal) }
+        ensures desk { (self.new.desk ≡ self.old.desk) × (self.new.bounds ≡ self.old.bounds) }
+    {
+        let version = match self.accept(command) {
+            Ok(version) => version,
+            Err(refusal) => return Err(SubmitRefusal::Refused(refusal)),
+        };
+        match self.publish(rt) {
+            Ok(receipt) => Ok(receipt),
+            Err(_) => Err(SubmitRefusal::Held(version)),
+        }
+    }
+
+    /// A reader that has seen version 0 alone.
+    ///
+    /// # Errors
+    /// `NoReader` where each place is in use, or is found so while readers come and go.
+    pub fn reader(&mut self) -> Result<PlanReader, NoReader>
+        ensures same { self.new ≡ self.old }
+        ensures new { IfOk result (λ r. r ≡ new_reader self.old.desk) }
+    {
+        let Ok(mut reader) = self.writer.factory().reader() else {
+            return Err(NoReader);
+        };
+        let note = self.writer.tell::<Introduces>();
+        reader.learn::<Introduces>(note);
+        Ok(PlanReader::new(reader, self.log.start.again()))
+    }
+
+    /// Ends the desk. It waits for the views that are held; each `enter` from then on hands its
+    /// reader back.
+    pub fn end<R: Wait>(self, rt: &R) {
+        let Desk {
+            alloc: _,
+            writer,
+            log: _,
+            pending: _,
+            space: _,
+        } = self;
+        writer.take(rt);
+    }
+}

@@ -1,0 +1,25 @@
+//! Published versions of plans. One desk accepts commands and publishes plans of them; up to 64
+//! readers, in any thread, look at what was published last, without a wait and without memory.
+//!
+//! A reader enters and gets a view, which lends the published plan until the reader leaves. A
+//! publish changes the copy at which nobody looks, and then shows it; it waits only for views of
+//! the version before the published one.
+#![tactic(auto)]
+
+pub mod desk;
+mod ghosts;
+mod issue;
+mod log;
+mod publishing;
+pub mod reader;
+pub mod receipt;
+mod rule;
+pub mod shared;
+pub mod view;
+
+pub use desk::{Desk, NoReader};
+pub use numa_machine::NoMemory;
+pub use reader::PlanReader;
+pub use receipt::Receipt;
+pub use shared::{DeskName, SharedDesk, SubmitRefusal};
+pub use view::PlanView;

@@ -1,0 +1,130 @@
+//! The log of accepted commands, in batches. It has no bytes but the number of its commands.
+ghost use Rattle.std.specs.Prelude.{◌≡◌, ◌+◌, ◌++◌, [], length};
+ghost use Rattle.std.specs.Bool.{OnTrue, OnFalse};
+ghost use mathlib.Core.List.{IsPrefix};
+ghost use Rattle.numa_publish.specs.Batches.{history_of, not_logged};
+ghost use Rattle.numa_publish.specs.LogRule.{count_word};
+
+use logbook::{Gain, Offer, Plain, Play, Rule, Seen, Start, Word};
+use numa_space::Command;
+use std::collections::LinkedList;
+
+/// Commands that were logged together, the newest first. No value of it is made.
+pub type Batch = LinkedList<Command>;
+
+/// A beginning of the log that was reached. It has no bytes.
+pub type Front = Seen<Batch, u64, LogRule>;
+
+/// The rule of the log: its word is the number of its commands.
+pub struct LogRule;
+
+impl Rule<Batch, u64> for LogRule {
+    ghost use Rattle.std.specs.Prelude.{[]};
+    ghost use base.Fml.{ftrue};
+    ghost use Rattle.numa_publish.specs.LogRule.{CountsCommands};
+
+    ghost holds = { CountsCommands };
+
+    ghost first = { [] };
+
+    ghost hinted = { λ n log. Unit {0} };
+
+    ghost shows = { λ log. [] };
+
+    ghost keeps = { λ names log. ftrue };
+
+    ghost moves = { λ ask before after answer. Unit {0} };
+}
+
+/// Nobody trades anything for a step of the log.
+struct Nothing;
+
+impl Gain<Batch, u64> for Nothing {
+    ghost use base.Fml.{ftrue};
+
+    ghost after = { λ names about answer. ftrue };
+}
+
+/// The step that adds a batch.
+struct Add;
+
+impl Play<Batch, u64> for Add {
+    ghost use Rattle.numa_publish.specs.LogRule.{AddsBatch};
+
+    ghost then = { AddsBatch };
+}
+
+impl Plain<Pending, Batch, u64> for Add {
+    ghost use Rattle.std.specs.Prelude.{None};
+    ghost use Rattle.numa_publish.specs.Batches.{not_logged};
+
+    ghost ask = { λ p. not_logged p.commands.items p.logged };
+
+    ghost state = { λ p. None };
+}
+
+/// Commands that are accepted and not published, the oldest first. The log has the first `logged`
+/// of them: those whose publishing failed once they were in the log.
+#[derive(Drop)]
+pub struct Pending {
+    pub commands: Vec<Command>,
+    pub logged: usize,
+}
+
+/// The log's word, its empty beginning, and all that was logged.
+#[derive(Drop)]
+pub struct Log {
+    word: Word<Batch, u64, LogRule>,
+    pub seen: Front,
+    pub start: Front,
+    count: u64,
+    pub ghost word_is: { word ≡ count_word seen.book },
+    pub ghost count_is: { count ≡ length (history_of seen.log) },
+    pub ghost start_book: { start.book ≡ seen.book },
+    pub ghost start_empty: { start.log ≡ [] },
+}
+
+impl Log {
+    /// A log of its own, which is empty.
+    pub fn new() -> Log
+        ensures { result.seen.log ≡ [] }
+    {
+        let (seen, mut first, _second) = Seen::open(Start::alone(), 0, 0);
+        let word = Word::tracked(0, &mut first);
+        let start = seen.again();
+        Log {
+            word,
+            seen,
+            start,
+            count: 0,
+        }
+    }
+
+    /// Adds what the log lacks yet; `count` is the number of its commands then. Nobody else adds,
+    /// so it always answers `true`; no proof can see this.
+    pub fn add(&mut self, pending: &Pending, count: u64) -> bool
+        requires { count ≡ length (not_logged pending.now.commands.items pending.now.logged)
+            + length (history_of self.old.seen.log) }
+        ensures added { OnTrue result (history_of self.new.seen.log
+            ≡ not_logged pending.now.commands.items pending.now.logged
+            ++ history_of self.old.seen.log) }
+        ensures prefix { IsPrefix self.old.seen.log self.new.seen.log }
+        ensures book { self.new.seen.book ≡ self.old.seen.book }
+        ensures unchanged { OnFalse result (self.new.seen ≡ self.old.seen) }
+    {
+        let mut seen = self.seen.again();
+        let mut offer: Offer<Batch, u64, LogRule, Nothing> = seen.plain::<Nothing, Pending, Add>(
+            pending,
+        );
+        let mut pen = seen.no_pen();
+        let found = self
+            .word
+            .compare_exchange::<Add, Nothing>(self.count, count, &mut seen, &mut offer, &mut pen);
+        if found != self.count {
+            return false;
+        }
+        self.seen = seen;
+        self.count = count;
+        true
+    }
+}

@@ -1,0 +1,167 @@
+//! Readers that aren't looking.
+ghost use Rattle.std.specs.Prelude.{◌≡◌, ◌+◌, [], true, length, slice_index, IfOk, MatchResult};
+ghost use Rattle.left_right.specs.Sides.{view as place_view};
+ghost use Rattle.numa_publish.specs.Batches.{Extends, history_of};
+ghost use Rattle.numa_publish.specs.Kept.{IsReaderKept};
+ghost use Rattle.numa_publish.specs.Shown.{IsOneOf};
+
+use crate::issue::Issue;
+use crate::log::Front;
+use crate::receipt::Receipt;
+use crate::rule::{Look, ShownReader};
+use crate::view::PlanView;
+use numa_count::Count;
+use std::marker::Model;
+
+/// A reader of one desk, with a place of its own among the desk's readers until it is dropped. It
+/// may go to another thread. It has seen a published version, 0 at first, and never looks at an
+/// earlier one.
+///
+/// Clauses see of which desk it is, the history that it has seen, how many enters it made, and how
+/// many of them were refused. But for the version none of these takes a byte.
+#[derive(Drop)]
+pub struct PlanReader {
+    reader: ShownReader,
+    front: Front,
+    version: u64,
+    enters: Count,
+    refused: Count,
+}
+
+impl Model for PlanReader {
+    ghost use Rattle.left_right.specs.Sides.{view as place_view};
+    ghost use Rattle.numa_publish.specs.Batches.{history_of};
+    ghost use Rattle.numa_publish.specs.Kept.{IsReaderKept};
+    ghost use Rattle.numa_publish.specs.Shown.{ReaderState};
+
+    ghost Value = { ReaderState };
+
+    ghost view = { λ r. record {
+      desk = record { book = r.front.book; machine = (place_view r.reader.place).machine };
+      history = history_of r.front.log;
+      enters = r.enters;
+      refused = r.refused;
+    } };
+
+    ghost invariant = { λ r.
+        IsReaderKept r.version r.front.log r.front.book (place_view r.reader.place) };
+}
+
+impl PlanReader {
+    /// A reader at a place that knows its desk, which has seen nothing but version 0.
+    pub(crate) fn new(reader: ShownReader, front: Front) -> PlanReader
+        requires named { (place_view reader.place).named ≡ true }
+        requires book { (place_view reader.place).front.book ≡ front.book }
+        requires empty { front.log ≡ [] }
+        ensures { result ≡ record {
+          desk = record { book = front.book; machine = (place_view reader.place).machine };
+          history = [];
+          enters = 0;
+          refused = 0;
+        } }
+    {
+        PlanReader {
+            reader,
+            front,
+            version: 0,
+            enters: Count::zero(),
+            refused: Count::zero(),
+        }
+    }
+
+    /// A reader that has seen this beginning of the log, after so many enters.
+    pub(crate) fn back(
+        reader: ShownReader,
+        front: Front,
+        version: u64,
+        enters: Count,
+        refused: Count,
+    ) -> PlanReader
+        requires { IsReaderKept version front.log front.book (place_view reader.place) }
+        ensures { result ≡ record {
+          desk = record { book = front.book; machine = (place_view reader.place).machine };
+          history = history_of front.log;
+          enters = enters;
+          refused = refused;
+        } }
+    {
+        PlanReader {
+            reader,
+            front,
+            version,
+            enters,
+            refused,
+        }
+    }
+
+    /// The reader, which has seen the longer of what it had seen and what the receipt shows. It
+    /// waits for nobody and takes no memory.
+    pub fn learn(self, receipt: &Receipt) -> PlanReader
+        requires { receipt.now.desk ≡ self.desk }
+        ensures desk { result.desk ≡ self.desk }
+        ensures one { IsOneOf self.history receipt.now.history result.history }
+        ensures own { Extends self.history result.history }
+        ensures told { Extends receipt.now.history result.history }
+        ensures counts { (result.enters ≡ self.enters) × (result.refused ≡ self.refused) }
+    {
+        let PlanReader {
+            reader,
+            front,
+            version,
+            enters,
+            refused,
+        } = self;
+        let told = receipt.version();
+        let mut both = front.again();
+        both.learn(&receipt.front);
+        if version < told {
+            PlanReader::back(reader, receipt.front.again(), told, enters, refused)
+        } else {
+            PlanReader::back(reader, front, version, enters, refused)
+        }
+    }
+
+    /// Looks at the version that is published now: a view of it, which is no earlier than what was
+    /// seen. It waits for nobody and takes no memory.
+    ///
+    /// # Errors
+    /// The reader itself, which has seen what it had seen, where there is no entry to be had:
+    /// always once the desk has ended. It may also come without cause.
+    pub fn enter(self) -> Result<PlanView, PlanReader>
+        ensures desk { MatchResult result (λ v. v.desk ≡ self.desk) (λ r. r.desk ≡ self.desk) }
+        ensures seen { MatchResult result
+            (λ v. Extends self.history v.history) (λ r. r.history ≡ self.history) }
+        ensures published { IfOk result (λ v. slice_index v.versions 0 ≡ length v.history) }
+        ensures enters { MatchResult result
+            (λ v. v.enters ≡ self.enters + 1) (λ r. r.enters ≡ self.enters + 1) }
+        ensures refused { MatchResult result
+            (λ v. v.refused ≡ self.refused) (λ r. r.refused ≡ self.refused + 1) }
+    {
+        let PlanReader {
+            reader,
+            front,
+            version,
+            enters,
+            refused,
+        } = self;
+        let enters = enters.next();
+        let reading = match reader.enter_as::<Look>() {
+            Ok(reading) => reading,
+            Err(reader) => {
+                return Err(PlanReader::back(reader, front, version, enters, refused.next()));
+            }
+        };
+        let issue: &Issue = &reading.get().issue;
+        let shown = issue.plan.version();
+        let next = issue.front.again();
+        let mut both = front.again();
+        both.learn(&next);
+        // A receipt is made once its version is published, so what is shown is never older: no
+        // proof can see this.
+        if shown < version {
+            let reader = reading.leave();
+            return Err(PlanReader::back(reader, front, version, enters, refused.next()));
+        }
+        Ok(PlanView::new(reading, next, shown, enters, refused))
+    }
+}

@@ -1,0 +1,56 @@
+//! Receipts of published versions.
+ghost use Rattle.std.specs.Prelude.{◌≡◌, length};
+ghost use Rattle.numa_publish.specs.Batches.{history_of};
+
+use crate::ghosts::About;
+use crate::log::Front;
+use numa_machine::Machine;
+use std::marker::Model;
+
+/// What was published at one moment. It has no bytes but the version, and may go to another thread.
+/// A reader that learns it sees that version or a later one at its next look.
+///
+/// Clauses see of which desk it is, and the history that was published.
+#[derive(Drop)]
+pub struct Receipt {
+    pub(crate) front: Front,
+    machine: About,
+    version: u64,
+}
+
+impl Model for Receipt {
+    ghost use Rattle.std.specs.Prelude.{◌≡◌, length};
+    ghost use Rattle.numa_publish.specs.Shown.{ReceiptState};
+    ghost use Rattle.numa_publish.specs.Batches.{history_of};
+
+    ghost Value = { ReceiptState };
+
+    ghost view = { λ r. record {
+      desk = record { book = r.front.book; machine = r.machine };
+      history = history_of r.front.log;
+    } };
+
+    ghost invariant = { λ r. r.version ≡ length (history_of r.front.log) };
+}
+
+impl Receipt {
+    /// The receipt of this beginning of the log.
+    pub(crate) fn new(front: &Front, machine: &Machine, version: u64) -> Receipt
+        requires { version ≡ length (history_of front.now.log) }
+        ensures desk { result.desk ≡ record { book = front.now.book; machine = machine.now } }
+        ensures history { result.history ≡ history_of front.now.log }
+    {
+        Receipt {
+            front: front.again(),
+            machine: About::of(machine),
+            version,
+        }
+    }
+
+    /// The published version: how many commands were accepted up to it.
+    pub fn version(&self) -> u64
+        ensures { result ≡ length self.now.history }
+    {
+        self.version
+    }
+}

@@ -1,0 +1,65 @@
+//! The rule of what is published: what each thread knows was published before what is shown now.
+use crate::issue::Shown;
+use crate::log::Front;
+use atomic_table::{Join, Split};
+use crossbeam_utils::rule::{Outcome, Protocol};
+use left_right::reader::{Reader, Reading};
+use left_right::writer::Writer;
+use numa_machine::Machine;
+use std::collections::LinkedList;
+
+/// What a thread knows: whether it knows its desk, the desk's machine, a beginning of the log, and
+/// the versions published up to it. No value of it is made.
+pub struct Knows {
+    pub named: bool,
+    pub machine: Machine,
+    pub front: Front,
+    pub versions: LinkedList<u64>,
+}
+
+/// The rule, which six kinds of step keep: the opening, a new reader, a publish, the writer's note
+/// of which desk it is, a reader's taking in of that note, and an enter.
+pub struct PublishedLog;
+
+impl Protocol<Shown, Knows> for PublishedLog {
+    ghost use Rattle.numa_publish.specs.Knowing.{KnowsThePast, newcomer};
+
+    ghost holds = { KnowsThePast };
+
+    ghost first = { newcomer };
+}
+
+/// What a publish and an enter tell.
+pub struct Look;
+
+impl Outcome<Shown, Knows> for Look {
+    ghost use Rattle.numa_publish.specs.Knowing.{Sees};
+
+    ghost then = { Sees };
+}
+
+/// The writer tells all that it knows, and a new reader takes in which desk it is of.
+pub struct Introduces;
+
+impl Split<Knows> for Introduces {
+    ghost left = { λ v. v };
+
+    ghost right = { λ v. v };
+}
+
+impl Join<Knows> for Introduces {
+    ghost use Rattle.numa_publish.specs.Knowing.{introduced, newcomer};
+
+    ghost both = { introduced };
+
+    ghost spent = { newcomer };
+}
+
+/// A place among the readers, which isn't looking.
+pub type ShownReader = Reader<Shown, Knows, PublishedLog>;
+
+/// A place among the readers, with the copy at which it looks.
+pub type ShownReading = Reading<Shown, Knows, PublishedLog>;
+
+/// The writer of the two copies.
+pub type ShownWriter = Writer<Shown, Shown, Knows, PublishedLog>;

@@ -1,0 +1,198 @@
+//! Readers that are looking at a plan.
+ghost use Rattle.std.specs.Prelude.{◌≡◌, ◌+◌, ◌<◌, ◌≤◌, ℕ, true, length, slice_index, Some, IfOk, IfErr, OnOk, OnErr, EachIndex};
+ghost use Rattle.std.specs.Arc.{arc_value};
+ghost use Rattle.left_right.specs.Sides.{view as place_view};
+ghost use Rattle.numa_plan.specs.Counted.{FindsQuickly};
+ghost use Rattle.numa_space.specs.Lists.{node_list};
+ghost use Rattle.numa_space.specs.Pages.{is_mapped};
+ghost use Rattle.numa_space.specs.Policies.{allowed_nodes};
+ghost use Rattle.numa_space.specs.Refusals.{range_count_of};
+ghost use Rattle.numa_space.specs.Standing.{IsNodeList, place_refusal_of};
+ghost use Rattle.numa_compile.specs.Spans.{first_node, meant_count, SpanIsRefused};
+ghost use Rattle.numa_publish.specs.Batches.{history_of};
+ghost use Rattle.numa_publish.specs.Kept.{IsViewKept};
+ghost use Rattle.numa_publish.specs.Spans.{SpanStands};
+
+use crate::issue::Issue;
+use crate::log::Front;
+use crate::reader::PlanReader;
+use crate::rule::ShownReading;
+use numa_compile::every_plan;
+use numa_count::Count;
+use numa_plan::Steps;
+use numa_space::PlaceRefusal;
+use std::marker::Model;
+
+/// A reader with the published plan at which it looks, which stays the same while it is held. A
+/// publish after the next one, and the end of the desk, wait for it. It can't be dropped: `leave`
+/// gives the reader back.
+///
+/// Clauses see of which desk it is, the history for which the plan stands, the versions published
+/// up to it, and the reader's numbers of enters and of refused enters.
+pub struct PlanView {
+    reading: ShownReading,
+    front: Front,
+    version: u64,
+    enters: Count,
+    refused: Count,
+}
+
+impl Model for PlanView {
+    ghost use Rattle.std.specs.Arc.{arc_value};
+    ghost use Rattle.left_right.specs.Sides.{view as place_view};
+    ghost use Rattle.numa_publish.specs.Batches.{history_of};
+    ghost use Rattle.numa_publish.specs.Kept.{IsViewKept};
+    ghost use Rattle.numa_publish.specs.Shown.{ViewState};
+
+    ghost Value = { ViewState };
+
+    ghost view = { λ r. record {
+      desk = record { book = r.front.book; machine = (place_view r.reading.place).machine };
+      history = history_of r.front.log;
+      versions = (arc_value r.reading.part.value.issue).versions;
+      enters = r.enters;
+      refused = r.refused;
+    } };
+
+    ghost invariant = { λ r. IsViewKept r.version r.front.log r.front.book
+        (place_view r.reading.place) (arc_value r.reading.part.value.issue) };
+}
+
+impl PlanView {
+    /// A view of what this place reads.
+    pub(crate) fn new(
+        reading: ShownReading,
+        front: Front,
+        version: u64,
+        enters: Count,
+        refused: Count,
+    ) -> PlanView
+        requires { IsViewKept version front.log front.book
+            (place_view reading.place) (arc_value reading.part.value.issue) }
+        ensures { result ≡ record {
+          desk = record { book = front.book; machine = (place_view reading.place).machine };
+          history = history_of front.log;
+          versions = (arc_value reading.part.value.issue).versions;
+          enters = enters;
+          refused = refused;
+        } }
+    {
+        PlanView {
+            reading,
+            front,
+            version,
+            enters,
+            refused,
+        }
+    }
+
+    /// The version: how many commands were accepted up to it.
+    pub fn version(&self) -> u64
+        ensures { result ≡ length self.now.history }
+    {
+        self.version
+    }
+
+    /// The list of nodes of a page, for a task and a fault on the node `cpu`, lent by the view:
+    /// from 1 to 256 allowed nodes, each once, in the order in which memory is looked for on them.
+    ///
+    /// The page is compared with the first pages of at most as many ranges as the number of ranges
+    /// has binary digits. `steps` counts these comparisons, for contracts alone.
+    ///
+    /// # Errors
+    /// `BadCpu` where `cpu` is none of the machine's nodes; else `Unmapped` where this version
+    /// doesn't map the page.
+    pub fn choice(
+        &self,
+        task: u32,
+        page: u64,
+        cpu: u32,
+        steps: &mut Steps,
+    ) -> Result<&[u8], PlaceRefusal>
+        ensures mapped { OnOk result ((cpu < self.now.desk.machine.nodes)
+            × (is_mapped self.now.history page ≡ true)) }
+        ensures ok { IfOk result (λ row.
+            row.now ≡ node_list self.now.desk.machine self.now.history task page cpu) }
+        ensures sized { IfOk result (λ row. (0 < length row.now) × (length row.now ≤ 256)) }
+        ensures list { IfOk result (λ row.
+            IsNodeList (allowed_nodes self.now.desk.machine self.now.history) row.now) }
+        ensures err { IfErr result (λ refusal.
+            place_refusal_of self.now.desk.machine self.now.history page cpu ≡ Some refusal) }
+        ensures quick { FindsQuickly steps.old steps.new
+            (range_count_of self.now.desk.machine self.now.history) }
+    {
+        every_plan();
+        let issue: &Issue = &self.reading.get().issue;
+        issue.plan.choice(task, page, cpu, steps)
+    }
+
+    /// Writes the first node of each page's list, for the pages from `first` on, as many as `out`
+    /// has places.
+    ///
+    /// # Errors
+    /// `BadCpu` where `cpu` is none of the machine's nodes, also for no pages; else `Unmapped`
+    /// where this version doesn't map some page of the span. A refusal leaves `out` as it was.
+    pub fn fill(&self, task: u32, cpu: u32, first: u64, out: &mut [u8]) -> Result<(), PlaceRefusal>
+        ensures ok { OnOk result (EachIndex out.new (λ k. slice_index out.new k
+            ≡ first_node self.now.desk.machine self.now.history task (first + k) cpu)) }
+        ensures stands { OnOk result
+            (SpanStands self.now.desk.machine self.now.history cpu first (length out.new)) }
+        ensures lists { OnOk result (EachIndex out.new (λ k.
+            IsNodeList (allowed_nodes self.now.desk.machine self.now.history)
+            (node_list self.now.desk.machine self.now.history task (first + k) cpu))) }
+        ensures err { IfErr result (λ refusal. SpanIsRefused
+            self.now.desk.machine self.now.history first (length out.old) cpu refusal) }
+        ensures unchanged { OnErr result (out.new ≡ out.old) }
+    {
+        every_plan();
+        let issue: &Issue = &self.reading.get().issue;
+        // Tells the proof that the plan's runs are apart and end by page 2^35.
+        let _ = issue.plan.run_count();
+        issue.plan.fill(task, cpu, first, out)?;
+        Ok(())
+    }
+
+    /// How many of the `pages` pages from `first` on have each node as the first of their list. The
+    /// time grows with the ranges of the span and not with its pages.
+    ///
+    /// # Errors
+    /// `BadCpu` where `cpu` is none of the machine's nodes, also for no pages; else `Unmapped`
+    /// where this version doesn't map some page of the span.
+    pub fn counts(
+        &self,
+        task: u32,
+        cpu: u32,
+        first: u64,
+        pages: u64,
+    ) -> Result<[u64; 256], PlaceRefusal>
+        ensures ok { IfOk result (λ counts. (node : ℕ) → node < 256 → slice_index counts node
+            ≡ meant_count self.now.desk.machine self.now.history task cpu first pages node) }
+        ensures stands { OnOk result
+            (SpanStands self.now.desk.machine self.now.history cpu first pages) }
+        ensures err { IfErr result (λ refusal. SpanIsRefused
+            self.now.desk.machine self.now.history first pages cpu refusal) }
+    {
+        every_plan();
+        let issue: &Issue = &self.reading.get().issue;
+        // Tells the proof that the plan's runs are apart and end by page 2^35.
+        let _ = issue.plan.run_count();
+        let counts = issue.plan.counts(task, cpu, first, pages)?;
+        Ok(counts)
+    }
+
+    /// The reader, which has seen this version.
+    pub fn leave(self) -> PlanReader
+        ensures desk { result.desk ≡ self.desk }
+        ensures history { result.history ≡ self.history }
+        ensures counts { (result.enters ≡ self.enters) × (result.refused ≡ self.refused) }
+    {
+        let PlanView {
+            reading,
+            front,
+            version,
+            enters,
+            refused,
+        } = self;
+        PlanReader::back(reading.leave(), front, version, enters, refused)
+    }
+}
