@@ -1,0 +1,24 @@
+use Rattle.std.proofs.Common.{◌∙◌, sym, subst, List}
+use Rattle.numa_publish.specs.Batches.{Extends}
+use Rattle.numa_publish.specs.Shown.{DeskIdentity}
+use Rattle.numa_space.specs.declared.command.Command.{Command}
+use Rattle.numa_fault.specs.Fault.{LetsIn}
+use Rattle.numa_fault.specs.Span.{SpanIsServed}
+use Rattle.numa_fault.proofs.Faulting.{serves-span}
+use Rattle.numa_fault.proofs.span.fault_span_by.Goals as goal
+
+pub returns-clause-fault : goal.returns-clause-fault
+returns-clause-fault c =
+    let reader = c.args.reader in
+    let seat = c.place_span-answer.new.seat in
+    let out = c.place_span-answer.new.out in
+    let entered = c.in-Ok.ensures in
+    let left = c.leave.ensures in
+    let let_in : LetsIn reader c.leave.result = record {
+      desk = left.desk ∙ entered.desk;
+      enters = left.counts.0 ∙ entered.enters;
+      refused = left.counts.1 ∙ entered.refused;
+      history = subst (λ (h : List Command). Extends reader.history h) (sym left.history) entered.seen;
+    } in
+    let served = subst (λ (p : DeskIdentity × List Command). SpanIsServed c.args.pools.now.frames p.0.machine p.1 c.args.span c.args.seat.now seat c.args.out.now.items out.items c.place_span-answer.result) (λ i. (sym left.desk i, sym left.history i)) c.place_span-answer.ensures.served in
+    serves-span c.args.pools.now.frames c.args.span (record { reader = reader; seat = c.args.seat.now }) c.leave.result seat c.args.out.now.items out.items c.place_span-answer.result let_in served

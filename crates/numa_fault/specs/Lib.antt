@@ -1,0 +1,7 @@
+pub mod Worker
+pub mod Walked
+pub mod Fault
+pub mod Span
+pub mod Crew
+pub mod Turns
+pub mod Told

@@ -1,0 +1,88 @@
+//! Laws of the definitions that contracts cite.
+ghost use Rattle.std.specs.Prelude.{◌≡◌, ◌≢◌, ℕ, ◌+◌, ◌*◌, ◌<◌, ◌≤◌, List, length, Option, Some, Result, Ok, Err, slice_get, slice_index_or, ◌↔◌};
+ghost use Rattle.std.specs.Option.{ForSome};
+ghost use Rattle.numa_space.specs.declared.placement.Placement.{Placement};
+ghost use Rattle.numa_space.specs.declared.request.Request.{Request};
+ghost use Rattle.numa_machine.specs.Machine.{Hardware};
+ghost use Rattle.numa_pool.specs.Seats.{SeatView};
+ghost use Rattle.numa_publish.specs.Batches.{Extends};
+ghost use Rattle.numa_space.specs.declared.command.Command.{Command};
+ghost use Rattle.numa_fault.specs.Crew.{column, HaveSeats, IsCrew, Serves, ServesEach};
+ghost use Rattle.numa_fault.specs.Fault.{Faults, FindsNone, Places, list_of, refusal_of};
+ghost use Rattle.numa_fault.specs.Span.{FaultsOnSpan};
+ghost use Rattle.numa_fault.specs.Told.{FoundTaken, refusal_told, version_told, version_at};
+ghost use Rattle.numa_fault.specs.Worker.{Parts, WorkerState};
+ghost use Rattle.numa_fault.specs.declared.answer.Answer.{Answer};
+ghost use Rattle.numa_fault.specs.declared.refusal.FaultRefusal.{FaultRefusal};
+ghost use Rattle.numa_fault.specs.declared.refusal.SpanRefusal.{SpanRefusal};
+ghost use Rattle.numa_fault.specs.declared.span.Span.{Span};
+
+/// The answer of a fault is no matter of choice, but for the frames that it finds free. It enters
+/// once. It answers `NoView` exactly where that entry was refused; else it tells the refusal of the
+/// page exactly as the history that it sees has it, and the version of that history.
+pub fn answers_are_exact()
+    ensures enters { (frames : List ℕ) (request : Request) (before after : Parts)
+        (answer : Result Placement FaultRefusal) → Faults frames request before after answer
+        → after.reader.enters ≡ before.reader.enters + 1 }
+    ensures no_view { (frames : List ℕ) (request : Request) (before after : Parts)
+        (answer : Result Placement FaultRefusal) → Faults frames request before after answer
+        → (answer ≡ Err FaultRefusal.NoView)
+        ↔ (after.reader.refused ≡ before.reader.refused + 1) }
+    ensures refusal { (frames : List ℕ) (request : Request) (before after : Parts)
+        (answer : Result Placement FaultRefusal) → Faults frames request before after answer
+        → answer ≢ Err FaultRefusal.NoView
+        → refusal_of after.reader.desk.machine after.reader.history request
+        ≡ refusal_told answer }
+    ensures version { (frames : List ℕ) (request : Request) (before after : Parts)
+        (answer : Result Placement FaultRefusal) → Faults frames request before after answer
+        → ForSome (version_told answer) (λ version. version ≡ length after.reader.history) }
+{}
+
+/// Where a page was placed, each frame of each node earlier in its list was found taken in the walk
+/// of this page, and where no frame was found each frame of each node of the list was. What was met
+/// for another page counts for nothing.
+pub fn a_win_means()
+    ensures won { (frames : List ℕ) (machine : Hardware) (history : List Command)
+        (request : Request) (placement : Placement) (before after : SeatView)
+        → Places frames machine history request placement before after
+        → FoundTaken frames (list_of machine history request) placement.rank before after }
+    ensures none { (frames : List ℕ) (machine : Hardware) (history : List Command)
+        (request : Request) (version : ℕ) (before after : SeatView)
+        → FindsNone frames machine history request version before after
+        → FoundTaken frames (list_of machine history request)
+        (length (list_of machine history request)) before after }
+{}
+
+/// What a worker sees only grows, and the versions that its answers tell never fall.
+pub fn versions_never_fall()
+    ensures grows { (frames : List ℕ) (requests : List Request) (before after : Parts)
+        (answers : List Answer) → Serves frames requests before after answers
+        → Extends before.reader.history after.reader.history }
+    ensures spans { (frames : List ℕ) (span : Span) (before after : Parts)
+        (old new : List Placement) (answer : Result ℕ SpanRefusal)
+        → FaultsOnSpan frames span before after old new answer
+        → Extends before.reader.history after.reader.history }
+    ensures versions { (frames : List ℕ) (requests : List Request) (before after : Parts)
+        (answers : List Answer) → Serves frames requests before after answers
+        → (i j v w : ℕ) → i ≤ j → version_at answers i ≡ Some v → version_at answers j ≡ Some w
+        → v ≤ w }
+{}
+
+/// Of a list, entry j of what falls to place w of so many is entry w + j times so many.
+pub fn columns_take_turns()
+    ensures requests { (count w j : ℕ) (requests : List Request) → 0 < count
+        → slice_get (column count w requests) j ≡ slice_get requests (w + j * count) }
+    ensures answers { (count w j : ℕ) (answers : List Answer) → 0 < count
+        → slice_get (column count w answers) j ≡ slice_get answers (w + j * count) }
+{}
+
+/// No frame is placed twice among the answers of a crew: where its workers' seats are different
+/// seats of the same pools, whose rule says that no two seats hold one frame.
+pub fn crews_place_apart()
+    ensures { (frames : List ℕ) (requests : List Request) (old new : List WorkerState)
+        (answers : List Answer) → IsCrew (length old) → length new ≡ length old
+        → ServesEach frames requests old new answers
+        → HaveSeats frames new → (i j : ℕ) (p q : Placement) → i < j
+        → slice_get answers i ≡ Some (Answer.Placed p)
+        → slice_get answers j ≡ Some (Answer.Placed q) → p.frame ≢ q.frame }
+{}

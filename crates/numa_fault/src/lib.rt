@@ -1,0 +1,21 @@
+//! Workers that serve page faults. Each sees the published plans through a reader of its own and
+//! takes page frames through a seat of its own, so that workers in different threads share no lock
+//! and never wait for each other. A crew is several workers at once, each in a thread.
+#![tactic(auto)]
+
+mod along;
+pub mod answer;
+pub mod crew;
+mod gathering;
+pub mod law;
+mod page;
+mod placing;
+pub mod refusal;
+mod serving;
+pub mod span;
+pub mod worker;
+
+pub use answer::Answer;
+pub use crew::{Crew, CrewRefusal, Gate};
+pub use refusal::{FaultRefusal, SpanRefusal};
+pub use worker::FaultWorker;

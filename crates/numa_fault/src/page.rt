@@ -1,0 +1,93 @@
+//! One page of a span, whose first node is known.
+ghost use Rattle.std.specs.Prelude.{◌≡◌, ◌<◌, ◌++◌, List, None, Some, length, slice_index, MatchOption, IfSome, slice_get};
+ghost use Rattle.numa_space.specs.declared.placement.Placement.{Placement};
+ghost use Rattle.numa_pool.specs.Frames.{gained, times};
+ghost use Rattle.numa_pool.specs.Walk.{WalksInOrder};
+ghost use Rattle.numa_pool.specs.declared.view.Entry.{Entry};
+ghost use Rattle.numa_space.specs.Policies.{allowed_nodes};
+ghost use Rattle.numa_space.specs.Standing.{IsNodeList};
+ghost use Rattle.numa_fault.specs.Fault.{list_of, refusal_of, FindsNone, Places};
+ghost use Rattle.numa_fault.specs.Walked.{frame_in};
+
+use crate::along::take_along;
+use numa_machine::Frame;
+use numa_plan::Steps;
+use numa_pool::law::{walk_is_sparing, walks_compose};
+use numa_pool::{PoolSeat, Pools};
+use numa_publish::PlanView;
+use numa_space::{Placement, Request};
+
+/// Takes a frame of the node with which the page's list begins, or else of the first of the others
+/// that has one. Tells the node's place in the list. The list is asked for only where the first
+/// node has no frame.
+fn take_first_or_behind(
+    view: &PlanView,
+    pools: &Pools,
+    seat: &mut PoolSeat,
+    request: Request,
+    choice: u8,
+) -> Option<(usize, Frame)>
+    requires table { seat.old.table ≡ pools.now.table }
+    requires stands { refusal_of view.now.desk.machine view.now.history request ≡ None }
+    requires some { 0 < length (list_of view.now.desk.machine view.now.history request) }
+    requires choice { choice
+        ≡ slice_index (list_of view.now.desk.machine view.now.history request) 0 }
+    ensures table { seat.new.table ≡ seat.old.table }
+    ensures walks { (es : List Entry) × (seat.new.log ≡ es ++ seat.old.log)
+        × WalksInOrder pools.now.frames
+        (list_of view.now.desk.machine view.now.history request) (frame_in result) es }
+    ensures held { seat.new.held ≡ gained (frame_in result) seat.old.held }
+    ensures rank { IfSome result (λ found.
+        slice_get (list_of view.now.desk.machine view.now.history request) found.0
+        ≡ Some found.1.node) }
+    ensures few { IfSome result (λ found. found.0 < 256) }
+    ensures fresh { IfSome result (λ found. times found.1.node found.1.number seat.old.held ≡ 0) }
+{
+    if let Some(frame) = pools.take(seat, choice) {
+        return Some((0, frame));
+    }
+    let Ok(nodes) = view.choice(request.task, request.page, request.cpu, &mut Steps::new()) else {
+        unreachable!()
+    };
+    let Some((rank, frame)) = take_along(pools, seat, &nodes[1..]) else {
+        return None;
+    };
+    Some((rank + 1, frame))
+}
+
+/// Places a page whose list begins with this node. `None` where no node of the list has a frame.
+pub(crate) fn place_page(
+    view: &PlanView,
+    pools: &Pools,
+    seat: &mut PoolSeat,
+    request: Request,
+    choice: u8,
+) -> Option<Placement>
+    requires table { seat.old.table ≡ pools.now.table }
+    requires stands { refusal_of view.now.desk.machine view.now.history request ≡ None }
+    requires sound { IsNodeList (allowed_nodes view.now.desk.machine view.now.history)
+        (list_of view.now.desk.machine view.now.history request) }
+    requires choice { choice
+        ≡ slice_index (list_of view.now.desk.machine view.now.history request) 0 }
+    ensures table { seat.new.table ≡ seat.old.table }
+    ensures served { MatchOption result
+        (FindsNone pools.now.frames view.now.desk.machine view.now.history request
+        (length view.now.history) seat.old seat.new)
+        (λ placement. Places pools.now.frames view.now.desk.machine view.now.history request
+        placement seat.old seat.new) }
+{
+    walks_compose();
+    walk_is_sparing();
+    let version = view.version();
+    let Some((rank, frame)) = take_first_or_behind(view, pools, seat, request, choice) else {
+        return None;
+    };
+    Some(Placement {
+        version,
+        task: request.task,
+        page: request.page,
+        node: frame.node,
+        frame,
+        rank: rank as u32,
+    })
+}

@@ -1,0 +1,210 @@
+//! Fault workers.
+ghost use Rattle.std.specs.Prelude.{◌≡◌, [], ◌∷◌, ◌++◌, ◌<◌, ◌≤◌, length, reverse, IsTrue, MatchOption, vec_capacity, ◌↔◌};
+ghost use Rattle.numa_fault.specs.Fault.{Faults};
+ghost use Rattle.numa_fault.specs.Span.{FaultsOnSpan};
+ghost use Rattle.numa_fault.specs.Worker.{parts_of, KeepsNothing};
+ghost use Rattle.numa_pool.specs.Frames.{Holds, without};
+ghost use Rattle.numa_pool.specs.declared.view.Entry.TheVariants.{Gave};
+
+use crate::answer::Answer;
+use crate::placing::fault_by;
+use crate::refusal::{FaultRefusal, SpanRefusal};
+use crate::span::{Span, fault_span_by};
+use numa_pool::{PoolSeat, Pools};
+use numa_publish::PlanReader;
+use numa_space::{Placement, Request};
+use std::alloc::Global;
+use std::marker::Model;
+
+/// What one thread serves page faults with: a reader of published plans, and a seat at the pools. A
+/// contract sees both, so also how often the reader entered, and each step of the seat.
+#[derive(Drop)]
+pub struct FaultWorker {
+    // A view has it while a fault is served.
+    reader: Option<PlanReader>,
+    seat: PoolSeat,
+    // While a crew runs: the answers that are not gathered yet.
+    kept: Option<Vec<Answer>>,
+}
+
+impl Model for FaultWorker {
+    ghost use Rattle.std.specs.Prelude.{IsSome, [], vec_capacity};
+    ghost use Rattle.std.specs.Option.{option_map_or};
+    ghost use Rattle.numa_fault.specs.Worker.{WorkerState, shown_by};
+
+    ghost Value = { WorkerState };
+
+    ghost view = { λ w. record {
+      reader = shown_by w.reader;
+      seat = w.seat;
+      kept = option_map_or (λ v. v.items) w.kept [];
+      room = option_map_or (λ v. vec_capacity v) w.kept 0;
+    } };
+
+    ghost invariant = { λ w. IsSome w.reader };
+}
+
+impl FaultWorker {
+    /// A worker with this reader and this seat.
+    pub fn new(reader: PlanReader, seat: PoolSeat) -> FaultWorker
+        ensures { result ≡ record { reader = reader; seat = seat; kept = []; room = 0 } }
+    {
+        FaultWorker {
+            reader: Some(reader),
+            seat,
+            kept: None,
+        }
+    }
+
+    /// The reader and the seat.
+    pub fn into_parts(self) -> (PlanReader, PoolSeat)
+        ensures { (result.0 ≡ self.reader) × (result.1 ≡ self.seat) }
+    {
+        let FaultWorker {
+            reader,
+            seat,
+            kept: _,
+        } = self;
+        let Some(reader) = reader else { unreachable!() };
+        (reader, seat)
+    }
+
+    /// Places one page: enters once, and takes a frame of the first node of the page's list that
+    /// has one, by the published plan that it sees. It waits for nobody and takes no memory. The
+    /// pools must be those of the seat.
+    ///
+    /// # Errors
+    /// `NoView` where the entry was refused; then `BadCpu`, `Unmapped` and `Exhausted`, with the
+    /// plan's version. In none of them a frame is taken.
+    pub fn fault(&mut self, pools: &Pools, request: Request) -> Result<Placement, FaultRefusal>
+        requires { self.old.seat.table ≡ pools.now.table }
+        ensures fault { Faults pools.now.frames request
+            (parts_of self.old) (parts_of self.new) result }
+        ensures table { self.new.seat.table ≡ self.old.seat.table }
+        ensures kept { (self.new.kept ≡ self.old.kept) × (self.new.room ≡ self.old.room) }
+    {
+        let Some(reader) = self.reader.take() else {
+            unreachable!()
+        };
+        let (reader, answer) = fault_by(reader, pools, &mut self.seat, request);
+        self.reader = Some(reader);
+        answer
+    }
+
+    /// Places `pages` pages from page `first` on, which the task touches from processors of the
+    /// node `cpu`: enters once, and places all pages by this one plan. Their placements are
+    /// appended in the order of the pages. The answer is the plan's version. It waits for nobody.
+    /// The pools must be those of the seat.
+    ///
+    /// # Errors
+    /// `NoView` where the entry was refused; then `BadCpu`, `Unmapped` where a page isn't mapped,
+    /// and `NoMemory`, in each of which nothing is taken; and `Exhausted` where for some page no
+    /// frame was found: the pages before it are placed. The span is judged before any memory is
+    /// asked for.
+    pub fn fault_span(
+        &mut self,
+        alloc: Global,
+        pools: &Pools,
+        task: u32,
+        cpu: u32,
+        first: u64,
+        pages: usize,
+        out: &mut Vec<Placement>,
+    ) -> Result<u64, SpanRefusal>
+        requires { self.old.seat.table ≡ pools.now.table }
+        ensures fault { FaultsOnSpan pools.now.frames
+            (record { task = task; cpu = cpu; first = first; pages = pages })
+            (parts_of self.old) (parts_of self.new) out.old.items out.new.items result }
+        ensures table { self.new.seat.table ≡ self.old.seat.table }
+        ensures kept { (self.new.kept ≡ self.old.kept) × (self.new.room ≡ self.old.room) }
+    {
+        let Some(reader) = self.reader.take() else {
+            unreachable!()
+        };
+        let span = Span {
+            task,
+            cpu,
+            first,
+            pages,
+        };
+        let (reader, answer) = fault_span_by(reader, alloc, pools, &mut self.seat, span, out);
+        self.reader = Some(reader);
+        answer
+    }
+
+    /// Whether the worker's seat holds the frame of the placement.
+    pub fn owns(&self, placement: &Placement) -> bool
+        ensures { IsTrue result ↔ Holds self.now.seat.held placement.now.frame }
+    {
+        self.seat.holds(&placement.frame)
+    }
+
+    /// Gives up the frame of the placement, and no other. It must be one that the worker's seat
+    /// holds, as `owns` tells.
+    pub fn release(&mut self, pools: &Pools, placement: Placement)
+        requires table { self.old.seat.table ≡ pools.now.table }
+        requires owned { Holds self.old.seat.held placement.frame }
+        ensures reader { self.new.reader ≡ self.old.reader }
+        ensures table { self.new.seat.table ≡ self.old.seat.table }
+        ensures held { self.new.seat.held
+            ≡ without placement.frame.node placement.frame.number self.old.seat.held }
+        ensures step { self.new.seat.log ≡ Gave placement.frame ∷ self.old.seat.log }
+        ensures kept { (self.new.kept ≡ self.old.kept) × (self.new.room ≡ self.old.room) }
+    {
+        pools.give(&mut self.seat, placement.frame);
+    }
+
+    /// Keeps answers from now on, as many as there is room for.
+    pub(crate) fn keep(&mut self, answers: Vec<Answer>)
+        requires { answers.items ≡ [] }
+        ensures same { parts_of self.new ≡ parts_of self.old }
+        ensures room { (self.new.kept ≡ []) × (self.new.room ≡ vec_capacity answers) }
+    {
+        self.kept = Some(answers);
+    }
+
+    /// Keeps one answer more.
+    pub(crate) fn note(&mut self, answer: Answer)
+        requires { length self.old.kept < self.old.room }
+        ensures same { parts_of self.new ≡ parts_of self.old }
+        ensures kept { self.new.kept ≡ self.old.kept ++ answer ∷ [] }
+        ensures room { self.old.room ≤ self.new.room }
+    {
+        let Some(answers) = &mut self.kept else {
+            unreachable!()
+        };
+        let Ok(()) = answers.push(answer) else {
+            unreachable!()
+        };
+    }
+
+    /// Turns the answers round, so that the first one is handed out first.
+    pub(crate) fn turn_round(&mut self)
+        ensures same { parts_of self.new ≡ parts_of self.old }
+        ensures kept { self.new.kept ≡ reverse self.old.kept }
+    {
+        if let Some(answers) = &mut self.kept {
+            answers.reverse();
+        }
+    }
+
+    /// Hands out the last answer.
+    pub(crate) fn hand_out(&mut self) -> Option<Answer>
+        ensures same { parts_of self.new ≡ parts_of self.old }
+        ensures kept { MatchOption result ((self.old.kept ≡ []) × (self.new.kept ≡ []))
+            (λ answer. self.old.kept ≡ self.new.kept ++ answer ∷ []) }
+    {
+        match &mut self.kept {
+            Some(answers) => answers.pop(),
+            None => None,
+        }
+    }
+
+    /// Keeps no answers any more, and gives their room back.
+    pub(crate) fn keep_nothing(&mut self)
+        ensures same { parts_of self.new ≡ parts_of self.old }
+        ensures nothing { KeepsNothing self.new }
+    {
+        self.kept = None;
+    }
+}
