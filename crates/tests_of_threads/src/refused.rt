@@ -1,0 +1,106 @@
+//! Calls of which one growth is refused. The program `tests/refused-growths/run-built` plays each of
+//! these tests once for every growth between its two marks, under a library that refuses that one;
+//! run by itself, none is refused.
+ghost use Rattle.std.specs.Prelude.{◌≡◌};
+
+use crate::setting::{Seen, desk_for, look, map_one, prefer};
+use numa_publish::{Desk, DeskName, SharedDesk, SubmitRefusal};
+use numa_space::{PlaceRefusal, Refusal};
+use std::alloc::Global;
+use std::marker::Brand;
+use std::process::Abort;
+use std::sync::Wait;
+
+/// How many bytes a mark allocates: a size that nothing else here has.
+const MARK: usize = 1_000_003;
+
+/// What lies between two marks is what growths are refused of.
+fn mark(rt: &impl Abort, alloc: Global) {
+    drop(Vec::<u8>::with_capacity(alloc, MARK).expect(rt, "memory"));
+}
+
+/// A desk with two commands pending: a map, and `prefer:1` for task 1.
+fn desk_with_pending(rt: &(impl Wait + Abort), alloc: Global) -> Desk {
+    let mut desk = desk_for(rt, alloc, 2);
+    assert_eq!(rt; desk.accept(&map_one()), Ok(1));
+    assert_eq!(rt; desk.accept(&prefer(rt, 1)), Ok(2));
+    desk
+}
+
+/// What a new reader sees.
+fn seen_on(rt: &impl Abort, desk: &mut Desk) -> Option<Seen> {
+    look(desk.reader().expect(rt, "a place")).1
+}
+
+#[test]
+fn publish(rt: HostRuntime) {
+    let mut desk = desk_with_pending(&rt, rt.alloc());
+    mark(&rt, rt.alloc());
+    let answer = desk.publish(&rt).ok().map(|receipt| receipt.version());
+    mark(&rt, rt.alloc());
+    let seen = seen_on(&rt, &mut desk);
+    let left = (desk.published(), desk.pending());
+    let later = desk.publish(&rt).ok().map(|receipt| receipt.version());
+    let newest = seen_on(&rt, &mut desk);
+    desk.end(&rt);
+    match answer {
+        Some(version) => {
+            assert_eq!(rt; (version, left), (2, (2, 0)));
+            assert_eq!(rt; seen, Some((2, Ok((1, 0)))));
+        }
+        None => {
+            assert_eq!(rt; left, (0, 2));
+            assert_eq!(rt; seen, Some((0, Err(PlaceRefusal::Unmapped))));
+        }
+    }
+    assert_eq!(rt; (later, newest), (Some(2), Some((2, Ok((1, 0))))));
+}
+
+/// Submits `prefer:0` to the desk under a lock: the answer, and the desk.
+fn submitted<K: DeskName>(
+    rt: &(impl Wait + Abort),
+    alloc: Global,
+    desk: Desk,
+) -> (Result<u64, SubmitRefusal>, Desk)
+    requires { desk.desk ≡ K.desk }
+{
+    let shared = SharedDesk::<K>::new(desk);
+    let command = prefer(rt, 0);
+    mark(rt, alloc);
+    let answer = match shared.submit(rt, &command) {
+        Ok(receipt) => Ok(receipt.version()),
+        Err(refusal) => Err(refusal),
+    };
+    mark(rt, alloc);
+    (answer, shared.into_desk())
+}
+
+#[test]
+fn submit(rt: HostRuntime) {
+    let desk = desk_with_pending(&rt, rt.alloc());
+    let (answer, mut desk) = submitted::<Brand>(&rt, rt.alloc(), desk);
+    let seen = seen_on(&rt, &mut desk);
+    let left = (desk.published(), desk.pending());
+    let later = desk.publish(&rt).ok().map(|receipt| receipt.version());
+    let newest = seen_on(&rt, &mut desk);
+    desk.end(&rt);
+    let unpublished = Some((0, Err(PlaceRefusal::Unmapped)));
+    let (all, last) = match answer {
+        Ok(version) => {
+            assert_eq!(rt; (version, left, seen), (3, (3, 0), Some((3, Ok((0, 1))))));
+            (3, (0, 1))
+        }
+        Err(SubmitRefusal::Held(version)) => {
+            assert_eq!(rt; (version, left, seen), (3, (0, 3), unpublished));
+            (3, (0, 1))
+        }
+        Err(SubmitRefusal::Refused(refusal)) => {
+            assert_eq!(rt;
+                (refusal, left, seen),
+                (Refusal::NoMemory, (0, 2), unpublished)
+            );
+            (2, (1, 0))
+        }
+    };
+    assert_eq!(rt; (later, newest), (Some(all), Some((all, Ok(last)))));
+}

@@ -1,0 +1,85 @@
+//! The machine, the commands and the looks of the tests.
+ghost use Rattle.std.specs.Prelude.{◌≡◌, ◌≤◌};
+
+use numa_machine::Machine;
+use numa_mask::{NodeId, NodeMask};
+use numa_mode::PolicySpec;
+use numa_plan::Steps;
+use numa_publish::{Desk, PlanReader};
+use numa_space::{Command, Limits, PlaceRefusal};
+use std::alloc::Global;
+use std::process::Abort;
+use std::sync::Wait;
+
+/// The set of one node.
+pub fn node(number: u8) -> NodeMask {
+    let mut set = NodeMask::empty();
+    if let Some(id) = NodeId::new(number) {
+        set.insert(id);
+    }
+    set
+}
+
+/// A desk of two nodes with memory, 8 frames each, 20 apart.
+pub fn desk_for(rt: &(impl Wait + Abort), alloc: Global, readers: u32) -> Desk
+    requires some { 1 ≤ readers }
+    requires few { readers ≤ 64 }
+{
+    let mut memory = node(0);
+    if let Some(id) = NodeId::new(1) {
+        memory.insert(id);
+    }
+    let machine = Machine::new(alloc, 2, memory, &[10, 20, 20, 10], &[8, 8]).expect(
+        rt,
+        "a machine",
+    );
+    let limits = Limits::new(65_536, 1_024, 4_294_967_295).expect(rt, "limits");
+    Desk::new(rt, alloc, machine, limits, readers).expect(rt, "memory")
+}
+
+/// Maps page 0x10.
+pub fn map_one() -> Command {
+    Command::Map {
+        start: 0x10000,
+        length: 0x1000,
+        offset: 0,
+    }
+}
+
+/// Task 1 prefers a node.
+pub fn prefer(rt: &impl Abort, number: u8) -> Command {
+    Command::SetTask {
+        task: 1,
+        spec: PolicySpec::from_raw(1, node(number)).expect(rt, "a policy"),
+    }
+}
+
+/// Binds a page that isn't mapped.
+pub fn bind_a_hole(rt: &impl Abort) -> Command {
+    Command::Mbind {
+        start: 0x20000,
+        length: 0x1000,
+        spec: PolicySpec::from_raw(2, node(1)).expect(rt, "a policy"),
+    }
+}
+
+/// What a look saw: the version, and the first and the last node of the list of task 1 for page
+/// 0x10 on node 0.
+pub type Seen = (u64, Result<(u8, u8), PlaceRefusal>);
+
+/// Looks once. None is an `enter` that handed the reader back.
+pub fn look(reader: PlanReader) -> (PlanReader, Option<Seen>)
+    ensures { result.0.desk ≡ reader.desk }
+{
+    match reader.enter() {
+        Ok(view) => {
+            let version = view.version();
+            let row = match view.choice(1, 0x10, 0, &mut Steps::new()) {
+                Ok(row) => Ok((row[0], row[row.len() - 1])),
+                Err(refusal) => Err(refusal),
+            };
+            (view.leave(), Some((version, row)))
+        }
+        Err(reader) => (reader, None),
+    }
+}

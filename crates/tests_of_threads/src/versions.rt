@@ -1,0 +1,58 @@
+//! Versions on a desk that one thread has.
+ghost use Rattle.std.specs.Prelude.{◌≡◌};
+
+use crate::setting::{bind_a_hole, desk_for, look, map_one, prefer};
+use numa_publish::{Desk, DeskName, SharedDesk, SubmitRefusal};
+use numa_space::{PlaceRefusal, Refusal};
+use std::marker::Brand;
+use std::process::Abort;
+use std::sync::Wait;
+
+#[test]
+fn on_a_desk(rt: HostRuntime) {
+    let mut desk = desk_for(&rt, rt.alloc(), 2);
+    let reader = desk.reader().expect(&rt, "a place");
+    assert_eq!(rt; desk.accept(&map_one()), Ok(1));
+    assert_eq!(rt; desk.accept(&prefer(&rt, 1)), Ok(2));
+    let (reader, before) = look(reader);
+    assert_eq!(rt; before, Some((0, Err(PlaceRefusal::Unmapped))));
+    assert_eq!(rt; (desk.pending(), desk.published()), (2, 0));
+    let receipt = desk.publish(&rt).expect(&rt, "memory");
+    let (reader, after) = look(reader.learn(&receipt));
+    assert_eq!(rt; (receipt.version(), after), (2, Some((2, Ok((1, 0))))));
+    let again = desk.publish(&rt).expect(&rt, "memory");
+    assert_eq!(rt;
+        (again.version(), desk.pending(), desk.published()),
+        (2, 0, 2)
+    );
+    desk.end(&rt);
+    let (_reader, gone) = look(reader);
+    assert_eq!(rt; gone, None);
+}
+
+/// The same desk under a lock, with two commands published.
+fn submits<K: DeskName>(rt: &(impl Wait + Abort), desk: Desk)
+    requires { desk.desk ≡ K.desk }
+{
+    let shared = SharedDesk::<K>::new(desk);
+    let third = shared
+        .submit(rt, &prefer(rt, 0))
+        .ok()
+        .map(|receipt| receipt.version());
+    let refused = shared.submit(rt, &bind_a_hole(rt)).err();
+    let desk = shared.into_desk();
+    let left = (desk.published(), desk.pending());
+    desk.end(rt);
+    assert_eq!(rt; third, Some(3));
+    assert_eq!(rt; refused, Some(SubmitRefusal::Refused(Refusal::Hole)));
+    assert_eq!(rt; left, (3, 0));
+}
+
+#[test]
+fn through_a_shared_desk(rt: HostRuntime) {
+    let mut desk = desk_for(&rt, rt.alloc(), 2);
+    assert_eq!(rt; desk.accept(&map_one()), Ok(1));
+    assert_eq!(rt; desk.accept(&prefer(&rt, 1)), Ok(2));
+    let _receipt = desk.publish(&rt).expect(&rt, "memory");
+    submits::<Brand>(&rt, desk);
+}

@@ -1,0 +1,103 @@
+//! For which views a publish waits.
+use crate::setting::{desk_for, look, map_one, prefer};
+use numa_publish::{Desk, PlanReader};
+use std::process::Abort;
+use std::rt::Clock;
+use std::sync::Wait;
+use std::sync::atomic::{AtomicU64, Ordering};
+use std::thread;
+use std::thread::{Threads, join};
+use std::time::Duration;
+
+/// A desk with version 1 published.
+fn published_desk(rt: &(impl Wait + Abort), desk: &mut Desk) {
+    assert_eq!(rt; desk.accept(&map_one()), Ok(1));
+    assert_eq!(rt; desk.publish(rt).expect(rt, "memory").version(), 1);
+}
+
+#[test]
+fn two_views_at_once(rt: HostRuntime) {
+    let mut desk = desk_for(&rt, rt.alloc(), 3);
+    published_desk(&rt, &mut desk);
+    let first = desk.reader().expect(&rt, "a place");
+    let second = desk.reader().expect(&rt, "a place");
+    let third = desk.reader().expect(&rt, "a place");
+    let first = first.enter().ok().expect(&rt, "an entry");
+    let second = second.enter().ok().expect(&rt, "an entry");
+    assert_eq!(rt; desk.accept(&prefer(&rt, 1)), Ok(2));
+    // Both views are of the newest version, so this waits for neither.
+    let receipt = desk.publish(&rt).expect(&rt, "memory");
+    let seen = look(third).1;
+    let held = (first.version(), second.version());
+    first.leave();
+    second.leave();
+    desk.end(&rt);
+    assert_eq!(rt; (receipt.version(), held), (2, (1, 1)));
+    assert_eq!(rt; seen, Some((2, Ok((1, 0)))));
+}
+
+/// Waits until the flag is set.
+fn wait_for<R: Wait>(rt: &R, flag: &AtomicU64) {
+    for _ in rt.forever() {
+        if flag.load(Ordering::SeqCst) == 1 {
+            return;
+        }
+        thread::yield_now();
+    }
+}
+
+/// What the two threads tell each other: that the view is held, that one publish returned beside
+/// it, and that the view is about to leave.
+#[derive(Drop)]
+struct Flags {
+    held: AtomicU64,
+    published: AtomicU64,
+    leaves: AtomicU64,
+}
+
+/// Holds a view of version 1 until a publish has returned, and a while longer. The version.
+fn hold<R: Wait + Abort + Clock>(rt: &R, reader: PlanReader, flags: &Flags) -> u64 {
+    let view = reader.enter().ok().expect(rt, "an entry");
+    flags.held.store(1, Ordering::SeqCst);
+    wait_for(rt, &flags.published);
+    thread::sleep(rt, Duration::from_millis(30));
+    flags.leaves.store(1, Ordering::SeqCst);
+    let version = view.version();
+    view.leave();
+    version
+}
+
+/// Publishes twice beside the view: whether it was about to leave when each publish returned.
+fn publish_twice<R: Wait + Abort>(rt: &R, desk: &mut Desk, flags: &Flags) -> (u64, u64) {
+    wait_for(rt, &flags.held);
+    let _ = desk.accept(&prefer(rt, 1));
+    let _ = desk.publish(rt);
+    let first = flags.leaves.load(Ordering::SeqCst);
+    flags.published.store(1, Ordering::SeqCst);
+    let _ = desk.accept(&prefer(rt, 0));
+    let _ = desk.publish(rt);
+    (first, flags.leaves.load(Ordering::SeqCst))
+}
+
+#[test]
+fn a_view_that_leaves_after_a_while(rt: HostRuntime) {
+    let mut desk = desk_for(&rt, rt.alloc(), 2);
+    published_desk(&rt, &mut desk);
+    let reader = desk.reader().expect(&rt, "a place");
+    let flags = Flags {
+        held: AtomicU64::new(0),
+        published: AtomicU64::new(0),
+        leaves: AtomicU64::new(0),
+    };
+    let (handle, shared) = (&rt, &flags);
+    let writer = &mut desk;
+    let (version, (first, second)) = join(
+        handle,
+        move || hold(handle, reader, shared),
+        move || publish_twice(handle, writer, shared),
+    );
+    let published = desk.published();
+    desk.end(&rt);
+    assert_eq!(rt; (version, published), (1, 3));
+    assert_eq!(rt; (first, second), (0, 1));
+}
