@@ -1,10 +1,9 @@
 //! Looks beside a thread that submits.
 ghost use Rattle.std.specs.Prelude.{◌≡◌};
 
-use crate::setting::{Seen, desk_for, look, map_one, prefer};
+use crate::setting::{Seen, desk_for, look, map_one, prefer, wait_until};
 use numa_publish::{Desk, DeskName, PlanReader, SharedDesk};
 use numa_space::PlaceRefusal;
-use std::alloc::Global;
 use std::marker::Brand;
 use std::process::Abort;
 use std::sync::Wait;
@@ -17,12 +16,36 @@ const SUBMITS: u64 = 100;
 /// How many looks there are at least.
 const LOOKS: u64 = 1_000;
 
-/// Submits the map, then `prefer:0` and `prefer:1` in turn; `done` is 1 from then on. The last
-/// version.
+/// What the two threads tell each other: how many looks have ended, and that the last submit
+/// returned.
+#[derive(Drop)]
+struct Progress {
+    looks: AtomicU64,
+    done: AtomicU64,
+}
+
+/// Whether the submitting thread waits at this version until a look saw it: at the first three, and
+/// at each tenth.
+fn is_awaited(version: u64) -> bool {
+    version <= 3 || version % 10 == 0
+}
+
+/// How many versions it waits at: 1, 2, 3, 10, 20 and so on up to 100.
+const AWAITED: u64 = 13;
+
+/// Waits until a look that began after this call has ended: the first one that ends may have begun
+/// before, so the second.
+fn wait_for_a_look(rt: &impl Wait, progress: &Progress) {
+    let ended = progress.looks.load(Ordering::SeqCst);
+    wait_until(rt, &progress.looks, ended.saturating_add(2));
+}
+
+/// Submits the map, then `prefer:0` and `prefer:1` in turn, and waits for a look at each version
+/// that is awaited. The last version.
 fn submit_all<K: DeskName>(
     rt: &(impl Wait + Abort),
     desk: &SharedDesk<K>,
-    done: &AtomicU64,
+    progress: &Progress,
 ) -> u64 {
     let mut last = 0;
     for turn in 0..SUBMITS {
@@ -34,8 +57,11 @@ fn submit_all<K: DeskName>(
         if let Ok(receipt) = desk.submit(rt, &command) {
             last = receipt.version();
         }
+        if is_awaited(last) {
+            wait_for_a_look(rt, progress);
+        }
     }
-    done.store(1, Ordering::SeqCst);
+    progress.done.store(1, Ordering::SeqCst);
     last
 }
 
@@ -86,7 +112,7 @@ impl Tally {
 }
 
 /// Looks until the last submit has returned, and at least so many times.
-fn look_on(reader: PlanReader, done: &AtomicU64) -> (PlanReader, Tally) {
+fn look_on(reader: PlanReader, progress: &Progress) -> (PlanReader, Tally) {
     let mut held = reader;
     let mut tally = Tally {
         wrong: 0,
@@ -94,50 +120,47 @@ fn look_on(reader: PlanReader, done: &AtomicU64) -> (PlanReader, Tally) {
         newest: 0,
     };
     for looks in 0..u64::MAX {
-        if looks >= LOOKS && done.load(Ordering::SeqCst) == 1 {
+        if looks >= LOOKS && progress.done.load(Ordering::SeqCst) == 1 {
             break;
         }
         let (back, seen) = look(held);
         held = back;
         tally = tally.and(seen);
+        progress.looks.fetch_add(1, Ordering::SeqCst);
     }
     (held, tally)
 }
 
-/// One run beside each other. How many versions were seen.
-fn run<K: DeskName + Send + Sync, R: Threads + Wait + Abort + Sync>(rt: &R, desk: Desk) -> u64
+/// Looks beside the submits. The reader has learnt nothing, and sees each version that is awaited.
+fn run<K: DeskName + Send + Sync>(rt: &(impl Threads + Wait + Abort + Sync), desk: Desk)
     requires { desk.desk ≡ K.desk }
 {
     let shared = SharedDesk::<K>::new(desk);
     let lock = &shared;
-    let done = AtomicU64::new(0);
-    let flag = &done;
+    let progress = Progress {
+        looks: AtomicU64::new(0),
+        done: AtomicU64::new(0),
+    };
+    let told = &progress;
     let reader = shared.reader(rt).expect(rt, "a place");
     let ((reader, tally), last) = join(
         rt,
-        move || look_on(reader, flag),
-        move || submit_all(rt, lock, flag),
+        move || look_on(reader, told),
+        move || submit_all(rt, lock, told),
     );
     let (_reader, newest) = look(reader);
     shared.into_desk().end(rt);
     assert_eq!(rt; (last, tally.wrong), (SUBMITS, 0));
     assert_eq!(rt; newest, Some((SUBMITS, Ok((0, 1)))));
-    tally.versions
-}
-
-/// One run on a desk of its own.
-fn run_once<R: Threads + Wait + Abort + Sync>(rt: &R, alloc: Global) -> u64 {
-    let desk = desk_for(rt, alloc, 2);
-    run::<Brand, R>(rt, desk)
+    assert!(rt;
+        tally.versions >= AWAITED,
+        "saw {} versions",
+        tally.versions
+    );
 }
 
 #[test]
 fn a_second_thread(rt: HostRuntime) {
-    let mut versions = 0;
-    for _ in 0..10 {
-        if versions < 3 {
-            versions = run_once(&rt, rt.alloc());
-        }
-    }
-    assert!(rt; versions >= 3, "saw {versions} versions");
+    let desk = desk_for(&rt, rt.alloc(), 2);
+    run::<Brand>(&rt, desk);
 }

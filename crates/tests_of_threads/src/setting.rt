@@ -10,6 +10,8 @@ use numa_space::{Command, Limits, PlaceRefusal};
 use std::alloc::Global;
 use std::process::Abort;
 use std::sync::Wait;
+use std::sync::atomic::{AtomicU64, Ordering};
+use std::thread;
 
 /// The set of one node.
 pub fn node(number: u8) -> NodeMask {
@@ -81,5 +83,15 @@ pub fn look(reader: PlanReader) -> (PlanReader, Option<Seen>)
             (view.leave(), Some((version, row)))
         }
         Err(reader) => (reader, None),
+    }
+}
+
+/// Waits until the number is at least this. Another thread adds to it.
+pub fn wait_until<R: Wait>(rt: &R, number: &AtomicU64, least: u64) {
+    for _ in rt.forever() {
+        if number.load(Ordering::SeqCst) >= least {
+            return;
+        }
+        thread::yield_now();
     }
 }

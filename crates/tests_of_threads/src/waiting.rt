@@ -1,5 +1,5 @@
 //! For which views a publish waits.
-use crate::setting::{desk_for, look, map_one, prefer};
+use crate::setting::{desk_for, look, map_one, prefer, wait_until};
 use numa_publish::{Desk, PlanReader};
 use std::process::Abort;
 use std::rt::Clock;
@@ -36,16 +36,6 @@ fn two_views_at_once(rt: HostRuntime) {
     assert_eq!(rt; seen, Some((2, Ok((1, 0)))));
 }
 
-/// Waits until the flag is set.
-fn wait_for<R: Wait>(rt: &R, flag: &AtomicU64) {
-    for _ in rt.forever() {
-        if flag.load(Ordering::SeqCst) == 1 {
-            return;
-        }
-        thread::yield_now();
-    }
-}
-
 /// What the two threads tell each other: that the view is held, that one publish returned beside
 /// it, and that the view is about to leave.
 #[derive(Drop)]
@@ -59,7 +49,7 @@ struct Flags {
 fn hold<R: Wait + Abort + Clock>(rt: &R, reader: PlanReader, flags: &Flags) -> u64 {
     let view = reader.enter().ok().expect(rt, "an entry");
     flags.held.store(1, Ordering::SeqCst);
-    wait_for(rt, &flags.published);
+    wait_until(rt, &flags.published, 1);
     thread::sleep(rt, Duration::from_millis(30));
     flags.leaves.store(1, Ordering::SeqCst);
     let version = view.version();
@@ -69,7 +59,7 @@ fn hold<R: Wait + Abort + Clock>(rt: &R, reader: PlanReader, flags: &Flags) -> u
 
 /// Publishes twice beside the view: whether it was about to leave when each publish returned.
 fn publish_twice<R: Wait + Abort>(rt: &R, desk: &mut Desk, flags: &Flags) -> (u64, u64) {
-    wait_for(rt, &flags.held);
+    wait_until(rt, &flags.held, 1);
     let _ = desk.accept(&prefer(rt, 1));
     let _ = desk.publish(rt);
     let first = flags.leaves.load(Ordering::SeqCst);

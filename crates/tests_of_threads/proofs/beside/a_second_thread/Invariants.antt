@@ -1,4 +1,4 @@
-use Rattle.tests_of_threads.proofs.beside.run_once.Given as goal
+use Rattle.tests_of_threads.proofs.beside.a_second_thread.Given as goal
 
 -- the desk that is handed over
 abbrev pub ghosts-run : goal.ghosts-run
