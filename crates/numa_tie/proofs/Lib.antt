@@ -1,0 +1,3 @@
+pub mod Current
+pub mod Meeting
+pub mod Owning
