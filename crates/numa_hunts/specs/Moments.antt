@@ -1,0 +1,27 @@
+-- Legal moments of the core's world, one at a time, and the histories that are published in it.
+use Rattle.std.specs.Prelude.{◌≡◌, true, Result, List, length}
+use Rattle.numa_space.specs.declared.command.Command.{Command}
+use Rattle.numa_core.specs.World.{Setup, World, first_commands, is_published}
+use Rattle.numa_core.specs.Steps.{IsAnswer, MayTake, world_after}
+use Rattle.numa_core.specs.Runs.{Moment}
+use Rattle.numa_core.specs.declared.event.CoreRefusal.{CoreRefusal}
+use Rattle.numa_core.specs.declared.event.Event.{Event}
+use Rattle.numa_core.specs.declared.event.Reply.{Reply}
+
+-- the moment may come next: its version may be taken, and the event may have this answer
+abbrev pub IsMoment : Setup → World → Moment → Type 0
+IsMoment s world m =
+    MayTake world m.version m.event × IsAnswer s world m.version m.event m.answer
+
+-- the world after the moment
+abbrev pub after_moment : Setup → World → Moment → World
+after_moment s world m = world_after s world m.version m.event m.answer
+
+-- the moment of an event that takes no version
+abbrev pub moment_of : Event → Result Reply CoreRefusal → Moment
+moment_of event answer = record { event = event; version = 0; answer = answer }
+
+-- the history is that of a published version of the world
+pub record IsPublishedIn (world : World) (history : List Command) : Type 0 where
+  pub published : is_published world (length history) ≡ true
+  pub commands : first_commands (length history) world.history ≡ history
