@@ -1,3 +1,7 @@
 pub mod Current
 pub mod Meeting
 pub mod Owning
+pub mod Moving
+pub mod Allowed
+pub mod Keeping
+pub mod Handing

@@ -19,7 +19,7 @@ use Rattle.numa_tie.specs.Tie.{OwnsWhatIsHeld}
 frame_turned : (f : Frame) (n k : ℕ) → is_core_frame f n k ≡ is_frame f n k
 frame_turned f n k = λ i. eq_turned n f.node i && eq_turned k f.number i
 
-at_bound : (views : List View) (id : ℕ) (v : View) → get_elem? views id ≡ some v → id < length views
+pub at_bound : (views : List View) (id : ℕ) (v : View) → get_elem? views id ≡ some v → id < length views
 at_bound [] id v e = absurd (cc)
 at_bound (x ∷ xs) zero v e = omega arith
 at_bound (x ∷ xs) (suc id) v e = let r = at_bound xs id v e in omega arith

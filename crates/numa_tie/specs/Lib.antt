@@ -1,1 +1,3 @@
 pub mod Tie
+pub mod Moves
+pub mod Moments

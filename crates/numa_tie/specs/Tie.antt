@@ -1,12 +1,15 @@
 -- What seats and their steps are to the core: worker w of its world stands for seat w of the pools.
-use Rattle.std.specs.Prelude.{◌≡◌, ℕ, ◌<◌, List, Some, slice_get, ◌↔◌}
+use Rattle.std.specs.Prelude.{◌≡◌, ℕ, ◌<◌, ◌≤◌, List, ◌∷◌, length, slice_index, Some, slice_get, ◌↔◌}
 use mathlib.Core.Option.{some}
 use lib.ListN.{get_elem?}
-use Rattle.numa_core.specs.World.{Setup, World, Hunt, current_rank}
+use Rattle.numa_core.specs.World.{Setup, World, Hunt, current_rank, hunt_of}
+use Rattle.numa_core.specs.Steps.{put}
 use Rattle.numa_pool.specs.declared.view.Entry.{Entry}
 use Rattle.numa_pool.specs.declared.view.View.{View}
 use Rattle.numa_pool.specs.Frames.{times}
+use Rattle.numa_pool.specs.Rule.{Counted}
 use Rattle.numa_pool.specs.Walk.{met}
+use Rattle.numa_tie.specs.Moves.{PoolState}
 
 -- each frame's owner is the seat that holds it
 abbrev pub OwnsWhatIsHeld : World → List View → Type 0
@@ -21,4 +24,21 @@ HasMet hunt es = (n k : ℕ) → hunt.met n k ≡ met es n k
 
 -- the hunt's current node is this one: it stands in the hunt's list at the current rank
 abbrev pub IsAt : Setup → Hunt → ℕ → Type 0
-IsAt s hunt n = (rank : ℕ) × (current_rank s hunt ≡ Some rank) × (slice_get hunt.nodes rank ≡ Some n)
+IsAt s hunt n =
+    (rank : ℕ) × (current_rank s hunt ≡ Some rank) × (slice_get hunt.nodes rank ≡ Some n)
+
+-- The world is tied to the pools: their rule holds, as the counts that each step keeps; each frame's owner is the seat
+-- that holds it; and each seat has a worker
+pub record IsTied (s : Setup) (world : World) (state : PoolState) : Type 0 where
+  pub few : (n : ℕ) → slice_index s.machine.frames n ≤ 4096
+  pub rule : Counted s.machine.frames state.words state.views
+  pub owners : OwnsWhatIsHeld world state.views
+  pub workers : length state.views ≤ s.workers
+
+-- each busy worker's hunt has met what its seat's steps since the Begin found taken
+abbrev pub HaveMet : World → (ℕ → List Entry) → Type 0
+HaveMet world since = (id : ℕ) (hunt : Hunt) → hunt_of world id ≡ Some hunt → HasMet hunt (since id)
+
+-- each seat's steps since its worker's Begin, after one more step of seat id
+abbrev pub noted : (ℕ → List Entry) → ℕ → Entry → ℕ → List Entry
+noted since id e = put since id (e ∷ since id)

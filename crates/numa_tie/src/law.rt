@@ -1,9 +1,11 @@
 //! What holds between the pools' walks and the core's hunts.
-ghost use Rattle.std.specs.Prelude.{◌≡◌, ℕ, ◌+◌, ◌*◌, ◌<◌, true, false, List, [], ◌∷◌, slice_index, slice_set, Option, Some, None};
+ghost use Rattle.std.specs.Prelude.{◌≡◌, ℕ, ◌+◌, ◌*◌, ◌<◌, ◌≤◌, true, List, [], ◌∷◌, length, slice_index, slice_set, Some, None};
 ghost use mathlib.Core.Option.{some};
 ghost use lib.ListN.{get_elem?};
-ghost use Rattle.numa_core.specs.Steps.{goes_on, going_on, with_owner};
-ghost use Rattle.numa_core.specs.World.{Setup, World, Hunt, owner_of, may_look, may_try, looked, missed};
+ghost use Rattle.numa_core.specs.Runs.{Moment, IsLegalRun, world_of};
+ghost use Rattle.numa_core.specs.Steps.{effect_of, goes_on, going_on, placement_of, put, with_owner};
+ghost use Rattle.numa_core.specs.World.{Setup, World, Hunt, opening, hunt_of, looked, may_look, may_try, missed, owner_of};
+ghost use Rattle.numa_core.specs.declared.event.Event.{Event};
 ghost use Rattle.numa_core.specs.declared.event.Reply.{Reply};
 ghost use Rattle.numa_machine.specs.declared.frame.Frame.{Frame};
 ghost use Rattle.numa_pool.specs.Frames.{Holds};
@@ -12,7 +14,11 @@ ghost use Rattle.numa_pool.specs.Steps.{tried, gave};
 ghost use Rattle.numa_pool.specs.Walk.{IsCurrent, IsNext, AllFull};
 ghost use Rattle.numa_pool.specs.declared.view.Entry.{Entry};
 ghost use Rattle.numa_pool.specs.declared.view.View.{View};
-ghost use Rattle.numa_tie.specs.Tie.{HasMet, IsAt, OwnsWhatIsHeld};
+ghost use Rattle.numa_space.specs.declared.request.Request.{Request};
+ghost use Rattle.numa_core.specs.Seats.{fresh};
+ghost use Rattle.numa_tie.specs.Moments.{IsMoment, MayBegin, WalksOn, event_of, handed, told};
+ghost use Rattle.numa_tie.specs.Moves.{PoolState, IsOpening, Joins, Makes, SeatHolds, Splits};
+ghost use Rattle.numa_tie.specs.Tie.{HasMet, HaveMet, IsAt, IsTied, OwnsWhatIsHeld, noted};
 
 /// Where a hunt has met what a walk's steps found taken, the walk's current node is the hunt's, and what the walk may do
 /// next the hunt may do. A hunt with a current node goes on; where each listed node is full it is over, and the reply is
@@ -56,4 +62,89 @@ pub fn owners_stay_holders()
         (f : Frame) → PoolRule frames words views
         → get_elem? views id ≡ some v → OwnsWhatIsHeld world views → Holds v.held f
         → OwnsWhatIsHeld (with_owner world f None) (slice_set views id (gave v f)) }
+{}
+
+/// A moment makes a legal run one longer, and leads to the world that the core's law says.
+pub fn moments_make_runs()
+    ensures { (s : Setup) (run : List Moment) (version : ℕ) (event : Event) (reply : Reply)
+        → IsLegalRun s run → IsMoment s (world_of s run) version event reply
+        → IsLegalRun s (told version event reply ∷ run)
+        × (world_of s (told version event reply ∷ run) ≡ effect_of s (world_of s run) version event) }
+{}
+
+/// A load of a word of the current node, by a seat whose worker hunts, is a Look of that worker.
+pub fn load_is_a_look()
+    ensures { (s : Setup) (world : World) (since : ℕ → List Entry) (old new : PoolState)
+        (id version n w x : ℕ) (hunt : Hunt)
+        → WalksOn s world since id hunt (Entry.Load n w x) old new
+        → IsMoment s world version (Event.Look id w) (goes_on s (looked s world w hunt)) }
+{}
+
+/// A try of a frame that may come next is a Try of the worker, and is answered as the seat found the bit: it wins the
+/// frame, or goes on without it.
+pub fn try_is_a_try()
+    ensures won { (s : Setup) (world : World) (since : ℕ → List Entry) (old new : PoolState)
+        (id version : ℕ) (f : Frame) (hunt : Hunt)
+        → WalksOn s world since id hunt (Entry.Won f) old new
+        → IsMoment s world version (Event.Try id f) (Reply.Won (placement_of s hunt f)) }
+    ensures lost { (s : Setup) (world : World) (since : ℕ → List Entry) (old new : PoolState)
+        (id version : ℕ) (f : Frame) (hunt : Hunt)
+        → WalksOn s world since id hunt (Entry.Lost f) old new
+        → IsMoment s world version (Event.Try id f) (goes_on s (missed f hunt)) }
+{}
+
+/// After a load or a try the world is tied to the pools as before, and each hunt has met what the steps found taken.
+pub fn walks_keep_the_tie()
+    ensures tied { (s : Setup) (world : World) (since : ℕ → List Entry) (old new : PoolState)
+        (id version : ℕ) (e : Entry) (hunt : Hunt) → WalksOn s world since id hunt e old new
+        → IsTied s (effect_of s world version (event_of id e)) new }
+    ensures met { (s : Setup) (world : World) (since : ℕ → List Entry) (old new : PoolState)
+        (id version : ℕ) (e : Entry) (hunt : Hunt) → WalksOn s world since id hunt e old new
+        → HaveMet (effect_of s world version (event_of id e)) (noted since id e) }
+{}
+
+/// Where its worker is idle, a return of a frame that the seat holds is a Give.
+pub fn return_is_a_give()
+    ensures moment { (s : Setup) (world : World) (old new : PoolState) (id version : ℕ) (f : Frame)
+        → IsTied s world old → hunt_of world id ≡ None → Makes (Entry.Gave f) id old new
+        → IsMoment s world version (Event.Give id f) Reply.Given }
+    ensures tied { (s : Setup) (world : World) (old new : PoolState) (id version : ℕ) (f : Frame)
+        → IsTied s world old → hunt_of world id ≡ None → Makes (Entry.Gave f) id old new
+        → IsTied s (effect_of s world version (Event.Give id f)) new }
+    ensures met { (s : Setup) (world : World) (since : ℕ → List Entry) (id version : ℕ) (f : Frame)
+        → hunt_of world id ≡ None → HaveMet world since
+        → HaveMet (effect_of s world version (Event.Give id f)) (noted since id (Entry.Gave f)) }
+{}
+
+/// A walk starts at a Begin of its seat's worker, which the pools take no step for: the hunt has the list of the version
+/// that it takes, and has met nothing.
+pub fn begin_starts_a_walk()
+    ensures moment { (s : Setup) (world : World) (id version : ℕ) (request : Request) (nodes : List ℕ)
+        → MayBegin s world id version request nodes
+        → IsMoment s world version (Event.Begin id request)
+        (goes_on s (fresh request version nodes)) }
+    ensures hunt { (s : Setup) (world : World) (id version : ℕ) (request : Request) (nodes : List ℕ)
+        → MayBegin s world id version request nodes
+        → hunt_of (effect_of s world version (Event.Begin id request)) id
+        ≡ going_on s (fresh request version nodes) }
+    ensures tied { (s : Setup) (world : World) (state : PoolState) (id version : ℕ)
+        (request : Request) → IsTied s world state
+        → IsTied s (effect_of s world version (Event.Begin id request)) state }
+    ensures met { (s : Setup) (world : World) (since : ℕ → List Entry) (id version : ℕ)
+        (request : Request) → HaveMet world since
+        → HaveMet (effect_of s world version (Event.Begin id request)) (put since id []) }
+{}
+
+/// Pools that are opened are tied to the opening world. A split changes nothing there. A join hands the second seat's
+/// frames over to the first: the core has no such event, so where there are any the world is tied no more.
+pub fn seats_come_and_go()
+    ensures opening { (s : Setup) (state : PoolState) → ((n : ℕ) → slice_index s.machine.frames n ≤ 4096)
+        → 0 < s.workers → IsOpening s.machine.frames state → IsTied s opening state }
+    ensures split { (s : Setup) (world : World) (old new : PoolState) (id : ℕ) → IsTied s world old
+        → length old.views < s.workers → Splits id old new → IsTied s world new }
+    ensures join { (s : Setup) (world : World) (old new : PoolState) (id other : ℕ)
+        → IsTied s world old → Joins id other old new → IsTied s (handed world other id) new }
+    ensures ended { (s : Setup) (world : World) (old new : PoolState) (id other : ℕ) (f : Frame)
+        → IsTied s world old → Joins id other old new → SeatHolds f other old
+        → ¬ (IsTied s world new) }
 {}
