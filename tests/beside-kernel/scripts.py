@@ -1,0 +1,133 @@
+#!/usr/bin/env python3
+"""Random scripts for one machine: scripts.py MACHINE FIRST COUNT [--without-weights]
+
+Each script begins with a line "script MACHINE-NUMBER", and is the same whenever it is asked for.
+Script K begins with the Kth of all modes with all flags, under which the allowed nodes change; then
+commands of every kind come, some of them faulty. A page is placed once at most for each time that it
+is mapped. OFFSET is that of private anonymous memory. Not proved."""
+
+import random
+import sys
+
+from machines import MACHINES, list_text
+
+PAGE = 4096
+FIRST_PAGE = 0x100000  # address 2^32
+PAGES = 40  # the scripts' pages
+FLAGS = ["", "=static", "=relative"]
+
+
+class Script:
+    def __init__(self, machine, seed, weights):
+        self.random = random.Random(f"{machine} {seed}")
+        self.nodes, self.memory, _ = MACHINES[machine]
+        self.weights = weights
+        self.turn = seed
+        self.mapped = {}  # page: whether it was placed
+        self.lines = []
+
+    def say(self, *words):
+        self.lines.append(" ".join(str(word) for word in words))
+
+    def some_nodes(self, most):
+        count = self.random.randint(1, max(1, most - 1))
+        return set(self.random.sample(range(most), min(count, most)))
+
+    def policy_in_turn(self):
+        modes = ["interleave", "bind", "prefer", "many"] + ["weighted"] * self.weights
+        mode = modes[self.turn // len(FLAGS) % len(modes)]
+        return f"{mode}{FLAGS[self.turn % len(FLAGS)]}:{list_text(self.some_nodes(self.nodes))}"
+
+    def policy(self):
+        modes = ["interleave", "bind", "prefer", "many", "local", "default"]
+        mode = self.random.choice(modes + ["weighted"] * 2 * self.weights)
+        flag = self.random.choice([""] + FLAGS)
+        if mode == "local" or mode == "default":
+            return mode + (flag if self.random.random() < 0.1 else "")
+        if self.random.random() < 0.02:
+            return f"{mode}=static=relative:0"
+        if mode == "prefer" and self.random.random() < 0.2:
+            return mode
+        most = self.nodes + (1 if self.random.random() < 0.1 else 0)
+        return f"{mode}{flag}:{list_text(self.some_nodes(most))}"
+
+    def span(self):
+        """A span; mostly inside what is mapped."""
+        first = self.random.randrange(PAGES)
+        if self.mapped and self.random.random() < 0.9:
+            first = self.random.choice(sorted(self.mapped))
+            length = 0 if self.random.random() < 0.05 else 1
+            while length and first + length in self.mapped and self.random.random() < 0.8:
+                length += 1
+        else:
+            length = self.random.randint(0, 6)
+        return first, length
+
+    def bytes(self, first, length):
+        return hex((FIRST_PAGE + first) * PAGE), hex(length * PAGE)
+
+    def map(self):
+        first, length = self.random.randrange(PAGES), self.random.randint(1, 12)
+        span = range(first, first + length)
+        self.say("map", *self.bytes(first, length), hex(FIRST_PAGE + first))
+        if not any(page in self.mapped for page in span):
+            self.mapped.update({page: False for page in span})
+
+    def unmap(self):
+        first, length = self.span()
+        self.say("unmap", *self.bytes(first, length))
+        for page in range(first, first + length):
+            self.mapped.pop(page, None)
+
+    def mbind(self):
+        self.say("mbind", *self.bytes(*self.span()), self.policy())
+
+    def home(self):
+        self.say("home", *self.bytes(*self.span()), self.random.randrange(self.nodes + 1))
+
+    def task(self):
+        self.say("task", self.random.randrange(4), self.policy())
+
+    def mems(self):
+        memory = sorted(self.memory)
+        chosen = self.random.sample(memory, self.random.randint(1, len(memory)))
+        self.say("mems", list_text(chosen))
+
+    def weight(self):
+        value = self.random.choice([1, 1, 2, 2, 3, 3, 4, 5, 5, 7, 9, 255, 0, 256])
+        self.say("weight", self.random.randrange(self.nodes), value)
+
+    def place(self):
+        waiting = [page for page, placed in self.mapped.items() if not placed]
+        if waiting:
+            page = self.random.choice(sorted(waiting))
+            self.mapped[page] = True
+            address = hex((FIRST_PAGE + page) * PAGE)
+            self.say("place", self.random.randrange(4), address, self.random.randrange(self.nodes))
+
+    def write(self):
+        kinds = [self.map] * 3 + [self.mbind] * 6 + [self.task] * 4 + [self.mems] * 3
+        kinds += [self.home, self.unmap, self.place, self.place]
+        kinds += [self.weight] * 2 * self.weights
+        self.map()
+        self.say("mbind", *self.bytes(min(self.mapped), 1), self.policy_in_turn())
+        self.turn += 1
+        self.say("task", 0, self.policy_in_turn())
+        self.mems()
+        for _ in range(self.random.randint(8, 24)):
+            self.random.choice(kinds)()
+        for _ in range(12):
+            self.place()
+        return self.lines
+
+
+def main():
+    machine, first, count = sys.argv[1], int(sys.argv[2]), int(sys.argv[3])
+    weights = "--without-weights" not in sys.argv
+    for number in range(first, first + count):
+        print(f"script {machine}-{number}")
+        print("\n".join(Script(machine, number, weights).write()))
+
+
+if __name__ == "__main__":
+    main()
