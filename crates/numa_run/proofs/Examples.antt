@@ -82,9 +82,17 @@ weight-too_large : answer_of true bound (line_of (codes "weight 0 256")) ≡ cod
 unfolding line_of keyword_of setting_keyword command_keyword question_keyword work_keyword number_of numeral_of fitting bound world served text_of
 weight-too_large = refl
 
-weight-without_memory : answer_of true bound (line_of (codes "weight 0 255")) ≡ codes "refused NoMemory ENOMEM\n"
-unfolding line_of keyword_of setting_keyword command_keyword question_keyword work_keyword number_of numeral_of fitting bound world served text_of
-weight-without_memory = refl
+weight-wants_no_memory : answer_of true bound (line_of (codes "weight 0 255")) ≡ codes "ok 3\n"
+unfolding line_of keyword_of setting_keyword command_keyword question_keyword work_keyword number_of numeral_of fitting digits bound world served text_of
+weight-wants_no_memory = refl
+
+task-without_memory : answer_of true bound (line_of (codes "task 1 local")) ≡ codes "refused NoMemory ENOMEM\n"
+unfolding line_of keyword_of setting_keyword command_keyword question_keyword work_keyword number_of numeral_of fitting policy_of mode_of form_of_two form_of_three item_of ends_of node_numeral_of digit_of bound world served text_of
+task-without_memory = refl
+
+default-wants_no_memory : answer_of true bound (line_of (codes "task 1 default")) ≡ codes "ok 3\n"
+unfolding line_of keyword_of setting_keyword command_keyword question_keyword work_keyword number_of numeral_of fitting policy_of mode_of form_of_two form_of_three item_of ends_of node_numeral_of digit_of digits bound world served text_of
+default-wants_no_memory = refl
 
 weight-accepted : answer_of false bound (line_of (codes "weight 0 255")) ≡ codes "ok 3\n"
 unfolding line_of keyword_of setting_keyword command_keyword question_keyword work_keyword number_of numeral_of fitting digits bound world served text_of

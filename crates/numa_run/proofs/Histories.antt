@@ -1,7 +1,11 @@
 -- Which events leave the accepted commands as they are, and what the core's answers come to.
 use Rattle.std.proofs.Common.{◌≡◌, ◌⊎◌, ℕ, zero, suc, Bool, true, false, Option, Some, None, Result, Ok, Err, refl, sym, ap, ◌∙◌, inl, inr, sum}
-use Rattle.std.specs.Prelude.{is_ok, is_some, option_and_then, if◌then◌else◌}
+use Rattle.std.proofs.lemmas.Bool.{ne_eqb}
+use Rattle.std.specs.Prelude.{not, is_ok, is_some, option_and_then, if◌then◌else◌}
 use Rattle.std.specs.Option.{option_map, option_map_or}
+use Rattle.numa_space.specs.Steps.{MayNeedRoom}
+use Rattle.numa_space.specs.declared.command.Command.{Command}
+use Rattle.numa_space.specs.declared.command.Command.TheVariants.{Map, Unmap, Mbind, SetTask, SetHome, SetWeight, SetMems}
 use Rattle.numa_space.specs.declared.refusal.Refusal.TheVariants.{NoMemory as NoRoom}
 use Rattle.numa_core.specs.World.{Setup, World, newest_published, owner_of, hunt_of}
 use Rattle.numa_core.specs.Steps.{answer_of, effect_of, world_after, because, refusal_of, reply_of, refused_or, IsAnswer, IsOutOfMemory}
@@ -14,7 +18,7 @@ use Rattle.numa_core.specs.declared.event.Reply.{Reply as CoreReply}
 use Rattle.numa_core.specs.declared.event.Reply.TheVariants.{Accepted}
 use Rattle.numa_core.specs.declared.event.CoreRefusal.{CoreRefusal}
 use Rattle.numa_core.specs.declared.event.CoreRefusal.TheVariants.{Command as Because}
-use Rattle.numa_run.specs.Work.{event_answer, unless_wanting, is_accepted, is_accept}
+use Rattle.numa_run.specs.Work.{event_answer, needs_room, unless_wanting, is_accepted, is_accept}
 
 -- ---- the accepted commands
 
@@ -79,11 +83,29 @@ touched-kept s world w request =
 
 -- ---- the core's answers
 
+-- a command that may need room does so by the definition
+room-needed : (command : Command) → MayNeedRoom command → needs_room command ≡ true
+room-needed (Map start bytes offset) room = refl
+room-needed (Unmap start bytes) room = ap not (ne_eqb bytes 0 room)
+room-needed (Mbind start bytes spec) room = ap not (ne_eqb bytes 0 room)
+room-needed (SetHome start bytes node) room = ap not (ne_eqb bytes 0 room)
+room-needed (SetTask task spec) room = ap not room
+room-needed (SetWeight node weight) room = absurd room
+room-needed (SetMems mask) room = absurd room
+
+-- where such a command is told to want memory, the answer is that of the definition
+wanting-told : (needs : Bool) → needs ≡ true → (o : Option CoreRefusal) → o ≡ None → (reply : CoreReply)
+    → Err (Because NoRoom) ≡ unless_wanting (if needs then Some (Because NoRoom) else None) (refused_or o reply)
+wanting-told needs is o none reply = rw (is, none) refl
+
 -- an answer that the core may give is that of the definition, whether a growth was refused or not
 pub answer-told : (s : Setup) (world : World) (event : Event) (answer : Result CoreReply CoreRefusal) → IsAnswer s world (newest_published world) event answer
     → (refused : Bool) × (answer ≡ event_answer refused s world event)
 answer-told s world event answer (inl is) = (false, is)
-answer-told s world (Accept command) answer (inr want) = (true, want.1.0 ∙ sym (ap (λ o. unless_wanting (Some (Because NoRoom)) (refused_or o (reply_of s world (newest_published world) (Accept command)))) want.0))
+answer-told s world (Accept command) answer (inr want) = (
+  true,
+  want.1.0 ∙ wanting-told (needs_room command) (room-needed command want.1.1) (refusal_of s world (newest_published world) (Accept command)) want.0 (reply_of s world (newest_published world) (Accept command)),
+)
 answer-told s world Publish answer (inr want) = (true, want.1)
 answer-told s world (Begin w request) answer (inr want) = absurd want.1
 answer-told s world (Look w word) answer (inr want) = absurd want.1

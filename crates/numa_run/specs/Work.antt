@@ -1,6 +1,9 @@
 -- What commands and the lines of workers are answered, and what they do. `refused` says whether a growth was refused while the line
 -- was served.
-use Rattle.std.specs.Prelude.{ℕ, Bool, true, false, Option, Some, None, Result, Ok, Err, is_some, is_ok, if◌then◌else◌}
+use Rattle.std.specs.Prelude.{ℕ, ◌==◌, Bool, true, false, not, Option, Some, None, Result, Ok, Err, is_some, is_ok, if◌then◌else◌}
+use Rattle.numa_mode.specs.Policy.{is_default}
+use Rattle.numa_space.specs.declared.command.Command.{Command}
+use Rattle.numa_space.specs.declared.command.Command.TheVariants.{Map, Unmap, Mbind, SetTask, SetHome, SetWeight, SetMems}
 use Rattle.numa_space.specs.declared.refusal.Refusal.TheVariants.{NoMemory as NoRoom}
 use Rattle.numa_core.specs.World.{Setup, World, newest_published}
 use Rattle.numa_core.specs.Steps.{answer_of, world_after}
@@ -75,9 +78,19 @@ is_accept (Look w word) = false
 is_accept (Try w frame) = false
 is_accept (Give w frame) = false
 
--- the refusal by which an event tells want of memory, where it wants any
+-- a command that may need room for a range or for a task's policy
+abbrev pub needs_room : Command → Bool
+needs_room (Map start bytes offset) = true
+needs_room (Unmap start bytes) = not (bytes == 0)
+needs_room (Mbind start bytes spec) = not (bytes == 0)
+needs_room (SetHome start bytes node) = not (bytes == 0)
+needs_room (SetTask task spec) = not (is_default spec)
+needs_room (SetWeight node weight) = false
+needs_room (SetMems mask) = false
+
+-- the refusal by which an event tells want of memory, where it may want any
 abbrev pub want_of : Event → Option CoreRefusal
-want_of (Accept command) = Some (Because NoRoom)
+want_of (Accept command) = if needs_room command then Some (Because NoRoom) else None
 want_of Publish = Some NoMemory
 want_of (Begin w request) = None
 want_of (Look w word) = None
