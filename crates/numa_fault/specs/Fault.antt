@@ -34,14 +34,15 @@ refused_once r = record r { enters = r.enters + 1; refused = r.refused + 1 }
 
 -- ---- the seat
 
--- The steps that the seat gained are a walk of these nodes, of which none stands twice. No word is
--- loaded twice in it and no frame is tried twice. The frames held gain exactly the one that was
--- won, if one was
+-- The steps that the seat gained are a walk of these nodes, of which none stands twice, and it made
+-- no other. No word is loaded twice in it and no frame is tried twice. The frames held gain exactly
+-- the one that was won, if one was
 pub record Walks (frames nodes : List ℕ) (won : Option Frame) (before after : SeatView) : Type 0 where
   pub table : after.table ≡ before.table
   pub distinct : IsDistinct nodes
   pub steps : (es : List Entry) × (after.log ≡ es ++ before.log)
       × IsWalk frames nodes won es × LoadsOnce es × TriesOnce es
+  pub no_other : after.unlogged ≡ before.unlogged
   pub held : after.held ≡ gained won before.held
 
 -- ---- one page

@@ -16,6 +16,7 @@ pub(crate) fn take_along(pools: &Pools, seat: &mut PoolSeat, nodes: &[u8]) -> Op
     ensures table { seat.new.table ≡ seat.old.table }
     ensures walks { (es : List Entry) × (seat.new.log ≡ es ++ seat.old.log)
         × WalksInOrder pools.now.frames nodes.now (frame_in result) es }
+    ensures no_other { seat.new.unlogged ≡ seat.old.unlogged }
     ensures held { seat.new.held ≡ gained (frame_in result) seat.old.held }
     ensures rank { IfSome result (λ found. slice_get nodes.now found.0 ≡ Some found.1.node) }
     ensures fresh { IfSome result (λ found. times found.1.node found.1.number seat.old.held ≡ 0) }

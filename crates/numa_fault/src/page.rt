@@ -36,6 +36,7 @@ fn take_first_or_behind(
     ensures walks { (es : List Entry) × (seat.new.log ≡ es ++ seat.old.log)
         × WalksInOrder pools.now.frames
         (list_of view.now.desk.machine view.now.history request) (frame_in result) es }
+    ensures no_other { seat.new.unlogged ≡ seat.old.unlogged }
     ensures held { seat.new.held ≡ gained (frame_in result) seat.old.held }
     ensures rank { IfSome result (λ found.
         slice_get (list_of view.now.desk.machine view.now.history request) found.0

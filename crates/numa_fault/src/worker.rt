@@ -149,6 +149,7 @@ impl FaultWorker {
         ensures held { self.new.seat.held
             ≡ without placement.frame.node placement.frame.number self.old.seat.held }
         ensures step { self.new.seat.log ≡ Gave placement.frame ∷ self.old.seat.log }
+        ensures no_other { self.new.seat.unlogged ≡ self.old.seat.unlogged }
         ensures kept { (self.new.kept ≡ self.old.kept) × (self.new.room ≡ self.old.room) }
     {
         pools.give(&mut self.seat, placement.frame);

@@ -23,6 +23,7 @@ loop-rank-preserved c =
     let h = c.in_default.ensures.walk in
     record {
       table = c.in_default.ensures.same ∙ i.table;
+      no_other = c.in_default.ensures.no_other ∙ i.no_other;
       held = c.in_default.ensures.held ∙ i.held;
       walk = (
         h.0 ++ i.walk.0,
