@@ -2,6 +2,7 @@
 use Rattle.std.proofs.Common.{◌≡◌, ℕ, zero, suc, ◌≤◌, List, [], ◌∷◌, ◌++◌, length, sym, ap, ◌∙◌, arith, append_assoc, length-append}
 use Rattle.std.specs.Prelude.{Some}
 use Rattle.numa_space.specs.declared.request.Request.{Request}
+use Rattle.numa_space.specs.declared.command.Command.{Command}
 use Rattle.numa_publish.specs.Batches.{Extends}
 use Rattle.numa_fault.specs.Crew.{Serves, result_of}
 use Rattle.numa_fault.specs.Fault.{Faults}
@@ -53,3 +54,19 @@ module _ (frames : List ℕ) where
   never-fall (r ∷ requests) before after (a ∷ answers) done (suc i) zero v w le told later = absurd (omega arith)
   never-fall (r ∷ requests) before after (a ∷ answers) done (suc i) (suc j) v w le told later =
       never-fall requests done.0 after answers done.2 i j v w (omega arith) told later
+
+  -- the history at a version that was told
+  pub was-seen : (requests : List Request) (before after : Parts) (answers : List Answer) → Serves frames requests before after answers
+      → (i v : ℕ) → version_at answers i ≡ Some v
+      → (history : List Command) × (length history ≡ v) × Extends before.reader.history history × Extends history after.reader.history
+  was-seen [] before after [] done i v told = absurd (cc)
+  was-seen [] before after (a ∷ answers) done i v told = absurd done
+  was-seen (r ∷ requests) before after [] done i v told = absurd done
+  was-seen (r ∷ requests) before after (a ∷ answers) done zero v told =
+      let grows = fault-grows frames r before done.0 (result_of a) done.1 in
+      (done.0.reader.history, sym (first-told r before done.0 a v done.1 told), grows, serves-grow requests done.0 after answers done.2)
+  was-seen (r ∷ requests) before after (a ∷ answers) done (suc i) v told =
+      let grows = fault-grows frames r before done.0 (result_of a) done.1 in
+      let rest = was-seen requests done.0 after answers done.2 i v told in
+      let above = rest.2 in
+      (rest.0, rest.1, (above.0 ++ grows.0, above.1 ∙ ap (λ h. above.0 ++ h) grows.1 ∙ sym (append_assoc above.0 grows.0 before.reader.history)), rest.3)

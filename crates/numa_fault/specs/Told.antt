@@ -11,6 +11,8 @@ use Rattle.numa_fault.specs.Crew.{result_of}
 use Rattle.numa_fault.specs.declared.answer.Answer.{Answer}
 use Rattle.numa_fault.specs.declared.refusal.FaultRefusal.{FaultRefusal}
 use Rattle.numa_fault.specs.declared.refusal.FaultRefusal.TheVariants.{NoView, BadCpu, Unmapped, Exhausted}
+use Rattle.numa_fault.specs.declared.refusal.SpanRefusal.{SpanRefusal}
+use Rattle.numa_fault.specs.declared.refusal.SpanRefusal.TheVariants.{NoView as no_span_view, BadCpu as bad_span_cpu, Unmapped as span_unmapped, Exhausted as span_exhausted, NoMemory as no_span_memory}
 
 -- the refusal of the page that an answer tells, if it tells one
 abbrev pub refusal_told : Result Placement FaultRefusal → Option PlaceRefusal
@@ -27,6 +29,15 @@ version_told (Err NoView) = None
 version_told (Err BadCpu) = None
 version_told (Err (Unmapped version)) = Some version
 version_told (Err (Exhausted version)) = Some version
+
+-- the refusal of a span that an answer tells, if it tells one
+abbrev pub span_refusal_told : Result ℕ SpanRefusal → Option PlaceRefusal
+span_refusal_told (Ok version) = None
+span_refusal_told (Err no_span_view) = None
+span_refusal_told (Err bad_span_cpu) = Some cpu_is_bad
+span_refusal_told (Err (span_unmapped version)) = Some is_unmapped
+span_refusal_told (Err (span_exhausted version done)) = None
+span_refusal_told (Err no_span_memory) = None
 
 -- the version that the answer at a place tells
 abbrev pub version_at : List Answer → ℕ → Option ℕ

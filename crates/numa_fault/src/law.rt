@@ -7,10 +7,11 @@ ghost use Rattle.numa_machine.specs.Machine.{Hardware};
 ghost use Rattle.numa_pool.specs.Seats.{SeatView};
 ghost use Rattle.numa_publish.specs.Batches.{Extends};
 ghost use Rattle.numa_space.specs.declared.command.Command.{Command};
+ghost use Rattle.numa_space.specs.declared.refusal.PlaceRefusal.{PlaceRefusal};
 ghost use Rattle.numa_fault.specs.Crew.{column, HaveSeats, IsCrew, Serves, ServesEach};
 ghost use Rattle.numa_fault.specs.Fault.{Faults, FindsNone, Places, list_of, refusal_of};
-ghost use Rattle.numa_fault.specs.Span.{FaultsOnSpan};
-ghost use Rattle.numa_fault.specs.Told.{FoundTaken, refusal_told, version_told, version_at};
+ghost use Rattle.numa_fault.specs.Span.{FaultsOnSpan, IsRefused};
+ghost use Rattle.numa_fault.specs.Told.{FoundTaken, refusal_told, span_refusal_told, version_told, version_at};
 ghost use Rattle.numa_fault.specs.Worker.{Parts, WorkerState};
 ghost use Rattle.numa_fault.specs.declared.answer.Answer.{Answer};
 ghost use Rattle.numa_fault.specs.declared.refusal.FaultRefusal.{FaultRefusal};
@@ -38,6 +39,27 @@ pub fn answers_are_exact()
         → ForSome (version_told answer) (λ version. version ≡ length after.reader.history) }
 {}
 
+/// The same of a span: one entry, `NoView` exactly where it was refused, and else `BadCpu` and
+/// `Unmapped` exactly where the history that it sees refuses the span. Only frames and memory are
+/// left to chance.
+pub fn spans_are_exact()
+    ensures enters { (frames : List ℕ) (span : Span) (before after : Parts)
+        (old new : List Placement) (answer : Result ℕ SpanRefusal)
+        → FaultsOnSpan frames span before after old new answer
+        → after.reader.enters ≡ before.reader.enters + 1 }
+    ensures no_view { (frames : List ℕ) (span : Span) (before after : Parts)
+        (old new : List Placement) (answer : Result ℕ SpanRefusal)
+        → FaultsOnSpan frames span before after old new answer
+        → (answer ≡ Err SpanRefusal.NoView)
+        ↔ (after.reader.refused ≡ before.reader.refused + 1) }
+    ensures refusal { (frames : List ℕ) (span : Span) (before after : Parts)
+        (old new : List Placement) (answer : Result ℕ SpanRefusal)
+        → FaultsOnSpan frames span before after old new answer
+        → answer ≢ Err SpanRefusal.NoView → (refusal : PlaceRefusal)
+        → (span_refusal_told answer ≡ Some refusal)
+        ↔ IsRefused after.reader.desk.machine after.reader.history span refusal }
+{}
+
 /// Where a page was placed, each frame of each node earlier in its list was found taken in the walk
 /// of this page, and where no frame was found each frame of each node of the list was. What was met
 /// for another page counts for nothing.
@@ -53,7 +75,8 @@ pub fn a_win_means()
         (length (list_of machine history request)) before after }
 {}
 
-/// What a worker sees only grows, and the versions that its answers tell never fall.
+/// What a worker sees only grows, and the versions that its answers tell never fall. The history at
+/// a version that was told extends what was seen before, and what is seen later extends it.
 pub fn versions_never_fall()
     ensures grows { (frames : List ℕ) (requests : List Request) (before after : Parts)
         (answers : List Answer) → Serves frames requests before after answers
@@ -66,6 +89,11 @@ pub fn versions_never_fall()
         (answers : List Answer) → Serves frames requests before after answers
         → (i j v w : ℕ) → i ≤ j → version_at answers i ≡ Some v → version_at answers j ≡ Some w
         → v ≤ w }
+    ensures seen { (frames : List ℕ) (requests : List Request) (before after : Parts)
+        (answers : List Answer) → Serves frames requests before after answers
+        → (i v : ℕ) → version_at answers i ≡ Some v
+        → (history : List Command) × (length history ≡ v)
+        × Extends before.reader.history history × Extends history after.reader.history }
 {}
 
 /// Of a list, entry j of what falls to place w of so many is entry w + j times so many.

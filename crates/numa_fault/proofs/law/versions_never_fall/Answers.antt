@@ -1,4 +1,4 @@
-use Rattle.numa_fault.proofs.Falling.{never-fall, serves-grow}
+use Rattle.numa_fault.proofs.Falling.{never-fall, serves-grow, was-seen}
 use Rattle.numa_fault.proofs.Lawful.{span-grows}
 use Rattle.numa_fault.proofs.law.versions_never_fall.Goals as goal
 
@@ -10,3 +10,6 @@ returns-clause-spans c = span-grows
 
 pub returns-clause-versions : goal.returns-clause-versions
 returns-clause-versions c = never-fall
+
+pub returns-clause-seen : goal.returns-clause-seen
+returns-clause-seen c = was-seen
