@@ -5,3 +5,4 @@ pub mod Moving
 pub mod Allowed
 pub mod Keeping
 pub mod Handing
+pub mod Hunting

@@ -1,3 +1,4 @@
 pub mod Tie
 pub mod Moves
 pub mod Moments
+pub mod Hunts

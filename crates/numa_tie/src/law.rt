@@ -1,5 +1,5 @@
 //! What holds between the pools' walks and the core's hunts.
-ghost use Rattle.std.specs.Prelude.{◌≡◌, ℕ, ◌+◌, ◌*◌, ◌<◌, ◌≤◌, true, List, [], ◌∷◌, length, slice_index, slice_set, Some, None};
+ghost use Rattle.std.specs.Prelude.{◌≡◌, ℕ, ◌+◌, ◌*◌, ◌<◌, ◌≤◌, true, List, [], ◌∷◌, length, slice_index, slice_set, Option, Some, None};
 ghost use mathlib.Core.Option.{some};
 ghost use lib.ListN.{get_elem?};
 ghost use Rattle.numa_core.specs.Runs.{Moment, IsLegalRun, world_of};
@@ -11,11 +11,12 @@ ghost use Rattle.numa_machine.specs.declared.frame.Frame.{Frame};
 ghost use Rattle.numa_pool.specs.Frames.{Holds};
 ghost use Rattle.numa_pool.specs.Rule.{PoolRule};
 ghost use Rattle.numa_pool.specs.Steps.{tried, gave};
-ghost use Rattle.numa_pool.specs.Walk.{IsCurrent, IsNext, AllFull};
+ghost use Rattle.numa_pool.specs.Walk.{IsCurrent, IsNext, IsWalk, AllFull};
 ghost use Rattle.numa_pool.specs.declared.view.Entry.{Entry};
 ghost use Rattle.numa_pool.specs.declared.view.View.{View};
 ghost use Rattle.numa_space.specs.declared.request.Request.{Request};
 ghost use Rattle.numa_core.specs.Seats.{fresh};
+ghost use Rattle.numa_tie.specs.Hunts.{IsHunt, TakesTurns, Tells, Turn, steps_of, world_left};
 ghost use Rattle.numa_tie.specs.Moments.{IsMoment, MayBegin, WalksOn, event_of, handed, told};
 ghost use Rattle.numa_tie.specs.Moves.{PoolState, IsOpening, Joins, Makes, SeatHolds, Splits};
 ghost use Rattle.numa_tie.specs.Tie.{HasMet, HaveMet, IsAt, IsTied, OwnsWhatIsHeld, noted};
@@ -147,4 +148,22 @@ pub fn seats_come_and_go()
     ensures ended { (s : Setup) (world : World) (old new : PoolState) (id other : ℕ) (f : Frame)
         → IsTied s world old → Joins id other old new → SeatHolds f other old
         → ¬ (IsTied s world new) }
+{}
+
+/// A walk of a seat over a list of nodes is a hunt of its worker, where the Begin takes a version whose list for the
+/// request that is: the walk's steps are its Looks and Tries, none is refused, and the last reply tells what the walk
+/// found. Then the worker is idle.
+pub fn a_walk_is_a_hunt()
+    ensures hunt { (s : Setup) (first : World) (id version : ℕ) (request : Request) (nodes : List ℕ)
+        (found : Option Frame) (turns : List Turn) → MayBegin s first id version request nodes
+        → TakesTurns s id (effect_of s first version (Event.Begin id request)) turns
+        → IsWalk s.machine.frames nodes found (steps_of turns)
+        → (reply : Reply) × Tells version request nodes found reply
+        × IsHunt s id first version request reply turns }
+    ensures idle { (s : Setup) (first : World) (id version : ℕ) (request : Request) (nodes : List ℕ)
+        (found : Option Frame) (turns : List Turn) → MayBegin s first id version request nodes
+        → TakesTurns s id (effect_of s first version (Event.Begin id request)) turns
+        → IsWalk s.machine.frames nodes found (steps_of turns)
+        → hunt_of (world_left s id (effect_of s first version (Event.Begin id request)) turns) id
+        ≡ None }
 {}
