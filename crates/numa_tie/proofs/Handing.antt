@@ -1,19 +1,21 @@
 -- Seats that come and go.
-use Rattle.std.proofs.Common.{◌≡◌, ◌≢◌, ◌⊎◌, ℕ, ◌+◌, ◌<◌, ◌≤◌, List, [], ◌∷◌, ◌++◌, length, set, length-set, length-append, true, false, Option, Some, None, refl, sym, ap, ◌∙◌, subst, inl, inr, arith, eq-eqb, ne_eqb}
-use Rattle.std.specs.Prelude.{◌==◌, if◌then◌else◌}
+use Rattle.std.proofs.Common.{◌≡◌, ◌≢◌, ◌⊎◌, ℕ, zero, suc, ◌+◌, ◌*◌, ◌/◌, ◌%◌, ◌<◌, ◌≤◌, List, [], ◌∷◌, ◌++◌, length, set, length-set, length-append, true, false, Option, Some, None, refl, sym, ap, ◌∙◌, subst, inl, inr, arith, eq-eqb, ne_eqb}
+use Rattle.std.specs.Prelude.{slice_index, ◌==◌, if◌then◌else◌}
 use mathlib.Core.Option.{some, some-injective}
+use Rattle.std.specs.Int.{bit_at}
+use Rattle.std.proofs.lemmas.Nat.Bits.{bit_at-zero}
 use native.Mathlib.Decide.{ℕ_discrete, dec_le}
 use lib.ListN.{get_elem?}
 use Rattle.atomic_table.proofs.Lists.{set_here, set_else, at_longer, at_snoc}
 use Rattle.atomic_table.specs.Table.{State}
-use Rattle.numa_core.specs.World.{Setup, World}
+use Rattle.numa_core.specs.World.{Setup, World, opening}
 use Rattle.numa_pool.specs.declared.view.View.{View}
 use Rattle.numa_pool.specs.Frames.{times}
-use Rattle.numa_pool.specs.Rule.{Counted}
+use Rattle.numa_pool.specs.Rule.{Counted, holdings}
 use Rattle.numa_pool.specs.Steps.{newcomer, divided, poured}
 use Rattle.numa_pool.proofs.StepLemmas.{splits, joins, times_append}
 use Rattle.numa_tie.specs.Moments.{handed, passed_on}
-use Rattle.numa_tie.specs.Moves.{PoolState, Splits, Joins}
+use Rattle.numa_tie.specs.Moves.{PoolState, IsOpening, Splits, Joins}
 use Rattle.numa_tie.specs.Tie.{OwnsWhatIsHeld, IsTied}
 use Rattle.numa_tie.proofs.Keeping.{owners-stay}
 use Rattle.numa_tie.proofs.Owning.{at_bound}
@@ -156,3 +158,22 @@ module _ (s : Setup) (world : World) (old new : PoolState) (id other : ℕ) (tie
       let is : now.0 ≡ newcomer = some-injective now.0 newcomer (sym now.1 ∙ ap (λ vs. get_elem? vs other) m.views ∙ second_now) in
       let pos : 0 < times n k newcomer.held = subst (λ (u : View). 0 < times n k u.held) is now.2 in
       absurd (omega arith)
+
+-- the opening: no frame is held, and no frame is owned
+pub opening-ties : (s : Setup) (state : PoolState) → ((n : ℕ) → slice_index s.machine.frames n ≤ 4096) → 0 < s.workers → IsOpening s.machine.frames state → IsTied s opening state
+opening-ties s state few some_worker start =
+    let count : length state.views ≡ 1 = ap length start.first in
+    record {
+      few = few;
+      rule = record {
+        wide = start.wide;
+        exact = λ n k low. ap (λ x. bit_at x (k % 64)) (start.clear (64 * n + k / 64)) ∙ bit_at-zero (k % 64) ∙ ap (holdings n k) (sym start.first);
+        past = λ n k high. ap (holdings n k) start.first;
+      };
+      owners = subst (OwnsWhatIsHeld opening) (sym start.first) (λ n k id. ((λ o. absurd (cc)), (λ h. none n k id h)));
+      workers = omega arith;
+    }
+  where
+    none : (n k id : ℕ) → Holder n k id (newcomer ∷ []) → opening.owner n k ≡ Some id
+    none n k zero h = let pos : 0 < times n k newcomer.held = subst (λ (u : View). 0 < times n k u.held) (sym (some-injective newcomer h.0 h.1)) h.2 in absurd (omega arith)
+    none n k (suc id) h = absurd (cc)

@@ -6,3 +6,4 @@ pub mod Allowed
 pub mod Keeping
 pub mod Handing
 pub mod Hunting
+pub mod Playing

@@ -19,6 +19,7 @@ ghost use Rattle.numa_core.specs.Seats.{fresh};
 ghost use Rattle.numa_tie.specs.Hunts.{IsHunt, TakesTurns, Tells, Turn, steps_of, world_left};
 ghost use Rattle.numa_tie.specs.Moments.{IsMoment, MayBegin, WalksOn, event_of, handed, told};
 ghost use Rattle.numa_tie.specs.Moves.{PoolState, IsOpening, Joins, Makes, SeatHolds, Splits};
+ghost use Rattle.numa_tie.specs.Plays.{Done, IsPlay, NoneRefused, pools_of, run_of, since_of};
 ghost use Rattle.numa_tie.specs.Tie.{HasMet, HaveMet, IsAt, IsTied, OwnsWhatIsHeld, noted};
 
 /// Where a hunt has met what a walk's steps found taken, the walk's current node is the hunt's, and what the walk may do
@@ -166,4 +167,15 @@ pub fn a_walk_is_a_hunt()
         → IsWalk s.machine.frames nodes found (steps_of turns)
         → hunt_of (world_left s id (effect_of s first version (Event.Begin id request)) turns) id
         ≡ None }
+{}
+
+/// Every interleaving of steps of the seats, in which each seat walks the lists that its worker begins, is a legal run of
+/// the core in which nothing is refused, whatever commands, publications and Begins come in between. After each deed each
+/// frame's owner is the seat that holds it, and each hunt has met what its seat's steps found taken.
+pub fn interleavings_are_runs()
+    ensures { (s : Setup) (first : PoolState) (done : List Done)
+        → ((n : ℕ) → slice_index s.machine.frames n ≤ 4096) → 0 < s.workers → IsPlay s first done
+        → IsLegalRun s (run_of s done) × NoneRefused (run_of s done)
+        × IsTied s (world_of s (run_of s done)) (pools_of s first done)
+        × HaveMet (world_of s (run_of s done)) (since_of s done) }
 {}

@@ -1,0 +1,97 @@
+-- All that seats and workers do, in one order.
+use Rattle.std.specs.Prelude.{◌≡◌, ℕ, ◌<◌, true, List, [], ◌∷◌, length, Some, None, is_ok}
+use Rattle.numa_core.specs.World.{Setup, World, Hunt, hunt_of}
+use Rattle.numa_core.specs.Steps.{answer_of, put}
+use Rattle.numa_core.specs.Runs.{Moment, world_of}
+use Rattle.numa_core.specs.declared.event.Event.{Event}
+use Rattle.numa_core.specs.declared.event.Event.TheVariants.{Accept, Publish, Begin, Look, Try, Give}
+use Rattle.numa_core.specs.declared.event.Reply.{Reply}
+use Rattle.numa_pool.specs.declared.view.Entry.{Entry}
+use Rattle.numa_pool.specs.declared.view.Entry.TheVariants.{Load, Won, Lost, Gave}
+use Rattle.numa_tie.specs.Moments.{IsMoment, MayCome, event_of}
+use Rattle.numa_tie.specs.Moves.{PoolState, IsOpening, Makes, Splits}
+use Rattle.numa_tie.specs.Tie.{noted}
+
+-- What is done: a seat makes a step, a seat splits, or the core has an event that takes no step of the pools, a command, a
+-- publication or a Begin of some version
+pub data Deed : Type 0 where
+  makes_step : ℕ → Entry → Deed
+  splits : ℕ → Deed
+  has_event : ℕ → Event → Deed
+
+-- a deed, and the pools after it
+pub record Done : Type 0 where
+  pub deed : Deed
+  pub pools : PoolState
+
+-- the event takes no step of the pools
+abbrev pub IsApart : Event → Type 0
+IsApart (Accept command) = Unit {0}
+IsApart Publish = Unit {0}
+IsApart (Begin w request) = Unit {0}
+IsApart (Look w word) = ⊥
+IsApart (Try w frame) = ⊥
+IsApart (Give w frame) = ⊥
+
+-- a walk starts anew at a Begin
+abbrev pub since_event : Event → (ℕ → List Entry) → ℕ → List Entry
+since_event (Begin w request) since = put since w []
+since_event (Accept command) since = since
+since_event Publish since = since
+since_event (Look w word) since = since
+since_event (Try w frame) since = since
+since_event (Give w frame) since = since
+
+-- each seat's steps since its worker's Begin, after a deed
+abbrev pub since_deed : Deed → (ℕ → List Entry) → ℕ → List Entry
+since_deed (makes_step id e) since = noted since id e
+since_deed (splits id) since = since
+since_deed (has_event version event) since = since_event event since
+
+module _ (s : Setup) where
+  -- the step may come next in the walk of a worker that hunts; a frame is given up by one that is idle
+  abbrev pub MayStep : World → (ℕ → List Entry) → ℕ → Entry → Type 0
+  MayStep world since id (Load n w x) = (hunt : Hunt) × (hunt_of world id ≡ Some hunt) × MayCome s.machine.frames hunt.nodes (since id) (Load n w x)
+  MayStep world since id (Won f) = (hunt : Hunt) × (hunt_of world id ≡ Some hunt) × MayCome s.machine.frames hunt.nodes (since id) (Won f)
+  MayStep world since id (Lost f) = (hunt : Hunt) × (hunt_of world id ≡ Some hunt) × MayCome s.machine.frames hunt.nodes (since id) (Lost f)
+  MayStep world since id (Gave f) = hunt_of world id ≡ None
+
+  -- the deed fits this world, the steps so far, and the pools before and after it
+  abbrev pub Fits : World → (ℕ → List Entry) → Deed → PoolState → PoolState → Type 0
+  Fits world since (makes_step id e) old new = MayStep world since id e × Makes e id old new
+  Fits world since (splits id) old new = Splits id old new × (length old.views < s.workers)
+  Fits world since (has_event version event) old new = IsApart event × (new ≡ old) × ((reply : Reply) × IsMoment s world version event reply)
+
+  -- the run with one moment more, of this event
+  abbrev pub with_event : ℕ → Event → List Moment → List Moment
+  with_event version event run = record { event = event; version = version; answer = answer_of s (world_of s run) version event } ∷ run
+
+  abbrev pub with_deed : Deed → List Moment → List Moment
+  with_deed (makes_step id e) run = with_event 0 (event_of id e) run
+  with_deed (splits id) run = run
+  with_deed (has_event version event) run = with_event version event run
+
+  -- the run of the core that the deeds are, the newest first in both
+  abbrev pub run_of : List Done → List Moment
+  run_of [] = []
+  run_of (d ∷ done) = with_deed d.deed (run_of done)
+
+  -- each seat's steps since its worker's Begin, after these deeds
+  abbrev pub since_of : List Done → ℕ → List Entry
+  since_of [] = λ id. []
+  since_of (d ∷ done) = since_deed d.deed (since_of done)
+
+  module _ (first : PoolState) where
+    abbrev pub pools_of : List Done → PoolState
+    pools_of [] = first
+    pools_of (d ∷ done) = d.pools
+
+    -- each deed fits what came before
+    abbrev pub IsPlay : List Done → Type 0
+    IsPlay [] = IsOpening s.machine.frames first
+    IsPlay (d ∷ done) = IsPlay done × Fits (world_of s (run_of done)) (since_of done) d.deed (pools_of done) d.pools
+
+-- no moment of the run is refused
+abbrev pub NoneRefused : List Moment → Type 0
+NoneRefused [] = Unit {0}
+NoneRefused (m ∷ run) = (is_ok m.answer ≡ true) × NoneRefused run
