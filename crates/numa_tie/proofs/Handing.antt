@@ -1,5 +1,5 @@
 -- Seats that come and go.
-use Rattle.std.proofs.Common.{◌≡◌, ◌≢◌, ◌⊎◌, ℕ, zero, suc, ◌+◌, ◌*◌, ◌/◌, ◌%◌, ◌<◌, ◌≤◌, List, [], ◌∷◌, ◌++◌, length, set, length-set, length-append, true, false, Option, Some, None, refl, sym, ap, ◌∙◌, subst, inl, inr, arith, eq-eqb, ne_eqb}
+use Rattle.std.proofs.Common.{Bool, true, false, ◌≡◌, ◌≢◌, ◌⊎◌, ℕ, zero, suc, ◌+◌, ◌*◌, ◌/◌, ◌%◌, ◌<◌, ◌≤◌, List, [], ◌∷◌, ◌++◌, length, set, length-set, length-append, true, false, Option, Some, None, is_some, refl, sym, ap, ◌∙◌, subst, inl, inr, arith, eq-eqb, ne_eqb}
 use Rattle.std.specs.Prelude.{slice_index, ◌==◌, if◌then◌else◌}
 use mathlib.Core.Option.{some, some-injective}
 use Rattle.std.specs.Int.{bit_at}
@@ -8,17 +8,21 @@ use native.Mathlib.Decide.{ℕ_discrete, dec_le}
 use lib.ListN.{get_elem?}
 use Rattle.atomic_table.proofs.Lists.{set_here, set_else, at_longer, at_snoc}
 use Rattle.atomic_table.specs.Table.{State}
-use Rattle.numa_core.specs.World.{Setup, World, opening}
+use Rattle.std.specs.Option.{option_map_or}
+use Rattle.numa_core.specs.World.{Setup, World, opening, hunt_of, last_of, owner_of, missed, is_frame}
+use Rattle.numa_core.specs.Steps.{effect_of, going_on, with_owner, with_worker}
+use Rattle.numa_core.specs.declared.event.Event.{Event}
+use Rattle.numa_core.specs.declared.event.Event.TheVariants.{Accept, Publish, Begin, Look, Try, Give}
 use Rattle.numa_pool.specs.declared.view.View.{View}
 use Rattle.numa_pool.specs.Frames.{times}
 use Rattle.numa_pool.specs.Rule.{Counted, holdings}
 use Rattle.numa_pool.specs.Steps.{newcomer, divided, poured}
-use Rattle.numa_pool.proofs.StepLemmas.{splits, joins, times_append}
+use Rattle.numa_pool.proofs.StepLemmas.{splits, joins, times_append, is_frame-same}
 use Rattle.numa_tie.specs.Moments.{handed, passed_on}
 use Rattle.numa_tie.specs.Moves.{PoolState, IsOpening, Splits, Joins}
 use Rattle.numa_tie.specs.Tie.{OwnsWhatIsHeld, IsTied}
 use Rattle.numa_tie.proofs.Keeping.{owners-stay}
-use Rattle.numa_tie.proofs.Owning.{at_bound}
+use Rattle.numa_tie.proofs.Owning.{at_bound, frame_turned}
 
 abbrev Holder : ℕ → ℕ → ℕ → List View → Type 0
 Holder n k j views = (u : View) × (get_elem? views j ≡ some u) × (0 < times n k u.held)
@@ -177,3 +181,33 @@ opening-ties s state few some_worker start =
     none : (n k id : ℕ) → Holder n k id (newcomer ∷ []) → opening.owner n k ≡ Some id
     none n k zero h = let pos : 0 < times n k newcomer.held = subst (λ (u : View). 0 < times n k u.held) (sym (some-injective newcomer h.0 h.1)) h.2 in absurd (omega arith)
     none n k (suc id) h = absurd (cc)
+
+-- what an event does to the owner of one frame that has one: it stays, or there is none
+apart-owner : (o : Option ℕ) (id other : ℕ) → o ≡ Some other → o ≡ Some id → id ≡ other
+apart-owner o id other e f = let p : Some id ≡ Some other = sym f ∙ e in cc
+
+-- no event of the core hands a frame from one worker to another
+pub no-passing : (s : Setup) (world : World) (version : ℕ) (event : Event) (n k id other : ℕ) → world.owner n k ≡ Some other → (effect_of s world version event).owner n k ≡ Some id → id ≡ other
+no-passing s world version (Accept command) n k id other e f = apart-owner (world.owner n k) id other e f
+no-passing s world version Publish n k id other e f = apart-owner (world.owner n k) id other e f
+no-passing s world version (Begin w request) n k id other e f = apart-owner (world.owner n k) id other e f
+no-passing s world version (Look w word) n k id other e f = apart-owner (world.owner n k) id other e f
+no-passing s world version (Give w frame) n k id other e f = by (is_frame frame n k) f
+  where
+    by : (b : Bool) → (if b then None else world.owner n k) ≡ Some id → id ≡ other
+    by true h = absurd (cc)
+    by false h = apart-owner (world.owner n k) id other e h
+no-passing s world version (Try w frame) n k id other e f = by (owner_of world frame) refl f
+  where
+    taken : owner_of world frame ≡ None → (b : Bool) → is_frame frame n k ≡ b → (if b then Some w else world.owner n k) ≡ Some id → id ≡ other
+    taken free false t h = apart-owner (world.owner n k) id other e h
+    taken free true t h =
+        let same = is_frame-same frame n k (sym (frame_turned frame n k) ∙ t) in
+        let none : world.owner n k ≡ None = subst (λ (p : ℕ × ℕ). world.owner p.0 p.1 ≡ None) (λ i. (same.0 i, same.1 i)) free in
+        absurd (cc)
+
+    by : (o : Option ℕ) → owner_of world frame ≡ o
+        → (if is_some o then with_worker world w (last_of world w) (option_map_or (λ hunt. going_on s (missed frame hunt)) (hunt_of world w) None)
+        else with_worker (with_owner world frame (Some w)) w (last_of world w) None).owner n k ≡ Some id → id ≡ other
+    by (Some j) own h = apart-owner (world.owner n k) id other e h
+    by None own h = taken own (is_frame frame n k) refl h

@@ -16,7 +16,7 @@ use Rattle.numa_pool.proofs.StepLemmas.{is_frame-same, times_without-here, times
 use Rattle.numa_tie.proofs.Meeting.{eq_turned}
 use Rattle.numa_tie.specs.Tie.{OwnsWhatIsHeld}
 
-frame_turned : (f : Frame) (n k : ℕ) → is_core_frame f n k ≡ is_frame f n k
+pub frame_turned : (f : Frame) (n k : ℕ) → is_core_frame f n k ≡ is_frame f n k
 frame_turned f n k = λ i. eq_turned n f.node i && eq_turned k f.number i
 
 pub at_bound : (views : List View) (id : ℕ) (v : View) → get_elem? views id ≡ some v → id < length views

@@ -13,7 +13,8 @@ use Rattle.numa_tie.specs.Moments.{IsMoment, event_of}
 use Rattle.numa_tie.specs.Moves.{PoolState, Makes}
 use Rattle.numa_tie.specs.Tie.{IsTied}
 
--- one step of a seat: what its log shows, the core's world in which it is made, and the pools before and after it
+-- one step of a seat: what its log shows, the core's world in which it is made, and the pools
+-- before and after it
 pub record Turn : Type 0 where
   pub step : Entry
   pub world : World
@@ -30,32 +31,36 @@ module _ (s : Setup) (id : ℕ) where
   world_left first [] = first
   world_left first (t ∷ turns) = effect_of s t.world 0 (event_of id t.step)
 
-  -- Seat id makes these steps, the newest first, after this world. Others may act between any two of them: the world is
-  -- tied to the pools at each, and none of the others changes the hunt of the seat's worker
+  -- Seat id makes these steps, the newest first, after this world. Others may act between any two
+  -- of them: the world is tied to the pools at each, and none of the others changes the hunt of the
+  -- seat's worker
   abbrev pub TakesTurns : World → List Turn → Type 0
   TakesTurns first [] = Unit {0}
   TakesTurns first (t ∷ turns) =
       TakesTurns first turns × IsTied s t.world t.before × Makes t.step id t.before t.after
       × (hunt_of t.world id ≡ hunt_of (world_left first turns) id)
 
-  -- A hunt: in this world the worker begins, and looks and tries at each turn. None of it is refused, the newest moment is
-  -- answered so, and each before it Still
+  -- A hunt: in this world the worker begins, and looks and tries at each turn. None of it is
+  -- refused, the newest moment is answered so, and each before it Still
   abbrev pub IsHunt : World → ℕ → Request → Reply → List Turn → Type 0
   IsHunt first version request reply [] = IsMoment s first version (Begin id request) reply
   IsHunt first version request reply (t ∷ turns) =
       IsMoment s t.world 0 (event_of id t.step) reply × IsHunt first version request Still turns
 
--- the placement is of this frame, for this request, at the version; its node stands at its rank in this list
-pub record IsPlaced (version : ℕ) (request : Request) (nodes : List ℕ) (frame : Frame) (placement : Placement) : Type 0 where
-  pub version_is : placement.version ≡ version
-  pub task : placement.task ≡ request.task
-  pub page : placement.page ≡ request.page
-  pub frame_is : placement.frame ≡ frame
-  pub node : placement.node ≡ frame.node
-  pub rank : slice_get nodes placement.rank ≡ Some frame.node
+module _ (version : ℕ) (request : Request) (nodes : List ℕ) where
+  -- the placement is of this frame, for this request, at the version; its node stands at its rank
+  -- in this list
+  pub record IsPlaced (frame : Frame) (placement : Placement) : Type 0 where
+    pub version_is : placement.version ≡ version
+    pub task : placement.task ≡ request.task
+    pub page : placement.page ≡ request.page
+    pub frame_is : placement.frame ≡ frame
+    pub node : placement.node ≡ frame.node
+    pub rank : slice_get nodes placement.rank ≡ Some frame.node
 
--- the reply tells what the walk found: a placement in the frame that it won, or that the list is exhausted
-abbrev pub Tells : ℕ → Request → List ℕ → Option Frame → Reply → Type 0
-Tells version request nodes None reply = reply ≡ Exhausted version
-Tells version request nodes (Some frame) reply =
-    (placement : Placement) × (reply ≡ Won placement) × IsPlaced version request nodes frame placement
+  -- the reply tells what the walk found: a placement in the frame that it won, or that the list is
+  -- exhausted
+  abbrev pub Tells : Option Frame → Reply → Type 0
+  Tells None reply = reply ≡ Exhausted version
+  Tells (Some frame) reply =
+      (placement : Placement) × (reply ≡ Won placement) × IsPlaced frame placement

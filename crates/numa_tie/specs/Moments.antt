@@ -22,14 +22,16 @@ IsMoment s world version event reply =
 abbrev pub told : ℕ → Event → Reply → Moment
 told version event reply = record { event = event; version = version; answer = Ok reply }
 
--- Worker id is idle and there, and so are the faulting node and the version, whose list for the request is this one
-pub record MayBegin (s : Setup) (world : World) (id version : ℕ) (request : Request) (nodes : List ℕ) : Type 0 where
-  pub there : id < s.workers
-  pub idle : hunt_of world id ≡ None
-  pub cpu : request.cpu < s.machine.nodes
-  pub published : is_published world version ≡ true
-  pub not_older : last_of world id ≤ version
-  pub listed : list_at s.machine world.history version request ≡ Some nodes
+module _ (s : Setup) (world : World) where
+  -- worker id is there and idle; the faulting node is there; and the version, which is published
+  -- and not older than the worker's last one, has this list for the request
+  pub record MayBegin (id version : ℕ) (request : Request) (nodes : List ℕ) : Type 0 where
+    pub there : id < s.workers
+    pub idle : hunt_of world id ≡ None
+    pub cpu : request.cpu < s.machine.nodes
+    pub published : is_published world version ≡ true
+    pub not_older : last_of world id ≤ version
+    pub listed : list_at s.machine world.history version request ≡ Some nodes
 
 -- what a step of a seat is to the core: its worker looks, tries or gives
 abbrev pub event_of : ℕ → Entry → Event
@@ -45,20 +47,22 @@ MayCome frames ns es (Won f) = IsNext frames es ns f
 MayCome frames ns es (Lost f) = IsNext frames es ns f
 MayCome frames ns es (Gave f) = ⊥
 
--- In a world that is tied to the pools the worker of seat id hunts, and the seat makes a step that may come next in its walk
-pub record WalksOn (s : Setup) (world : World) (since : ℕ → List Entry) (id : ℕ) (hunt : Hunt) (e : Entry) (old new : PoolState) : Type 0 where
-  pub tied : IsTied s world old
-  pub met : HaveMet world since
-  pub busy : hunt_of world id ≡ Some hunt
-  pub makes : Makes e id old new
-  pub next : MayCome s.machine.frames hunt.nodes (since id) e
+module _ (s : Setup) (world : World) (since : ℕ → List Entry) where
+  -- In a world that is tied to the pools the worker of seat id hunts, and the seat makes a step
+  -- that may come next in its walk
+  pub record WalksOn (id : ℕ) (hunt : Hunt) (e : Entry) (old new : PoolState) : Type 0 where
+    pub tied : IsTied s world old
+    pub met : HaveMet world since
+    pub busy : hunt_of world id ≡ Some hunt
+    pub makes : Makes e id old new
+    pub next : MayCome s.machine.frames hunt.nodes (since id) e
 
 -- the owner, once what one worker owned is another's
 abbrev pub passed_on : ℕ → ℕ → Option ℕ → Option ℕ
 passed_on from to None = None
 passed_on from to (Some id) = if id == from then Some to else Some id
 
--- the world, once what one worker owned is another's. No event of the core does this
+-- the world, once what one worker owned is another's
 abbrev pub handed : World → ℕ → ℕ → World
 handed world from to = record {
   history = world.history;

@@ -17,13 +17,15 @@ pub record PoolState : Type 0 where
   pub words : List ℕ
   pub views : List View
 
--- a kind of step of a table without slots: what the seat shows before, the number found in the word, what it shows after
+-- a kind of step of a table without slots: what the seat shows before, the number found in the
+-- word, what it shows after
 abbrev pub Kind : Type 1
 Kind = Step (Unit {0}) → Me (Unit {0}) View → ℕ → Me (Unit {0}) View → Type 0
 
--- Seat id makes a step of this kind on word i with this operand: the word becomes `change` of what it was, and the seat
--- shows what the kind says
-pub record Moves (kind : Kind) (i operand : ℕ) (change : ℕ → ℕ) (id : ℕ) (old new : PoolState) : Type 0 where
+-- Seat id makes a step of this kind on word i with this operand: the word becomes `change` of what
+-- it was, and the seat shows what the kind says
+pub record Moves (kind : Kind) (i operand : ℕ) (change : ℕ → ℕ) (id : ℕ) (old new : PoolState) :
+    Type 0 where
   pub before : View
   pub after : View
   pub shown : get_elem? old.views id ≡ some before
@@ -48,16 +50,19 @@ Tries f = Moves attempted (word_of f) (mask_of f) (λ x. bit_or x (mask_of f))
 
 -- a fetch_and of all bits but that of a frame
 abbrev pub Clears : Frame → ℕ → PoolState → PoolState → Type 0
-Clears f = Moves returned (word_of f) (bit_not w64 (mask_of f)) (λ x. bit_and x (bit_not w64 (mask_of f)))
+Clears f =
+    Moves returned (word_of f) (bit_not w64 (mask_of f)) (λ x. bit_and x (bit_not w64 (mask_of f)))
 
 -- seat id holds the frame
 abbrev pub SeatHolds : Frame → ℕ → PoolState → Type 0
 SeatHolds f id state = (v : View) × (get_elem? state.views id ≡ some v) × Holds v.held f
 
--- Seat id makes the step that its log shows so: a load finds the word's number, a try wins where the bit is clear and is
--- lost where it is set, and a frame that is given up is one that the seat holds
+-- Seat id makes the step that its log shows so: a load finds the word's number, a try wins where
+-- the bit is clear and is lost where it is set, and a frame that is given up is one that the seat
+-- holds
 abbrev pub Makes : Entry → ℕ → PoolState → PoolState → Type 0
-Makes (Load n w x) id old new = (w < 64) × (x ≡ slice_index old.words (64 * n + w)) × Loads n w id old new
+Makes (Load n w x) id old new =
+    (w < 64) × (x ≡ slice_index old.words (64 * n + w)) × Loads n w id old new
 Makes (Won f) id old new = (bit_in old.words f.node f.number ≡ 0) × Tries f id old new
 Makes (Lost f) id old new = (bit_in old.words f.node f.number ≢ 0) × Tries f id old new
 Makes (Gave f) id old new = SeatHolds f id old × Clears f id old new

@@ -12,8 +12,8 @@ use Rattle.numa_tie.specs.Moments.{IsMoment, MayCome, event_of}
 use Rattle.numa_tie.specs.Moves.{PoolState, IsOpening, Makes, Splits}
 use Rattle.numa_tie.specs.Tie.{noted}
 
--- What is done: a seat makes a step, a seat splits, or the core has an event that takes no step of the pools, a command, a
--- publication or a Begin of some version
+-- What is done: a seat makes a step, a seat splits, or the core has an event that takes no step of
+-- the pools, a command, a publication or a Begin of some version
 pub data Deed : Type 0 where
   makes_step : ℕ → Entry → Deed
   splits : ℕ → Deed
@@ -49,22 +49,33 @@ since_deed (splits id) since = since
 since_deed (has_event version event) since = since_event event since
 
 module _ (s : Setup) where
-  -- the step may come next in the walk of a worker that hunts; a frame is given up by one that is idle
+  -- worker id hunts, and the step may come next in its walk
+  abbrev pub IsNextOf : World → (ℕ → List Entry) → ℕ → Entry → Type 0
+  IsNextOf world since id e =
+      (hunt : Hunt) × (hunt_of world id ≡ Some hunt)
+      × MayCome s.machine.frames hunt.nodes (since id) e
+
+  -- a load or a try comes next in the walk of a worker that hunts; a return is by one that is idle
   abbrev pub MayStep : World → (ℕ → List Entry) → ℕ → Entry → Type 0
-  MayStep world since id (Load n w x) = (hunt : Hunt) × (hunt_of world id ≡ Some hunt) × MayCome s.machine.frames hunt.nodes (since id) (Load n w x)
-  MayStep world since id (Won f) = (hunt : Hunt) × (hunt_of world id ≡ Some hunt) × MayCome s.machine.frames hunt.nodes (since id) (Won f)
-  MayStep world since id (Lost f) = (hunt : Hunt) × (hunt_of world id ≡ Some hunt) × MayCome s.machine.frames hunt.nodes (since id) (Lost f)
+  MayStep world since id (Load n w x) = IsNextOf world since id (Load n w x)
+  MayStep world since id (Won f) = IsNextOf world since id (Won f)
+  MayStep world since id (Lost f) = IsNextOf world since id (Lost f)
   MayStep world since id (Gave f) = hunt_of world id ≡ None
 
   -- the deed fits this world, the steps so far, and the pools before and after it
   abbrev pub Fits : World → (ℕ → List Entry) → Deed → PoolState → PoolState → Type 0
   Fits world since (makes_step id e) old new = MayStep world since id e × Makes e id old new
   Fits world since (splits id) old new = Splits id old new × (length old.views < s.workers)
-  Fits world since (has_event version event) old new = IsApart event × (new ≡ old) × ((reply : Reply) × IsMoment s world version event reply)
+  Fits world since (has_event version event) old new =
+      IsApart event × (new ≡ old) × ((reply : Reply) × IsMoment s world version event reply)
 
   -- the run with one moment more, of this event
   abbrev pub with_event : ℕ → Event → List Moment → List Moment
-  with_event version event run = record { event = event; version = version; answer = answer_of s (world_of s run) version event } ∷ run
+  with_event version event run = record {
+    event = event;
+    version = version;
+    answer = answer_of s (world_of s run) version event;
+  } ∷ run
 
   abbrev pub with_deed : Deed → List Moment → List Moment
   with_deed (makes_step id e) run = with_event 0 (event_of id e) run
@@ -89,7 +100,9 @@ module _ (s : Setup) where
     -- each deed fits what came before
     abbrev pub IsPlay : List Done → Type 0
     IsPlay [] = IsOpening s.machine.frames first
-    IsPlay (d ∷ done) = IsPlay done × Fits (world_of s (run_of done)) (since_of done) d.deed (pools_of done) d.pools
+    IsPlay (d ∷ done) =
+        IsPlay done
+        × Fits (world_of s (run_of done)) (since_of done) d.deed (pools_of done) d.pools
 
 -- no moment of the run is refused
 abbrev pub NoneRefused : List Moment → Type 0

@@ -27,8 +27,8 @@ abbrev pub IsAt : Setup → Hunt → ℕ → Type 0
 IsAt s hunt n =
     (rank : ℕ) × (current_rank s hunt ≡ Some rank) × (slice_get hunt.nodes rank ≡ Some n)
 
--- The world is tied to the pools: their rule holds, as the counts that each step keeps; each frame's owner is the seat
--- that holds it; and each seat has a worker
+-- The world is tied to the pools: their rule holds, as the counts that each step keeps; each
+-- frame's owner is the seat that holds it; and each seat has a worker
 pub record IsTied (s : Setup) (world : World) (state : PoolState) : Type 0 where
   pub few : (n : ℕ) → slice_index s.machine.frames n ≤ 4096
   pub rule : Counted s.machine.frames state.words state.views

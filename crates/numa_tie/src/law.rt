@@ -22,9 +22,9 @@ ghost use Rattle.numa_tie.specs.Moves.{PoolState, IsOpening, Joins, Makes, SeatH
 ghost use Rattle.numa_tie.specs.Plays.{Done, IsPlay, NoneRefused, pools_of, run_of, since_of};
 ghost use Rattle.numa_tie.specs.Tie.{HasMet, HaveMet, IsAt, IsTied, OwnsWhatIsHeld, noted};
 
-/// Where a hunt has met what a walk's steps found taken, the walk's current node is the hunt's, and what the walk may do
-/// next the hunt may do. A hunt with a current node goes on; where each listed node is full it is over, and the reply is
-/// Exhausted.
+/// Where a hunt has met what a walk's steps found taken, the walk's current node is the hunt's, and
+/// what the walk may do next the hunt may do. A hunt with a current node goes on; where each listed
+/// node is full it is over, and the reply is Exhausted.
 pub fn walks_are_hunts()
     ensures current { (s : Setup) (hunt : Hunt) (es : List Entry) (n : ℕ) → HasMet hunt es
         → IsCurrent s.machine.frames es hunt.nodes n → IsAt s hunt n }
@@ -41,8 +41,9 @@ pub fn walks_are_hunts()
         → IsNext s.machine.frames es hunt.nodes f → may_try s hunt f ≡ true }
 {}
 
-/// What a hunt meets is what the walk's steps find taken. Under the pools' rule a load of a word of the current node
-/// finds taken what a Look at it finds with an owner, and a lost try meets the frame that a lost Try meets.
+/// What a hunt meets is what the walk's steps find taken. Under the pools' rule a load of a word of
+/// the current node finds taken what a Look at it finds with an owner, and a lost try meets the
+/// frame that a lost Try meets.
 pub fn steps_meet_alike()
     ensures load { (s : Setup) (world : World) (words : List ℕ) (views : List View) (hunt : Hunt)
         (es : List Entry) (n w : ℕ) → PoolRule s.machine.frames words views
@@ -54,8 +55,8 @@ pub fn steps_meet_alike()
         → HasMet (missed f hunt) (Entry.Lost f ∷ es) }
 {}
 
-/// Each frame's owner stays the seat that holds it: a try that won makes the seat the owner of a frame that had none,
-/// and a return by its holder leaves it without one.
+/// Each frame's owner stays the seat that holds it: a try that won makes the seat the owner of a
+/// frame that had none, and a return by its holder leaves it without one.
 pub fn owners_stay_holders()
     ensures won { (world : World) (views : List View) (id : ℕ) (v : View) (f : Frame)
         → get_elem? views id ≡ some v → OwnsWhatIsHeld world views → owner_of world f ≡ None
@@ -71,7 +72,8 @@ pub fn moments_make_runs()
     ensures { (s : Setup) (run : List Moment) (version : ℕ) (event : Event) (reply : Reply)
         → IsLegalRun s run → IsMoment s (world_of s run) version event reply
         → IsLegalRun s (told version event reply ∷ run)
-        × (world_of s (told version event reply ∷ run) ≡ effect_of s (world_of s run) version event) }
+        × (world_of s (told version event reply ∷ run)
+        ≡ effect_of s (world_of s run) version event) }
 {}
 
 /// A load of a word of the current node, by a seat whose worker hunts, is a Look of that worker.
@@ -82,8 +84,8 @@ pub fn load_is_a_look()
         → IsMoment s world version (Event.Look id w) (goes_on s (looked s world w hunt)) }
 {}
 
-/// A try of a frame that may come next is a Try of the worker, and is answered as the seat found the bit: it wins the
-/// frame, or goes on without it.
+/// A try of a frame that may come next is a Try of the worker, and is answered as the seat found
+/// the bit: it wins the frame, or goes on without it.
 pub fn try_is_a_try()
     ensures won { (s : Setup) (world : World) (since : ℕ → List Entry) (old new : PoolState)
         (id version : ℕ) (f : Frame) (hunt : Hunt)
@@ -95,7 +97,8 @@ pub fn try_is_a_try()
         → IsMoment s world version (Event.Try id f) (goes_on s (missed f hunt)) }
 {}
 
-/// After a load or a try the world is tied to the pools as before, and each hunt has met what the steps found taken.
+/// After a load or a try the world is tied to the pools as before, and each hunt has met what the
+/// steps found taken.
 pub fn walks_keep_the_tie()
     ensures tied { (s : Setup) (world : World) (since : ℕ → List Entry) (old new : PoolState)
         (id version : ℕ) (e : Entry) (hunt : Hunt) → WalksOn s world since id hunt e old new
@@ -118,11 +121,11 @@ pub fn return_is_a_give()
         → HaveMet (effect_of s world version (Event.Give id f)) (noted since id (Entry.Gave f)) }
 {}
 
-/// A walk starts at a Begin of its seat's worker, which the pools take no step for: the hunt has the list of the version
-/// that it takes, and has met nothing.
+/// A walk starts at a Begin of its seat's worker, which the pools take no step for: the hunt has
+/// the list of the version that it takes, and has met nothing.
 pub fn begin_starts_a_walk()
-    ensures moment { (s : Setup) (world : World) (id version : ℕ) (request : Request) (nodes : List ℕ)
-        → MayBegin s world id version request nodes
+    ensures moment { (s : Setup) (world : World) (id version : ℕ) (request : Request)
+        (nodes : List ℕ) → MayBegin s world id version request nodes
         → IsMoment s world version (Event.Begin id request)
         (goes_on s (fresh request version nodes)) }
     ensures hunt { (s : Setup) (world : World) (id version : ℕ) (request : Request) (nodes : List ℕ)
@@ -137,11 +140,13 @@ pub fn begin_starts_a_walk()
         → HaveMet (effect_of s world version (Event.Begin id request)) (put since id []) }
 {}
 
-/// Pools that are opened are tied to the opening world. A split changes nothing there. A join hands the second seat's
-/// frames over to the first: the core has no such event, so where there are any the world is tied no more.
+/// Pools that are opened are tied to the opening world. A split changes nothing there. A join hands
+/// the second seat's frames over to the first. No event of the core does that to a frame, so where
+/// there are any the world is tied no more.
 pub fn seats_come_and_go()
-    ensures opening { (s : Setup) (state : PoolState) → ((n : ℕ) → slice_index s.machine.frames n ≤ 4096)
-        → 0 < s.workers → IsOpening s.machine.frames state → IsTied s opening state }
+    ensures opening { (s : Setup) (state : PoolState)
+        → ((n : ℕ) → slice_index s.machine.frames n ≤ 4096) → 0 < s.workers
+        → IsOpening s.machine.frames state → IsTied s opening state }
     ensures split { (s : Setup) (world : World) (old new : PoolState) (id : ℕ) → IsTied s world old
         → length old.views < s.workers → Splits id old new → IsTied s world new }
     ensures join { (s : Setup) (world : World) (old new : PoolState) (id other : ℕ)
@@ -149,11 +154,14 @@ pub fn seats_come_and_go()
     ensures ended { (s : Setup) (world : World) (old new : PoolState) (id other : ℕ) (f : Frame)
         → IsTied s world old → Joins id other old new → SeatHolds f other old
         → ¬ (IsTied s world new) }
+    ensures no_event { (s : Setup) (world : World) (version n k id other : ℕ) (event : Event)
+        → world.owner n k ≡ Some other
+        → (effect_of s world version event).owner n k ≡ Some id → id ≡ other }
 {}
 
-/// A walk of a seat over a list of nodes is a hunt of its worker, where the Begin takes a version whose list for the
-/// request that is: the walk's steps are its Looks and Tries, none is refused, and the last reply tells what the walk
-/// found. Then the worker is idle.
+/// A walk of a seat over a list of nodes is a hunt of its worker, where the Begin takes a version
+/// whose list for the request that is: the walk's steps are its Looks and Tries, none is refused,
+/// and the last reply tells what the walk found. Then the worker is idle.
 pub fn a_walk_is_a_hunt()
     ensures hunt { (s : Setup) (first : World) (id version : ℕ) (request : Request) (nodes : List ℕ)
         (found : Option Frame) (turns : List Turn) → MayBegin s first id version request nodes
@@ -169,9 +177,10 @@ pub fn a_walk_is_a_hunt()
         ≡ None }
 {}
 
-/// Every interleaving of steps of the seats, in which each seat walks the lists that its worker begins, is a legal run of
-/// the core in which nothing is refused, whatever commands, publications and Begins come in between. After each deed each
-/// frame's owner is the seat that holds it, and each hunt has met what its seat's steps found taken.
+/// Every interleaving of steps of the seats, in which each seat walks the lists that its worker
+/// begins, is a legal run of the core in which nothing is refused, whatever commands, publications
+/// and Begins come in between. After each deed each frame's owner is the seat that holds it, and
+/// each hunt has met what its seat's steps found taken.
 pub fn interleavings_are_runs()
     ensures { (s : Setup) (first : PoolState) (done : List Done)
         → ((n : ℕ) → slice_index s.machine.frames n ≤ 4096) → 0 < s.workers → IsPlay s first done
