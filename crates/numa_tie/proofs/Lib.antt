@@ -7,3 +7,4 @@ pub mod Keeping
 pub mod Handing
 pub mod Hunting
 pub mod Playing
+pub mod Rightly

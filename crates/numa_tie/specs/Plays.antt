@@ -24,6 +24,10 @@ pub record Done : Type 0 where
   pub deed : Deed
   pub pools : PoolState
 
+-- a seat made this step, which left the pools so
+abbrev pub by_seat : ℕ → Entry → PoolState → Done
+by_seat id e pools = record { deed = makes_step id e; pools = pools }
+
 -- the event takes no step of the pools
 abbrev pub IsApart : Event → Type 0
 IsApart (Accept command) = Unit {0}

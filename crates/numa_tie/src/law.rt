@@ -2,7 +2,7 @@
 ghost use Rattle.std.specs.Prelude.{◌≡◌, ℕ, ◌+◌, ◌*◌, ◌<◌, ◌≤◌, true, List, [], ◌∷◌, length, slice_index, slice_set, Option, Some, None};
 ghost use mathlib.Core.Option.{some};
 ghost use lib.ListN.{get_elem?};
-ghost use Rattle.numa_core.specs.Runs.{Moment, IsLegalRun, world_of};
+ghost use Rattle.numa_core.specs.Runs.{Moment, IsExhausted, IsLegalRun, IsRightPlacement, world_of};
 ghost use Rattle.numa_core.specs.Steps.{effect_of, goes_on, going_on, placement_of, put, with_owner};
 ghost use Rattle.numa_core.specs.World.{Setup, World, Hunt, opening, hunt_of, looked, may_look, may_try, missed, owner_of};
 ghost use Rattle.numa_core.specs.declared.event.Event.{Event};
@@ -14,12 +14,13 @@ ghost use Rattle.numa_pool.specs.Steps.{tried, gave};
 ghost use Rattle.numa_pool.specs.Walk.{IsCurrent, IsNext, IsWalk, AllFull};
 ghost use Rattle.numa_pool.specs.declared.view.Entry.{Entry};
 ghost use Rattle.numa_pool.specs.declared.view.View.{View};
+ghost use Rattle.numa_space.specs.declared.placement.Placement.{Placement};
 ghost use Rattle.numa_space.specs.declared.request.Request.{Request};
 ghost use Rattle.numa_core.specs.Seats.{fresh};
 ghost use Rattle.numa_tie.specs.Hunts.{IsHunt, TakesTurns, Tells, Turn, steps_of, world_left};
 ghost use Rattle.numa_tie.specs.Moments.{IsMoment, MayBegin, WalksOn, event_of, handed, told};
 ghost use Rattle.numa_tie.specs.Moves.{PoolState, IsOpening, Joins, Makes, SeatHolds, Splits};
-ghost use Rattle.numa_tie.specs.Plays.{Done, IsPlay, NoneRefused, pools_of, run_of, since_of};
+ghost use Rattle.numa_tie.specs.Plays.{Done, IsPlay, NoneRefused, by_seat, pools_of, run_of, since_of};
 ghost use Rattle.numa_tie.specs.Tie.{HasMet, HaveMet, IsAt, IsTied, OwnsWhatIsHeld, noted};
 
 /// Where a hunt has met what a walk's steps found taken, the walk's current node is the hunt's, and
@@ -187,4 +188,22 @@ pub fn interleavings_are_runs()
         → IsLegalRun s (run_of s done) × NoneRefused (run_of s done)
         × IsTied s (world_of s (run_of s done)) (pools_of s first done)
         × HaveMet (world_of s (run_of s done)) (since_of s done) }
+{}
+
+/// In every such interleaving each frame that a seat wins is placed right for the core, and a walk
+/// that leaves each listed node full is exhausted there: the frame lies on the node at its rank of
+/// the list of the version that the worker took, and each frame of each earlier node, or of each
+/// node, was found with an owner since that Begin.
+pub fn interleavings_place_right()
+    ensures won { (s : Setup) (first pools : PoolState) (done : List Done) (id : ℕ) (f : Frame)
+        → ((n : ℕ) → slice_index s.machine.frames n ≤ 4096) → 0 < s.workers
+        → IsPlay s first (by_seat id (Entry.Won f) pools ∷ done)
+        → (placement : Placement) × (placement.frame ≡ f)
+        × IsRightPlacement s id placement (run_of s done) }
+    ensures exhausted { (s : Setup) (first pools : PoolState) (done : List Done) (id : ℕ)
+        (e : Entry) (hunt : Hunt) → ((n : ℕ) → slice_index s.machine.frames n ≤ 4096)
+        → 0 < s.workers → IsPlay s first (by_seat id e pools ∷ done)
+        → hunt_of (world_of s (run_of s done)) id ≡ Some hunt
+        → AllFull s.machine.frames (e ∷ since_of s done id) hunt.nodes
+        → IsExhausted s id hunt.version (run_of s (by_seat id e pools ∷ done)) }
 {}
