@@ -7,7 +7,7 @@ use Rattle.numa_space.specs.declared.command.Command.{Command}
 use Rattle.numa_publish.specs.Shown.{DeskState, accepted, versions_after}
 use Rattle.numa_core.specs.World.{Setup, World}
 use Rattle.numa_core.specs.Runs.{Moment}
-use Rattle.numa_hunts.specs.Moments.{IsMoment, after_moment}
+use Rattle.numa_hunts.specs.Moments.{IsLegal, after_moment}
 
 -- a desk of this machine with these limits, as `Desk::new` makes it
 pub record IsNew (machine : Hardware) (bounds : Bounds) (desk : DeskState) : Type 0 where
@@ -45,4 +45,4 @@ pub record IsDeskOf (s : Setup) (world : World) (desk : DeskState) : Type 0 wher
 
 -- the moment is legal in the world, and leads to a world whose desk this is
 abbrev pub LeadsTo : Setup → World → Moment → DeskState → Type 0
-LeadsTo s world m desk = IsMoment s world m × IsDeskOf s (after_moment s world m) desk
+LeadsTo s world m desk = IsLegal s world m × IsDeskOf s (after_moment s world m) desk

@@ -9,8 +9,8 @@ use Rattle.numa_core.specs.declared.event.Event.{Event}
 use Rattle.numa_core.specs.declared.event.Reply.{Reply}
 
 -- the moment may come next: its version may be taken, and the event may have this answer
-abbrev pub IsMoment : Setup → World → Moment → Type 0
-IsMoment s world m =
+abbrev pub IsLegal : Setup → World → Moment → Type 0
+IsLegal s world m =
     MayTake world m.version m.event × IsAnswer s world m.version m.event m.answer
 
 -- the world after the moment

@@ -2,4 +2,5 @@
 //! is a hunt. Laws alone: each is the clause of a function without a body.
 #![tactic(auto)]
 
+pub mod desk;
 pub mod law;

@@ -1,0 +1,67 @@
+//! The calls of a desk beside the core's world. Each function hands its call on; its clauses say which
+//! moment of the world the call is.
+ghost use Rattle.std.specs.Prelude.{◌≡◌, ◌≢◌, ◌≤◌, [], length, Ok, Err, IfOk, IfErr, OnOk, OnErr};
+ghost use Rattle.numa_publish.specs.Shown.{accepted};
+ghost use Rattle.numa_core.specs.World.{Setup, World, opening};
+ghost use Rattle.numa_core.specs.declared.event.CoreRefusal.{CoreRefusal};
+ghost use Rattle.numa_core.specs.declared.event.Event.{Event};
+ghost use Rattle.numa_core.specs.declared.event.Reply.{Reply};
+ghost use Rattle.numa_hunts.specs.Desks.{IsDeskOf, LeadsTo};
+ghost use Rattle.numa_hunts.specs.Moments.{moment_of};
+
+use numa_machine::{Machine, NoMemory};
+use numa_publish::{Desk, Receipt};
+use numa_space::{Command, Limits, Refusal};
+use std::alloc::Global;
+use std::sync::Wait;
+
+/// `Desk::new`: the desk of the opening world of each setup with this machine and these limits.
+///
+/// # Errors
+/// As `Desk::new`.
+pub fn open<R: Wait>(
+    rt: &R,
+    alloc: Global,
+    machine: Machine,
+    limits: Limits,
+    readers: u32,
+) -> Result<Desk, NoMemory>
+    requires some { 1 ≤ readers }
+    requires few { readers ≤ 64 }
+    ensures opens { IfOk result (λ d. (s : Setup) → s.machine ≡ machine → s.bounds ≡ limits
+        → IsDeskOf s opening d) }
+{
+    Desk::new(rt, alloc, machine, limits, readers)
+}
+
+/// `Desk::accept`: an Accept with the same answer, unless memory was wanting.
+///
+/// # Errors
+/// As `Desk::accept`.
+pub fn accept(desk: &mut Desk, command: &Command) -> Result<u64, Refusal>
+    ensures ok { IfOk result (λ version. (s : Setup) (world : World) → IsDeskOf s world desk.old
+        → LeadsTo s world (moment_of (Event.Accept command.now) (Ok (Reply.Accepted version)))
+        desk.new) }
+    ensures err { IfErr result (λ refusal. (s : Setup) (world : World) → IsDeskOf s world desk.old
+        → refusal ≢ Refusal.NoMemory
+        → LeadsTo s world
+        (moment_of (Event.Accept command.now) (Err (CoreRefusal.Command refusal))) desk.new) }
+{
+    desk.accept(command)
+}
+
+/// `Desk::publish`: a Publish where something is pending, and no moment where nothing is.
+///
+/// # Errors
+/// As `Desk::publish`.
+pub fn publish<R: Wait>(desk: &mut Desk, rt: &R) -> Result<Receipt, NoMemory>
+    ensures ok { OnOk result ((s : Setup) (world : World) → IsDeskOf s world desk.old
+        → desk.old.pending ≢ []
+        → LeadsTo s world
+        (moment_of Event.Publish (Ok (Reply.Published (length (accepted desk.old))))) desk.new) }
+    ensures idle { OnOk result (desk.old.pending ≡ [] → desk.new ≡ desk.old) }
+    ensures err { OnErr result ((s : Setup) (world : World) → IsDeskOf s world desk.old
+        → LeadsTo s world (moment_of Event.Publish (Err CoreRefusal.NoMemory)) desk.new) }
+{
+    desk.publish(rt)
+}
