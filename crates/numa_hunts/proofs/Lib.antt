@@ -1,1 +1,3 @@
 pub mod Desking
+pub mod Begins
+pub mod Falling

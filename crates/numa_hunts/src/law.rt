@@ -1,14 +1,23 @@
 //! Laws of the running threads and the core's world.
-ghost use Rattle.std.specs.Prelude.{◌≡◌, ◌≢◌, ℕ, Some, Ok, Err, List, [], ◌∷◌, ◌++◌, length};
-ghost use Rattle.numa_space.specs.declared.command.Command.{Command};
-ghost use Rattle.numa_space.specs.declared.refusal.Refusal.{Refusal};
-ghost use Rattle.numa_publish.specs.Shown.{DeskState, Refuses, accepted};
-ghost use Rattle.numa_core.specs.World.{Setup, World, opening};
+ghost use Rattle.std.specs.Prelude.{◌≡◌, ◌≢◌, ℕ, ◌≤◌, None, Some, Ok, Err, List, [], ◌∷◌, ◌++◌, length};
 ghost use Rattle.numa_core.specs.Runs.{Moment, IsLegalRun, worker_of, world_of};
+ghost use Rattle.numa_core.specs.Steps.{answer_of};
+ghost use Rattle.numa_core.specs.World.{Setup, World, opening, owner_of};
 ghost use Rattle.numa_core.specs.declared.event.CoreRefusal.{CoreRefusal};
 ghost use Rattle.numa_core.specs.declared.event.Event.{Event};
 ghost use Rattle.numa_core.specs.declared.event.Reply.{Reply};
+ghost use Rattle.numa_fault.specs.Fault.{IsServed, list_of, refusal_of};
+ghost use Rattle.numa_fault.specs.declared.refusal.FaultRefusal.{FaultRefusal};
+ghost use Rattle.numa_pool.specs.Seats.{SeatView};
+ghost use Rattle.numa_publish.specs.Shown.{DeskState, Refuses, accepted};
+ghost use Rattle.numa_space.specs.declared.command.Command.{Command};
+ghost use Rattle.numa_space.specs.declared.placement.Placement.{Placement};
+ghost use Rattle.numa_space.specs.declared.refusal.Refusal.{Refusal};
+ghost use Rattle.numa_space.specs.declared.request.Request.{Request};
+ghost use Rattle.numa_tie.specs.Hunts.{IsHunt, Turn};
+ghost use Rattle.numa_tie.specs.Moments.{MayBegin};
 ghost use Rattle.numa_hunts.specs.Desks.{Accepts, IsDeskOf, IsNew, LeadsTo, Publishes};
+ghost use Rattle.numa_hunts.specs.Faults.{Falls, IsReady, LeavesLast, begun_world, last_world};
 ghost use Rattle.numa_hunts.specs.Moments.{IsPublishedIn, after_moment, moment_of};
 
 /// A new desk is that of the opening world. A command that it accepts is the world's Accept, and a
@@ -58,4 +67,68 @@ pub fn what_is_published_stays()
     ensures stays { (s : Setup) (world : World) (m : Moment) (history : List Command)
         → IsPublishedIn world history
         → IsPublishedIn (after_moment s world m) history }
+{}
+
+/// A worker that is ready by the history that a fault sees may begin by it: the core refuses its Begin
+/// at that version exactly as the fault is refused, and where nothing refuses it, the Begin has exactly
+/// the page's list.
+pub fn a_fault_begins()
+    ensures bad_cpu { (s : Setup) (w : ℕ) (history : List Command) (request : Request)
+        (before after : SeatView) (first : World) → IsReady s w history first
+        → IsServed s.machine.frames s.machine history request before after
+        (Err FaultRefusal.BadCpu)
+        → answer_of s first (length history) (Event.Begin w request) ≡ Err CoreRefusal.BadCpu }
+    ensures unmapped { (s : Setup) (w : ℕ) (history : List Command) (request : Request)
+        (before after : SeatView) (first : World) (version : ℕ) → IsReady s w history first
+        → IsServed s.machine.frames s.machine history request before after
+        (Err (FaultRefusal.Unmapped version))
+        → answer_of s first version (Event.Begin w request) ≡ Err (CoreRefusal.Unmapped version) }
+    ensures list { (s : Setup) (w : ℕ) (history : List Command) (request : Request) (first : World)
+        → IsReady s w history first → refusal_of s.machine history request ≡ None
+        → MayBegin s first w (length history) request (list_of s.machine history request) }
+{}
+
+/// A fault is a hunt of the core. Where it answers `Exhausted` or a placement, its Begin and the steps
+/// that its seat gained, the oldest first, are moments of the core's world, none is refused, each but
+/// the last is to go on, and the last reply is Exhausted with this version, or Won with this placement,
+/// whose frame is the worker's then. Each step may fall in any world that is tied to the pools, whatever
+/// other threads did before it, as long as the worker's hunt is as its moment before had left it.
+pub fn a_fault_is_a_hunt()
+    ensures exhausted { (s : Setup) (w : ℕ) (history : List Command) (request : Request)
+        (first : World) (before after : SeatView) (turns : List Turn) (version : ℕ)
+        → Falls s w history request first before after turns
+        → IsServed s.machine.frames s.machine history request before after
+        (Err (FaultRefusal.Exhausted version))
+        → IsHunt s w first version request (Reply.Exhausted version) turns }
+    ensures won { (s : Setup) (w : ℕ) (history : List Command) (request : Request)
+        (first : World) (before after : SeatView) (turns : List Turn) (placement : Placement)
+        → Falls s w history request first before after turns
+        → IsServed s.machine.frames s.machine history request before after (Ok placement)
+        → IsHunt s w first placement.version request (Reply.Won placement) turns }
+    ensures owned { (s : Setup) (w : ℕ) (history : List Command) (request : Request)
+        (first : World) (before after : SeatView) (turns : List Turn) (placement : Placement)
+        → Falls s w history request first before after turns
+        → IsServed s.machine.frames s.machine history request before after (Ok placement)
+        → owner_of (last_world s w history request first turns) placement.frame ≡ Some w }
+{}
+
+/// After a hunt the worker is idle, and what it was told last is the version of its fault. So it is
+/// ready again, by that history or a longer one that is published: each page that a span places, all by
+/// one history, is such a hunt, and so is the next fault.
+pub fn a_fault_leaves_its_worker_ready()
+    ensures exhausted { (s : Setup) (w : ℕ) (history longer : List Command) (request : Request)
+        (first next : World) (before after : SeatView) (turns : List Turn) (version : ℕ)
+        → Falls s w history request first before after turns
+        → IsServed s.machine.frames s.machine history request before after
+        (Err (FaultRefusal.Exhausted version))
+        → LeavesLast s w (begun_world s w history request first) turns
+        → next.worker w ≡ (last_world s w history request first turns).worker w
+        → IsPublishedIn next longer → length history ≤ length longer → IsReady s w longer next }
+    ensures won { (s : Setup) (w : ℕ) (history longer : List Command) (request : Request)
+        (first next : World) (before after : SeatView) (turns : List Turn) (placement : Placement)
+        → Falls s w history request first before after turns
+        → IsServed s.machine.frames s.machine history request before after (Ok placement)
+        → LeavesLast s w (begun_world s w history request first) turns
+        → next.worker w ≡ (last_world s w history request first turns).worker w
+        → IsPublishedIn next longer → length history ≤ length longer → IsReady s w longer next }
 {}
