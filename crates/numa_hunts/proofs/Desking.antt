@@ -3,11 +3,12 @@ use Rattle.std.proofs.Common.{◌≡◌, ◌≢◌, ℕ, ◌+◌, ◌-◌, ◌==
 use Rattle.std.specs.Prelude.{slice_get}
 use Rattle.std.specs.List.{list_any}
 use Rattle.std.proofs.lemmas.Bool.{eq-eqb}
-use Rattle.std.proofs.lemmas.List.{drop_at, length-append, length-drop}
+use Rattle.std.proofs.lemmas.List.{append_assoc, drop_at, length-append, length-drop}
 use Rattle.numa_space.specs.Refusals.{refusal_of as command_refusal}
 use Rattle.numa_space.specs.declared.command.Command.{Command}
 use Rattle.numa_space.specs.declared.refusal.Refusal.{Refusal}
-use Rattle.numa_publish.specs.Shown.{DeskState, Refuses, accepted, and_newest}
+use Rattle.numa_publish.specs.Batches.{Extends}
+use Rattle.numa_publish.specs.Shown.{DeskState, Refuses, ViewState, accepted, and_newest}
 use Rattle.numa_core.specs.World.{Setup, World, first_commands, is_published, opening, owner_of}
 use Rattle.numa_core.specs.Steps.{because, refused_or, effect_of, world_after}
 use Rattle.numa_core.specs.Runs.{worker_of}
@@ -127,16 +128,32 @@ shows s world desk is = record {
   commands = ap (λ (h : List Command). first_commands (length desk.published) h) is.history ∙ behind desk.pending desk.published;
 }
 
+or_else_true : (a b : Bool) → b ≡ true → (a || b) ≡ true
+or_else_true true b e = refl
+or_else_true false b e = e
+
+any-behind : (more versions : List ℕ) (v : ℕ) → list_any (λ n. n == v) versions ≡ true → list_any (λ n. n == v) (more ++ versions) ≡ true
+any-behind [] versions v e = e
+any-behind (n ∷ more) versions v e = or_else_true (n == v) (list_any (λ m. m == v) (more ++ versions)) (any-behind more versions v e)
+
+-- so is what a view shows
+pub viewed : (s : Setup) (world : World) (desk : DeskState) (view : ViewState) → IsDeskOf s world desk → Extends view.history desk.published → Extends view.versions desk.versions
+    → slice_get view.versions 0 ≡ Some (length view.history) → IsPublishedIn world view.history
+viewed s world desk view is history versions newest =
+    let all : world.history ≡ (desk.pending ++ history.0) ++ view.history =
+    is.history ∙ ap (λ (h : List Command). desk.pending ++ h) history.1 ∙ sym (append_assoc desk.pending history.0 view.history) in
+    record {
+      published = ap (λ (ns : List ℕ). list_any (λ n. n == length view.history) ns) (is.versions ∙ versions.1)
+          ∙ any-behind versions.0 view.versions (length view.history) (first-any view.versions (length view.history) newest);
+      commands = ap (λ (h : List Command). first_commands (length view.history) h) all ∙ behind (desk.pending ++ history.0) view.history;
+    }
+
 -- a published history is no longer than the world's
 fits : (world : World) (history : List Command) → IsPublishedIn world history → length history ≤ length world.history
 fits world history is =
     let l : length (first_commands (length history) world.history) ≡ length history = ap (λ (h : List Command). length h) is.commands in
     let m : length (first_commands (length history) world.history) ≡ length world.history - (length world.history - length history) = length-drop (length world.history - length history) world.history in
     omega arith
-
-or_else_true : (a b : Bool) → b ≡ true → (a || b) ≡ true
-or_else_true true b e = refl
-or_else_true false b e = e
 
 pub stays : (s : Setup) (world : World) (version : ℕ) (event : Event) (answer : Result Reply CoreRefusal) (history : List Command) → IsPublishedIn world history
     → IsPublishedIn (world_after s world version event answer) history

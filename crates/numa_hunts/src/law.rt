@@ -1,5 +1,5 @@
 //! Laws of the running threads and the core's world.
-ghost use Rattle.std.specs.Prelude.{◌≡◌, ◌≢◌, ℕ, ◌≤◌, None, Some, Ok, Err, List, [], ◌∷◌, ◌++◌, length};
+ghost use Rattle.std.specs.Prelude.{◌≡◌, ◌≢◌, ℕ, ◌≤◌, None, Some, Ok, Err, List, [], ◌∷◌, ◌++◌, length, slice_get};
 ghost use Rattle.numa_core.specs.Runs.{Moment, IsLegalRun, worker_of, world_of};
 ghost use Rattle.numa_core.specs.Steps.{answer_of};
 ghost use Rattle.numa_core.specs.World.{Setup, World, opening, owner_of};
@@ -9,7 +9,8 @@ ghost use Rattle.numa_core.specs.declared.event.Reply.{Reply};
 ghost use Rattle.numa_fault.specs.Fault.{IsServed, list_of, refusal_of};
 ghost use Rattle.numa_fault.specs.declared.refusal.FaultRefusal.{FaultRefusal};
 ghost use Rattle.numa_pool.specs.Seats.{SeatView};
-ghost use Rattle.numa_publish.specs.Shown.{DeskState, Refuses, accepted};
+ghost use Rattle.numa_publish.specs.Batches.{Extends};
+ghost use Rattle.numa_publish.specs.Shown.{DeskState, Refuses, ViewState, accepted};
 ghost use Rattle.numa_space.specs.declared.command.Command.{Command};
 ghost use Rattle.numa_space.specs.declared.placement.Placement.{Placement};
 ghost use Rattle.numa_space.specs.declared.refusal.Refusal.{Refusal};
@@ -60,10 +61,16 @@ pub fn a_desk_stays_the_worlds()
         → IsLegalRun s (m ∷ run) × IsDeskOf s (world_of s (m ∷ run)) desk }
 {}
 
-/// What a desk has published is published in its world, and stays so at every moment.
+/// What a desk has published is published in its world, and stays so at every moment. So is what a view
+/// shows, which the desk had published at some time.
 pub fn what_is_published_stays()
     ensures desk { (s : Setup) (world : World) (desk : DeskState) → IsDeskOf s world desk
         → IsPublishedIn world desk.published }
+    ensures view { (s : Setup) (world : World) (desk : DeskState) (view : ViewState)
+        → IsDeskOf s world desk → Extends view.history desk.published
+        → Extends view.versions desk.versions
+        → slice_get view.versions 0 ≡ Some (length view.history)
+        → IsPublishedIn world view.history }
     ensures stays { (s : Setup) (world : World) (m : Moment) (history : List Command)
         → IsPublishedIn world history
         → IsPublishedIn (after_moment s world m) history }

@@ -1,4 +1,4 @@
-use Rattle.numa_hunts.proofs.Desking.{shows, stays}
+use Rattle.numa_hunts.proofs.Desking.{shows, stays, viewed}
 use Rattle.numa_hunts.proofs.law.what_is_published_stays.Goals as goal
 
 pub returns-clause-desk : goal.returns-clause-desk
@@ -6,3 +6,6 @@ returns-clause-desk c = shows
 
 pub returns-clause-stays : goal.returns-clause-stays
 returns-clause-stays c s world m history is = stays s world m.version m.event m.answer history is
+
+pub returns-clause-view : goal.returns-clause-view
+returns-clause-view c = viewed
