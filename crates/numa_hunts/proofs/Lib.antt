@@ -1,3 +1,4 @@
 pub mod Desking
 pub mod Begins
 pub mod Falling
+pub mod Beside

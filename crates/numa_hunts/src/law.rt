@@ -17,6 +17,8 @@ ghost use Rattle.numa_space.specs.declared.refusal.Refusal.{Refusal};
 ghost use Rattle.numa_space.specs.declared.request.Request.{Request};
 ghost use Rattle.numa_tie.specs.Hunts.{IsHunt, Turn};
 ghost use Rattle.numa_tie.specs.Moments.{MayBegin};
+ghost use Rattle.numa_tie.specs.Moves.{PoolState};
+ghost use Rattle.numa_tie.specs.Tie.{IsTied};
 ghost use Rattle.numa_hunts.specs.Desks.{Accepts, IsDeskOf, IsNew, LeadsTo, Publishes};
 ghost use Rattle.numa_hunts.specs.Faults.{Falls, IsReady, LeavesLast, begun_world, last_world};
 ghost use Rattle.numa_hunts.specs.Moments.{IsPublishedIn, after_moment, moment_of};
@@ -74,6 +76,19 @@ pub fn what_is_published_stays()
     ensures stays { (s : Setup) (world : World) (m : Moment) (history : List Command)
         → IsPublishedIn world history
         → IsPublishedIn (after_moment s world m) history }
+{}
+
+/// What others do between the moments of a worker: no moment of the desk, and none of another worker,
+/// changes the worker; and the desk's moments leave the world tied to the pools.
+pub fn others_leave_a_worker()
+    ensures desk { (s : Setup) (world : World) (m : Moment) (w : ℕ) → worker_of m.event ≡ None
+        → (after_moment s world m).worker w ≡ world.worker w }
+    ensures workers { (s : Setup) (world : World) (m : Moment) (v w : ℕ)
+        → worker_of m.event ≡ Some v → v ≢ w
+        → (after_moment s world m).worker w ≡ world.worker w }
+    ensures tied { (s : Setup) (world : World) (m : Moment) (state : PoolState)
+        → worker_of m.event ≡ None → IsTied s world state
+        → IsTied s (after_moment s world m) state }
 {}
 
 /// A worker that is ready by the history that a fault sees may begin by it: the core refuses its Begin
