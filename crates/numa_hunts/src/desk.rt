@@ -1,5 +1,5 @@
-//! The calls of a desk beside the core's world. Each function hands its call on; its clauses say which
-//! moment of the world the call is.
+//! The calls of a desk beside the core's world. Each function hands its call on; its clauses say
+//! which moment of the world the call is.
 ghost use Rattle.std.specs.Prelude.{◌≡◌, ◌≢◌, ◌≤◌, [], length, Ok, Err, IfOk, IfErr, OnOk, OnErr};
 ghost use Rattle.numa_publish.specs.Shown.{accepted};
 ghost use Rattle.numa_core.specs.World.{Setup, World, opening};

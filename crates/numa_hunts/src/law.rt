@@ -25,8 +25,8 @@ ghost use Rattle.numa_hunts.specs.Moments.{IsPublishedIn, after_moment, moment_o
 
 /// A new desk is that of the opening world. A command that it accepts is the world's Accept, and a
 /// publish of something pending is the world's Publish, each a legal moment with the same number as
-/// its answer. A refusal with a cause is the world's refusal of the Accept, and want of memory for a
-/// publish is one that the world allows. With nothing pending a publish changes nothing: it is no
+/// its answer. A refusal with a cause is the world's refusal of the Accept, and want of memory for
+/// a publish is one that the world allows. With nothing pending a publish changes nothing: it is no
 /// moment, and a Publish would lead to a world that isn't the desk's.
 pub fn a_desk_is_the_worlds()
     ensures opens { (s : Setup) (desk : DeskState) → IsNew s.machine s.bounds desk
@@ -63,8 +63,8 @@ pub fn a_desk_stays_the_worlds()
         → IsLegalRun s (m ∷ run) × IsDeskOf s (world_of s (m ∷ run)) desk }
 {}
 
-/// What a desk has published is published in its world, and stays so at every moment. So is what a view
-/// shows, which the desk had published at some time.
+/// What a desk has published is published in its world, and stays so at every moment. So is what a
+/// view shows, which the desk had published at some time.
 pub fn what_is_published_stays()
     ensures desk { (s : Setup) (world : World) (desk : DeskState) → IsDeskOf s world desk
         → IsPublishedIn world desk.published }
@@ -78,8 +78,8 @@ pub fn what_is_published_stays()
         → IsPublishedIn (after_moment s world m) history }
 {}
 
-/// What others do between the moments of a worker: no moment of the desk, and none of another worker,
-/// changes the worker; and the desk's moments leave the world tied to the pools.
+/// What others do between the moments of a worker: no moment of the desk, and none of another
+/// worker, changes the worker; and the desk's moments leave the world tied to the pools.
 pub fn others_leave_a_worker()
     ensures desk { (s : Setup) (world : World) (m : Moment) (w : ℕ) → worker_of m.event ≡ None
         → (after_moment s world m).worker w ≡ world.worker w }
@@ -91,9 +91,9 @@ pub fn others_leave_a_worker()
         → IsTied s (after_moment s world m) state }
 {}
 
-/// A worker that is ready by the history that a fault sees may begin by it: the core refuses its Begin
-/// at that version exactly as the fault is refused, and where nothing refuses it, the Begin has exactly
-/// the page's list.
+/// A worker that is ready by the history that a fault sees may begin by it: the core refuses its
+/// Begin at that version exactly as the fault is refused, and where nothing refuses it, the Begin
+/// has exactly the page's list.
 pub fn a_fault_begins()
     ensures bad_cpu { (s : Setup) (w : ℕ) (history : List Command) (request : Request)
         (before after : SeatView) (first : World) → IsReady s w history first
@@ -110,11 +110,12 @@ pub fn a_fault_begins()
         → MayBegin s first w (length history) request (list_of s.machine history request) }
 {}
 
-/// A fault is a hunt of the core. Where it answers `Exhausted` or a placement, its Begin and the steps
-/// that its seat gained, the oldest first, are moments of the core's world, none is refused, each but
-/// the last is to go on, and the last reply is Exhausted with this version, or Won with this placement,
-/// whose frame is the worker's then. Each step may fall in any world that is tied to the pools, whatever
-/// other threads did before it, as long as the worker's hunt is as its moment before had left it.
+/// A fault is a hunt of the core. Where it answers `Exhausted` or a placement, its Begin and the
+/// steps that its seat gained, the oldest first, are moments of the core's world, none is refused,
+/// each but the last is to go on, and the last reply is Exhausted with this version, or Won with
+/// this placement, whose frame is the worker's then. Each step may fall in any world that is tied
+/// to the pools, whatever other threads did before it, as long as the worker's hunt is as its
+/// moment before had left it.
 pub fn a_fault_is_a_hunt()
     ensures exhausted { (s : Setup) (w : ℕ) (history : List Command) (request : Request)
         (first : World) (before after : SeatView) (turns : List Turn) (version : ℕ)
@@ -135,8 +136,8 @@ pub fn a_fault_is_a_hunt()
 {}
 
 /// After a hunt the worker is idle, and what it was told last is the version of its fault. So it is
-/// ready again, by that history or a longer one that is published: each page that a span places, all by
-/// one history, is such a hunt, and so is the next fault.
+/// ready again, by that history or a longer one that is published: each page that a span places,
+/// all by one history, is such a hunt, and so is the next fault.
 pub fn a_fault_leaves_its_worker_ready()
     ensures exhausted { (s : Setup) (w : ℕ) (history longer : List Command) (request : Request)
         (first next : World) (before after : SeatView) (turns : List Turn) (version : ℕ)
