@@ -1,16 +1,28 @@
-//! Tests of what threads share: a desk's published versions and their readers. It holds nothing but
-//! tests, so that the crates themselves are proved once.
+//! Tests of what threads share: a desk's published versions and their readers, and workers that
+//! place pages by them. It holds nothing but tests, so that the crates themselves are proved once.
 #![tactic(auto)]
 
 #[cfg(test)]
 mod beside;
 #[cfg(test)]
+mod eight_workers;
+#[cfg(test)]
+mod one_frame;
+#[cfg(test)]
 mod places;
 #[cfg(test)]
 mod refused;
 #[cfg(test)]
+mod refused_span;
+#[cfg(test)]
 mod setting;
+#[cfg(test)]
+mod spans;
+#[cfg(test)]
+mod tally;
 #[cfg(test)]
 mod versions;
 #[cfg(test)]
 mod waiting;
+#[cfg(test)]
+mod workers;

@@ -15,7 +15,7 @@ use std::sync::Wait;
 const MARK: usize = 1_000_003;
 
 /// What lies between two marks is what growths are refused of.
-fn mark(rt: &impl Abort, alloc: Global) {
+pub fn mark(rt: &impl Abort, alloc: Global) {
     drop(Vec::<u8>::with_capacity(alloc, MARK).expect(rt, "memory"));
 }
 

@@ -15,9 +15,16 @@ use std::thread;
 
 /// The set of one node.
 pub fn node(number: u8) -> NodeMask {
+    nodes(&[number])
+}
+
+/// The set of these nodes.
+pub fn nodes(numbers: &[u8]) -> NodeMask {
     let mut set = NodeMask::empty();
-    if let Some(id) = NodeId::new(number) {
-        set.insert(id);
+    for number in numbers {
+        if let Some(id) = NodeId::new(*number) {
+            set.insert(id);
+        }
     }
     set
 }
@@ -27,11 +34,7 @@ pub fn desk_for(rt: &(impl Wait + Abort), alloc: Global, readers: u32) -> Desk
     requires some { 1 ≤ readers }
     requires few { readers ≤ 64 }
 {
-    let mut memory = node(0);
-    if let Some(id) = NodeId::new(1) {
-        memory.insert(id);
-    }
-    let machine = Machine::new(alloc, 2, memory, &[10, 20, 20, 10], &[8, 8]).expect(
+    let machine = Machine::new(alloc, 2, nodes(&[0, 1]), &[10, 20, 20, 10], &[8, 8]).expect(
         rt,
         "a machine",
     );

@@ -1,0 +1,267 @@
+//! Eight workers in threads, which place pages until no frame is left, beside a ninth thread that
+//! submits policies. Whatever the threads' order, each has placed a page before any goes on.
+ghost use Rattle.std.specs.Prelude.{◌≡◌};
+ghost use Rattle.std.specs.List.{All};
+
+use crate::setting::nodes;
+use crate::tally::{frames_not_once, wrong_placements};
+use numa_fault::{FaultRefusal, FaultWorker};
+use numa_machine::Machine;
+use numa_mode::PolicySpec;
+use numa_pool::{PoolSeat, Pools};
+use numa_publish::{Desk, DeskName, SharedDesk};
+use numa_space::{Command, Limits, Placement, Request};
+use std::alloc::Global;
+use std::marker::Brand;
+use std::process::Abort;
+use std::sync::Wait;
+use std::sync::atomic::{AtomicU64, Ordering};
+use std::thread;
+use std::thread::{Threads, join};
+
+/// How many workers there are.
+const WORKERS: usize = 8;
+
+/// How many frames each of the four nodes has.
+pub const FRAMES: u32 = 4_096;
+
+/// How many pages are mapped, from which one on.
+const PAGES: u64 = 16_384;
+
+const FIRST: u64 = 0x10000;
+
+/// How many commands are published at the end.
+pub const COMMANDS: u64 = 40;
+
+/// A worker, what it placed, and why it stopped.
+#[derive(Drop)]
+pub struct Hand {
+    pub worker: FaultWorker,
+    pub placed: Vec<Placement>,
+    pub stopped: Option<FaultRefusal>,
+}
+
+/// Four nodes, 20 apart.
+pub fn machine(rt: &impl Abort, alloc: Global) -> Machine {
+    let distances = [
+        10, 20, 20, 20, 20, 10, 20, 20, 20, 20, 10, 20, 20, 20, 20, 10,
+    ];
+    let memory = nodes(&[0, 1, 2, 3]);
+    Machine::new(alloc, 4, memory, &distances, &[FRAMES; 4]).expect(rt, "a machine")
+}
+
+/// Limits that stand in nobody's way.
+pub fn limits(rt: &impl Abort) -> Limits {
+    Limits::new(65_536, 1_024, 4_294_967_295).expect(rt, "limits")
+}
+
+/// The command that makes this version: the map first, then interleaving of task 1 over nodes 1 and
+/// 2, and over all four, in turn.
+pub fn command(rt: &impl Abort, version: u64) -> Command {
+    if version == 1 {
+        return Command::Map {
+            start: FIRST << 12,
+            length: PAGES << 12,
+            offset: 0,
+        };
+    }
+    let set = if version % 2 == 0 {
+        nodes(&[1, 2])
+    } else {
+        nodes(&[0, 1, 2, 3])
+    };
+    Command::SetTask {
+        task: 1,
+        spec: PolicySpec::from_raw(3, set).expect(rt, "a policy"),
+    }
+}
+
+/// What worker w asks for after so many pages.
+pub fn request(w: usize, pages: usize) -> Request {
+    let place = (w as u64).wrapping_add((pages as u64).wrapping_mul(WORKERS as u64));
+    Request {
+        task: 1,
+        page: FIRST + place % PAGES,
+        cpu: (w % 4) as u32,
+    }
+}
+
+/// Places one page more, unless the worker has stopped.
+fn place_one(pools: &Pools, w: usize, hand: &mut Hand)
+    requires { hand.old.worker.seat.table ≡ pools.now.table }
+    ensures { hand.new.worker.seat.table ≡ pools.now.table }
+{
+    if hand.stopped.is_some() {
+        return;
+    }
+    match hand.worker.fault(pools, request(w, hand.placed.len())) {
+        Ok(placement) => {
+            if hand.placed.push(placement).is_err() {
+                hand.stopped = Some(FaultRefusal::NoView);
+            }
+        }
+        Err(refusal) => hand.stopped = Some(refusal),
+    }
+}
+
+/// Places pages until the worker stops.
+fn place_all(pools: &Pools, w: usize, hand: &mut Hand)
+    requires { hand.old.worker.seat.table ≡ pools.now.table }
+    ensures { hand.new.worker.seat.table ≡ pools.now.table }
+{
+    for _ in 0..=PAGES {
+        place_one(pools, w, hand);
+    }
+}
+
+/// Waits until all nine threads have come here, but not for ever: where the system runs them one
+/// after the other, they go on alone.
+fn wait_for_all(arrived: &AtomicU64) {
+    arrived.fetch_add(1, Ordering::SeqCst);
+    for _ in 0..200_000 {
+        if arrived.load(Ordering::SeqCst) > WORKERS as u64 {
+            return;
+        }
+        thread::yield_now();
+    }
+}
+
+/// Each worker places a page, in its thread; once all did, each places the rest.
+fn place<R: Threads + Sync>(rt: &R, pools: &Pools, hands: &mut [Hand], arrived: &AtomicU64)
+    requires { All (λ (h : Hand). h.worker.seat.table ≡ pools.now.table) hands.old }
+{
+    thread::for_each_mut(
+        rt,
+        hands,
+        WORKERS,
+        &|w, hand: &mut Hand|
+            requires { hand.old.worker.seat.table ≡ pools.now.table }
+            ensures { hand.new.worker.seat.table ≡ pools.entry.now.table }
+        {
+            place_one(pools, w, hand);
+        },
+    );
+    thread::for_each_mut(
+        rt,
+        hands,
+        WORKERS,
+        &|w, hand: &mut Hand|
+            requires { hand.old.worker.seat.table ≡ pools.now.table }
+        {
+            wait_for_all(arrived);
+            place_all(pools, w, hand);
+        },
+    );
+}
+
+/// The same, of workers that are handed over and back.
+fn place_by<R: Threads + Sync>(
+    rt: &R,
+    pools: &Pools,
+    mut hands: Vec<Hand>,
+    arrived: &AtomicU64,
+) -> Vec<Hand>
+    requires { All (λ (h : Hand). h.worker.seat.table ≡ pools.now.table) hands.items }
+{
+    place(rt, pools, hands.as_mut_slice(), arrived);
+    hands
+}
+
+/// Submits the commands behind version 2, and counts those that were not published in turn.
+fn submit_all<K: DeskName>(
+    rt: &(impl Wait + Abort),
+    desk: &SharedDesk<K>,
+    arrived: &AtomicU64,
+) -> u64 {
+    wait_for_all(arrived);
+    let mut missed = 0u64;
+    for version in 3..=COMMANDS {
+        let answer = desk.submit(rt, &command(rt, version));
+        if answer.ok().map(|receipt| receipt.version()) != Some(version) {
+            missed = missed.saturating_add(1);
+        }
+    }
+    missed
+}
+
+/// A worker with a seat and a reader of its own.
+fn hire_one<K: DeskName>(
+    rt: &(impl Wait + Abort),
+    alloc: Global,
+    desk: &SharedDesk<K>,
+    pools: &Pools,
+    seat: &mut PoolSeat,
+) -> Hand
+    requires { seat.old.table ≡ pools.now.table }
+    ensures table { seat.new.table ≡ pools.now.table }
+    ensures hand { result.worker.seat.table ≡ pools.now.table }
+{
+    let reader = desk.reader(rt).expect(rt, "a place");
+    let other = pools.split(alloc, seat).expect(rt, "memory");
+    Hand {
+        worker: FaultWorker::new(reader, other),
+        placed: Vec::with_capacity(alloc, PAGES as usize).expect(rt, "memory"),
+        stopped: None,
+    }
+}
+
+/// All workers.
+fn hire<K: DeskName>(
+    rt: &(impl Wait + Abort),
+    alloc: Global,
+    desk: &SharedDesk<K>,
+    pools: &Pools,
+    seat: &mut PoolSeat,
+) -> Vec<Hand>
+    requires { seat.old.table ≡ pools.now.table }
+    ensures table { seat.new.table ≡ pools.now.table }
+    ensures hands { All (λ (h : Hand). h.worker.seat.table ≡ pools.now.table) result.items }
+{
+    let mut hands = Vec::with_capacity(alloc, WORKERS).expect(rt, "memory");
+    for _ in 0..WORKERS {
+        let hand = hire_one(rt, alloc, desk, pools, seat);
+        hands.push(hand).expect(rt, "memory");
+    }
+    hands
+}
+
+/// All of it, on a desk that is shared.
+fn run<K: DeskName + Send + Sync, R: Threads + Wait + Abort + Sync>(
+    rt: &R,
+    alloc: Global,
+    desk: Desk,
+)
+    requires { desk.desk ≡ K.desk }
+{
+    let shared = SharedDesk::<K>::new(desk);
+    let (pools, mut seat) = Pools::open(alloc, &machine(rt, alloc)).expect(rt, "memory");
+    let hands = hire(rt, alloc, &shared, &pools, &mut seat);
+    let arrived = AtomicU64::new(0);
+    let (lock, all, line) = (&shared, &pools, &arrived);
+    let (missed, hands) = join(
+        rt,
+        move || submit_all(rt, lock, line),
+        move || -> Vec<Hand>
+            requires { All (λ (h : Hand). h.worker.seat.table ≡ all.now.table) hands.items }
+        { place_by(rt, all, hands, line) },
+    );
+    shared.into_desk().end(rt);
+    let closed = pools.close(seat);
+    assert_eq!(rt; missed, 0);
+    assert_eq!(rt; wrong_placements(rt, alloc, hands.as_slice()), 0);
+    assert_eq!(rt; frames_not_once(rt, alloc, hands.as_slice()), 0);
+    for node in 0..4 {
+        assert_eq!(rt; closed.taken[node], FRAMES);
+    }
+}
+
+#[test]
+fn until_no_frame_is_left(rt: HostRuntime) {
+    let mut desk = Desk::new(&rt, rt.alloc(), machine(&rt, rt.alloc()), limits(&rt), 8).expect(
+        &rt, "memory",
+    );
+    assert_eq!(rt; desk.accept(&command(&rt, 1)), Ok(1));
+    assert_eq!(rt; desk.accept(&command(&rt, 2)), Ok(2));
+    let _receipt = desk.publish(&rt).expect(&rt, "memory");
+    run::<Brand, HostRuntime>(&rt, rt.alloc(), desk);
+}
