@@ -1,4 +1,4 @@
-//! Versions on a desk that one thread has.
+//! Versions on a desk.
 ghost use Rattle.std.specs.Prelude.{◌≡◌};
 
 use crate::setting::{bind_a_hole, desk_for, look, map_one, prefer};
@@ -7,6 +7,7 @@ use numa_space::{PlaceRefusal, Refusal};
 use std::marker::Brand;
 use std::process::Abort;
 use std::sync::Wait;
+use std::thread::join;
 
 #[test]
 fn on_a_desk(rt: HostRuntime) {
@@ -55,4 +56,47 @@ fn through_a_shared_desk(rt: HostRuntime) {
     assert_eq!(rt; desk.accept(&prefer(&rt, 1)), Ok(2));
     let _receipt = desk.publish(&rt).expect(&rt, "memory");
     submits::<Brand>(&rt, desk);
+}
+
+/// How often a desk publishes, one command each time.
+const PUBLISHES: u64 = 1_000_000;
+
+#[test]
+fn a_million_publishes(rt: HostRuntime) {
+    let mut desk = desk_for(&rt, rt.alloc(), 1);
+    let commands = [prefer(&rt, 0), prefer(&rt, 1)];
+    let mut refused = 0u64;
+    for turn in 0..PUBLISHES {
+        let accepted = desk
+            .accept(&commands[if turn % 2 == 0 { 0 } else { 1 }])
+            .is_ok();
+        if !accepted || desk.publish(&rt).is_err() {
+            refused = refused.saturating_add(1);
+        }
+    }
+    let left = (desk.published(), desk.pending());
+    desk.end(&rt);
+    assert_eq!(rt; (refused, left), (0, (PUBLISHES, 0)));
+}
+
+/// What may go to another thread.
+fn sent<T: Send>(value: T) -> T
+    ensures { result ≡ value }
+{
+    value
+}
+
+#[test]
+fn a_view_and_a_receipt_go_to_another_thread(rt: HostRuntime) {
+    let mut desk = desk_for(&rt, rt.alloc(), 1);
+    let reader = desk.reader().expect(&rt, "a place");
+    assert_eq!(rt; desk.accept(&map_one()), Ok(1));
+    let view = sent(reader.enter().ok().expect(&rt, "an entry"));
+    let receipt = desk.publish(&rt).expect(&rt, "memory");
+    let version = view.version();
+    let reader = view.leave();
+    let ((reader, seen), ()) = join(&rt, move || look(reader.learn(&receipt)), || ());
+    desk.end(&rt);
+    drop(reader);
+    assert_eq!(rt; (version, seen), (0, Some((1, Ok((0, 1))))));
 }
