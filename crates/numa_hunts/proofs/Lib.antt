@@ -2,3 +2,4 @@ pub mod Desking
 pub mod Begins
 pub mod Falling
 pub mod Beside
+pub mod Among

@@ -1,3 +1,4 @@
 pub mod Moments
 pub mod Desks
 pub mod Faults
+pub mod Interleaved

@@ -1,5 +1,5 @@
 //! Laws of the running threads and the core's world.
-ghost use Rattle.std.specs.Prelude.{◌≡◌, ◌≢◌, ℕ, ◌≤◌, None, Some, Ok, Err, List, [], ◌∷◌, ◌++◌, length, slice_get};
+ghost use Rattle.std.specs.Prelude.{◌≡◌, ◌≢◌, ℕ, ◌≤◌, None, Some, Ok, Err, List, [], ◌∷◌, ◌++◌, length, slice_get, slice_index};
 ghost use Rattle.numa_core.specs.Runs.{Moment, IsLegalRun, worker_of, world_of};
 ghost use Rattle.numa_core.specs.Steps.{answer_of};
 ghost use Rattle.numa_core.specs.World.{Setup, World, opening, owner_of};
@@ -18,9 +18,11 @@ ghost use Rattle.numa_space.specs.declared.request.Request.{Request};
 ghost use Rattle.numa_tie.specs.Hunts.{IsHunt, Turn};
 ghost use Rattle.numa_tie.specs.Moments.{MayBegin};
 ghost use Rattle.numa_tie.specs.Moves.{PoolState};
+ghost use Rattle.numa_tie.specs.Plays.{Done, IsPlay, run_of, since_of};
 ghost use Rattle.numa_tie.specs.Tie.{IsTied};
 ghost use Rattle.numa_hunts.specs.Desks.{Accepts, IsDeskOf, IsNew, LeadsTo, Publishes};
 ghost use Rattle.numa_hunts.specs.Faults.{Falls, IsReady, LeavesLast, begun_world, last_world};
+ghost use Rattle.numa_hunts.specs.Interleaved.{HaveNoBegin, begins, turns_in};
 ghost use Rattle.numa_hunts.specs.Moments.{IsPublishedIn, after_moment, moment_of};
 
 /// A new desk is that of the opening world. A command that it accepts is the world's Accept, and a
@@ -154,4 +156,27 @@ pub fn a_fault_leaves_its_worker_ready()
         → LeavesLast s w (begun_world s w history request first) turns
         → next.worker w ≡ (last_world s w history request first turns).worker w
         → IsPublishedIn next longer → length history ≤ length longer → IsReady s w longer next }
+{}
+
+/// So it is in every interleaving: where worker w was ready and began by the history that a fault
+/// saw, and did not begin anew, the steps that its seat made since, each in the world and the pools
+/// that it found, are a fault as it falls. Others told the worker nothing.
+pub fn faults_of_an_interleaving_fall()
+    ensures falls { (s : Setup) (w : ℕ) → ((n : ℕ) → slice_index s.machine.frames n ≤ 4096)
+        → (first pools : PoolState) (done later : List Done) (history : List Command)
+        (request : Request)
+        → IsPlay s first (later ++ begins w (length history) request pools ∷ done)
+        → HaveNoBegin w later → IsReady s w history (world_of s (run_of s done))
+        → (before after : SeatView)
+        → after.log ≡ since_of s (later ++ begins w (length history) request pools ∷ done) w
+        ++ before.log
+        → Falls s w history request (world_of s (run_of s done)) before after
+        (turns_in s w first later (begins w (length history) request pools ∷ done)) }
+    ensures last { (s : Setup) (w : ℕ) → ((n : ℕ) → slice_index s.machine.frames n ≤ 4096)
+        → (first pools : PoolState) (done later : List Done) (history : List Command)
+        (request : Request)
+        → IsPlay s first (later ++ begins w (length history) request pools ∷ done)
+        → HaveNoBegin w later → IsReady s w history (world_of s (run_of s done))
+        → LeavesLast s w (begun_world s w history request (world_of s (run_of s done)))
+        (turns_in s w first later (begins w (length history) request pools ∷ done)) }
 {}
