@@ -1,0 +1,151 @@
+//! Crews of workers in threads, beside one worker without threads that serves the same requests.
+mod serve;
+
+use crate::crew::serve::{Served, by_crew, by_one};
+use crate::setting::{ON_NODE_0, desk_of, machine_of, request_of};
+use crate::times::{ROUNDS, Times};
+use numa_machine::Machine;
+use numa_publish::Desk;
+use numa_space::Request;
+use std::alloc::Global;
+use std::io;
+use std::rt::Clock;
+use std::sync::Wait;
+use std::thread::Threads;
+
+/// So many requests for so many workers in turn: each on nodes of its own, or all on one node.
+fn requests_of(alloc: Global, workers: u32, count: u32, apart: bool) -> Option<Vec<Request>> {
+    let mut requests = Vec::with_capacity(alloc, count as usize).ok()?;
+    let mut task = 1;
+    for place in 0..count {
+        let request = request_of(if apart { task } else { ON_NODE_0 }, u64::from(place));
+        requests.push(request).ok()?;
+        task = if task >= workers { 1 } else { task + 1 };
+    }
+    Some(requests)
+}
+
+/// Serves the requests by one worker without threads and by a crew, in turn. Answers how many were
+/// not placed by one of the two.
+fn time_crew<R: Clock + Threads + Sync>(
+    rt: &R,
+    alloc: Global,
+    desk: &mut Desk,
+    machine: &Machine,
+    workers: u32,
+    requests: &[Request],
+    times: &mut Times,
+) -> io::Result<u64> {
+    let mut refused = 0u64;
+    for round in 0..ROUNDS {
+        let one = by_one(rt, alloc, desk, machine, requests)?;
+        let crew = by_crew(rt, alloc, desk, machine, workers, requests)?;
+        let placed = one.placed.min(crew.placed);
+        refused = refused.wrapping_add((requests.len() as u64).saturating_sub(placed));
+        times.put(round, one.nanos, crew.nanos);
+    }
+    Ok(refused)
+}
+
+/// Prints how many times one worker's requests a second a crew places.
+fn measure_crew<R: Print + Clock + Threads + Sync>(
+    rt: &R,
+    alloc: Global,
+    desk: &mut Desk,
+    workers: u32,
+    count: u32,
+    apart: bool,
+) -> io::Result<()> {
+    let (Some(machine), Some(requests)) = (
+        machine_of(alloc),
+        requests_of(alloc, workers, count, apart),
+    ) else {
+        return println!(rt; "no memory");
+    };
+    let mut times = Times::new();
+    let refused = time_crew(rt, alloc, desk, &machine, workers, &requests, &mut times)?;
+    let nodes = if apart {
+        "nodes of their own"
+    } else {
+        "one node"
+    };
+    print!(rt; "  {workers} workers, {count} requests, {nodes}, {refused} refused")?;
+    times.print(rt, "", u64::from(count))
+}
+
+/// Measures crews of one, two and four.
+fn measure_crews<R: Print + Clock + Threads + Sync>(
+    rt: &R,
+    alloc: Global,
+    desk: &mut Desk,
+    count: u32,
+    apart: bool,
+) -> io::Result<()> {
+    for workers in [1, 2, 4] {
+        measure_crew(rt, alloc, desk, workers, count, apart)?;
+    }
+    Ok(())
+}
+
+/// Measures all crews.
+fn measure_all<R: Print + Clock + Threads + Sync>(
+    rt: &R,
+    alloc: Global,
+    desk: &mut Desk,
+) -> io::Result<()> {
+    println!(rt;
+        "requests a second over those of one worker without threads (its time over the crew's):"
+    )?;
+    measure_crews(rt, alloc, desk, 4_096, true)?;
+    measure_crews(rt, alloc, desk, 4_096, false)?;
+    measure_crews(rt, alloc, desk, 16_384, true)
+}
+
+/// Prints the ratios.
+pub fn measure<R: Print + Clock + Threads + Wait + Sync>(rt: &R, alloc: Global) -> io::Result<()> {
+    let Some(mut desk) = desk_of(rt, alloc) else {
+        return println!(rt; "no memory");
+    };
+    let done = measure_all(rt, alloc, &mut desk);
+    desk.end(rt);
+    done
+}
+
+/// Prints how many of so many requests a crew of four places.
+fn print_crew<R: Print + Clock + Threads + Sync>(
+    rt: &R,
+    alloc: Global,
+    desk: &mut Desk,
+    count: u32,
+    apart: bool,
+) -> io::Result<()> {
+    let (Some(machine), Some(requests)) = (machine_of(alloc), requests_of(alloc, 4, count, apart))
+    else {
+        return println!(rt; "no memory");
+    };
+    let Served { nanos: _, placed } = by_crew(rt, alloc, desk, &machine, 4, &requests)?;
+    println!(rt; "of {count} requests four workers place {placed}")
+}
+
+/// Prints what crews place.
+fn print_crews<R: Print + Clock + Threads + Sync>(
+    rt: &R,
+    alloc: Global,
+    desk: &mut Desk,
+) -> io::Result<()> {
+    print_crew(rt, alloc, desk, 20_000, true)?;
+    print_crew(rt, alloc, desk, 5_000, false)
+}
+
+/// Prints checksums.
+pub fn checksums<R: Print + Clock + Threads + Wait + Sync>(
+    rt: &R,
+    alloc: Global,
+) -> io::Result<()> {
+    let Some(mut desk) = desk_of(rt, alloc) else {
+        return println!(rt; "no memory");
+    };
+    let done = print_crews(rt, alloc, &mut desk);
+    desk.end(rt);
+    done
+}

@@ -1,0 +1,80 @@
+//! Looks at what a desk has published, and publishing: beside the steps and calls that they are
+//! made of, and beside each other in threads.
+mod alone;
+mod beside;
+mod looks;
+mod spaces;
+
+use crate::publish::looks::{choices, looks};
+use numa_publish::Desk;
+use std::alloc::Global;
+use std::io;
+use std::rt::Clock;
+use std::sync::Wait;
+use std::thread::Threads;
+
+/// How many ranges the large space has.
+const RANGES: u64 = 65_536;
+
+/// Prints what a reader of the large space sees.
+fn print_seen(rt: &impl Print, desk: &mut Desk) -> io::Result<()> {
+    let Ok(reader) = desk.reader() else {
+        return println!(rt; "no reader");
+    };
+    let (reader, versions) = looks(reader, 10);
+    let (_reader, lists) = choices(reader, 100_000);
+    println!(rt; "ten looks: {versions}, lists of 100,000 pages: {lists}")
+}
+
+/// Prints what readers see, alone and beside a desk.
+pub fn checksums<R: Print + Threads + Wait + Sync>(rt: &R, alloc: Global) -> io::Result<()> {
+    let Some(mut desk) = spaces::desk_of(rt, alloc, RANGES) else {
+        return println!(rt; "no memory");
+    };
+    let seen = print_seen(rt, &mut desk);
+    desk.end(rt);
+    let Some(mut desk) = spaces::desk_of(rt, alloc, 1) else {
+        return println!(rt; "no memory");
+    };
+    let beside = beside::checksums(rt, alloc, &mut desk);
+    desk.end(rt);
+    seen?;
+    beside
+}
+
+/// Prints the ratios on the large space.
+fn measure_large<R: Print + Clock + Threads + Wait + Sync>(
+    rt: &R,
+    alloc: Global,
+    desk: &mut Desk,
+) -> io::Result<()> {
+    alone::measure(rt, alloc, desk)?;
+    println!(rt; "beside a desk that publishes a space of {RANGES} ranges:")?;
+    beside::measure(rt, alloc, desk, 100)
+}
+
+/// Prints looks beside a desk with one range.
+fn measure_small<R: Print + Clock + Threads + Wait + Sync>(
+    rt: &R,
+    alloc: Global,
+    desk: &mut Desk,
+) -> io::Result<()> {
+    println!(rt; "beside a desk that publishes a space of one range:")?;
+    beside::measure(rt, alloc, desk, 100_000)
+}
+
+/// Prints the ratios.
+pub fn measure<R: Print + Clock + Threads + Wait + Sync>(rt: &R, alloc: Global) -> io::Result<()> {
+    let Some(mut desk) = spaces::desk_of(rt, alloc, RANGES) else {
+        return println!(rt; "no memory");
+    };
+    let large = measure_large(rt, alloc, &mut desk);
+    desk.end(rt);
+    let Some(mut desk) = spaces::desk_of(rt, alloc, 1) else {
+        return println!(rt; "no memory");
+    };
+    let small = measure_small(rt, alloc, &mut desk);
+    desk.end(rt);
+    large?;
+    small
+}

@@ -1,0 +1,66 @@
+//! Looks at what is published, and the least that they could be made of.
+use numa_plan::{Plan, Steps};
+use numa_publish::PlanReader;
+use std::hint::black_box;
+use std::sync::atomic::{AtomicU64, Ordering};
+
+/// The page that look-up `i` asks for: the pages jump over all ranges.
+fn page_of(i: u64) -> u64 {
+    i.wrapping_mul(40_503) % 262_144
+}
+
+/// Looks so many times, and adds up the versions that are seen.
+pub fn looks(mut reader: PlanReader, count: u64) -> (PlanReader, u64) {
+    let mut sum = 0u64;
+    for _ in 0..count {
+        reader = match reader.enter() {
+            Ok(view) => {
+                sum = sum.wrapping_add(view.version());
+                view.leave()
+            }
+            Err(reader) => reader,
+        };
+    }
+    (reader, sum)
+}
+
+/// Looks so many times and asks for a page's list each time, and adds up how long the lists are.
+pub fn choices(mut reader: PlanReader, count: u64) -> (PlanReader, u64) {
+    let mut sum = 0u64;
+    for i in 0..count {
+        let page = black_box(page_of(i));
+        reader = match reader.enter() {
+            Ok(view) => {
+                if let Ok(row) = view.choice(1, page, 3, &mut Steps::new()) {
+                    sum = sum.wrapping_add(row.len() as u64);
+                }
+                view.leave()
+            }
+            Err(reader) => reader,
+        };
+    }
+    (reader, sum)
+}
+
+/// Asks a plan for so many lists.
+pub fn plan_choices(plan: &Plan, count: u64) -> u64 {
+    let mut sum = 0u64;
+    for i in 0..count {
+        let page = black_box(page_of(i));
+        if let Ok(row) = plan.choice(1, page, 3, &mut Steps::new()) {
+            sum = sum.wrapping_add(row.len() as u64);
+        }
+    }
+    sum
+}
+
+/// The atomic steps of a look, so many times, on words of one's own.
+pub fn bare_looks(epoch: &AtomicU64, side: &AtomicU64, count: u64) -> u64 {
+    let mut sum = 0u64;
+    for _ in 0..count {
+        epoch.fetch_add(1, Ordering::SeqCst);
+        sum = sum.wrapping_add(side.load(Ordering::SeqCst));
+        epoch.fetch_add(1, Ordering::SeqCst);
+    }
+    sum
+}
