@@ -48,9 +48,8 @@ fn all_nodes() -> NodeMask {
     set
 }
 
-/// A space on a machine of 8 nodes, 20 apart, with ranges of so many pages and a hole of one page behind each. Task 1
-/// interleaves over all nodes.
-fn space_of(alloc: Global, ranges: u64, pages: u64) -> Option<Space> {
+/// An empty space on a machine of 8 nodes, 20 apart. Task 1 interleaves over all nodes.
+fn empty_space(alloc: Global) -> Option<Space> {
     let mut distances = [20u8; 64];
     for node in 0..8 {
         distances[node * 9] = 10;
@@ -59,13 +58,24 @@ fn space_of(alloc: Global, ranges: u64, pages: u64) -> Option<Space> {
     let mut space = Space::new(alloc, machine, Limits::new(65_536, 8, 1_000_000)?);
     let spec = PolicySpec::from_raw(3, all_nodes()).ok()?;
     let _ = space.apply(&Command::SetTask { task: 1, spec });
+    Some(space)
+}
+
+/// Maps a range of so many pages.
+fn add_range(space: &mut Space, start: u64, pages: u64) {
+    let _ = space.apply(&Command::Map {
+        start,
+        length: pages.wrapping_mul(PAGE),
+        offset: 0,
+    });
+}
+
+/// Such a space, with ranges of so many pages and a hole of one page behind each.
+fn space_of(alloc: Global, ranges: u64, pages: u64) -> Option<Space> {
+    let mut space = empty_space(alloc)?;
     let mut start = 0u64;
     for _ in 0..ranges {
-        let _ = space.apply(&Command::Map {
-            start,
-            length: pages.wrapping_mul(PAGE),
-            offset: 0,
-        });
+        add_range(&mut space, start, pages);
         start = start.wrapping_add(pages.wrapping_add(1).wrapping_mul(PAGE));
     }
     Some(space)
