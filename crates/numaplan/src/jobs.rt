@@ -6,6 +6,8 @@ use std::alloc::AllocError;
 pub enum Job {
     /// To answer the script on standard input.
     Run,
+    /// To let so many workers place pages while policies change.
+    Storm(u32),
 }
 
 /// Why there is no job.

@@ -1,8 +1,14 @@
-//! `numaplan run` answers the script on standard input.
+//! `numaplan run` answers the script on standard input. `numaplan storm` lets workers place pages
+//! while policies change.
 #![tactic(auto)]
+
+ghost use Rattle.std.specs.Prelude.{IfOk};
+ghost use Rattle.numa_fault.specs.Crew.{IsCrew};
+ghost use Rattle.numaplan.specs.Jobs.{CanBeDone};
 
 mod command_line;
 mod jobs;
+mod storm;
 #[cfg(test)]
 mod tests;
 
@@ -12,7 +18,10 @@ use numa_run::run;
 use numa_script::{RunFault, Watched};
 use std::env::Env;
 use std::process::ExitCode;
+use std::sync::Wait;
+use std::thread::Threads;
 use std::{env, io};
+use storm::storm;
 
 /// What is told of an argument that isn't UTF-8.
 const NOT_UTF_8: &str = "error: an argument isn't UTF-8\n\nFor more information, try '--help'.\n";
@@ -33,6 +42,20 @@ fn answer_script<R: Input + Print + Eprint + AllocGlobal>(rt: &R) -> ExitCode {
     }
 }
 
+/// Lets so many workers place pages while policies change.
+fn show_storm<R: Threads + Wait + Sync + Print + Eprint + AllocGlobal>(
+    rt: &R,
+    workers: u32,
+) -> ExitCode
+    requires { IsCrew workers }
+{
+    let mut output = Watched::new(io::writer(rt));
+    match storm(rt, rt.alloc(), workers, &mut output) {
+        Ok(status) => ExitCode::from(status),
+        Err(fault) => fail(rt, fault),
+    }
+}
+
 /// The words of the command line, the program's name first. `Usage` where one of them isn't UTF-8.
 fn command_words<R: Env + AllocGlobal>(rt: &R) -> Result<Vec<String>, JobFault> {
     match env::args(rt) {
@@ -43,7 +66,9 @@ fn command_words<R: Env + AllocGlobal>(rt: &R) -> Result<Vec<String>, JobFault> 
 }
 
 /// The job that the command line asks for.
-fn asked_job<R: Env + AllocGlobal>(rt: &R) -> Result<Job, JobFault> {
+fn asked_job<R: Env + AllocGlobal>(rt: &R) -> Result<Job, JobFault>
+    ensures { IfOk result CanBeDone }
+{
     let words = command_words(rt)?;
     job(rt.alloc(), words.as_slice())
 }
@@ -51,6 +76,7 @@ fn asked_job<R: Env + AllocGlobal>(rt: &R) -> Result<Job, JobFault> {
 fn main(rt: HostRuntime) -> ExitCode {
     match asked_job(&rt) {
         Ok(Job::Run) => answer_script(&rt),
+        Ok(Job::Storm(workers)) => show_storm(&rt, workers),
         Err(JobFault::Help(text)) => {
             let _ = print!(rt; "{text}");
             ExitCode::SUCCESS

@@ -13,6 +13,9 @@ fn asked(alloc: Global, line: &[&str]) -> Result<&'static str, AllocError> {
     }
     Ok(match job(alloc, words.as_slice()) {
         Ok(Job::Run) => "run",
+        Ok(Job::Storm(1)) => "storm of 1",
+        Ok(Job::Storm(16)) => "storm of 16",
+        Ok(Job::Storm(_)) => "storm",
         Err(JobFault::Help(_)) => "help",
         Err(JobFault::Usage(_)) => "usage",
         Err(JobFault::NoMemory) => "memory",
@@ -26,11 +29,33 @@ fn jobs(rt: HostRuntime) -> Result<(), Fail> {
     assert_eq!(rt; asked(rt.alloc(), &["numaplan", "--help"])?, "help");
     assert_eq!(rt; asked(rt.alloc(), &["numaplan", "run", "--help"])?, "help");
     assert_eq!(rt; asked(rt.alloc(), &["numaplan", "run", "spare"])?, "usage");
-    assert_eq!(rt;
-        asked(rt.alloc(), &["numaplan", "storm", "--workers", "0"])?,
-        "usage"
-    );
+    assert_eq!(rt; asked(rt.alloc(), &["numaplan", "storms"])?, "usage");
     assert_eq!(rt; asked(rt.alloc(), &["numaplan", "--version"])?, "usage");
+    Ok(())
+}
+
+#[test]
+fn storms(rt: HostRuntime) -> Result<(), Fail> {
+    let rows: [(&[&str], &str); 12] = [
+        (&["--workers", "1"], "storm of 1"),
+        (&["--workers=16"], "storm of 16"),
+        (&["--help"], "help"),
+        (&[], "usage"),
+        (&["--workers"], "usage"),
+        (&["--workers", "0"], "usage"),
+        (&["--workers", "17"], "usage"),
+        (&["--workers", "4294967297"], "usage"),
+        (&["--workers", "x"], "usage"),
+        (&["--workers", ""], "usage"),
+        (&["--workers", "4", "--workers", "4"], "usage"),
+        (&["--workers", "4", "spare"], "usage"),
+    ];
+    for (words, want) in rows {
+        let mut line = Vec::new(rt.alloc());
+        line.extend_from_slice(&["numaplan", "storm"])?;
+        line.extend_from_slice(words)?;
+        assert_eq!(rt; asked(rt.alloc(), &line)?, want);
+    }
     Ok(())
 }
 
