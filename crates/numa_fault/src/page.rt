@@ -88,7 +88,12 @@ pub(crate) fn place_page(
         task: request.task,
         page: request.page,
         node: frame.node,
-        frame,
+        // (its two fields apart: copied whole, its padding makes of it two pieces, on whose way
+        // to memory a release that follows at once would wait)
+        frame: Frame {
+            node: frame.node,
+            number: frame.number,
+        },
         rank: rank as u32,
     })
 }

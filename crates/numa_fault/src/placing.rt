@@ -4,6 +4,7 @@ ghost use Rattle.numa_fault.specs.Fault.{Faults, IsServed};
 
 use crate::along::take_along;
 use crate::refusal::FaultRefusal;
+use numa_machine::Frame;
 use numa_plan::Steps;
 use numa_pool::law::{walk_is_sparing, walks_compose};
 use numa_pool::{PoolSeat, Pools};
@@ -38,7 +39,12 @@ fn place(
         task: request.task,
         page: request.page,
         node: frame.node,
-        frame,
+        // (its two fields apart: copied whole, its padding makes of it two pieces, on whose way
+        // to memory a release that follows at once would wait)
+        frame: Frame {
+            node: frame.node,
+            number: frame.number,
+        },
         rank: rank as u32,
     })
 }
