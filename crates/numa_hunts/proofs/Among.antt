@@ -20,7 +20,7 @@ use Rattle.numa_hunts.specs.Faults.{Falls, IsReady, LeavesLast, begun_world}
 use Rattle.numa_hunts.specs.Interleaved.{HaveNoBegin, IsNoBegin, begins, turns_in, with_turn}
 use Rattle.numa_hunts.proofs.Beside.{desk, workers}
 
-its-worker : (id : ℕ) (e : Entry) → worker_of (event_of id e) ≡ Some id
+pub its-worker : (id : ℕ) (e : Entry) → worker_of (event_of id e) ≡ Some id
 its-worker id (Load n word x) = refl
 its-worker id (Won f) = refl
 its-worker id (Lost f) = refl

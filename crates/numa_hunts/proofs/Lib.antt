@@ -3,3 +3,4 @@ pub mod Begins
 pub mod Falling
 pub mod Beside
 pub mod Among
+pub mod Calling

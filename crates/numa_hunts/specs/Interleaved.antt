@@ -1,13 +1,15 @@
--- A fault in an interleaving of all that is done.
+-- Faults and a desk in an interleaving of all that is done.
 use Rattle.std.specs.Prelude.{◌≢◌, ℕ, ◌==◌, List, [], ◌∷◌, ◌++◌, if◌then◌else◌}
 use Rattle.numa_space.specs.declared.request.Request.{Request}
 use Rattle.numa_core.specs.World.{Setup, World}
 use Rattle.numa_core.specs.Runs.{world_of}
 use Rattle.numa_core.specs.declared.event.Event.{Event}
 use Rattle.numa_core.specs.declared.event.Event.TheVariants.{Accept, Publish, Begin, Look, Try, Give}
+use Rattle.numa_publish.specs.Shown.{DeskState}
 use Rattle.numa_tie.specs.Hunts.{Turn}
 use Rattle.numa_tie.specs.Moves.{PoolState}
 use Rattle.numa_tie.specs.Plays.{Deed, makes_step, splits, has_event, Done, pools_of, run_of}
+use Rattle.numa_hunts.specs.Desks.{Accepts, IsNew, Publishes}
 
 -- the event is no Begin of worker w
 abbrev pub IsOther : ℕ → Event → Type 0
@@ -51,3 +53,25 @@ turns_in s w first [] earlier = []
 turns_in s w first (d ∷ later) earlier =
     with_turn w d.deed (world_of s (run_of s (later ++ earlier)))
     (pools_of s first (later ++ earlier)) d.pools (turns_in s w first later earlier)
+
+module _ (s : Setup) where
+  -- the desk after a command or a publication: it is its call; after another event: it is as before
+  abbrev pub CallsFor : Event → (DeskState → Type 0) → DeskState → Type 0
+  CallsFor (Accept command) Earlier desk =
+      (before : DeskState) × Earlier before × ((version : ℕ) × Accepts before command version desk)
+  CallsFor Publish Earlier desk =
+      (before : DeskState) × Earlier before × (before.pending ≢ []) × Publishes before desk
+  CallsFor (Begin v request) Earlier desk = Earlier desk
+  CallsFor (Look v word) Earlier desk = Earlier desk
+  CallsFor (Try v frame) Earlier desk = Earlier desk
+  CallsFor (Give v frame) Earlier desk = Earlier desk
+
+  abbrev pub CallsAt : Deed → (DeskState → Type 0) → DeskState → Type 0
+  CallsAt (makes_step id e) Earlier desk = Earlier desk
+  CallsAt (splits id) Earlier desk = Earlier desk
+  CallsAt (has_event version event) Earlier desk = CallsFor event Earlier desk
+
+  -- a new desk, after calls that are the commands and publications of these deeds
+  abbrev pub Calls : List Done → DeskState → Type 0
+  Calls [] desk = IsNew s.machine s.bounds desk
+  Calls (d ∷ done) desk = CallsAt d.deed (Calls done) desk

@@ -1,5 +1,5 @@
 //! Laws of the running threads and the core's world.
-ghost use Rattle.std.specs.Prelude.{◌≡◌, ◌≢◌, ℕ, ◌≤◌, None, Some, Ok, Err, List, [], ◌∷◌, ◌++◌, length, slice_get, slice_index};
+ghost use Rattle.std.specs.Prelude.{◌≡◌, ◌≢◌, ℕ, ◌<◌, ◌≤◌, None, Some, Ok, Err, List, [], ◌∷◌, ◌++◌, length, slice_get, slice_index};
 ghost use Rattle.numa_core.specs.Runs.{Moment, IsLegalRun, worker_of, world_of};
 ghost use Rattle.numa_core.specs.Steps.{answer_of};
 ghost use Rattle.numa_core.specs.World.{Setup, World, opening, owner_of};
@@ -22,7 +22,7 @@ ghost use Rattle.numa_tie.specs.Plays.{Done, IsPlay, run_of, since_of};
 ghost use Rattle.numa_tie.specs.Tie.{IsTied};
 ghost use Rattle.numa_hunts.specs.Desks.{Accepts, IsDeskOf, IsNew, LeadsTo, Publishes};
 ghost use Rattle.numa_hunts.specs.Faults.{Falls, IsReady, LeavesLast, begun_world, last_world};
-ghost use Rattle.numa_hunts.specs.Interleaved.{HaveNoBegin, begins, turns_in};
+ghost use Rattle.numa_hunts.specs.Interleaved.{Calls, HaveNoBegin, begins, turns_in};
 ghost use Rattle.numa_hunts.specs.Moments.{IsPublishedIn, after_moment, moment_of};
 
 /// A new desk is that of the opening world. A command that it accepts is the world's Accept, and a
@@ -179,4 +179,17 @@ pub fn faults_of_an_interleaving_fall()
         → HaveNoBegin w later → IsReady s w history (world_of s (run_of s done))
         → LeavesLast s w (begun_world s w history request (world_of s (run_of s done)))
         (turns_in s w first later (begins w (length history) request pools ∷ done)) }
+{}
+
+/// And there is a desk in every interleaving: a new one, after calls that are its commands and
+/// publications, is the world's. What was published at some time of an interleaving is published
+/// at each later one: so a worker may begin by what it saw of the desk.
+pub fn desks_of_an_interleaving()
+    ensures desk { (s : Setup) → ((n : ℕ) → slice_index s.machine.frames n ≤ 4096)
+        → 0 < s.workers → (first : PoolState) (done : List Done) (desk : DeskState)
+        → IsPlay s first done → Calls s done desk
+        → IsDeskOf s (world_of s (run_of s done)) desk }
+    ensures stays { (s : Setup) (done later : List Done) (history : List Command)
+        → IsPublishedIn (world_of s (run_of s done)) history
+        → IsPublishedIn (world_of s (run_of s (later ++ done))) history }
 {}
