@@ -27,28 +27,28 @@ use numa_publish::{Desk, DeskName, Receipt, SharedDesk};
 use numa_script::{Gathered, RunFault, Watched};
 use numa_space::Request;
 use report::{Report, say_report};
-use setting::{COMMANDS, command, limits, machine, requests};
+use setting::{FIRST_COMMANDS, POLICIES, command, limits, machine, requests};
 use std::alloc::Global;
 use std::io::Write;
 use std::marker::Brand;
 use std::sync::Wait;
 use std::thread::{Threads, join};
 
-/// Submits the commands with these places, from the first to the one before the last, and gives the
-/// receipt of the last. `None` where one is not published.
-fn submit<K: DeskName, R: Wait>(
-    rt: &R,
-    desk: &SharedDesk<K>,
-    first: u64,
-    end: u64,
-) -> Option<Receipt>
+/// Submits the command with this place. `None` where it is not published.
+fn submit<K: DeskName, R: Wait>(rt: &R, desk: &SharedDesk<K>, place: u32) -> Option<Receipt>
     ensures { IfSome result (λ receipt. receipt.desk ≡ K.desk) }
 {
-    let mut newest = None;
-    for place in first..end {
-        newest = Some(desk.submit(rt, &command(place)?).ok()?);
+    desk.submit(rt, &command(place)?).ok()
+}
+
+/// Submits the policies that come beside the workers. Whether each was published.
+fn change_policies<K: DeskName, R: Wait>(rt: &R, desk: &SharedDesk<K>, gate: &Together) -> bool {
+    let mut all = true;
+    for place in 0..POLICIES {
+        gate.begin_policy(place);
+        all = all && submit(rt, desk, FIRST_COMMANDS + place).is_some();
     }
-    newest
+    all
 }
 
 /// How many frames were taken.
@@ -59,8 +59,8 @@ fn taken(closed: &Closed) -> u64 {
         .fold(0u64, |sum, frames| sum.wrapping_add(u64::from(*frames)))
 }
 
-/// The eight policies of the second half are submitted by a thread of their own, while the crew
-/// serves the requests. The answers, and how the pools were closed.
+/// The map and the first policy are published, and then eight policies by a thread of their own,
+/// while the crew serves the requests. The answers, and how the pools were closed.
 fn play<K: DeskName + Send + Sync, R: Threads + Wait + Sync>(
     rt: &R,
     alloc: Global,
@@ -69,13 +69,14 @@ fn play<K: DeskName + Send + Sync, R: Threads + Wait + Sync>(
     requests: &[Request],
     gate: &Together,
 ) -> Option<(Vec<Answer>, Closed)> {
-    let receipt = submit(rt, desk, 0, 2)?;
+    submit(rt, desk, 0)?;
+    let receipt = submit(rt, desk, 1)?;
     let (pools, seat) = Pools::open(alloc, &machine(alloc)?).ok()?;
     let crew = workers(rt, alloc, desk, &receipt, &pools, seat, count)?;
     let lent = &pools;
     let (all_published, (crew, answers)) = join(
         rt,
-        move || submit(rt, desk, 2, COMMANDS).is_some(),
+        move || change_policies(rt, desk, gate),
         move || -> (Vec<FaultWorker>, Option<Vec<Answer>>)
             requires { All (λ (w : FaultWorker). w.seat.table ≡ lent.now.table) crew.items }
             ensures { All (λ (w : FaultWorker). w.seat.table ≡ lent.entry.now.table) result.0.items }

@@ -1,11 +1,11 @@
 //! Answers beside the slow resolution.
-use crate::storm::setting::{COMMANDS, command, limits, machine};
+use crate::storm::setting::{FIRST_COMMANDS, POLICIES, command, limits, machine};
 use numa_fault::{Answer, FaultRefusal};
 use numa_space::{Placement, Request, Space};
 use std::alloc::Global;
 
 /// A new space to which the first so many commands were applied. `None` where one is refused.
-fn space_after(alloc: Global, version: u64) -> Option<Space> {
+fn space_after(alloc: Global, version: u32) -> Option<Space> {
     let mut space = Space::new(alloc, machine(alloc)?, limits()?);
     for place in 0..version {
         space.apply(&command(place)?).ok()?;
@@ -16,7 +16,7 @@ fn space_after(alloc: Global, version: u64) -> Option<Space> {
 /// The space of each version, the first first.
 pub fn spaces(alloc: Global) -> Option<Vec<Space>> {
     let mut spaces = Vec::new(alloc);
-    for version in 0..COMMANDS + 1 {
+    for version in 0..FIRST_COMMANDS + POLICIES + 1 {
         spaces.push(space_after(alloc, version)?).ok()?;
     }
     Some(spaces)

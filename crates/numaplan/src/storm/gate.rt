@@ -1,21 +1,41 @@
-//! The gate through which a storm's workers begin.
-ghost use Rattle.std.specs.Prelude.{◌≤◌};
-
+//! How the threads of a storm keep together.
+use crate::storm::setting::POLICIES;
 use numa_fault::Gate;
 use std::sync::atomic::{AtomicU64, Ordering};
 use std::thread;
 
-/// How many turns a worker waits for the others.
+/// How many turns a thread waits for others.
 const TURNS: u64 = 10_000_000;
 
-/// Lets the first request of each worker begin once that of each other worker does.
+/// How many requests are begun from one policy to the next.
+const STEP: u64 = 32;
+
+/// Lets the first request of each worker begin once that of each other worker does. From then on it
+/// lets neither the workers nor the thread of policies run ahead, so that placements of many
+/// versions come of it however the threads are scheduled: policy n begins once 32 n + 16 requests
+/// were called, and request i once i / 32 policies were begun.
 #[derive(Drop)]
 pub struct Together {
     workers: u32,
     // A bit for each worker whose first request was called.
     called: AtomicU64,
-    // Whether one of them ran out of turns: then 1.
+    // Whether one of these ran out of turns: then 1.
     late: AtomicU64,
+    // How many requests were called.
+    requests: AtomicU64,
+    // How many policies were begun.
+    policies: AtomicU64,
+}
+
+/// Waits until the word is at least so much. Whether that came before the turns ran out.
+fn wait_for(word: &AtomicU64, least: u64) -> bool {
+    for _ in 0..TURNS {
+        if word.load(Ordering::SeqCst) >= least {
+            return true;
+        }
+        thread::yield_now();
+    }
+    false
 }
 
 impl Together {
@@ -25,35 +45,40 @@ impl Together {
             workers,
             called: AtomicU64::new(0),
             late: AtomicU64::new(0),
+            requests: AtomicU64::new(0),
+            policies: AtomicU64::new(0),
         }
     }
 
-    /// Whether the first request of each worker was called.
-    fn all_called(&self) -> bool {
-        let all = 1u64.wrapping_shl(self.workers).wrapping_sub(1);
-        self.called.load(Ordering::SeqCst) == all
+    /// The bits of all workers, which is the greatest number that their word can be.
+    fn all(&self) -> u64 {
+        1u64.wrapping_shl(self.workers).wrapping_sub(1)
     }
 
     /// Whether the first request of each worker was called, and none of them ran out of turns.
     pub fn is_sound(&self) -> bool {
-        self.all_called() && self.late.load(Ordering::SeqCst) == 0
+        self.called.load(Ordering::SeqCst) == self.all() && self.late.load(Ordering::SeqCst) == 0
+    }
+
+    /// Called before the policy with this place is submitted.
+    pub fn begin_policy(&self, place: u32) {
+        wait_for(&self.requests, u64::from(place) * STEP + STEP / 2);
+        self.policies.fetch_add(1, Ordering::SeqCst);
     }
 }
 
 impl Gate for Together {
     fn before(&self, request: usize) {
-        if request >= self.workers as usize {
-            return;
-        }
-        let own = 1u64.wrapping_shl(request as u32);
-        self.called.fetch_or(own, Ordering::SeqCst);
-        for _ in 0..TURNS {
-            if self.all_called() {
-                return;
+        self.requests.fetch_add(1, Ordering::SeqCst);
+        if request < self.workers as usize {
+            let own = 1u64.wrapping_shl(request as u32);
+            self.called.fetch_or(own, Ordering::SeqCst);
+            if !wait_for(&self.called, self.all()) {
+                self.late.store(1, Ordering::SeqCst);
             }
-            thread::yield_now();
         }
-        self.late.store(1, Ordering::SeqCst);
+        let begun = (request as u64 / STEP).min(u64::from(POLICIES));
+        wait_for(&self.policies, begun);
     }
 
     fn after(&self, _request: usize) {}

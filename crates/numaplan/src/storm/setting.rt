@@ -8,9 +8,11 @@ use numa_mode::{Mode, PolicyFlags, PolicySpec};
 use numa_space::{Command, Limits, Request};
 use std::alloc::Global;
 
-/// How many commands a storm has: a map and a policy before the workers begin, and beside them as
-/// many policies as are left.
-pub const COMMANDS: u64 = 10;
+/// How many policies are submitted beside the workers.
+pub const POLICIES: u32 = 8;
+
+/// How many commands come before these: the map and a first policy.
+pub const FIRST_COMMANDS: u32 = 2;
 
 /// The task whose pages are placed.
 pub const TASK: u32 = 1;
@@ -47,7 +49,7 @@ fn nodes(numbers: &[u8]) -> NodeMask {
 
 /// The command with this place, from 0: the map of all pages, then `interleave:0-3` and `prefer:2`
 /// for the task in turn.
-pub fn command(place: u64) -> Option<Command> {
+pub fn command(place: u32) -> Option<Command> {
     if place == 0 {
         return Some(Command::Map {
             start: FIRST_PAGE * 4_096,
