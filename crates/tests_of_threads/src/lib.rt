@@ -1,9 +1,15 @@
-//! Tests of what threads share: a desk's published versions and their readers, and workers that
-//! place pages by them. It holds nothing but tests, so that the crates themselves are proved once.
+//! Tests of what threads share: a desk's published versions and their readers, workers that place
+//! pages by them, and crews. It holds nothing but tests, so that the crates themselves are proved once.
 #![tactic(auto)]
 
 #[cfg(test)]
 mod beside;
+#[cfg(test)]
+mod crew_setting;
+#[cfg(test)]
+mod crews;
+#[cfg(test)]
+mod crews_refused;
 #[cfg(test)]
 mod eight_workers;
 #[cfg(test)]

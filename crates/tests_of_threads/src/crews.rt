@@ -1,0 +1,179 @@
+//! Crews of fault workers.
+use crate::crew_setting::{desk, machine, placed, requests, workers};
+use numa_fault::{Crew, CrewRefusal, Gate};
+use numa_pool::Pools;
+use std::alloc::Global;
+use std::process::Abort;
+use std::sync::Wait;
+use std::sync::atomic::{AtomicU64, Ordering};
+use std::thread;
+use std::thread::Threads;
+
+/// Lets request 0 begin first and end last. It counts its calls, and the waits that ran out.
+#[derive(Drop)]
+struct Crossed {
+    before: [AtomicU64; 2],
+    after: [AtomicU64; 2],
+    late: AtomicU64,
+}
+
+impl Crossed {
+    /// Waits until the call was made.
+    fn wait_for(&self, calls: &AtomicU64) {
+        for _ in 0..10_000_000u64 {
+            if calls.load(Ordering::SeqCst) > 0 {
+                return;
+            }
+            thread::yield_now();
+        }
+        self.late.fetch_add(1, Ordering::SeqCst);
+    }
+}
+
+impl Gate for Crossed {
+    fn before(&self, request: usize) {
+        if request == 0 {
+            self.before[0].fetch_add(1, Ordering::SeqCst);
+            self.wait_for(&self.after[1]);
+        } else {
+            self.before[1].fetch_add(1, Ordering::SeqCst);
+            self.wait_for(&self.before[0]);
+        }
+    }
+
+    fn after(&self, request: usize) {
+        if request == 0 {
+            self.after[0].fetch_add(1, Ordering::SeqCst);
+        } else {
+            self.after[1].fetch_add(1, Ordering::SeqCst);
+        }
+    }
+}
+
+#[test]
+fn crew_crossed(rt: HostRuntime) {
+    let mut desk = desk(&rt, rt.alloc(), 1, 3);
+    let machine = machine(&rt, rt.alloc(), 1);
+    let (pools, mut seat) = Pools::open(rt.alloc(), &machine).expect(&rt, "memory");
+    let mut crew = workers(&rt, rt.alloc(), &mut desk, &pools, &mut seat, 2);
+    let gate = Crossed {
+        before: [AtomicU64::new(0), AtomicU64::new(0)],
+        after: [AtomicU64::new(0), AtomicU64::new(0)],
+        late: AtomicU64::new(0),
+    };
+    let pages = requests(&rt, rt.alloc(), 2);
+    let answers = Crew::run(&rt, rt.alloc(), &mut crew, &pools, &pages, &gate);
+    drop(crew);
+    desk.end(&rt);
+    let answers = answers.expect(&rt, "answers");
+    assert_eq!(rt; answers.len(), 2);
+    assert_eq!(rt; placed(answers.get(1)), Some((17, 0)));
+    assert_eq!(rt; placed(answers.first()), Some((16, 1)));
+    assert_eq!(rt; gate.late.load(Ordering::SeqCst), 0);
+    for calls in [
+        &gate.before[0],
+        &gate.before[1],
+        &gate.after[0],
+        &gate.after[1],
+    ] {
+        assert_eq!(rt; calls.load(Ordering::SeqCst), 1);
+    }
+}
+
+/// Counts for each request its calls of `before`, and 256 for each call of `after`.
+#[derive(Drop)]
+struct Counting {
+    calls: Vec<AtomicU64>,
+}
+
+impl Counting {
+    /// A gate for so many requests.
+    fn new(rt: &impl Abort, alloc: Global, requests: u64) -> Counting {
+        let mut calls = Vec::new(alloc);
+        for _ in 0..requests {
+            calls.push(AtomicU64::new(0)).expect(rt, "memory");
+        }
+        Counting { calls }
+    }
+
+    /// Whether each of its two calls was made once for each request.
+    fn is_even(&self) -> bool {
+        self.calls
+            .iter()
+            .all(|calls| calls.load(Ordering::SeqCst) == 0x101)
+    }
+}
+
+impl Gate for Counting {
+    fn before(&self, request: usize) {
+        if let Some(calls) = self.calls.get(request) {
+            calls.fetch_add(1, Ordering::SeqCst);
+        }
+    }
+
+    fn after(&self, request: usize) {
+        if let Some(calls) = self.calls.get(request) {
+            calls.fetch_add(0x100, Ordering::SeqCst);
+        }
+    }
+}
+
+/// So many workers serve requests for so many pages, for each of which there are frames: how many
+/// answers there are, how many of them are a placement of the page at their place, and whether the
+/// gate was called as it must be.
+fn in_place<R: Threads + Wait + Abort + Sync>(
+    rt: &R,
+    alloc: Global,
+    count: usize,
+    pages: u64,
+) -> (usize, usize, bool) {
+    let mut desk = desk(rt, alloc, 256, 300);
+    let (pools, mut seat) = Pools::open(alloc, &machine(rt, alloc, 256)).expect(rt, "memory");
+    let mut crew = workers(rt, alloc, &mut desk, &pools, &mut seat, count);
+    let wanted = requests(rt, alloc, pages);
+    let gate = Counting::new(rt, alloc, pages);
+    let answers = Crew::run(rt, alloc, &mut crew, &pools, &wanted, &gate);
+    drop(crew);
+    desk.end(rt);
+    let answers = answers.expect(rt, "answers");
+    let right = wanted
+        .iter()
+        .zip(&answers)
+        .filter(|(request, answer)| {
+            placed(Some(*answer)).map(|(page, _)| page) == Some(request.page)
+        })
+        .count();
+    (answers.len(), right, gate.is_even())
+}
+
+#[test]
+fn answers_in_place(rt: HostRuntime) {
+    assert_eq!(rt; in_place(&rt, rt.alloc(), 3, 5), (5, 5, true));
+    assert_eq!(rt; in_place(&rt, rt.alloc(), 16, 3), (3, 3, true));
+    assert_eq!(rt; in_place(&rt, rt.alloc(), 1, 300), (300, 300, true));
+    assert_eq!(rt; in_place(&rt, rt.alloc(), 1, 0), (0, 0, true));
+}
+
+/// What a crew of so many workers is refused with for three requests.
+fn refusal<R: Threads + Wait + Abort + Sync>(
+    rt: &R,
+    alloc: Global,
+    count: usize,
+) -> Option<CrewRefusal> {
+    let mut desk = desk(rt, alloc, 2, 3);
+    let (pools, mut seat) = Pools::open(alloc, &machine(rt, alloc, 2)).expect(rt, "memory");
+    let mut crew = workers(rt, alloc, &mut desk, &pools, &mut seat, count);
+    let wanted = requests(rt, alloc, 3);
+    let gate = Counting::new(rt, alloc, 3);
+    let answers = Crew::run(rt, alloc, &mut crew, &pools, &wanted, &gate);
+    drop(crew);
+    desk.end(rt);
+    answers.err()
+}
+
+#[test]
+fn too_few_and_too_many(rt: HostRuntime) {
+    assert_eq!(rt; refusal(&rt, rt.alloc(), 0), Some(CrewRefusal::NoWorkers));
+    assert_eq!(rt; refusal(&rt, rt.alloc(), 17), Some(CrewRefusal::NoWorkers));
+    assert_eq!(rt; refusal(&rt, rt.alloc(), 16), None);
+}
