@@ -1,0 +1,151 @@
+"""The commands: the first cause that refuses each, and what an accepted one changes. Each function
+is given a copy of the space to change, and answers the cause of a refusal or None.
+
+Written from docs/SCRIPT.md and docs/MODEL.md alone. Not proved."""
+
+from space import (ERRNO, LAST, PAGE, Piece, has_hole, inside, lacks_nodes, page_count, page_of,
+                   ranges, record_after, record_when_set)
+
+
+def span_cause(start, length):
+    """Each span: its start is a multiple of 4,096, and it ends at address 2^47 at the latest."""
+    if start % PAGE:
+        return "Unaligned"
+    if start + length > LAST * PAGE:
+        return "OutOfSpace"
+    return None
+
+
+def span_of(start, length):
+    """The first page of a span, and the page behind its last."""
+    return page_of(start), page_of(start) + page_count(length)
+
+
+def range_cause(space):
+    """There would be more ranges than the limits allow."""
+    return "TooManyRanges" if len(ranges(space)) > space.limits[0] else None
+
+
+def map_span(space, start, length, offset):
+    """`map`: a span of unmapped pages is mapped, from the index OFFSET on, without a policy."""
+    cause = span_cause(start, length)
+    if cause:
+        return cause
+    if length == 0:
+        return "EmptyLength"
+    if offset >= LAST:
+        return "BadOffset"
+    first, end = span_of(start, length)
+    if inside(space, first, end):
+        return "Overlap"
+    space.pieces = sorted(space.pieces + [Piece(first, end, offset, None)], key=lambda it: it.first)
+    return range_cause(space)
+
+
+def unmap(space, start, length):
+    """`unmap`: the mapped pages of a span are mapped no more."""
+    cause = span_cause(start, length)
+    if cause or length == 0:
+        return cause
+    gone = inside(space, *span_of(start, length))
+    space.pieces = [piece for piece in space.pieces if piece not in gone]
+    return range_cause(space)
+
+
+def set_records(space, pieces, record_for):
+    """Gives each of these pieces the record that a function makes of its own."""
+    space.pieces = [
+        piece._replace(record=record_for(piece.record)) if piece in pieces else piece
+        for piece in space.pieces
+    ]
+
+
+def mbind(space, start, length, asked):
+    """`mbind`: each page of a span has the policy from now on, without a home; or none."""
+    cause = span_cause(start, length)
+    if cause or length == 0:
+        return cause
+    first, end = span_of(start, length)
+    if has_hole(space, first, end):
+        return "Hole"
+    if lacks_nodes(space, asked):
+        return "NodesNotAllowed"
+    record = record_when_set(asked, space.allowed)
+    set_records(space, inside(space, first, end), lambda _: record)
+    return range_cause(space)
+
+
+def home(space, start, length, node):
+    """`home`: the policies `bind` and `many` of a span's pages get a home; no policy is passed
+    over, and another mode refuses the whole."""
+    cause = span_cause(start, length)
+    if cause:
+        return cause
+    if node >= space.machine.nodes:
+        return "NoSuchNode"
+    if length == 0:
+        return None
+    pieces = inside(space, *span_of(start, length))
+    if any(piece.record and piece.record.mode not in ("bind", "many") for piece in pieces):
+        return "NotSupported"
+    set_records(space, pieces, lambda record: record and record._replace(home=node))
+    return range_cause(space)
+
+
+def task(space, number, asked):
+    """`task`: the task has the policy from now on; or none."""
+    if lacks_nodes(space, asked):
+        return "NodesNotAllowed"
+    if asked.mode == "default":
+        space.tasks.pop(number, None)
+        return None
+    if number not in space.tasks and len(space.tasks) >= space.limits[1]:
+        return "TooManyTasks"
+    space.tasks[number] = record_when_set(asked, space.allowed)
+    return None
+
+
+def weight(space, node, value):
+    """`weight`: a node of the machine has a weight of 1 to 255."""
+    if node >= space.machine.nodes:
+        return "NoSuchNode"
+    if not 1 <= value <= 255:
+        return "BadWeight"
+    space.weights[node] = value
+    return None
+
+
+def mems(space, nodes):
+    """`mems`: the nodes of the list that have memory are allowed, and each policy follows."""
+    if max(nodes) >= space.machine.nodes:
+        return "NoSuchNode"
+    allowed = nodes & space.machine.memory
+    if not allowed:
+        return "NodesNotAllowed"
+    old, space.allowed = space.allowed, allowed
+    set_records(space, space.pieces, lambda record: record_after(record, old, allowed))
+    for number, record in space.tasks.items():
+        space.tasks[number] = record_after(record, old, allowed)
+    return None
+
+
+COMMANDS = {"map": map_span, "unmap": unmap, "mbind": mbind, "home": home, "task": task,
+            "weight": weight, "mems": mems}
+
+
+def accept(space, name, arguments):
+    """The answer to a command, and the space after it: a refused one changes nothing, an accepted
+    one raises the version by one, and after as many as the limit none is accepted."""
+    if space.version >= space.limits[2]:
+        return refused("CommandsSpent"), space
+    after = space.copy()
+    cause = COMMANDS[name](after, *arguments)
+    if cause:
+        return refused(cause), space
+    after.version = space.version + 1
+    return f"ok {after.version}", after
+
+
+def refused(cause):
+    """A refused command is answered by its cause and the error number's name."""
+    return f"refused {cause} {ERRNO[cause]}"

@@ -1,0 +1,210 @@
+#!/usr/bin/env python3
+"""A slow model of `numaplan run`: reads a script on standard input, writes the answers.
+
+It is a second reading of the rules, written from docs/SCRIPT.md and docs/MODEL.md alone, by someone
+who had not read the program. Where both answer a script alike, two readers have understood the
+documents alike; where they don't, one of the two or the documents are wrong. It is not proved, it
+is slow, and it never wants memory; nothing of the program depends on it. Its parts, one function a
+rule: words.py what a line says; space.py pages, policies and node lists; commands.py what changes
+them; workers.py the search for frames; this file the questions and the answer to each line.
+
+    tests/model/model.py < examples/first-run.numaplan
+
+tests/model/run-built compares it with the built program."""
+
+import sys
+
+from commands import COMMANDS, accept
+from space import (Space, firsts, has_hole, index_at, is_live, machine_of, page_of, ranges,
+                   resolved)
+from words import BadWords, Fault, is_silent, line_of, lines_of
+from workers import STEPS, Crew, list_of_page, place_cause, publish
+
+NAMES = {"many": "prefer (many)", "weighted": "weighted interleave"}
+
+
+class State:
+    """What the lines so far have brought about; no space before the machine is ready."""
+
+    def __init__(self):
+        self.limits = (65536, 1024, 2**32 - 1)
+        self.space = None
+        self.crew = None
+
+
+# ---- before the machine
+
+
+def limits(state, ranges_most, tasks_most, commands_most):
+    """`limits`: at most 65,536 ranges and 1,024 tasks; the last ones that are taken count."""
+    if ranges_most > 65536 or tasks_most > 1024:
+        return "bad limits"
+    state.limits = (ranges_most, tasks_most, commands_most)
+    return "limits ok"
+
+
+def machine(state, *words):
+    """`machine`: the machine, once."""
+    made, fault = machine_of(*words)
+    if fault:
+        return f"bad machine {fault}"
+    state.space = Space(made, state.limits)
+    state.crew = Crew(state.space)
+    return "ready"
+
+
+# ---- questions
+
+
+def place(space, task, address, cpu):
+    """`place`: the node list of a page."""
+    cause = place_cause(space, address, cpu)
+    if cause:
+        return f"refused {cause}"
+    return told(space, map(str, list_of_page(space, task, address, cpu)))
+
+
+def told(space, items):
+    """The version, and then the items, a space before each."""
+    return f"v{space.version}:" + "".join(f" {item}" for item in items)
+
+
+def span_cause(space, address, pages, cpu):
+    """CPU is a node of the machine, also for no pages, and then each page is mapped."""
+    if cpu >= space.machine.nodes:
+        return "BadCpu"
+    first = page_of(address)
+    return "Unmapped" if has_hole(space, first, first + pages) else None
+
+
+def parts(space, task, address, pages, cpu):
+    """A mapped span piece by piece: the nodes that its pages take in turn, the index of its first
+    page, and how many pages there are."""
+    first, end = page_of(address), page_of(address) + pages
+    for piece in space.pieces:
+        start, stop = max(first, piece.first), min(end, piece.end)
+        if start < stop:
+            cycle = firsts(space, resolved(space, task, piece), cpu)
+            yield cycle, index_at(piece, start), stop - start
+
+
+def span(space, task, address, pages, cpu):
+    """`span`: the first node of each page's list."""
+    cause = span_cause(space, address, pages, cpu)
+    if cause:
+        return f"refused {cause}"
+    return told(space, (
+        cycle[place % len(cycle)]
+        for cycle, index, count in parts(space, task, address, pages, cpu)
+        for place in range(index, index + count)
+    ))
+
+
+def counts(space, task, address, pages, cpu):
+    """`counts`: how many pages have which first node, the lowest first, only nodes with pages."""
+    cause = span_cause(space, address, pages, cpu)
+    if cause:
+        return f"refused {cause}"
+    found = [0] * space.machine.nodes
+    for cycle, index, count in parts(space, task, address, pages, cpu):
+        rounds, rest = divmod(count, len(cycle))
+        for node in cycle:
+            found[node] += rounds
+        for place in range(index, index + rest):
+            found[cycle[place % len(cycle)]] += 1
+    return told(space, (f"N{node}={found[node]}" for node in range(len(found)) if found[node]))
+
+
+QUESTIONS = {"place": place, "span": span, "counts": counts}
+
+
+# ---- the listing
+
+
+def maps(space, crew, task):
+    """`maps`: one line for each range, rising; none where nothing is mapped."""
+    return "\n".join(range_line(space, crew, task, each) for each in ranges(space))
+
+
+def range_line(space, crew, task, each):
+    """The address in at least eight digits, the policy, and the placed pages."""
+    record = resolved(space, task, each)
+    text = policy_text(record) if is_live(record) else "default"
+    return f"{each.first * 4096:08x} {text}{placed_text(crew, each)}"
+
+
+def policy_text(record):
+    """The name in numa_maps, the flag, and behind a colon the nodes that it has at present."""
+    flag = "=" + record.flag if record.flag else ""
+    nodes = ":" + list_text(record.nodes) if record.nodes else ""
+    return NAMES.get(record.mode, record.mode) + flag + nodes
+
+
+def list_text(nodes):
+    """Runs of nodes, rising: `a` for one node, `a-b` for more."""
+    starts = [node for node in sorted(nodes) if node - 1 not in nodes]
+    lasts = [node for node in sorted(nodes) if node + 1 not in nodes]
+    pairs = zip(starts, lasts)
+    return ",".join(str(one) if one == last else f"{one}-{last}" for one, last in pairs)
+
+
+def placed_text(crew, each):
+    """Where pages of a range are placed: how many, on which nodes, and the size of a page."""
+    nodes = [node for page, (node, _) in crew.kept.items() if each.first <= page < each.end]
+    if not nodes:
+        return ""
+    shown = "".join(f" N{node}={nodes.count(node)}" for node in sorted(set(nodes)))
+    return f" anon={len(nodes)}{shown} kernelpagesize_kB=4"
+
+
+# ---- lines
+
+
+def answer(state, line):
+    """The answer to a line that isn't silent: bad words, then bad state, then faults of lists,
+    policies, machines and limits, then what the machine says."""
+    try:
+        name, arguments = line_of(line)
+    except BadWords:
+        return "bad words"
+    if (state.space is None) != (name in ("limits", "machine")):
+        return "bad state"
+    for argument in arguments:
+        if isinstance(argument, Fault):
+            return argument.text
+    return served(state, name, arguments)
+
+
+def served(state, name, arguments):
+    """The answer to a line that is neither faulty nor at the wrong time."""
+    if name == "limits":
+        return limits(state, *arguments)
+    if name == "machine":
+        return machine(state, *arguments)
+    if name in COMMANDS:
+        text, state.space = accept(state.space, name, arguments)
+        return text
+    if name in QUESTIONS:
+        return QUESTIONS[name](state.space, *arguments)
+    if name == "ranges":
+        return f"ranges {len(ranges(state.space))}"
+    if name == "maps":
+        return maps(state.space, state.crew, *arguments)
+    if name == "publish":
+        return publish(state.crew, state.space)
+    return STEPS[name](state.crew, *arguments)
+
+
+def answers(script):
+    """The answers to a script, both as bytes: one line each, but for `maps`."""
+    state = State()
+    said = []
+    for line in lines_of(script.decode("latin-1")):
+        if not is_silent(line):
+            text = answer(state, line)
+            said += [text + "\n"] if text else []
+    return "".join(said).encode()
+
+
+if __name__ == "__main__":
+    sys.stdout.buffer.write(answers(sys.stdin.buffer.read()))
