@@ -1,0 +1,29 @@
+//! Spaces.
+ghost use Rattle.std.specs.Prelude.{◌≡◌};
+
+use crate::machines::{flat_machine, machine_of};
+use numa_space::{Limits, Space};
+use std::alloc::Global;
+
+/// Limits of 64 ranges, 8 task policies and 1,000 commands.
+pub fn limits() -> Limits
+    ensures { result ≡ record { max_ranges = 64; max_tasks = 8; max_commands = 1000 } }
+{
+    let Some(limits) = Limits::new(64, 8, 1_000) else {
+        unreachable!();
+    };
+    limits
+}
+
+/// A space of a machine of so many nodes, ten at most, 20 apart and with 8 frames each.
+pub fn flat_space(alloc: Global, nodes: usize) -> Option<Space> {
+    let frames = [8; 10];
+    let machine = flat_machine(alloc, frames.get(..nodes)?)?;
+    Some(Space::new(alloc, machine, limits()))
+}
+
+/// A space of a machine with these nodes, memory and distances.
+pub fn space_of(alloc: Global, nodes: u32, memory: &[u8], distances: &[u8]) -> Option<Space> {
+    let machine = machine_of(alloc, nodes, memory, distances)?;
+    Some(Space::new(alloc, machine, limits()))
+}

@@ -1,0 +1,103 @@
+//! Spans of many lengths, and a list of commands with a refused one among them. That the plan of a
+//! space answers as the space does is seen with each example of a space.
+use crate::played::Step::{List, NoList, Ranges, Version};
+use crate::played::{ask_plan, plan_of};
+use numa_examples::Asked::{Map, Mbind};
+use numa_plan::Plan;
+use numa_space::PlaceRefusal;
+use std::alloc::Global;
+use std::process::Abort;
+
+/// 33 pages from 0x100 on, of which the ten from 0x10a on are bound to node 1, and 8,193 pages from
+/// 0x1000 on.
+fn two_spans(rt: &impl Abort, alloc: Global) -> Plan {
+    let asked = [
+        Map(0x10_0000, 0x2_1000, 0),
+        Mbind(0x10_a000, 0xa000, 2, &[1]),
+        Map(0x100_0000, 0x200_1000, 0),
+    ];
+    plan_of(rt, alloc, &asked)
+}
+
+fn expect_counts(rt: &impl Abort, plan: &Plan, first: u64, pages: u64, want: (u64, u64)) {
+    let counts = plan.counts(1, 0, first, pages).expect(rt, "counts");
+    assert_eq!(rt; counts[0], want.0, "{pages} pages");
+    assert_eq!(rt; counts[1], want.1, "{pages} pages");
+}
+
+#[test]
+fn spans_of_many_lengths_are_counted(rt: HostRuntime) {
+    let plan = two_spans(&rt, rt.alloc());
+    for (first, pages, want) in [
+        (0x100, 0, (0, 0)),
+        (0x100, 31, (21, 10)),
+        (0x100, 32, (22, 10)),
+        (0x100, 33, (23, 10)),
+        (0x1000, 8193, (8193, 0)),
+    ] {
+        expect_counts(&rt, &plan, first, pages, want);
+    }
+}
+
+/// A byte 9 for each of so many pages.
+fn nines(rt: &impl Abort, alloc: Global, pages: usize) -> Vec<u8> {
+    vec![in alloc; 9; pages].expect(rt, "bytes")
+}
+
+/// The bytes from `ones.0` on and before `ones.1` are 1, and the others 0.
+fn expect_bytes(rt: &impl Abort, found: &[u8], ones: (usize, usize)) {
+    for (place, byte) in found.iter().enumerate() {
+        let inside = ones.0 <= place && place < ones.1;
+        assert_eq!(rt; *byte, if inside { 1 } else { 0 }, "page {place}");
+    }
+}
+
+fn expect_fill(rt: &impl Abort, plan: &Plan, first: u64, out: &mut [u8], ones: (usize, usize)) {
+    assert_eq!(rt; plan.fill(1, 0, first, out), Ok(()));
+    expect_bytes(rt, out, ones);
+}
+
+#[test]
+fn spans_of_many_lengths_are_filled(rt: HostRuntime) {
+    let plan = two_spans(&rt, rt.alloc());
+    for (first, pages, ones) in [
+        (0x100, 0, (0, 0)),
+        (0x100, 31, (10, 20)),
+        (0x100, 32, (10, 20)),
+        (0x100, 33, (10, 20)),
+        (0x1000, 8193, (0, 0)),
+    ] {
+        let mut out = nines(&rt, rt.alloc(), pages);
+        expect_fill(&rt, &plan, first, out.as_mut_slice(), ones);
+    }
+}
+
+#[test]
+fn a_page_too_many_is_refused(rt: HostRuntime) {
+    let plan = two_spans(&rt, rt.alloc());
+    let mut out = [9; 34];
+    let answer = plan.fill(1, 0, 0x100, &mut out);
+    assert_eq!(rt; answer, Err(PlaceRefusal::Unmapped));
+    assert_eq!(rt; out, [9; 34]);
+}
+
+#[test]
+fn refused_commands_are_passed_over(rt: HostRuntime) {
+    let asked = [
+        Map(0x10000, 0x2000, 0),
+        Map(0x11000, 0x2000, 7),
+        Mbind(0x11000, 0x1000, 2, &[1]),
+    ];
+    let plan = plan_of(&rt, rt.alloc(), &asked);
+    let questions = [
+        Version(2),
+        Ranges(2),
+        List(1, 0x10, 0, &[0, 1, 2, 3]),
+        List(1, 0x10, 1, &[1, 0, 2, 3]),
+        List(1, 0x11, 0, &[1]),
+        NoList(1, 0x12, 0, PlaceRefusal::Unmapped),
+    ];
+    for (line, question) in questions.iter().enumerate() {
+        ask_plan(&rt, &plan, question, line);
+    }
+}

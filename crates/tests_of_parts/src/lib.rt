@@ -1,0 +1,24 @@
+//! Tests of the lower crates, from sets of nodes to plans and pools, a module a crate. It holds
+//! nothing but tests, so that the crates themselves are proved once.
+#![tactic(auto)]
+
+#[cfg(test)]
+mod compile;
+#[cfg(test)]
+mod lanes;
+#[cfg(test)]
+mod machine;
+#[cfg(test)]
+mod mask;
+#[cfg(test)]
+mod mode;
+#[cfg(test)]
+mod plan;
+#[cfg(test)]
+mod played;
+#[cfg(test)]
+mod pool;
+#[cfg(test)]
+mod ranges;
+#[cfg(test)]
+mod space;

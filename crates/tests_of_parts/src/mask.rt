@@ -1,0 +1,102 @@
+//! Values from the kernel's comments on bitmap_fold, bitmap_onto and bitmap_remap, and texts from
+//! the format of lists.
+use numa_examples::set_of;
+use numa_mask::{ListFault, NodeMask, list_text, read_list};
+use std::process::Abort;
+
+fn list(rt: &impl Abort, text: &str) -> NodeMask {
+    read_list(text.as_bytes()).expect(rt, "a list")
+}
+
+#[test]
+fn kernel_onto(rt: HostRuntime) {
+    let odd = set_of(&[1, 3, 5, 7, 9, 11]);
+    let relative = set_of(&[30, 31, 32, 33, 34, 35, 36, 37, 38, 39]);
+    assert_eq!(rt; odd.onto(&relative), set_of(&[31, 33, 35, 37, 39]));
+}
+
+#[test]
+fn kernel_fold_and_onto(rt: HostRuntime) {
+    let relative = set_of(&[40, 41, 42, 43, 45, 48, 53, 61, 74, 95]);
+    let rows = [
+        ("0", "0", "40"),
+        ("1", "1", "41"),
+        ("9", "9", "95"),
+        ("10", "0", "40"),
+        ("1,3,5,7", "1,3,5,7", "41,43,48,61"),
+        ("0-4", "0-4", "40-43,45"),
+        ("0,9,18,27", "0,7-9", "40,61,74,95"),
+        ("0,10,20,30", "0", "40"),
+        ("0,11,22,33", "0-3", "40-43"),
+        ("0,12,24,36", "0,2,4,6", "40,42,45,53"),
+        ("78,102,211", "1,2,8", "41,42,74"),
+    ];
+    for (original, folded, placed) in rows {
+        let small = list(&rt, original).fold(10);
+        assert_eq!(rt; small, list(&rt, folded), "{original} folded");
+        assert_eq!(rt;
+            small.onto(&relative),
+            list(&rt, placed),
+            "{original} placed"
+        );
+    }
+}
+
+#[test]
+fn kernel_remap(rt: HostRuntime) {
+    let old = set_of(&[4, 5, 6, 7]);
+    let new = set_of(&[12, 13, 14, 15]);
+    let moved = set_of(&[1, 5, 7]).remap(&old, &new);
+    assert_eq!(rt; moved, set_of(&[1, 13, 15]));
+    assert_eq!(rt; old.remap(&old, &set_of(&[200, 255])), set_of(&[200, 255]));
+    assert_eq!(rt; old.remap(&old, &NodeMask::empty()), old);
+}
+
+#[test]
+fn texts(rt: HostRuntime) {
+    let rows = [
+        ("", ""),
+        ("0,1", "0-1"),
+        ("0,2,3,5", "0,2-3,5"),
+        ("63", "63"),
+        ("255", "255"),
+        ("0-255", "0-255"),
+        ("63-64,127-128,254", "63-64,127-128,254"),
+    ];
+    for (members, text) in rows {
+        let nodes = if members.is_empty() {
+            NodeMask::empty()
+        } else {
+            list(&rt, members)
+        };
+        assert_eq!(rt; list_text(&nodes).as_str(), text);
+    }
+    assert_eq!(rt; list(&rt, "5,0,2-3"), set_of(&[0, 2, 3, 5]));
+    assert_eq!(rt; list(&rt, "0000"), set_of(&[0]));
+    assert_eq!(rt; list(&rt, "0-255").weight(), 256);
+}
+
+#[test]
+fn faults(rt: HostRuntime) {
+    let rows = [
+        ("", ListFault::Empty),
+        ("0,,1", ListFault::Empty),
+        ("0,", ListFault::Empty),
+        ("0-x", ListFault::BadDigit),
+        ("1-", ListFault::BadDigit),
+        ("-", ListFault::BadDigit),
+        ("1-2-3", ListFault::BadDigit),
+        ("+1", ListFault::BadDigit),
+        ("00000", ListFault::BadDigit),
+        ("0\r", ListFault::BadDigit),
+        ("3-1", ListFault::BackRange),
+        ("300-299", ListFault::BackRange),
+        ("256", ListFault::NodeTooHigh),
+        ("0-256", ListFault::NodeTooHigh),
+        ("3-1,x", ListFault::BackRange),
+        ("0,9999,", ListFault::NodeTooHigh),
+    ];
+    for (text, fault) in rows {
+        assert_eq!(rt; read_list(text.as_bytes()), Err(fault), "at {text:?}");
+    }
+}

@@ -1,0 +1,294 @@
+//! Splits, joins, holes, indexes apart, the limit reached from both sides and the last page. Run
+//! with each allocation refused in turn, these see every growth that a call can want.
+ghost use Rattle.std.specs.Prelude.{◌<◌, ◌≤◌, ◌+◌, ◌^◌};
+
+use numa_ranges::{RangeFault, RangeMap};
+use std::process::Abort;
+
+/// The page behind the last that a map can hold.
+const END: u64 = 34_359_738_368;
+
+/// A range: its first page, its pages, its first index and its value.
+type Row = (u64, u64, u64, u8);
+
+/// A call, with the span as its first page and its pages.
+#[derive(Clone, Copy)]
+enum Call {
+    /// The span, its first index and its value.
+    Map(u64, u64, u64, u8),
+    Unmap(u64, u64),
+    /// The span and its new value.
+    Set(u64, u64, u8),
+    /// Halves the values of the span.
+    Halve(u64, u64),
+    /// Halves all values.
+    HalveAll,
+}
+
+/// One line of an example.
+#[derive(Clone, Copy)]
+enum Step<'a> {
+    /// The call is answered so, and then the ranges are these.
+    Does(Call, Result<(), RangeFault>, &'a [Row]),
+    /// The index and the value of a page.
+    At(u64, Option<(u64, u8)>),
+    /// Whether the span has a page that isn't mapped.
+    Hole(u64, u64, bool),
+}
+
+use Call::{Halve, HalveAll, Map, Set, Unmap};
+use Step::{At, Does, Hole};
+
+/// The span has pages, and ends with the last page at most.
+fn expect_span(rt: &impl Abort, first: u64, pages: u64)
+    ensures some { 0 < pages }
+    ensures span { first + pages ≤ 2 ^ 35 }
+{
+    assert!(rt; pages > 0);
+    assert!(rt; pages <= END);
+    assert!(rt; first <= END - pages);
+}
+
+fn halve(map: &mut RangeMap<u8>, first: u64, pages: u64) -> Result<(), RangeFault>
+    requires some { 0 < pages }
+    requires span { first + pages ≤ 2 ^ 35 }
+{
+    map.update_span(first, pages, |value| *value / 2)
+}
+
+fn halve_all(map: &mut RangeMap<u8>) {
+    map.update_all(|value| *value / 2);
+}
+
+fn call_on(rt: &impl Abort, map: &mut RangeMap<u8>, call: Call) -> Result<(), RangeFault> {
+    match call {
+        Map(first, pages, index, value) => {
+            expect_span(rt, first, pages);
+            assert!(rt; index < END);
+            map.map_span(first, pages, index, value)
+        }
+        Unmap(first, pages) => {
+            expect_span(rt, first, pages);
+            map.unmap_span(first, pages)
+        }
+        Set(first, pages, value) => {
+            expect_span(rt, first, pages);
+            map.set_span(first, pages, value)
+        }
+        Halve(first, pages) => {
+            expect_span(rt, first, pages);
+            halve(map, first, pages)
+        }
+        HalveAll => {
+            halve_all(map);
+            Ok(())
+        }
+    }
+}
+
+fn expect_ranges(rt: &impl Abort, map: &RangeMap<u8>, want: &[Row], line: usize) {
+    assert_eq!(rt; map.len(), want.len(), "line {line}");
+    for (range, row) in map.iter().zip(want) {
+        let found = (range.first, range.pages, range.index, range.value);
+        assert_eq!(rt; found, *row, "line {line}");
+    }
+}
+
+/// Makes a call, and where memory was refused sees that the map is as it was, and makes it again.
+fn call_again(
+    rt: &impl Abort,
+    map: &mut RangeMap<u8>,
+    call: Call,
+    before: &[Row],
+    line: usize,
+) -> Result<(), RangeFault> {
+    let answer = call_on(rt, map, call);
+    if answer != Err(RangeFault::NoMemory) {
+        return answer;
+    }
+    expect_ranges(rt, map, before, line);
+    call_on(rt, map, call)
+}
+
+/// Plays an example on a new map of so many ranges at most.
+fn play(rt: &impl Abort, mut map: RangeMap<u8>, steps: &[Step]) {
+    let mut before: &[Row] = &[];
+    for (line, step) in steps.iter().enumerate() {
+        match step {
+            Does(call, want, ranges) => {
+                let answer = call_again(rt, &mut map, *call, before, line);
+                assert_eq!(rt; answer, *want, "line {line}");
+                expect_ranges(rt, &map, ranges, line);
+                before = ranges;
+            }
+            At(page, want) => assert_eq!(rt; map.at(*page), *want, "line {line}"),
+            Hole(first, pages, want) => {
+                expect_span(rt, *first, *pages);
+                assert_eq!(rt; map.has_hole(*first, *pages), *want, "line {line}");
+            }
+        }
+    }
+}
+
+#[test]
+fn a_span_splits_its_range_and_joins_back(rt: HostRuntime) {
+    let steps = [
+        Does(Map(16, 10, 0, 1), Ok(()), &[(16, 10, 0, 1)]),
+        Does(
+            Set(19, 3, 2),
+            Ok(()),
+            &[(16, 3, 0, 1), (19, 3, 3, 2), (22, 4, 6, 1)],
+        ),
+        At(15, None),
+        At(18, Some((2, 1))),
+        At(19, Some((3, 2))),
+        At(25, Some((9, 1))),
+        At(26, None),
+        Does(Set(19, 3, 1), Ok(()), &[(16, 10, 0, 1)]),
+        Does(Unmap(18, 1), Ok(()), &[(16, 2, 0, 1), (19, 7, 3, 1)]),
+        Does(Map(18, 1, 2, 1), Ok(()), &[(16, 10, 0, 1)]),
+    ];
+    play(&rt, RangeMap::new(rt.alloc(), 8), &steps);
+}
+
+#[test]
+fn neighbours_with_indexes_apart_stay_apart(rt: HostRuntime) {
+    let steps = [
+        Does(Map(16, 1, 0, 1), Ok(()), &[(16, 1, 0, 1)]),
+        Does(Map(17, 1, 6, 1), Ok(()), &[(16, 1, 0, 1), (17, 1, 6, 1)]),
+        Does(Map(18, 1, 7, 1), Ok(()), &[(16, 1, 0, 1), (17, 2, 6, 1)]),
+        Does(Unmap(15, 3), Ok(()), &[(18, 1, 7, 1)]),
+    ];
+    play(&rt, RangeMap::new(rt.alloc(), 8), &steps);
+}
+
+#[test]
+fn holes_and_overlaps_come_before_the_limit(rt: HostRuntime) {
+    let two: [Row; 2] = [(16, 2, 0, 1), (19, 2, 3, 1)];
+    let full = Err(RangeFault::TooManyRanges);
+    let steps = [
+        Does(Map(16, 2, 0, 1), Ok(()), &[(16, 2, 0, 1)]),
+        Does(Map(19, 2, 3, 1), Ok(()), &two),
+        Hole(16, 2, false),
+        Hole(17, 3, true),
+        Hole(19, 3, true),
+        Does(Set(17, 3, 2), Err(RangeFault::Hole), &two),
+        Does(Set(30, 1, 2), Err(RangeFault::Hole), &two),
+        Does(Map(18, 2, 9, 1), Err(RangeFault::Overlap), &two),
+        Does(Map(10, 20, 9, 1), Err(RangeFault::Overlap), &two),
+        Does(Set(17, 1, 2), full, &two),
+        Does(Map(18, 1, 9, 1), full, &two),
+        Does(Unmap(0, END), Ok(()), &[]),
+    ];
+    play(&rt, RangeMap::new(rt.alloc(), 2), &steps);
+}
+
+#[test]
+fn the_limit_is_reached_from_both_sides(rt: HostRuntime) {
+    let full = Err(RangeFault::TooManyRanges);
+    let one: [Row; 1] = [(16, 3, 0, 1)];
+    let steps = [
+        Does(Map(16, 3, 0, 1), Ok(()), &one),
+        Does(Unmap(17, 1), full, &one),
+        Does(Halve(17, 1), full, &one),
+        Does(Unmap(18, 5), Ok(()), &[(16, 2, 0, 1)]),
+        At(18, None),
+        Does(Map(18, 1, 2, 1), Ok(()), &one),
+        Does(Map(19, 1, 9, 1), full, &one),
+    ];
+    play(&rt, RangeMap::new(rt.alloc(), 1), &steps);
+}
+
+#[test]
+fn no_range_and_three_of_three(rt: HostRuntime) {
+    let none = [
+        Does(Map(16, 3, 0, 1), Err(RangeFault::TooManyRanges), &[]),
+        Does(Unmap(16, 3), Ok(()), &[]),
+    ];
+    play(&rt, RangeMap::new(rt.alloc(), 0), &none);
+    let three = [
+        Does(Map(16, 3, 0, 1), Ok(()), &[(16, 3, 0, 1)]),
+        Does(
+            Set(17, 1, 2),
+            Ok(()),
+            &[(16, 1, 0, 1), (17, 1, 1, 2), (18, 1, 2, 1)],
+        ),
+    ];
+    play(&rt, RangeMap::new(rt.alloc(), 3), &three);
+}
+
+#[test]
+fn updates_pass_over_holes_and_join_what_they_make_equal(rt: HostRuntime) {
+    let halved: [Row; 5] = [
+        (16, 2, 0, 4),
+        (18, 2, 2, 2),
+        (20, 2, 4, 1),
+        (30, 1, 14, 4),
+        (31, 1, 15, 8),
+    ];
+    let quartered: [Row; 4] = [(16, 2, 0, 1), (18, 4, 2, 0), (30, 1, 14, 1), (31, 1, 15, 2)];
+    let mapped: [Row; 3] = [(16, 4, 0, 4), (20, 2, 4, 2), (30, 2, 14, 8)];
+    let steps = [
+        Does(Map(16, 4, 0, 4), Ok(()), &mapped[..1]),
+        Does(Map(20, 2, 4, 2), Ok(()), &mapped[..2]),
+        Does(Map(30, 2, 14, 8), Ok(()), &mapped),
+        Does(Halve(18, 13), Ok(()), &halved),
+        Does(
+            HalveAll,
+            Ok(()),
+            &[
+                (16, 2, 0, 2),
+                (18, 2, 2, 1),
+                (20, 2, 4, 0),
+                (30, 1, 14, 2),
+                (31, 1, 15, 4),
+            ],
+        ),
+        Does(HalveAll, Ok(()), &quartered),
+    ];
+    play(&rt, RangeMap::new(rt.alloc(), 8), &steps);
+}
+
+#[test]
+fn the_last_page_is_a_page(rt: HostRuntime) {
+    let all: [Row; 2] = [(0, END - 1, 1, 1), (END - 1, 1, END, 2)];
+    let steps = [
+        Does(
+            Map(END - 2, 2, END - 1, 1),
+            Ok(()),
+            &[(END - 2, 2, END - 1, 1)],
+        ),
+        At(END - 1, Some((END, 1))),
+        At(END, None),
+        At(u64::MAX, None),
+        Does(
+            Set(END - 1, 1, 2),
+            Ok(()),
+            &[(END - 2, 1, END - 1, 1), (END - 1, 1, END, 2)],
+        ),
+        Does(Map(0, END - 2, 1, 1), Ok(()), &all),
+        Does(Unmap(1, END - 1), Ok(()), &[(0, 1, 1, 1)]),
+    ];
+    play(&rt, RangeMap::new(rt.alloc(), 8), &steps);
+}
+
+#[test]
+fn growths_of_every_call(rt: HostRuntime) {
+    let cut: [Row; 3] = [(16, 2, 0, 1), (20, 2, 4, 2), (22, 4, 6, 1)];
+    let steps = [
+        Does(Map(16, 10, 0, 1), Ok(()), &[(16, 10, 0, 1)]),
+        Does(
+            Set(19, 3, 2),
+            Ok(()),
+            &[(16, 3, 0, 1), (19, 3, 3, 2), (22, 4, 6, 1)],
+        ),
+        Does(Unmap(18, 2), Ok(()), &cut),
+        Does(
+            Halve(20, 4),
+            Ok(()),
+            &[(16, 2, 0, 1), (20, 2, 4, 1), (22, 2, 6, 0), (24, 2, 8, 1)],
+        ),
+        Does(Unmap(17, 8), Ok(()), &[(16, 1, 0, 1), (25, 1, 9, 1)]),
+    ];
+    play(&rt, RangeMap::new(rt.alloc(), 8), &steps);
+}

@@ -1,0 +1,374 @@
+//! Worked examples, made by hand from the rules of mbind(2), set_mempolicy(2),
+//! set_mempolicy_home_node(2) and "NUMA Memory Policy". Mode words are those of set_mempolicy(2): 2
+//! is BIND, 0x8000 STATIC_NODES, 0x4000 RELATIVE_NODES.
+use crate::played::Step::{Does, Firsts, List, NoList, Ranges, Refuses, Version};
+use crate::played::{play, play_flat};
+use numa_examples::Asked::{Home, Map, Mbind, Mems, Task, Unmap, Weight};
+use numa_examples::{commands_of, flat_machine, flat_space, set_of, space_of};
+use numa_space::{Errno, Limits, PlaceRefusal, Refusal, Space};
+use std::alloc::Global;
+use std::process::Abort;
+use std::test::Fail;
+
+/// A space of so many nodes, 20 apart, with these limits.
+fn limited(rt: &impl Abort, alloc: Global, frames: &[u32], limits: (u32, u32, u32)) -> Space {
+    let machine = flat_machine(alloc, frames).expect(rt, "a machine");
+    let limits = Limits::new(limits.0, limits.1, limits.2).expect(rt, "limits");
+    Space::new(alloc, machine, limits)
+}
+
+#[test]
+fn spans_of_a_mapping(rt: HostRuntime) {
+    let steps = [
+        Does(Map(0x10000, 0x2000, 0)),
+        Does(Mbind(0x10000, 0x1000, 2, &[1])),
+        List(1, 16, 0, &[1]),
+        List(1, 17, 0, &[0, 1]),
+    ];
+    play_flat(&rt, rt.alloc(), 2, &steps);
+}
+
+#[test]
+fn a_hole(rt: HostRuntime) {
+    let steps = [
+        Does(Map(0x10000, 0x1000, 0)),
+        Does(Map(0x12000, 0x1000, 2)),
+        Refuses(Mbind(0x10000, 0x3000, 2, &[1]), Refusal::Hole),
+        List(1, 16, 0, &[0, 1]),
+        NoList(1, 17, 0, PlaceRefusal::Unmapped),
+        NoList(1, 17, 2, PlaceRefusal::BadCpu),
+    ];
+    play_flat(&rt, rt.alloc(), 2, &steps);
+}
+
+#[test]
+fn ends_of_the_space(rt: HostRuntime) {
+    let steps = [
+        Does(Map(0x7fff_ffff_f000, 0x1000, 0)),
+        Refuses(Map(0x7fff_ffff_f000, 0x1001, 0), Refusal::OutOfSpace),
+        Refuses(Map(0x10000, 0, 0), Refusal::EmptyLength),
+        Does(Mbind(0x20000, 0, 2, &[1])),
+        Does(Map(0x10000, 1, 0)),
+        List(1, 16, 0, &[0, 1]),
+        Refuses(Map(0x10001, 1, 0), Refusal::Unaligned),
+        Refuses(Map(0x30000, 1, 34_359_738_368), Refusal::BadOffset),
+        Refuses(Map(0x10000, 0x2000, 5), Refusal::Overlap),
+    ];
+    play_flat(&rt, rt.alloc(), 2, &steps);
+}
+
+#[test]
+fn ranges_split_and_join(rt: HostRuntime) {
+    let steps = [
+        Does(Map(0x10000, 0xa000, 0)),
+        Does(Task(1, 3, &[0, 1, 2, 3])),
+        Does(Mbind(0x13000, 0x3000, 2, &[2])),
+        Firsts(1, 16, &[0, 1, 2, 2, 2, 2, 2, 3, 0, 1]),
+        Ranges(3),
+        Version(3),
+        List(1, 0x13, 0, &[2]),
+        List(2, 0x10, 1, &[1, 0, 2, 3]),
+        NoList(1, 0x1a, 4, PlaceRefusal::BadCpu),
+        NoList(1, 0x1a, 0, PlaceRefusal::Unmapped),
+        Does(Mbind(0x13000, 0x3000, 0, &[])),
+        Firsts(1, 16, &[0, 1, 2, 3, 0, 1, 2, 3, 0, 1]),
+        Ranges(1),
+    ];
+    play_flat(&rt, rt.alloc(), 4, &steps);
+}
+
+#[test]
+fn indexes_apart(rt: HostRuntime) {
+    let steps = [
+        Does(Map(0x10000, 0x1000, 0)),
+        Does(Map(0x11000, 0x1000, 6)),
+        Does(Map(0x12000, 0x1000, 7)),
+        Ranges(2),
+        Does(Task(1, 3, &[0, 1, 2, 3])),
+        Firsts(1, 16, &[0, 2, 3]),
+        Does(Unmap(0xf000, 0x3000)),
+        Ranges(1),
+        Firsts(1, 18, &[3]),
+    ];
+    play_flat(&rt, rt.alloc(), 4, &steps);
+}
+
+#[test]
+fn limits_are_kept(rt: HostRuntime) {
+    let steps = [
+        Does(Map(0x10000, 0x3000, 0)),
+        Refuses(Mbind(0x11000, 0x1000, 2, &[1]), Refusal::TooManyRanges),
+        Ranges(1),
+        Does(Mbind(0x10000, 0x1000, 2, &[1])),
+        Does(Task(1, 4, &[])),
+        Refuses(Task(2, 4, &[]), Refusal::TooManyTasks),
+        Does(Task(1, 0, &[])),
+        Refuses(Task(1, 4, &[]), Refusal::CommandsSpent),
+        Version(4),
+    ];
+    let mut space = limited(&rt, rt.alloc(), &[8, 8], (2, 1, 4));
+    play(&rt, rt.alloc(), &mut space, &steps);
+}
+
+#[test]
+fn limit_of_ranges(rt: HostRuntime) {
+    let steps = [
+        Does(Map(0x10000, 0x3000, 0)),
+        Refuses(Unmap(0x11000, 0x1000), Refusal::TooManyRanges),
+        Does(Unmap(0x12000, 0x5000)),
+        NoList(1, 18, 0, PlaceRefusal::Unmapped),
+        Does(Map(0x12000, 0x1000, 2)),
+        Ranges(1),
+        Refuses(Map(0x13000, 0x1000, 9), Refusal::TooManyRanges),
+    ];
+    let mut space = limited(&rt, rt.alloc(), &[8], (1, 1, 9));
+    play(&rt, rt.alloc(), &mut space, &steps);
+}
+
+#[test]
+fn interleaving_nodes_move(rt: HostRuntime) {
+    let steps = [
+        Does(Map(0x10000, 0x6000, 0)),
+        Does(Mems(&[1, 2, 3])),
+        Does(Task(1, 3, &[1, 2, 3])),
+        Does(Task(2, 0x8003, &[1, 2, 3])),
+        Does(Mems(&[3, 4, 5])),
+        Firsts(1, 16, &[3, 4, 5, 3, 4, 5]),
+        Firsts(2, 16, &[3, 3, 3, 3, 3, 3]),
+    ];
+    play_flat(&rt, rt.alloc(), 6, &steps);
+}
+
+#[test]
+fn relative_nodes_are_read_again(rt: HostRuntime) {
+    let steps = [
+        Does(Map(0x10000, 0x4000, 0)),
+        Does(Mems(&[2, 3, 4, 5])),
+        Does(Task(1, 0x4003, &[2, 3, 4, 5])),
+        Firsts(1, 16, &[2, 3, 4, 5]),
+        Does(Mems(&[3, 4, 5, 6, 7])),
+        Firsts(1, 16, &[3, 5, 6, 7]),
+        Does(Mems(&[0, 2, 3, 5])),
+        Firsts(1, 16, &[0, 2, 3, 5]),
+    ];
+    play_flat(&rt, rt.alloc(), 8, &steps);
+}
+
+#[test]
+fn nodes_are_not_restored(rt: HostRuntime) {
+    let steps = [
+        Does(Map(0x10000, 0x3000, 0)),
+        Does(Mems(&[1, 2, 3, 4, 5])),
+        Does(Task(1, 3, &[1, 3, 5])),
+        Does(Task(2, 2, &[1, 3, 5])),
+        Firsts(1, 16, &[1, 3, 5]),
+        Does(Mems(&[7, 8, 9])),
+        Firsts(1, 16, &[7, 8, 9]),
+        List(2, 16, 0, &[7, 8, 9]),
+        Does(Mems(&[1, 2, 3, 4, 5])),
+        Firsts(1, 16, &[1, 2, 3]),
+        List(2, 16, 0, &[1, 2, 3]),
+    ];
+    play_flat(&rt, rt.alloc(), 10, &steps);
+}
+
+#[test]
+fn a_policy_without_nodes_waits(rt: HostRuntime) {
+    let steps = [
+        Does(Map(0x10000, 0x1000, 0)),
+        Does(Task(1, 1, &[3])),
+        Does(Mbind(0x10000, 0x1000, 0x8002, &[1])),
+        List(1, 16, 0, &[1]),
+        Does(Mems(&[2, 3])),
+        List(1, 16, 0, &[3, 2]),
+        Does(Mems(&[0, 1, 2, 3])),
+        List(1, 16, 0, &[1]),
+    ];
+    play_flat(&rt, rt.alloc(), 4, &steps);
+}
+
+#[test]
+fn a_task_is_not_restored(rt: HostRuntime) {
+    let steps = [
+        Does(Map(0x10000, 0x1000, 0)),
+        Does(Task(1, 2, &[2])),
+        Does(Mbind(0x10000, 0x1000, 0x8002, &[1])),
+        Does(Mems(&[2, 3])),
+        List(1, 16, 0, &[2]),
+        Does(Mems(&[0, 1, 2, 3])),
+        List(1, 16, 0, &[1]),
+        Does(Mbind(0x10000, 0x1000, 0, &[])),
+        List(1, 16, 0, &[0]),
+    ];
+    play_flat(&rt, rt.alloc(), 4, &steps);
+}
+
+#[test]
+fn relative_places_wrap(rt: HostRuntime) {
+    let steps = [
+        Does(Map(0x10000, 0x1000, 0)),
+        Does(Mems(&[1, 2, 3, 4])),
+        Does(Task(1, 0x4002, &[5])),
+        List(1, 16, 0, &[2]),
+        Refuses(Task(1, 2, &[5]), Refusal::NodesNotAllowed),
+    ];
+    play_flat(&rt, rt.alloc(), 6, &steps);
+}
+
+#[test]
+fn homes(rt: HostRuntime) {
+    let near = [10, 15, 20, 15, 10, 20, 20, 15, 10];
+    let steps = [
+        Does(Map(0x10000, 0x4000, 0)),
+        Does(Mbind(0x10000, 0x2000, 2, &[0, 1])),
+        Does(Mbind(0x12000, 0x1000, 3, &[0, 1, 2])),
+        Refuses(Home(0x10000, 0x3000, 2), Refusal::NotSupported),
+        Refuses(Home(0x10000, 0x1000, 3), Refusal::NoSuchNode),
+        Does(Home(0x11000, 0x1000, 2)),
+        List(1, 16, 0, &[0, 1]),
+        List(1, 17, 0, &[1, 0]),
+        Ranges(4),
+        Does(Mbind(0x11000, 0x1000, 2, &[0, 1])),
+        Ranges(3),
+        Does(Home(0x13000, 0x2000, 2)),
+        List(1, 19, 0, &[0, 1, 2]),
+        Does(Mbind(0x13000, 0x1000, 5, &[1])),
+        List(1, 19, 0, &[1, 0, 2]),
+        Does(Home(0x13000, 0x1000, 2)),
+        List(1, 19, 0, &[1, 2, 0]),
+        Does(Home(0x20000, 0, 2)),
+        Refuses(Home(0x20000, 0, 3), Refusal::NoSuchNode),
+    ];
+    let mut space = space_of(rt.alloc(), 3, &[0, 1, 2], &near).expect(&rt, "a space");
+    play(&rt, rt.alloc(), &mut space, &steps);
+}
+
+#[test]
+fn scopes(rt: HostRuntime) {
+    let near = [10, 15, 20, 15, 10, 20, 20, 15, 10];
+    let steps = [
+        Does(Map(0x10000, 0x3000, 0)),
+        Does(Task(1, 2, &[0, 1])),
+        Does(Mbind(0x11000, 0x1000, 2, &[1, 2])),
+        Does(Mbind(0x12000, 0x1000, 4, &[])),
+        List(1, 16, 2, &[1, 0]),
+        List(1, 17, 0, &[1, 2]),
+        List(1, 18, 2, &[2, 1, 0]),
+        List(2, 16, 1, &[1, 0, 2]),
+        Does(Mbind(0x11000, 0x1000, 0, &[])),
+        List(1, 17, 2, &[1, 0]),
+        Does(Task(1, 0, &[])),
+        List(1, 17, 2, &[2, 1, 0]),
+    ];
+    let mut space = space_of(rt.alloc(), 3, &[0, 1, 2], &near).expect(&rt, "a space");
+    play(&rt, rt.alloc(), &mut space, &steps);
+}
+
+#[test]
+fn nodes_without_memory(rt: HostRuntime) {
+    let steps = [
+        Does(Map(0x10000, 0x1000, 0)),
+        List(1, 16, 1, &[0, 2]),
+        List(1, 16, 2, &[2, 0]),
+        NoList(1, 16, 3, PlaceRefusal::BadCpu),
+        Refuses(Mems(&[1]), Refusal::NodesNotAllowed),
+        Refuses(Mems(&[3]), Refusal::NoSuchNode),
+        Does(Mems(&[0, 1])),
+        List(1, 16, 2, &[0]),
+    ];
+    let far = [10, 20, 255, 20, 10, 20, 255, 20, 10];
+    let mut space = space_of(rt.alloc(), 3, &[0, 2], &far).expect(&rt, "a space");
+    play(&rt, rt.alloc(), &mut space, &steps);
+}
+
+#[test]
+fn weights(rt: HostRuntime) {
+    let steps = [
+        Does(Weight(0, 5)),
+        Does(Weight(1, 2)),
+        Refuses(Weight(2, 1), Refusal::NoSuchNode),
+        Refuses(Weight(0, 0), Refusal::BadWeight),
+        Refuses(Weight(0, 256), Refusal::BadWeight),
+        Does(Map(0x10000, 0x6000, 3)),
+        Does(Task(1, 6, &[0, 1])),
+        Firsts(1, 16, &[0, 0, 1, 1, 0, 0]),
+        Does(Weight(0, 1)),
+        Firsts(1, 16, &[0, 1, 1, 0, 1, 1]),
+    ];
+    play_flat(&rt, rt.alloc(), 2, &steps);
+}
+
+/// A space after five accepted commands and a refused one among them.
+fn told_space(rt: &impl Abort, alloc: Global) -> Space {
+    let asked = [
+        Map(0x10000, 0x3000, 7),
+        Map(0x11000, 0x1000, 7),
+        Mbind(0x11000, 0x1000, 2, &[1]),
+        Task(9, 2, &[1]),
+        Weight(1, 3),
+        Mems(&[1]),
+    ];
+    let commands = commands_of(alloc, &asked).expect(rt, "commands");
+    let mut space = flat_space(alloc, 2).expect(rt, "a space");
+    assert!(rt; space.apply_all(commands.as_slice()).is_ok());
+    space
+}
+
+#[test]
+fn a_list_of_commands(rt: HostRuntime) {
+    let space = told_space(&rt, rt.alloc());
+    assert_eq!(rt; space.version(), 5);
+    assert_eq!(rt; space.machine().nodes(), 2);
+    assert_eq!(rt; space.allowed(), set_of(&[1]));
+    assert_eq!(rt; space.weights().get(1), 3);
+}
+
+#[test]
+fn tasks_and_policies(rt: HostRuntime) -> Result<(), Fail> {
+    let space = told_space(&rt, rt.alloc());
+    assert_eq!(rt; space.task_count(), 1);
+    let (task, policy) = space.task_at(0).ok_or("a task")?;
+    assert_eq!(rt; task, 9);
+    assert_eq!(rt; policy.effective(), set_of(&[1]));
+    assert!(rt; space.task_at(1).is_none());
+    let own = space.policy_at(1, 17).ok_or("a policy")?;
+    assert_eq!(rt; own.effective(), set_of(&[1]));
+    assert!(rt; space.policy_at(1, 16).is_none());
+    Ok(())
+}
+
+#[test]
+fn ranges_one_by_one(rt: HostRuntime) {
+    let space = told_space(&rt, rt.alloc());
+    assert_eq!(rt; space.ranges(), 3);
+    let want = [(16, 1, 7, false), (17, 1, 8, true), (18, 1, 9, false)];
+    for (range, (first, pages, index, has_policy)) in space.range_iter().zip(want) {
+        assert_eq!(rt; range.first, first);
+        assert_eq!(rt; range.pages, pages);
+        assert_eq!(rt; range.index, index);
+        assert_eq!(rt; range.value.policy().is_some(), has_policy);
+    }
+}
+
+#[test]
+fn error_numbers(rt: HostRuntime) {
+    let table = [
+        (Refusal::CommandsSpent, Errno::ENoSpc),
+        (Refusal::Unaligned, Errno::EInval),
+        (Refusal::OutOfSpace, Errno::ENoMem),
+        (Refusal::EmptyLength, Errno::EInval),
+        (Refusal::BadOffset, Errno::EInval),
+        (Refusal::Overlap, Errno::EExist),
+        (Refusal::Hole, Errno::EFault),
+        (Refusal::NoSuchNode, Errno::EInval),
+        (Refusal::BadWeight, Errno::EInval),
+        (Refusal::NodesNotAllowed, Errno::EInval),
+        (Refusal::NotSupported, Errno::EOpNotSupp),
+        (Refusal::TooManyTasks, Errno::ENoMem),
+        (Refusal::TooManyRanges, Errno::ENoMem),
+        (Refusal::NoMemory, Errno::ENoMem),
+    ];
+    for (refusal, errno) in table {
+        assert_eq!(rt; refusal.errno(), errno, "{refusal:?}");
+    }
+}
