@@ -1,0 +1,323 @@
+//! What each line of a script says, by the rules of the script language, and the texts of faults.
+use numa_examples::set_of;
+use numa_script::line::parse;
+use numa_script::{Line, RunFault};
+use std::alloc::{AllocError, Global};
+use std::test::Fail;
+
+// What a line says, by its kind, and by its fault or its numbers.
+fn shown(alloc: Global, line: &[u8]) -> Result<String, AllocError> {
+    match parse(line) {
+        Line::Silent => format!(in alloc; "silent"),
+        Line::Malformed => format!(in alloc; "bad words"),
+        Line::Limits {
+            ranges,
+            tasks,
+            commands,
+        } => format!(in alloc; "limits {ranges} {tasks} {commands}"),
+        Line::Machine(machine) => {
+            let nodes = machine.nodes;
+            match &machine.memory {
+                Ok(_) => format!(in alloc; "machine {nodes}"),
+                Err(fault) => format!(in alloc; "machine {nodes} {fault:?}"),
+            }
+        }
+        Line::Command(Ok(command)) => format!(in alloc; "{command:?}"),
+        Line::Command(Err(fault)) => format!(in alloc; "{fault:?}"),
+        Line::Question(question) => format!(in alloc; "{question:?}"),
+        Line::Maps(task) => format!(in alloc; "maps {task}"),
+        Line::Work(work) => format!(in alloc; "{work:?}"),
+    }
+}
+
+#[test]
+fn lines(rt: HostRuntime) -> Result<(), Fail> {
+    let rows: [(&str, &str); 20] = [
+        ("", "silent"),
+        ("# map 1 2 3", "silent"),
+        ("\r", "bad words"),
+        ("unknown", "bad words"),
+        ("ranges", "Ranges"),
+        ("ranges ", "bad words"),
+        (" ranges", "bad words"),
+        ("Ranges", "bad words"),
+        ("limits 65537 1 0x10", "limits 65537 1 16"),
+        ("limits 4294967296 1 1", "bad words"),
+        ("limits 1 1", "bad words"),
+        ("machine 0x2 0-1 8 flat", "machine 2"),
+        ("machine 2 0-1 8,0 10,20;20,10", "machine 2"),
+        ("machine 2 0-x 8 flat", "machine 2 BadDigit"),
+        ("machine 2 0-x 8 10,256", "bad words"),
+        ("machine 2 0-1 8, flat", "bad words"),
+        ("machine 2 0-1 0x8 flat", "bad words"),
+        ("machine 2 0-1 4294967296 flat", "bad words"),
+        ("machine 2 0-1 00000000008 flat", "bad words"),
+        ("machine 2 0-1 8 Flat", "bad words"),
+    ];
+    for (line, want) in rows {
+        let got = shown(rt.alloc(), line.as_bytes())?;
+        assert_eq!(rt; got.as_str(), want, "{line}");
+    }
+    Ok(())
+}
+
+#[test]
+fn command_lines(rt: HostRuntime) -> Result<(), Fail> {
+    let rows: [(&str, &str); 19] = [
+        (
+            "map 0x10000 0x2000 0",
+            "Map { start: 65536, length: 8192, offset: 0 }",
+        ),
+        (
+            "map 0xFFFFFFFFFFFFFFFF 18446744073709551615 0",
+            "Map { start: 18446744073709551615, length: 18446744073709551615, offset: 0 }",
+        ),
+        ("map 18446744073709551616 1 0", "bad words"),
+        ("map 0x00000000000010000 1 0", "bad words"),
+        ("map 0x 1 0", "bad words"),
+        ("map 0X1 1 0", "bad words"),
+        ("map -1 1 0", "bad words"),
+        ("map 1 1 0 0", "bad words"),
+        (
+            "unmap 0x11000 0x1000",
+            "Unmap { start: 69632, length: 4096 }",
+        ),
+        ("mbind 0 0 bind:", "List(Empty)"),
+        ("mbind 0 bind:1", "bad words"),
+        (
+            "home 0x1000 4096 4294967295",
+            "SetHome { start: 4096, length: 4096, node: 4294967295 }",
+        ),
+        ("home 0 0 4294967296", "bad words"),
+        ("task 1 huge:0", "Policy(UnknownMode)"),
+        ("task 4294967296 huge:0", "bad words"),
+        ("weight 0 256", "SetWeight { node: 0, weight: 256 }"),
+        ("mems 3-1", "List(BackRange)"),
+        ("mems 0,,1", "List(Empty)"),
+        ("mems", "bad words"),
+    ];
+    for (line, want) in rows {
+        let got = shown(rt.alloc(), line.as_bytes())?;
+        assert_eq!(rt; got.as_str(), want, "{line}");
+    }
+    Ok(())
+}
+
+#[test]
+fn empty_words(rt: HostRuntime) -> Result<(), Fail> {
+    let rows: [(&str, &str); 12] = [
+        ("mems ", "bad words"),
+        ("mems  0", "bad words"),
+        (" mems 0", "bad words"),
+        ("mems 0 ", "bad words"),
+        ("task 1 ", "bad words"),
+        ("mbind 0 4096 ", "bad words"),
+        ("machine 2  8 flat", "bad words"),
+        ("machine 2 0-1  flat", "bad words"),
+        ("machine 2 0-1 8 ", "bad words"),
+        ("place 1  0 0", "bad words"),
+        (" ", "bad words"),
+        ("  #", "bad words"),
+    ];
+    for (line, want) in rows {
+        let got = shown(rt.alloc(), line.as_bytes())?;
+        assert_eq!(rt; got.as_str(), want, "{line}");
+    }
+    Ok(())
+}
+
+#[test]
+fn policies(rt: HostRuntime) -> Result<(), Fail> {
+    let rows: [(&str, &str); 17] = [
+        ("task 1 default", "mode: Default, flag: Plain"),
+        (
+            "task 1 prefer=relative:1",
+            "mode: Preferred, flag: Relative",
+        ),
+        ("task 1 prefer", "mode: Local, flag: Plain"),
+        ("task 1 bind=static:0", "mode: Bind, flag: Static"),
+        ("task 1 interleave:0-1", "mode: Interleave, flag: Plain"),
+        ("task 1 local", "mode: Local, flag: Plain"),
+        ("task 1 many:0", "mode: PreferredMany, flag: Plain"),
+        ("task 1 weighted:0", "mode: WeightedInterleave, flag: Plain"),
+        ("task 1 local:", "List(Empty)"),
+        ("task 1 local:0", "Policy(NodesForbidden)"),
+        ("task 1 local=static", "Policy(FlagsForbidden)"),
+        ("task 1 bind", "Policy(NodesMissing)"),
+        ("task 1 bind=static=relative:x", "List(BadDigit)"),
+        ("task 1 local=static=relative:0", "Policy(BothFlags)"),
+        ("task 1 bind=relative=static:0", "Policy(UnknownMode)"),
+        ("task 1 bind=static=static:0", "Policy(UnknownMode)"),
+        ("task 1 local\r", "Policy(UnknownMode)"),
+    ];
+    for (line, want) in rows {
+        let got = shown(rt.alloc(), line.as_bytes())?;
+        assert!(rt; got.as_str().contains(want), "{line}: {got}");
+    }
+    Ok(())
+}
+
+// A machine line of so many bytes.
+fn long_line(alloc: Global, bytes: usize) -> Result<Vec<u8>, AllocError> {
+    let mut line = Vec::new(alloc);
+    line.extend_from_slice(b"machine 1 0 1")?;
+    for place in 0..bytes.saturating_sub(18) {
+        line.push(if place % 2 == 0 { b',' } else { b'1' })?;
+    }
+    line.extend_from_slice(b" flat")?;
+    Ok(line)
+}
+
+#[test]
+fn long_lines(rt: HostRuntime) -> Result<(), Fail> {
+    for (bytes, want) in [(4096, "machine 1"), (4098, "bad words")] {
+        let line = long_line(rt.alloc(), bytes)?;
+        assert_eq!(rt; line.len(), bytes);
+        let got = shown(rt.alloc(), line.as_slice())?;
+        assert_eq!(rt; got.as_str(), want, "{bytes}");
+    }
+    let mut comment = vec![in rt.alloc(); b'#'; 5000]?;
+    let got = shown(rt.alloc(), comment.as_slice())?;
+    assert_eq!(rt; got.as_str(), "silent");
+    comment.insert(0, b' ')?;
+    let got = shown(rt.alloc(), comment.as_slice())?;
+    assert_eq!(rt; got.as_str(), "bad words");
+    Ok(())
+}
+
+#[test]
+fn question_lines(rt: HostRuntime) -> Result<(), Fail> {
+    let rows: [(&str, &str); 13] = [
+        (
+            "place 1 0x10000 0",
+            "Place { task: 1, address: 65536, cpu: 0 }",
+        ),
+        (
+            "span 1 0 65536 0",
+            "Span { task: 1, address: 0, pages: 65536, cpu: 0 }",
+        ),
+        ("span 1 0 65537 0", "bad words"),
+        ("span 1 0 4294967296 0", "bad words"),
+        ("span 1 0 1", "bad words"),
+        (
+            "counts 1 0xffffffffffffffff 0 0",
+            "Counts { task: 1, address: 18446744073709551615, pages: 0, cpu: 0 }",
+        ),
+        (
+            "counts 1 0x10000 18446744073709551615 0",
+            "Counts { task: 1, address: 65536, pages: 18446744073709551615, cpu: 0 }",
+        ),
+        ("counts 1 0 18446744073709551616 0", "bad words"),
+        ("counts 1 0 0 4294967296", "bad words"),
+        ("maps 1", "maps 1"),
+        ("maps", "bad words"),
+        ("maps 4294967296", "bad words"),
+        ("maps 1 1", "bad words"),
+    ];
+    for (line, want) in rows {
+        let got = shown(rt.alloc(), line.as_bytes())?;
+        assert_eq!(rt; got.as_str(), want, "{line}");
+    }
+    Ok(())
+}
+
+#[test]
+fn worker_lines(rt: HostRuntime) -> Result<(), Fail> {
+    let rows: [(&str, &str); 11] = [
+        ("publish", "Event(Publish)"),
+        ("publish ", "bad words"),
+        ("publish 1", "bad words"),
+        (
+            "begin 0 1 0x10000 0",
+            "Event(Begin(0, Request { task: 1, page: 16, cpu: 0 }))",
+        ),
+        (
+            "begin 4 1 0xffffffffffffffff 0x3",
+            "Event(Begin(4, Request { task: 1, page: 4503599627370495, cpu: 3 }))",
+        ),
+        ("begin 0 1 0x10000", "bad words"),
+        ("begin 0 1 0x10000 0 0", "bad words"),
+        ("begin 4294967296 1 0 0", "bad words"),
+        ("look 1 0", "Event(Look(1, 0))"),
+        ("look 0 4294967295", "Event(Look(0, 4294967295))"),
+        ("look 0 4294967296", "bad words"),
+    ];
+    for (line, want) in rows {
+        let got = shown(rt.alloc(), line.as_bytes())?;
+        assert_eq!(rt; got.as_str(), want, "{line}");
+    }
+    Ok(())
+}
+
+#[test]
+fn frame_lines(rt: HostRuntime) -> Result<(), Fail> {
+    let rows: [(&str, &str); 13] = [
+        (
+            "try 1 0 65535",
+            "Event(Try(1, Frame { node: 0, number: 65535 }))",
+        ),
+        ("try 1 0 65536", "bad words"),
+        ("try 1 256 0", "bad words"),
+        ("try 1 0", "bad words"),
+        (
+            "give 0 255 0",
+            "Event(Give(0, Frame { node: 255, number: 0 }))",
+        ),
+        ("give 0 1 65536", "bad words"),
+        ("give 0 256 0", "bad words"),
+        (
+            "touch 0 1 0x11fff 2",
+            "Touch(0, Request { task: 1, page: 17, cpu: 2 })",
+        ),
+        ("touch 0 1 0 4294967296", "bad words"),
+        ("release 0 0x11000", "Release(0, 17)"),
+        ("release 0 18446744073709551616", "bad words"),
+        ("release 0", "bad words"),
+        ("release 0 1 2", "bad words"),
+    ];
+    for (line, want) in rows {
+        let got = shown(rt.alloc(), line.as_bytes())?;
+        assert_eq!(rt; got.as_str(), want, "{line}");
+    }
+    Ok(())
+}
+
+#[test]
+fn machines(rt: HostRuntime) -> Result<(), Fail> {
+    let rows: [(&str, &[u32], &[u8]); 4] = [
+        ("machine 2 0-1 8 flat", &[8, 0], &[10, 20, 20, 10]),
+        ("machine 2 0-1 8,9 10;20,30;10", &[8, 9], &[10, 20, 30, 10]),
+        ("machine 2 0-1 1,2,3 255", &[1, 2, 3], &[255]),
+        ("machine 1 0 0000000007 10", &[7, 0], &[10]),
+    ];
+    let memory = set_of(&[0]);
+    for (line, frames, distances) in rows {
+        match parse(line.as_bytes()) {
+            Line::Machine(machine) => {
+                let got = machine.frames.for_nodes(rt.alloc(), 2, &memory)?;
+                assert_eq!(rt; got.as_slice(), frames, "{line}");
+                let got = machine.distances.for_nodes(rt.alloc(), 2)?;
+                assert_eq!(rt; got.as_slice(), distances, "{line}");
+            }
+            _ => assert!(rt; false, "{line}"),
+        }
+    }
+    Ok(())
+}
+
+#[test]
+fn fault_texts(rt: HostRuntime) -> Result<(), Fail> {
+    assert_eq!(rt;
+        RunFault::Read.to_string(rt.alloc())?.as_str(),
+        "read fault"
+    );
+    assert_eq!(rt;
+        RunFault::Write.to_string(rt.alloc())?.as_str(),
+        "write fault"
+    );
+    assert_eq!(rt;
+        RunFault::Memory.to_string(rt.alloc())?.as_str(),
+        "out of memory"
+    );
+    Ok(())
+}

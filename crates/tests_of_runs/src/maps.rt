@@ -1,0 +1,105 @@
+//! Worked listings, in the form of numa_maps (numa(7)).
+use numa_examples::Asked::{Map, Mbind, Task};
+use numa_examples::{Asked, command_of, flat_space};
+use numa_machine::Frame;
+use numa_maps::{RecordRefusal, Resident, Watched, write_maps};
+use numa_space::{Placement, Space};
+use std::alloc::Global;
+use std::process::Abort;
+
+/// A space of four nodes after these commands.
+pub fn space_after(rt: &impl Abort, alloc: Global, asked: &[Asked]) -> Space {
+    let mut space = flat_space(alloc, 4).expect(rt, "a space");
+    for one in asked {
+        let command = command_of(one).expect(rt, "a command");
+        assert_eq!(rt; space.apply(&command), Ok(()));
+    }
+    space
+}
+
+fn placement(page: u64, node: u8, number: u16) -> Placement {
+    Placement {
+        version: 3,
+        task: 1,
+        page,
+        node,
+        frame: Frame { node, number },
+        rank: 0,
+    }
+}
+
+/// Ten pages that task 1 interleaves over four nodes, but for three of them that are bound to node
+/// 2.
+pub const THREE_RANGES: [Asked<'static>; 3] = [
+    Map(0x10000, 0xa000, 0),
+    Task(1, 3, &[0, 1, 2, 3]),
+    Mbind(0x13000, 0x3000, 2, &[2]),
+];
+
+fn expect_listing(
+    rt: &impl Abort,
+    alloc: Global,
+    space: &Space,
+    task: u32,
+    resident: &Resident,
+    want: &str,
+) {
+    let mut output = Watched::new(Vec::new(alloc));
+    assert_eq!(rt; write_maps(space, task, resident, &mut output), Ok(()));
+    assert_eq!(rt; output.inner.as_slice(), want.as_bytes());
+    assert!(rt; !output.failed());
+}
+
+#[test]
+fn placed_pages(rt: HostRuntime) {
+    let alloc = rt.alloc();
+    let space = space_after(&rt, alloc, &THREE_RANGES);
+    let mut resident = Resident::new(alloc);
+    let bare = "00010000 interleave:0-3\n00013000 bind:2\n00016000 interleave:0-3\n";
+    expect_listing(&rt, alloc, &space, 1, &resident, bare);
+    for (page, node) in [(0x10u64, 0u8), (0x11, 1), (0x14, 2), (0x1a, 3)] {
+        assert_eq!(rt; resident.record(placement(page, node, 0)), Ok(()));
+    }
+    let placed = "00010000 interleave:0-3 anon=2 N0=1 N1=1 kernelpagesize_kB=4\n\
+                  00013000 bind:2 anon=1 N2=1 kernelpagesize_kB=4\n00016000 interleave:0-3\n";
+    expect_listing(&rt, alloc, &space, 1, &resident, placed);
+}
+
+#[test]
+fn policy_texts(rt: HostRuntime) {
+    let alloc = rt.alloc();
+    let resident = Resident::new(alloc);
+    let asked = [
+        Map(0x7fff_ffff_f000, 0x1000, 0),
+        Task(1, 6, &[0, 1]),
+        Task(2, 0x8005, &[0]),
+        Task(3, 1, &[]),
+        Task(4, 1, &[0, 1]),
+    ];
+    let space = space_after(&rt, alloc, &asked);
+    let rows = [
+        (1, "7ffffffff000 weighted interleave:0-1\n"),
+        (2, "7ffffffff000 prefer (many)=static:0\n"),
+        (3, "7ffffffff000 local\n"),
+        (4, "7ffffffff000 prefer:0\n"),
+        (5, "7ffffffff000 default\n"),
+    ];
+    for (task, want) in rows {
+        expect_listing(&rt, alloc, &space, task, &resident, want);
+    }
+    expect_listing(&rt, alloc, &space_after(&rt, alloc, &[]), 1, &resident, "");
+}
+
+#[test]
+fn placements_are_kept_by_page(rt: HostRuntime) {
+    let mut resident = Resident::new(rt.alloc());
+    assert_eq!(rt; resident.record(placement(7, 1, 5)), Ok(()));
+    let second = resident.record(placement(7, 0, 9));
+    assert_eq!(rt; second, Err(RecordRefusal::Taken(placement(7, 0, 9))));
+    assert_eq!(rt; resident.at(7), Some(&placement(7, 1, 5)));
+    assert_eq!(rt; resident.at(8), None);
+    assert_eq!(rt; resident.remove(8), None);
+    assert_eq!(rt; resident.remove(7), Some(placement(7, 1, 5)));
+    assert_eq!(rt; resident.at(7), None);
+    assert_eq!(rt; resident.record(placement(7, 0, 9)), Ok(()));
+}
