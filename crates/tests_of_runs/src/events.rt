@@ -3,8 +3,9 @@
 ghost use Rattle.std.specs.Prelude.{◌≤◌};
 
 use numa_core::{Core, CoreRefusal, Event, Frame, Reply, Request};
-use numa_examples::{flat_machine, limits, spec_of};
-use numa_space::{Command, Refusal};
+use numa_examples::Asked::{Map, Task};
+use numa_examples::{Asked, command_of, flat_machine, limits};
+use numa_space::Refusal;
 use std::alloc::Global;
 use std::process::Abort;
 
@@ -39,40 +40,43 @@ fn answer_of(reply: Result<Reply, CoreRefusal>) -> Answer {
     }
 }
 
-fn play(rt: &impl Abort, core: &mut Core, steps: &[(Event, Answer)]) {
-    for (line, step) in steps.iter().enumerate() {
-        let (event, want) = *step;
-        assert_eq!(rt; answer_of(core.step(event)), want, "line {line}");
+/// What is asked of the core. Numbers of workers come first.
+#[derive(Clone, Copy)]
+enum Call<'a> {
+    Does(Asked<'a>),
+    Publish,
+    /// The worker, the task, the page and the faulting node.
+    Begin(u32, u32, u64, u32),
+    /// The same in one step.
+    Touch(u32, u32, u64, u32),
+    Look(u32, u32),
+    /// The worker, and the frame's node and number.
+    Try(u32, u8, u16),
+    Give(u32, u8, u16),
+}
+
+use Call::{Begin, Does, Give, Look, Publish, Touch, Try};
+
+/// Puts a call to the core.
+fn reply(rt: &impl Abort, core: &mut Core, call: Call) -> Result<Reply, CoreRefusal> {
+    match call {
+        Does(asked) => core.step(Event::Accept(command_of(&asked).expect(rt, "a command"))),
+        Publish => core.step(Event::Publish),
+        Begin(worker, task, page, cpu) => {
+            core.step(Event::Begin(worker, Request { task, page, cpu }))
+        }
+        Touch(worker, task, page, cpu) => core.touch(worker, Request { task, page, cpu }),
+        Look(worker, word) => core.step(Event::Look(worker, word)),
+        Try(worker, node, number) => core.step(Event::Try(worker, Frame { node, number })),
+        Give(worker, node, number) => core.step(Event::Give(worker, Frame { node, number })),
     }
 }
 
-fn map(start: u64, length: u64) -> Event {
-    Event::Accept(Command::Map {
-        start,
-        length,
-        offset: 0,
-    })
-}
-
-fn task(rt: &impl Abort, task: u32, word: u32, nodes: &[u8]) -> Event {
-    let spec = spec_of(word, nodes).expect(rt, "a specification");
-    Event::Accept(Command::SetTask { task, spec })
-}
-
-fn begin(worker: u32, task: u32, page: u64) -> Event {
-    begin_on(worker, task, page, 0)
-}
-
-fn begin_on(worker: u32, task: u32, page: u64, cpu: u32) -> Event {
-    Event::Begin(worker, Request { task, page, cpu })
-}
-
-fn try_frame(worker: u32, node: u8, number: u16) -> Event {
-    Event::Try(worker, Frame { node, number })
-}
-
-fn give(worker: u32, node: u8, number: u16) -> Event {
-    Event::Give(worker, Frame { node, number })
+fn play(rt: &impl Abort, core: &mut Core, steps: &[(Call, Answer)]) {
+    for (line, (call, want)) in steps.iter().enumerate() {
+        let answer = answer_of(reply(rt, core, *call));
+        assert_eq!(rt; answer, *want, "line {line}");
+    }
 }
 
 /// A core of a machine whose nodes are 20 apart and all have memory, with these frames.
@@ -88,20 +92,20 @@ fn core_of(rt: &impl Abort, alloc: Global, frames: &[u32], workers: u32) -> Core
 fn versions(rt: HostRuntime) {
     let mut core = core_of(&rt, rt.alloc(), &[8, 8], 1);
     let steps = [
-        (map(0x10000, 0x1000), Accepted(1)),
+        (Does(Map(0x10000, 0x1000, 0)), Accepted(1)),
         (
-            map(0x10000, 0x1000),
+            Does(Map(0x10000, 0x1000, 0)),
             Refused(CoreRefusal::Command(Refusal::Overlap)),
         ),
-        (task(&rt, 1, 1, &[1]), Accepted(2)),
-        (begin(0, 1, 16), Refused(CoreRefusal::Unmapped(0))),
-        (begin_on(0, 1, 16, 2), Refused(CoreRefusal::BadCpu)),
-        (Event::Publish, Published(2)),
-        (Event::Publish, Published(2)),
-        (begin_on(0, 1, 16, 2), Refused(CoreRefusal::BadCpu)),
-        (begin(0, 1, 16), Still),
-        (try_frame(0, 0, 0), Refused(CoreRefusal::BadTry)),
-        (try_frame(0, 1, 0), Won(2, 1, 0, 0)),
+        (Does(Task(1, 1, &[1])), Accepted(2)),
+        (Begin(0, 1, 16, 0), Refused(CoreRefusal::Unmapped(0))),
+        (Begin(0, 1, 16, 2), Refused(CoreRefusal::BadCpu)),
+        (Publish, Published(2)),
+        (Publish, Published(2)),
+        (Begin(0, 1, 16, 2), Refused(CoreRefusal::BadCpu)),
+        (Begin(0, 1, 16, 0), Still),
+        (Try(0, 0, 0), Refused(CoreRefusal::BadTry)),
+        (Try(0, 1, 0), Won(2, 1, 0, 0)),
     ];
     play(&rt, &mut core, &steps);
     assert_eq!(&rt; core.published(), 2);
@@ -112,49 +116,43 @@ fn versions(rt: HostRuntime) {
 fn touches(rt: HostRuntime) {
     let mut core = core_of(&rt, rt.alloc(), &[1, 1], 2);
     let steps = [
-        (map(0x10000, 0x3000), Accepted(1)),
-        (task(&rt, 1, 2, &[0]), Accepted(2)),
-        (task(&rt, 2, 5, &[0]), Accepted(3)),
-        (Event::Publish, Published(3)),
-        (begin(1, 1, 16), Still),
-        (begin(2, 1, 16), Refused(CoreRefusal::NoSuchWorker)),
+        (Does(Map(0x10000, 0x3000, 0)), Accepted(1)),
+        (Does(Task(1, 2, &[0])), Accepted(2)),
+        (Does(Task(2, 5, &[0])), Accepted(3)),
+        (Publish, Published(3)),
+        (Begin(1, 1, 16, 0), Still),
+        (Begin(2, 1, 16, 0), Refused(CoreRefusal::NoSuchWorker)),
+        (Touch(1, 1, 16, 0), Refused(CoreRefusal::Busy)),
+        (Touch(0, 1, 16, 0), Won(3, 0, 0, 0)),
+        (Touch(0, 1, 17, 0), Exhausted(3)),
+        (Touch(0, 2, 17, 1), Won(3, 1, 0, 1)),
+        (Touch(0, 2, 18, 0), Exhausted(3)),
+        (Touch(0, 2, 19, 0), Refused(CoreRefusal::Unmapped(3))),
+        (Touch(0, 2, 19, 2), Refused(CoreRefusal::BadCpu)),
+        (Touch(2, 2, 18, 0), Refused(CoreRefusal::NoSuchWorker)),
+        (Touch(2, 2, 19, 2), Refused(CoreRefusal::NoSuchWorker)),
     ];
     play(&rt, &mut core, &steps);
-    let asked = [
-        (1, 1, 16, 0, Refused(CoreRefusal::Busy)),
-        (0, 1, 16, 0, Won(3, 0, 0, 0)),
-        (0, 1, 17, 0, Exhausted(3)),
-        (0, 2, 17, 1, Won(3, 1, 0, 1)),
-        (0, 2, 18, 0, Exhausted(3)),
-        (0, 2, 19, 0, Refused(CoreRefusal::Unmapped(3))),
-        (0, 2, 19, 2, Refused(CoreRefusal::BadCpu)),
-        (2, 2, 18, 0, Refused(CoreRefusal::NoSuchWorker)),
-        (2, 2, 19, 2, Refused(CoreRefusal::NoSuchWorker)),
-    ];
-    for (worker, task, page, cpu, want) in asked {
-        let request = Request { task, page, cpu };
-        assert_eq!(&rt; answer_of(core.touch(worker, request)), want, "page {page}");
-    }
 }
 
 #[test]
 fn exhausted(rt: HostRuntime) {
     let mut core = core_of(&rt, rt.alloc(), &[1, 1], 1);
     let steps = [
-        (map(0x10000, 0x3000), Accepted(1)),
-        (task(&rt, 1, 2, &[0]), Accepted(2)),
-        (task(&rt, 2, 5, &[0]), Accepted(3)),
-        (Event::Publish, Published(3)),
-        (begin(0, 1, 16), Still),
-        (try_frame(0, 0, 0), Won(3, 0, 0, 0)),
-        (begin(0, 1, 17), Still),
-        (try_frame(0, 0, 0), Exhausted(3)),
-        (begin(0, 2, 17), Still),
-        (try_frame(0, 0, 0), Still),
-        (try_frame(0, 1, 0), Won(3, 1, 0, 1)),
-        (begin(0, 2, 18), Still),
-        (Event::Look(0, 0), Still),
-        (Event::Look(0, 0), Exhausted(3)),
+        (Does(Map(0x10000, 0x3000, 0)), Accepted(1)),
+        (Does(Task(1, 2, &[0])), Accepted(2)),
+        (Does(Task(2, 5, &[0])), Accepted(3)),
+        (Publish, Published(3)),
+        (Begin(0, 1, 16, 0), Still),
+        (Try(0, 0, 0), Won(3, 0, 0, 0)),
+        (Begin(0, 1, 17, 0), Still),
+        (Try(0, 0, 0), Exhausted(3)),
+        (Begin(0, 2, 17, 0), Still),
+        (Try(0, 0, 0), Still),
+        (Try(0, 1, 0), Won(3, 1, 0, 1)),
+        (Begin(0, 2, 18, 0), Still),
+        (Look(0, 0), Still),
+        (Look(0, 0), Exhausted(3)),
     ];
     play(&rt, &mut core, &steps);
 }
@@ -163,20 +161,20 @@ fn exhausted(rt: HostRuntime) {
 fn one_frame_two_workers(rt: HostRuntime) {
     let mut core = core_of(&rt, rt.alloc(), &[1, 1], 4);
     let steps = [
-        (map(0x10000, 0x2000), Accepted(1)),
-        (Event::Publish, Published(1)),
-        (begin(0, 1, 16), Still),
-        (begin(1, 1, 17), Still),
-        (Event::Look(0, 0), Still),
-        (Event::Look(1, 0), Still),
-        (try_frame(0, 0, 0), Won(1, 0, 0, 0)),
-        (try_frame(1, 0, 0), Still),
-        (try_frame(1, 0, 0), Refused(CoreRefusal::BadTry)),
-        (try_frame(1, 1, 0), Won(1, 1, 0, 1)),
-        (give(0, 1, 0), Refused(CoreRefusal::NotOwned)),
-        (give(0, 0, 0), Given),
-        (Event::Look(0, 0), Refused(CoreRefusal::Idle)),
-        (begin(4, 1, 16), Refused(CoreRefusal::NoSuchWorker)),
+        (Does(Map(0x10000, 0x2000, 0)), Accepted(1)),
+        (Publish, Published(1)),
+        (Begin(0, 1, 16, 0), Still),
+        (Begin(1, 1, 17, 0), Still),
+        (Look(0, 0), Still),
+        (Look(1, 0), Still),
+        (Try(0, 0, 0), Won(1, 0, 0, 0)),
+        (Try(1, 0, 0), Still),
+        (Try(1, 0, 0), Refused(CoreRefusal::BadTry)),
+        (Try(1, 1, 0), Won(1, 1, 0, 1)),
+        (Give(0, 1, 0), Refused(CoreRefusal::NotOwned)),
+        (Give(0, 0, 0), Given),
+        (Look(0, 0), Refused(CoreRefusal::Idle)),
+        (Begin(4, 1, 16, 0), Refused(CoreRefusal::NoSuchWorker)),
     ];
     play(&rt, &mut core, &steps);
 }
@@ -185,17 +183,17 @@ fn one_frame_two_workers(rt: HostRuntime) {
 fn word_borders(rt: HostRuntime) {
     let mut core = core_of(&rt, rt.alloc(), &[65], 2);
     let steps = [
-        (map(0x10000, 0x1000), Accepted(1)),
-        (Event::Publish, Published(1)),
-        (begin(0, 1, 16), Still),
-        (Event::Look(0, 2), Refused(CoreRefusal::BadTry)),
-        (try_frame(0, 0, 65), Refused(CoreRefusal::BadTry)),
-        (try_frame(0, 0, 64), Won(1, 0, 64, 0)),
-        (begin(1, 1, 16), Still),
-        (Event::Look(1, 1), Still),
-        (try_frame(1, 0, 64), Refused(CoreRefusal::BadTry)),
-        (begin(1, 1, 16), Refused(CoreRefusal::Busy)),
-        (try_frame(1, 0, 63), Won(1, 0, 63, 0)),
+        (Does(Map(0x10000, 0x1000, 0)), Accepted(1)),
+        (Publish, Published(1)),
+        (Begin(0, 1, 16, 0), Still),
+        (Look(0, 2), Refused(CoreRefusal::BadTry)),
+        (Try(0, 0, 65), Refused(CoreRefusal::BadTry)),
+        (Try(0, 0, 64), Won(1, 0, 64, 0)),
+        (Begin(1, 1, 16, 0), Still),
+        (Look(1, 1), Still),
+        (Try(1, 0, 64), Refused(CoreRefusal::BadTry)),
+        (Begin(1, 1, 16, 0), Refused(CoreRefusal::Busy)),
+        (Try(1, 0, 63), Won(1, 0, 63, 0)),
     ];
     play(&rt, &mut core, &steps);
 }
@@ -204,20 +202,20 @@ fn word_borders(rt: HostRuntime) {
 fn nodes_without_frames(rt: HostRuntime) {
     let mut core = core_of(&rt, rt.alloc(), &[0, 1, 0], 1);
     let steps = [
-        (map(0x10000, 0x1000), Accepted(1)),
-        (task(&rt, 2, 2, &[0, 2]), Accepted(2)),
-        (Event::Publish, Published(2)),
-        (begin(0, 1, 16), Still),
-        (try_frame(0, 1, 0), Won(2, 1, 0, 1)),
-        (begin(0, 2, 16), Exhausted(2)),
-        (give(0, 1, 0), Given),
+        (Does(Map(0x10000, 0x1000, 0)), Accepted(1)),
+        (Does(Task(2, 2, &[0, 2])), Accepted(2)),
+        (Publish, Published(2)),
+        (Begin(0, 1, 16, 0), Still),
+        (Try(0, 1, 0), Won(2, 1, 0, 1)),
+        (Begin(0, 2, 16, 0), Exhausted(2)),
+        (Give(0, 1, 0), Given),
     ];
     play(&rt, &mut core, &steps);
 }
 
 fn begin_all(rt: &impl Abort, core: &mut Core) {
     for worker in 0..16u32 {
-        play(rt, core, &[(begin(worker, 1, 16), Still)]);
+        play(rt, core, &[(Begin(worker, 1, 16, 0), Still)]);
     }
 }
 
@@ -226,8 +224,8 @@ fn begin_all(rt: &impl Abort, core: &mut Core) {
 fn win_node_0(rt: &impl Abort, core: &mut Core) {
     for worker in 0..8u16 {
         let steps = [
-            (try_frame(worker as u32, 0, worker), Won(1, 0, worker, 0)),
-            (Event::Look(15, 0), Still),
+            (Try(worker as u32, 0, worker), Won(1, 0, worker, 0)),
+            (Look(15, 0), Still),
         ];
         play(rt, core, &steps);
     }
@@ -238,9 +236,9 @@ fn win_node_1(rt: &impl Abort, core: &mut Core) {
     for number in 0..7u16 {
         let worker = number as u32 + 8;
         let steps = [
-            (try_frame(worker, 1, number), Refused(CoreRefusal::BadTry)),
-            (Event::Look(worker, 0), Still),
-            (try_frame(worker, 1, number), Won(1, 1, number, 1)),
+            (Try(worker, 1, number), Refused(CoreRefusal::BadTry)),
+            (Look(worker, 0), Still),
+            (Try(worker, 1, number), Won(1, 1, number, 1)),
         ];
         play(rt, core, &steps);
     }
@@ -250,20 +248,20 @@ fn win_node_1(rt: &impl Abort, core: &mut Core) {
 fn sixteen_workers(rt: HostRuntime) {
     let mut core = core_of(&rt, rt.alloc(), &[8, 8], 16);
     let opens = [
-        (map(0x10000, 0x1000), Accepted(1)),
-        (Event::Publish, Published(1)),
+        (Does(Map(0x10000, 0x1000, 0)), Accepted(1)),
+        (Publish, Published(1)),
     ];
     play(&rt, &mut core, &opens);
     begin_all(&rt, &mut core);
     win_node_0(&rt, &mut core);
     win_node_1(&rt, &mut core);
     let ends = [
-        (try_frame(15, 1, 7), Won(1, 1, 7, 1)),
-        (begin(0, 1, 16), Still),
-        (Event::Look(0, 0), Still),
-        (Event::Look(0, 0), Exhausted(1)),
-        (give(14, 1, 7), Refused(CoreRefusal::NotOwned)),
-        (give(15, 1, 7), Given),
+        (Try(15, 1, 7), Won(1, 1, 7, 1)),
+        (Begin(0, 1, 16, 0), Still),
+        (Look(0, 0), Still),
+        (Look(0, 0), Exhausted(1)),
+        (Give(14, 1, 7), Refused(CoreRefusal::NotOwned)),
+        (Give(15, 1, 7), Given),
     ];
     play(&rt, &mut core, &ends);
 }
@@ -272,20 +270,20 @@ fn sixteen_workers(rt: HostRuntime) {
 fn as_many_frames_as_a_machine_has(rt: HostRuntime) {
     let mut core = core_of(&rt, rt.alloc(), &[4_096; 16], 2);
     let steps = [
-        (map(0x10000, 0x1000), Accepted(1)),
-        (task(&rt, 1, 2, &[14, 15]), Accepted(2)),
-        (Event::Publish, Published(2)),
-        (begin(0, 1, 16), Still),
-        (try_frame(0, 15, 4_095), Refused(CoreRefusal::BadTry)),
-        (Event::Look(0, 63), Still),
-        (Event::Look(0, 64), Refused(CoreRefusal::BadTry)),
-        (try_frame(0, 14, 4_096), Refused(CoreRefusal::BadTry)),
-        (try_frame(0, 14, 4_095), Won(2, 14, 4_095, 0)),
-        (begin(1, 1, 16), Still),
-        (Event::Look(1, 63), Still),
-        (try_frame(1, 14, 4_095), Refused(CoreRefusal::BadTry)),
-        (try_frame(1, 14, 4_032), Won(2, 14, 4_032, 0)),
-        (give(1, 15, 0), Refused(CoreRefusal::NotOwned)),
+        (Does(Map(0x10000, 0x1000, 0)), Accepted(1)),
+        (Does(Task(1, 2, &[14, 15])), Accepted(2)),
+        (Publish, Published(2)),
+        (Begin(0, 1, 16, 0), Still),
+        (Try(0, 15, 4_095), Refused(CoreRefusal::BadTry)),
+        (Look(0, 63), Still),
+        (Look(0, 64), Refused(CoreRefusal::BadTry)),
+        (Try(0, 14, 4_096), Refused(CoreRefusal::BadTry)),
+        (Try(0, 14, 4_095), Won(2, 14, 4_095, 0)),
+        (Begin(1, 1, 16, 0), Still),
+        (Look(1, 63), Still),
+        (Try(1, 14, 4_095), Refused(CoreRefusal::BadTry)),
+        (Try(1, 14, 4_032), Won(2, 14, 4_032, 0)),
+        (Give(1, 15, 0), Refused(CoreRefusal::NotOwned)),
     ];
     play(&rt, &mut core, &steps);
 }
@@ -294,8 +292,8 @@ fn as_many_frames_as_a_machine_has(rt: HostRuntime) {
 fn win_node_15(rt: &impl Abort, core: &mut Core) {
     for number in 0..4_096u16 {
         let steps = [
-            (begin(0, 1, 16), Still),
-            (try_frame(0, 15, number), Won(2, 15, number, 0)),
+            (Begin(0, 1, 16, 0), Still),
+            (Try(0, 15, number), Won(2, 15, number, 0)),
         ];
         play(rt, core, &steps);
     }
@@ -304,7 +302,7 @@ fn win_node_15(rt: &impl Abort, core: &mut Core) {
 /// Worker 1 looks at each word of its node but the last.
 fn look_at_63_words(rt: &impl Abort, core: &mut Core) {
     for word in 0..63u32 {
-        play(rt, core, &[(Event::Look(1, word), Still)]);
+        play(rt, core, &[(Look(1, word), Still)]);
     }
 }
 
@@ -312,19 +310,19 @@ fn look_at_63_words(rt: &impl Abort, core: &mut Core) {
 fn the_last_of_all_frames(rt: HostRuntime) {
     let mut core = core_of(&rt, rt.alloc(), &[4_096; 16], 2);
     let opens = [
-        (map(0x10000, 0x1000), Accepted(1)),
-        (task(&rt, 1, 2, &[15]), Accepted(2)),
-        (Event::Publish, Published(2)),
+        (Does(Map(0x10000, 0x1000, 0)), Accepted(1)),
+        (Does(Task(1, 2, &[15])), Accepted(2)),
+        (Publish, Published(2)),
     ];
     play(&rt, &mut core, &opens);
     win_node_15(&rt, &mut core);
-    play(&rt, &mut core, &[(begin(1, 1, 16), Still)]);
+    play(&rt, &mut core, &[(Begin(1, 1, 16, 0), Still)]);
     look_at_63_words(&rt, &mut core);
     let ends = [
-        (Event::Look(1, 63), Exhausted(2)),
-        (give(0, 15, 4_095), Given),
-        (begin(1, 1, 16), Still),
-        (try_frame(1, 15, 4_095), Won(2, 15, 4_095, 0)),
+        (Look(1, 63), Exhausted(2)),
+        (Give(0, 15, 4_095), Given),
+        (Begin(1, 1, 16, 0), Still),
+        (Try(1, 15, 4_095), Won(2, 15, 4_095, 0)),
     ];
     play(&rt, &mut core, &ends);
 }
