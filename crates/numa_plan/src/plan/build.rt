@@ -82,7 +82,7 @@ impl Plan {
     /// of its own any more. Writes no run and no rule.
     ///
     /// # Errors
-    /// `NoMemory` where there is none for a task more; the plan is as it was.
+    /// `NoMemory` where there is none for a task more, never with None; the plan is as it was.
     pub fn set_task(&mut self, task: u32, number: Option<u32>) -> Result<(), NoMemory>
         requires named { ForSome number (λ number. IsSome (rule_in self.old.slots number)) }
         requires few { length self.old.runs + length self.old.tasks < 2 ^ 32 - 1 }
@@ -93,6 +93,7 @@ impl Plan {
         ensures sized { OnOk result (length self.new.tasks ≤ length self.old.tasks + 1) }
         ensures slots { OnOk result (length self.new.slots ≡ length self.old.slots) }
         ensures err { OnErr result (self.new ≡ self.old) }
+        ensures room { OnErr result (number ≢ None) }
     {
         match number {
             Some(number) => self.give_rule(task, number),
