@@ -2,7 +2,7 @@
 
 import random
 
-MODES = ["bind", "many", "interleave", "weighted", "prefer"]
+MODES = ["bind", "many", "interleave", "interleave", "weighted", "weighted", "prefer"]
 BOUNDS = [0, 1, 2, 3, 4, 5, 63, 64, 65, 127, 128, 255, 256, 257, 4095, 4096, 4097, 65535, 65536,
           65537, 2**31, 2**32 - 1, 2**32, 2**35 - 1, 2**35, 2**35 + 1, 2**36, 2**47 - 4096,
           2**47 - 1, 2**47, 2**47 + 4096, 2**63, 2**64 - 4096, 2**64 - 1, 2**64, 10**19,
@@ -34,9 +34,11 @@ class Words:
         elif way == 3:
             words[at] += self.dice.choice(["\r", "\0", "\t", "\xe9", "x", ",", ":", "=static", "-"])
         elif way == 4:
-            words[at] = self.dice.choice([words[at].upper(), words[at].capitalize(), words[at][:-1]])
+            word = words[at]
+            words[at] = self.dice.choice([word.upper(), word.capitalize(), word[:-1]])
         elif way == 5:
-            words[at] = self.dice.choice(["0x", "0X10", "0x1" + "0" * 16, "0" * 20 + "1", "-1", "+1"])
+            long = ["0x1" + "0" * 16, "0" * 20 + "1"]
+            words[at] = self.dice.choice(["0x", "0X10", "-1", "+1"] + long)
         elif way == 6:
             words.append(self.dice.choice(["", "0", "flat"]))
         elif way == 7:
@@ -108,9 +110,11 @@ class Words:
             elif way == 3:
                 words[3] = self.dice.choice(["10", "10,20;20,10", "10,20;20,11", "flat ", "Flat"])
             elif way == 4:
-                words[3] = str(words[3]).replace("10", self.dice.choice(["0", "11", "256", "1x"]), 1)
+                other = self.dice.choice(["0", "11", "256", "1x"])
+                words[3] = str(words[3]).replace("10", other, 1)
             elif way == 5:
-                words[3] = str(words[3]).replace("20", self.dice.choice(["10", "0", "255", ""]), 1)
+                other = self.dice.choice(["10", "0", "255", ""])
+                words[3] = str(words[3]).replace("20", other, 1)
             else:
                 words[2] = ",".join(["1"] * min(self.nodes, 256))
         return words
@@ -157,7 +161,8 @@ class Words:
         if self.likely(0.12):
             return self.list_text(set(self.dice.sample(range(256), self.dice.randint(1, 5))))
         most = min(256, self.nodes + self.dice.choice([0, 0, 0, 2, 5]))
-        return self.list_text(set(self.dice.sample(range(most), self.dice.randint(1, min(most, 6)))))
+        count = self.dice.randint(1, min(most, 6))
+        return self.list_text(set(self.dice.sample(range(most), count)))
 
     def policy(self):
         if self.likely(0.05):
@@ -174,7 +179,8 @@ class Words:
             name = self.dice.choice(["Bind", "binds", "prefer(many)", "", "many "])
         form = self.dice.choice(["", "=static", "=relative", "=static=relative"])
         if self.likely(0.15):
-            form = self.dice.choice(["=relative=static", "=static=static", "=", "=Static", "=staticx"])
+            wrong = ["=relative=static", "=static=static", "=", "=Static", "=staticx"]
+            form = self.dice.choice(wrong)
         tail = self.dice.choice(["", ":0"])
         if self.likely(0.3):
             tail = self.dice.choice([":", ":0=static", "::0", ":0:1", ":3-1", ":256", ":x"])

@@ -130,7 +130,8 @@ class Script(Words):
             self.say("mems", self.bad_list())
         elif self.likely(0.7):
             some = sorted(self.memory)
-            self.say("mems", self.list_text(self.dice.sample(some, self.dice.randint(1, len(some)))))
+            count = self.dice.randint(1, len(some))
+            self.say("mems", self.list_text(self.dice.sample(some, count)))
         elif self.likely(0.8):
             self.say("mems", self.list_text(self.some_nodes(self.nodes)))
         else:
@@ -148,7 +149,8 @@ class Script(Words):
             pages = self.dice.choice([300, 65536, 65537]) if self.likely(0.1) else 40
         if self.likely(0.08):
             pages = self.dice.choice([0, pages + 1, 2**35, 2**64 - 1 if name == "counts" else 0])
-        self.say(name, self.task_number(), self.number(first * PAGE), self.number(pages), self.node())
+        address = self.number(first * PAGE)
+        self.say(name, self.task_number(), address, self.number(pages), self.node())
 
     def ranges(self):
         self.say("ranges")
@@ -252,8 +254,9 @@ class Script(Words):
             self.add("machine " + " ".join(map(str, words)))
         self.nodes = self.state.space.machine.nodes
         self.memory = self.state.space.machine.memory
-        for line in [self.map, self.mbind, self.task, self.publish]:
+        for line in [self.map, self.mbind, self.task] + [self.weight] * 3 * self.likely(0.5):
             line()
+        self.publish()
 
     def write(self):
         """The script as bytes; at times its last line lacks a line feed."""
