@@ -7,8 +7,6 @@ mod numbers;
 mod reach;
 mod rows;
 mod rules;
-#[cfg(test)]
-mod tests;
 mod turns;
 
 pub use compiler::{compile, compile_commands};

@@ -23,6 +23,3 @@ pub use counts::count_all;
 pub use fill::fill_one;
 pub use turns::{Cycle, fill_cycle};
 pub use within::count_in;
-
-#[cfg(test)]
-mod tests;

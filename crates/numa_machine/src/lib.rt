@@ -16,6 +16,3 @@ pub use frame::Frame;
 pub use machine::Machine;
 pub use no_memory::NoMemory;
 pub use weights::Weights;
-
-#[cfg(test)]
-mod tests;

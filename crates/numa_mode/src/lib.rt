@@ -37,6 +37,3 @@ pub use flags::PolicyFlags;
 pub use modes::{Mode, NodeFlag};
 pub use records::{NodesNotAllowed, Record};
 pub use specification::{PolicySpec, SpecFault};
-
-#[cfg(test)]
-mod tests;

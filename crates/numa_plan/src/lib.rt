@@ -18,8 +18,6 @@ mod runs;
 mod slots;
 mod steps;
 mod tally;
-#[cfg(test)]
-mod tests;
 
 pub use numa_machine::NoMemory;
 pub use plan::Plan;

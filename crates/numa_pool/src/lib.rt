@@ -11,8 +11,6 @@ pub mod pools;
 mod search;
 pub mod seat;
 mod steps;
-#[cfg(test)]
-mod tests;
 pub mod view;
 
 pub use closed::Closed;

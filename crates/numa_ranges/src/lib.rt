@@ -17,8 +17,6 @@ mod join;
 mod pieces;
 mod range_map;
 mod run;
-#[cfg(test)]
-mod tests;
 
 pub use exact::Exact;
 pub use fault::RangeFault;

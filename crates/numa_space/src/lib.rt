@@ -72,8 +72,6 @@ pub mod refusal;
 pub mod request;
 pub mod space;
 mod task_policies;
-#[cfg(test)]
-mod tests;
 
 pub use command::Command;
 pub use limits::Limits;
