@@ -19,6 +19,3 @@ pub use numa_machine::frame::{self, Frame};
 pub use numa_space::placement::{self, Placement};
 pub use numa_space::request::{self, Request};
 pub use running::Core;
-
-#[cfg(test)]
-mod tests;

@@ -7,8 +7,6 @@ pub mod law;
 mod line;
 pub mod listing;
 pub mod resident;
-#[cfg(test)]
-mod tests;
 pub mod watched;
 
 pub use listing::write_maps;

@@ -10,8 +10,6 @@ pub mod script;
 mod serving;
 mod session;
 mod tell;
-#[cfg(test)]
-mod tests;
 mod told;
 
 pub use script::run;

@@ -5,8 +5,6 @@ mod engine;
 pub mod gathered;
 pub mod keyword;
 pub mod line;
-#[cfg(test)]
-mod line_tests;
 pub mod machine;
 pub mod number;
 mod open_line;
@@ -14,8 +12,6 @@ pub mod parts;
 pub mod policy;
 pub mod run;
 pub mod serve;
-#[cfg(test)]
-mod tests;
 pub mod work;
 
 pub use gathered::Gathered;
