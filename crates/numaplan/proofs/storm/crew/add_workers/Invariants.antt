@@ -6,4 +6,5 @@ use Rattle.numaplan.proofs.storm.crew.add_workers.Given as goal
 -- all seats are of the pools
 abbrev pub invariant-loop : goal.invariant-loop
 invariant-loop g l =
-    (l.seat.table ≡ l.pools.table) × All (λ (w : FaultWorker). w.seat.table ≡ l.pools.table) l.workers.items
+    (l.seat.table ≡ l.pools.table)
+    × All (λ (w : FaultWorker). w.seat.table ≡ l.pools.table) l.workers.items
