@@ -16,6 +16,7 @@ PAGE = 4096
 BASE = 16  # the first page of most spans
 PAGES = 24  # most spans lie in so many pages
 TOP = 2**35  # pages below address 2^47
+HOMED = ["bind", "many"]  # the modes that take a home
 
 
 class Script(Words):
@@ -103,9 +104,19 @@ class Script(Words):
         self.say("mbind", start, length, self.policy())
         if self.likely(0.25):
             self.say("home", start, length, self.node())
+        if self.likely(0.25):
+            self.say("place", self.task_number(), start, self.node())
 
     def home(self):
-        self.say("home", *self.bytes(*self.span()), self.node())
+        """A home for some span, or for a range that takes one; mostly somebody asks there."""
+        taking = [it for it in ranges(self.state.space) if it.record and it.record.mode in HOMED]
+        first, pages = self.span()
+        if taking and self.likely(0.7):
+            one = self.dice.choice(taking)
+            first, pages = one.first, self.inner(one.end - one.first)
+        self.say("home", *self.bytes(first, pages), self.node())
+        if self.likely(0.6):
+            self.say("place", self.task_number(), self.number(first * PAGE), self.node())
 
     def node(self):
         """A node of the machine, mostly."""
@@ -271,7 +282,17 @@ class Script(Words):
         while len(self.lines) < length:
             self.dice.choice(commands + asked + work + [self.odd] * self.likely(0.3))()
         end = "" if self.likely(0.1) else "\n"
-        return ("\n".join(self.lines) + end).encode("latin-1")
+        script = ("\n".join(self.lines) + end).encode("latin-1")
+        return self.with_other_bytes(script) if self.likely(0.15) else script
+
+    def with_other_bytes(self, script):
+        """The script with some bytes lost, doubled or others, wherever they stand."""
+        told = bytearray(script)
+        for _ in range(self.dice.randint(1, 4)):
+            at = self.dice.randrange(len(told))
+            other = self.dice.choice([b"", b" ", b"\n", b"0", b",", b":", b"#", b"\0", b"\xff"])
+            told[at : at + self.dice.randrange(2)] = other
+        return bytes(told)
 
 
 if __name__ == "__main__":
