@@ -43,7 +43,8 @@ class Script(Words):
         mapped = ranges(space or self.state.space)
         if not mapped or self.likely(0.12):
             return BASE + self.dice.randrange(PAGES), self.dice.randint(1, 8)
-        one = self.dice.choice(mapped)
+        bound = [it for it in mapped if it.record]
+        one = self.dice.choice(bound if bound and self.likely(0.4) else mapped)
         size = one.end - one.first
         first = one.first + (self.dice.randrange(min(size, 5)) if self.likely(0.6) else 0)
         if size > 1000 and self.likely(0.3):
@@ -93,8 +94,7 @@ class Script(Words):
             offset = self.dice.choice([TOP, TOP + 1, 2**64 - 1, 2**64])
         if self.likely(0.05):
             self.say("unmap", *self.bytes(first, pages))
-        start, length = self.bytes(first, pages)
-        self.say("map", start, length, self.number(offset))
+        self.say("map", *self.bytes(first, pages), self.number(offset))
 
     def unmap(self):
         self.say("unmap", *self.bytes(*self.span()))
