@@ -1,0 +1,11 @@
+use Rattle.std.proofs.Common.{◌≡◌, ◌++◌, ◌≤◌, ◌-◌, length}
+use Rattle.numa_rows.proofs.iter.next_rows.Given as goal
+
+abbrev pub invariant-loop-rest : goal.invariant-loop-rest
+invariant-loop-rest g l = record {
+  whole : l.rows.items ++ l.rest ≡ l.initial.rest;
+  few : length l.rows.items ≤ l.count;
+}
+
+abbrev pub decreases-loop-rest : goal.decreases-loop-rest
+decreases-loop-rest g l = l.count - length l.rows.items

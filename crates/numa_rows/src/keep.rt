@@ -1,0 +1,48 @@
+//! The ways to keep the rows of a chunk.
+ghost use Rattle.std.specs.Prelude.{◌≡◌, ◌++◌, ◌∷◌, [], ◌<◌, ◌≤◌, length, slice_set, List, IfOk, OnOk, OnErr};
+ghost use Rattle.std.specs.List.{splice};
+
+use std::alloc::{AllocError, Global};
+
+/// A way to keep the rows of a chunk. [`Owned`](crate::Owned) keeps them for itself alone; what
+/// [`Shared`](crate::Shared) keeps, copies share.
+pub trait Keep<T>: Drop {
+    /// The rows that are kept.
+    ghost rows_of: { Self → List T };
+
+    /// Keeps the rows of a vector.
+    fn keep(alloc: Global, rows: Vec<T>) -> Result<Self, AllocError>
+        ensures { IfOk result (λ chunk. rows_of chunk ≡ rows.items) };
+
+    /// The rows.
+    fn rows(&self) -> &[T]
+        ensures { result.now ≡ rows_of self.now };
+
+    /// The same rows once more.
+    fn copy(&self, alloc: Global) -> Result<Self, AllocError>
+        ensures { IfOk result (λ chunk. rows_of chunk ≡ rows_of self.now) };
+
+    /// Adds a row behind the others.
+    fn push(&mut self, alloc: Global, row: T) -> Result<(), AllocError>
+        ensures ok { OnOk result (rows_of self.new ≡ rows_of self.old ++ row ∷ []) }
+        ensures unchanged { OnErr result (rows_of self.new ≡ rows_of self.old) };
+
+    /// Puts a row in the place of another.
+    fn set(&mut self, alloc: Global, place: usize, row: T) -> Result<(), AllocError>
+        requires { place < length (rows_of self.old) }
+        ensures ok { OnOk result (rows_of self.new ≡ slice_set (rows_of self.old) place row) }
+        ensures unchanged { OnErr result (rows_of self.new ≡ rows_of self.old) };
+
+    /// Puts rows in the place of those from one place to another.
+    fn splice(
+        &mut self,
+        alloc: Global,
+        from: usize,
+        to: usize,
+        rows: &[T],
+    ) -> Result<(), AllocError>
+        requires rises { from ≤ to }
+        requires within { to ≤ length (rows_of self.old) }
+        ensures ok { OnOk result (rows_of self.new ≡ splice (rows_of self.old) from to rows.now) }
+        ensures unchanged { OnErr result (rows_of self.new ≡ rows_of self.old) };
+}

@@ -1,0 +1,89 @@
+//! Rows that one chunk has for itself.
+ghost use Rattle.std.specs.Prelude.{◌≡◌, length, map, IfOk};
+ghost use Rattle.numa_rows.specs.Changes.{Makes};
+
+use crate::chunk::{MOST, put_in};
+use crate::keep::Keep;
+use std::alloc::{AllocError, Global};
+use std::marker::Model;
+
+/// Rows that one chunk has for itself.
+#[derive(Drop)]
+pub struct Owned<T> {
+    rows: Vec<T>,
+}
+
+impl<T> Model for Owned<T> {
+    ghost use Rattle.std.specs.Prelude.{List};
+
+    ghost Value = { List T };
+
+    ghost view = { λ a. a.rows.items };
+}
+
+impl<T: Copy + Drop> Keep<T> for Owned<T> {
+    ghost rows_of = { λ rows. rows };
+
+    fn keep(_alloc: Global, rows: Vec<T>) -> Result<Owned<T>, AllocError>
+        ensures { IfOk result (λ chunk. chunk ≡ rows.items) }
+    {
+        Ok(Owned { rows })
+    }
+
+    #[inline]
+    fn rows(&self) -> &[T] {
+        self.rows.as_slice()
+    }
+
+    fn copy(&self, alloc: Global) -> Result<Owned<T>, AllocError>
+        ensures { IfOk result (λ chunk. chunk ≡ self.now) }
+    {
+        let mut rows = Vec::with_capacity(alloc, MOST)?;
+        rows.extend_from_slice(&self.rows)?;
+        Ok(Owned { rows })
+    }
+
+    fn push(&mut self, _alloc: Global, row: T) -> Result<(), AllocError> {
+        self.rows.push(row)?;
+        Ok(())
+    }
+
+    fn set(&mut self, _alloc: Global, place: usize, row: T) -> Result<(), AllocError> {
+        self.rows[place] = row;
+        Ok(())
+    }
+
+    fn splice(
+        &mut self,
+        _alloc: Global,
+        from: usize,
+        to: usize,
+        rows: &[T],
+    ) -> Result<(), AllocError> {
+        put_in(&mut self.rows, from, to, rows)
+    }
+}
+
+impl<T: Copy + Drop> Owned<T> {
+    /// Gives each row what `f` makes of it.
+    pub(crate) fn update<F: Fn(&T) -> T>(&mut self, f: &F)
+        requires { F.IsAlwaysCallable f.now }
+        ensures size { length self.new ≡ length self.old }
+        ensures made { (change : T → T) → Makes F.Fn f.now change → self.new ≡ map change self.old }
+    {
+        change_rows(&mut self.rows, f);
+    }
+}
+
+/// Gives each row what `f` makes of it.
+fn change_rows<T: Copy + Drop, F: Fn(&T) -> T>(rows: &mut Vec<T>, f: &F)
+    requires { F.IsAlwaysCallable f.now }
+    ensures size { length rows.new.items ≡ length rows.old.items }
+    ensures made { (change : T → T) → Makes F.Fn f.now change
+        → rows.new.items ≡ map change rows.old.items }
+{
+    for i in 0..rows.len() {
+        let row = rows[i];
+        rows[i] = f(&row);
+    }
+}
