@@ -1,7 +1,7 @@
 """The commands: the first cause that refuses each, and what an accepted one changes. Each function
 is given a copy of the space to change, and answers the cause of a refusal or None.
 
-Written from docs/SCRIPT.md and docs/MODEL.md alone. Not proved."""
+Written from docs/SCRIPT.md and docs/internals/MODEL.md alone. Not proved."""
 
 from space import (ERRNO, LAST, PAGE, Piece, has_hole, inside, lacks_nodes, page_count, page_of,
                    ranges, record_after, record_when_set)

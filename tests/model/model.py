@@ -1,7 +1,7 @@
 #!/usr/bin/env python3
 """A slow model of `numaplan run`: reads a script on standard input, writes the answers.
 
-It is a second reading of the rules, written from docs/SCRIPT.md and docs/MODEL.md alone, by someone
+It is a second reading of the rules, written from docs/SCRIPT.md and docs/internals/MODEL.md alone, by someone
 who had not read the program. Where both answer a script alike, two readers have understood the
 documents alike; where they don't, one of the two or the documents are wrong. It is not proved, it
 is slow, and it never wants memory; nothing of the program depends on it. Its parts, one function a

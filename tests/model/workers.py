@@ -1,7 +1,7 @@
 """The workers: how they look for frames, step by step or all at once. One function a rule; each
 answers the text of its line.
 
-Written from docs/SCRIPT.md and docs/MODEL.md alone. Not proved."""
+Written from docs/SCRIPT.md and docs/internals/MODEL.md alone. Not proved."""
 
 from space import index_at, page_of, piece_at, policy_list, resolved
 
