@@ -18,9 +18,9 @@ use Rattle.numa_core.specs.declared.event.Reply.{Reply as CoreReply}
 use Rattle.numa_core.specs.declared.event.CoreRefusal.{CoreRefusal}
 use Rattle.numa_core.specs.declared.event.CoreRefusal.TheVariants.{NoMemory}
 use Rattle.numa_maps.specs.Residents.{Kept, placed_at, with_placement, without_page}
-use Rattle.numa_run.specs.States.{State, setup_with}
+use Rattle.numa_run.specs.States.{State}
 use Rattle.numa_run.specs.Standing.{RunsAs, Does, state_with}
-use Rattle.numa_run.specs.Work.{told, win_of, is_accept, is_accepted, won_by, event_answer, event_world, event_outcome, not_kept, kept_outcome, touch_by, touch_outcome, release_by, release_outcome}
+use Rattle.numa_run.specs.Work.{told, win_of, is_accepted, won_by, event_answer, event_world, event_outcome, not_kept, kept_outcome, touch_by, touch_outcome, release_by, release_outcome}
 use Rattle.numa_run.specs.declared.running.Running.{Running}
 use Rattle.numa_run.specs.declared.reply.Reply.{Reply}
 use Rattle.numa_run.specs.declared.reply.Reply.TheVariants as reply
@@ -45,10 +45,12 @@ Plans s plan history = ForSome plan (λ plan. PlanStandsFor s.machine plan histo
 pub moved : (old new : Running) (state : State) (world : World) (kept : Kept) → RunsAs old state → setup_of new.core ≡ setup_of old.core → CoreStandsFor new.core world → new.resident ≡ kept
     → Plans (setup_of old.core) new.plan world.history → RunsAs new (record { bounds = state.bounds; machine = state.machine; world = world; resident = kept })
 moved old new state world kept stands same reached resident plan = record {
-  bounds = stands.bounds ∙ sym (ap (λ s. s.bounds) same);
-  machine = stands.machine ∙ ap Some (sym (ap (λ s. s.machine) same));
-  workers = ap (λ s. s.workers) same ∙ stands.workers;
-  world = reached;
+  core = record {
+    bounds = stands.core.bounds ∙ sym (ap (λ s. s.bounds) same);
+    machine = stands.core.machine ∙ ap Some (sym (ap (λ s. s.machine) same));
+    workers = ap (λ s. s.workers) same ∙ stands.core.workers;
+    world = reached;
+  };
   resident = resident;
   plan = subst (λ (s : Setup). Plans s new.plan world.history) (sym same) plan;
 }
@@ -65,7 +67,7 @@ pub does-event : (old new : Running) (event : Event) (answer : Result CoreReply 
 does-event old new event answer steps same resident plan =
     λ state stands.
     let s = setup_of old.core in
-    let step = steps state.world stands.world in
+    let step = steps state.world stands.core.world in
     let right = answer-told s state.world event answer step.0 in
     let after : World = world_after s state.world (newest_published state.world) event answer in
     let there : after ≡ event_world right.0 s state.world event = ap (world_after s state.world (newest_published state.world) event) right.1 in
@@ -86,7 +88,7 @@ given : (old new : Running) (refused : Bool) (w : ℕ) (frame : Frame) (answer :
     → RunsAs new (record { bounds = state.bounds; machine = state.machine; world = event_world refused (setup_of old.core) state.world (Give w frame); resident = kept })
 given old new refused w frame answer kept steps same plan resident state stands =
     let s = setup_of old.core in
-    let step = steps state.world stands.world in
+    let step = steps state.world stands.core.world in
     let after : World = world_after s state.world (newest_published state.world) (Give w frame) answer in
     let there : after ≡ event_world refused s state.world (Give w frame) =
     ap (world_after s state.world (newest_published state.world) (Give w frame)) (give-told refused s state.world w frame answer step.0) in
@@ -104,7 +106,7 @@ keeps old new w placement core plan free resident =
       false,
       sym (ap (λ o. o.reply) out),
       subst (λ o. RunsAs new (state_with state o)) (sym out)
-          (moved old new state state.world (with_placement state.resident placement) stands (ap setup_of core) (subst (λ c. CoreStandsFor c state.world) (sym core) stands.world)
+          (moved old new state state.world (with_placement state.resident placement) stands (ap setup_of core) (subst (λ c. CoreStandsFor c state.world) (sym core) stands.core.world)
           (resident ∙ ap (λ kept. with_placement kept placement) stands.resident) (same-plan old new state state.world stands plan refl)),
     )
 
@@ -141,7 +143,7 @@ touched-there : (old mid : Running) (w : ℕ) (request : Request) (answer : Resu
     → (state : State) → RunsAs old state → RunsAs mid (record { bounds = state.bounds; machine = state.machine; world = (touched (setup_of old.core) state.world w request).world; resident = state.resident })
 touched-there old mid w request answer touches same plan resident state stands =
     let s = setup_of old.core in
-    let touch = touches state.world stands.world in
+    let touch = touches state.world stands.core.world in
     moved old mid state (touched s state.world w request).world state.resident stands same touch.1 (resident ∙ stands.resident)
     (same-plan old mid state (touched s state.world w request).world stands plan (touched-kept s state.world w request))
 
@@ -151,7 +153,7 @@ touches-nothing old new w request answer touches same plan resident lost =
     λ state stands.
     let s = setup_of old.core in
     let t = touched s state.world w request in
-    let touch = touches state.world stands.world in
+    let touch = touches state.world stands.core.world in
     let none : won_by t.answer ≡ None = ap won_by (sym touch.0) ∙ lost in
     let out : touch_by false s None t.answer t.world state.resident w ≡ touch_outcome false s state.world state.resident w request = ap (λ o. touch_by false s o t.answer t.world state.resident w) (sym none) in (
       false,
@@ -167,7 +169,7 @@ touches-won old mid new w request answer placement said touches same plan reside
     λ state stands.
     let s = setup_of old.core in
     let t = touched s state.world w request in
-    let touch = touches state.world stands.world in
+    let touch = touches state.world stands.core.world in
     let some : won_by t.answer ≡ Some placement = ap won_by (sym touch.0) ∙ won in
     let kept = keep (record { bounds = state.bounds; machine = state.machine; world = t.world; resident = state.resident }) (touched-there old mid w request answer touches same plan resident state stands) in
     let out : kept_outcome kept.0 (setup_of mid.core) t.world state.resident w placement ≡ touch_outcome kept.0 s state.world state.resident w request =
@@ -186,7 +188,7 @@ releases old new w page placement answer steps same plan there resident =
     λ state stands.
     let s = setup_of old.core in
     let some : placed_at state.resident page ≡ Some placement = subst (λ (kept : Kept). placed_at kept page ≡ Some placement) stands.resident there in
-    let step = steps state.world stands.world in
+    let step = steps state.world stands.core.world in
     let right : answer ≡ event_answer false s state.world (Give w placement.frame) = give-told false s state.world w placement.frame answer step.0 in
     let kept : Kept = if is_ok (event_answer false s state.world (Give w placement.frame)) then without_page state.resident page else state.resident in
     let is : new.resident ≡ kept =

@@ -1,5 +1,5 @@
 -- Worked lines: what the definitions answer, and which state they lead to.
-use Rattle.std.proofs.Common.{◌≡◌, ℕ, true, false, [], ◌∷◌, None, Some, codes, refl}
+use Rattle.std.proofs.Common.{◌≡◌, true, false, [], ◌∷◌, None, Some, codes, refl}
 use Rattle.std.specs.Prelude.{◌==◌, ◌&&◌, if◌then◌else◌}
 use Rattle.std.specs.Fmt.{digits}
 use Rattle.numa_mask.specs.Lists.{item_of, ends_of, digit_of, numeral_of as node_numeral_of}

@@ -1,5 +1,5 @@
 -- Which events leave the accepted commands as they are, and what the core's answers come to.
-use Rattle.std.proofs.Common.{◌≡◌, ◌⊎◌, ℕ, zero, suc, Bool, true, false, Option, Some, None, Result, Ok, Err, refl, sym, ap, ◌∙◌, inl, inr, sum}
+use Rattle.std.proofs.Common.{◌≡◌, ℕ, zero, suc, Bool, true, false, Option, Some, None, Result, Ok, Err, refl, sym, ap, ◌∙◌, inl, inr, sum}
 use Rattle.std.proofs.lemmas.Bool.{ne_eqb}
 use Rattle.std.specs.Prelude.{not, is_ok, is_some, option_and_then, if◌then◌else◌}
 use Rattle.std.specs.Option.{option_map, option_map_or}
@@ -8,14 +8,13 @@ use Rattle.numa_space.specs.declared.command.Command.{Command}
 use Rattle.numa_space.specs.declared.command.Command.TheVariants.{Map, Unmap, Mbind, SetTask, SetHome, SetWeight, SetMems}
 use Rattle.numa_space.specs.declared.refusal.Refusal.TheVariants.{NoMemory as NoRoom}
 use Rattle.numa_core.specs.World.{Setup, World, newest_published, owner_of, hunt_of}
-use Rattle.numa_core.specs.Steps.{answer_of, effect_of, world_after, because, refusal_of, reply_of, refused_or, IsAnswer, IsOutOfMemory}
-use Rattle.numa_core.specs.Touching.{Answered, answered_with, next_frame, next_try, tried_on, touched}
+use Rattle.numa_core.specs.Steps.{answer_of, effect_of, world_after, refusal_of, reply_of, refused_or, IsAnswer}
+use Rattle.numa_core.specs.Touching.{Answered, answered_with, next_frame, tried_on, touched}
 use Rattle.numa_machine.specs.declared.frame.Frame.{Frame}
 use Rattle.numa_space.specs.declared.request.Request.{Request}
 use Rattle.numa_core.specs.declared.event.Event.{Event}
 use Rattle.numa_core.specs.declared.event.Event.TheVariants.{Accept, Publish, Begin, Look, Try, Give}
 use Rattle.numa_core.specs.declared.event.Reply.{Reply as CoreReply}
-use Rattle.numa_core.specs.declared.event.Reply.TheVariants.{Accepted}
 use Rattle.numa_core.specs.declared.event.CoreRefusal.{CoreRefusal}
 use Rattle.numa_core.specs.declared.event.CoreRefusal.TheVariants.{Command as Because}
 use Rattle.numa_run.specs.Work.{event_answer, needs_room, unless_wanting, is_accepted, is_accept}

@@ -10,23 +10,24 @@ use Rattle.numa_machine.specs.declared.fault.MachineFault.TheVariants as machine
 use Rattle.numa_space.specs.Limited.{Bounds}
 use Rattle.numa_plan.specs.Meaning.{PlanData}
 use Rattle.numa_compile.specs.Standing.{PlanStandsFor}
-use Rattle.numa_core.specs.World.{Setup, World, opening}
+use Rattle.numa_core.specs.World.{Setup, opening}
 use Rattle.numa_core.specs.Standing.{LeadsTo, setup_of}
 use Rattle.numa_script.specs.declared.policy.WordFault.TheVariants as word_fault
 use Rattle.numa_script.specs.declared.line.MachineLine.{MachineLine}
 use Rattle.numa_script.specs.declared.line.Question.{Question}
 use Rattle.numa_script.specs.declared.line.Line.{Line}
 use Rattle.numa_script.specs.declared.line.Line.TheVariants as line
-use Rattle.numa_run.specs.Answers.{State, answer_of, after}
+use Rattle.numa_run.specs.Answers.{State, answer_of, reply_of, after}
 use Rattle.numa_run.specs.Machines.{limits_fit, hardware_of, first_fault}
 use Rattle.numa_run.specs.Questions.{question_text}
 use Rattle.numa_run.specs.Ranges.{listing_of}
-use Rattle.numa_run.specs.Replies.{Served, answered, replied, machine_unless, machine_served, served_first, served_later, moved, served_by, served}
-use Rattle.numa_run.specs.Standing.{RunsAs, Stands, Serves, Does}
+use Rattle.numa_run.specs.Replies.{Answer, Replied, Shown, bytes_of, reply_in, Served, shown, replied, machine_unless, machine_served, served_first, served_later, moved, served_by, served}
+use Rattle.numa_run.specs.Standing.{RunsAs, Stands, Replies, Takes, Does}
 use Rattle.numa_run.specs.States.{setup_with}
 use Rattle.numa_run.specs.Texts.{text_of}
 use Rattle.numa_run.specs.Work.{Outcome}
 use Rattle.numa_run.specs.declared.running.Running.{Running}
+use Rattle.numa_run.specs.declared.serving.Taken.TheVariants as taken
 use Rattle.numa_run.specs.declared.reply.Reply.{Reply}
 use Rattle.numa_run.specs.declared.reply.Reply.TheVariants as reply
 
@@ -37,51 +38,53 @@ unfolding served
 first_is limits said refused state stands = ap (λ m. served_by m refused state said) stands.1
 
 -- a line that changes nothing
-pub first_same : (limits : Bounds) (said : Line) (answer : Reply) (refused : Bool) → ((state : State) → served_first refused state said ≡ replied answer state) → Serves limits None said (text_of answer) limits None
+pub first_same : (limits : Bounds) (said : Line) (answer : Reply) (refused : Bool) → ((state : State) → served_first refused state said ≡ replied answer state) → Replies limits None said (Some answer) limits None
 first_same limits said answer refused right =
     λ state stands.
     let is : served refused state said ≡ replied answer state = first_is limits said refused state stands ∙ right state in
-    (refused, sym (ap (λ r. r.answer) is), subst (λ (r : Served). Stands limits None r.state) (sym is) stands)
+    (refused, sym (ap (λ r. reply_in r.answer) is), subst (λ (r : Served). Stands limits None r.state) (sym is) stands)
 
 -- limits that are taken
 pub first_limits : (limits : Bounds) (ranges tasks commands : ℕ) → limits_fit ranges tasks ≡ true →
-    Serves limits None (line.Limits ranges tasks commands) (text_of reply.LimitsOk) (record { max_ranges = ranges; max_tasks = tasks; max_commands = commands }) None
+    Replies limits None (line.Limits ranges tasks commands) (Some reply.LimitsOk) (record { max_ranges = ranges; max_tasks = tasks; max_commands = commands }) None
 first_limits limits ranges tasks commands fits =
     λ state stands.
     let taken : State = record { bounds = record { max_ranges = ranges; max_tasks = tasks; max_commands = commands }; machine = state.machine; world = state.world; resident = state.resident } in
     let is : served false state (line.Limits ranges tasks commands) ≡ replied reply.LimitsOk taken =
     first_is limits (line.Limits ranges tasks commands) false state stands ∙ ap (λ b. if b then replied reply.LimitsOk taken else replied reply.BadLimits state) fits in
-    (false, sym (ap (λ r. r.answer) is), subst (λ (r : Served). Stands (record { max_ranges = ranges; max_tasks = tasks; max_commands = commands }) None r.state) (sym is) (refl, stands.1))
+    (false, sym (ap (λ r. reply_in r.answer) is), subst (λ (r : Served). Stands (record { max_ranges = ranges; max_tasks = tasks; max_commands = commands }) None r.state) (sym is) (refl, stands.1))
 
-pub first_no_limits : (limits : Bounds) (ranges tasks commands : ℕ) → limits_fit ranges tasks ≡ false → Serves limits None (line.Limits ranges tasks commands) (text_of reply.BadLimits) limits None
+pub first_no_limits : (limits : Bounds) (ranges tasks commands : ℕ) → limits_fit ranges tasks ≡ false → Replies limits None (line.Limits ranges tasks commands) (Some reply.BadLimits) limits None
 first_no_limits limits ranges tasks commands none = first_same limits (line.Limits ranges tasks commands) reply.BadLimits false (λ state. rw none refl)
 
 -- a machine that is ready
 pub first_ready : (limits : Bounds) (said : MachineLine) (memory : ℕ) (running : Running) → said.memory ≡ Ok memory → first_fault false (hardware_of said memory) ≡ None
     → setup_of running.core ≡ setup_with (hardware_of said memory) limits → LeadsTo [] running.core → running.resident ≡ [] → running.plan ≡ None
-    → Serves limits None (line.Machine said) (text_of reply.Ready) limits (Some running)
+    → Replies limits None (line.Machine said) (Some reply.Ready) limits (Some running)
 first_ready limits said memory running named sound setup leads resident plan =
     λ state stands.
     let ready : State = record { bounds = state.bounds; machine = Some (hardware_of said memory); world = opening; resident = [] } in
     let is : served false state (line.Machine said) ≡ replied reply.Ready ready =
     first_is limits (line.Machine said) false state stands ∙ ap (λ m. machine_served false said m state) named ∙ ap (λ f. machine_unless f (hardware_of said memory) state) sound in
     let reached : RunsAs running ready = record {
-      bounds = stands.0 ∙ sym (ap (λ s. s.bounds) setup);
-      machine = ap Some (sym (ap (λ s. s.machine) setup));
-      workers = ap (λ s. s.workers) setup;
-      world = leads.stands;
+      core = record {
+        bounds = stands.0 ∙ sym (ap (λ s. s.bounds) setup);
+        machine = ap Some (sym (ap (λ s. s.machine) setup));
+        workers = ap (λ s. s.workers) setup;
+        world = leads.stands;
+      };
       resident = resident;
       plan = subst (λ (p : Option PlanData). ForSome p (λ q. PlanStandsFor (setup_of running.core).machine q [])) (sym plan) (λ x odd. let no : false ≡ true = ap is_some odd in cc);
     } in
-    (false, sym (ap (λ r. r.answer) is), subst (λ (r : Served). RunsAs running r.state) (sym is) reached)
+    (false, sym (ap (λ r. reply_in r.answer) is), subst (λ (r : Served). RunsAs running r.state) (sym is) reached)
 
 -- a machine that is refused
 pub first_bad : (limits : Bounds) (said : MachineLine) (memory : ℕ) (refused : Bool) (fault : MachineFault) → said.memory ≡ Ok memory → first_fault refused (hardware_of said memory) ≡ Some fault
-    → Serves limits None (line.Machine said) (text_of (reply.BadMachine fault)) limits None
+    → Replies limits None (line.Machine said) (Some (reply.BadMachine fault)) limits None
 first_bad limits said memory refused fault named why =
     first_same limits (line.Machine said) (reply.BadMachine fault) refused (λ state. ap (λ m. machine_served refused said m state) named ∙ ap (λ f. machine_unless f (hardware_of said memory) state) why)
 
-pub first_bad_list : (limits : Bounds) (said : MachineLine) (fault : ListFault) → said.memory ≡ Err fault → Serves limits None (line.Machine said) (text_of (reply.BadWord (word_fault.List fault))) limits None
+pub first_bad_list : (limits : Bounds) (said : MachineLine) (fault : ListFault) → said.memory ≡ Err fault → Replies limits None (line.Machine said) (Some (reply.BadWord (word_fault.List fault))) limits None
 first_bad_list limits said fault named = first_same limits (line.Machine said) (reply.BadWord (word_fault.List fault)) false (λ state. ap (λ m. machine_served false said m state) named)
 
 -- where a machine has no fault, its core may find no memory
@@ -96,48 +99,97 @@ core-starved hardware sound = by_count (hardware.nodes == 0 || nat_lt 256 hardwa
 
 later_is : (running : Running) (said : Line) (refused : Bool) (state : State) → RunsAs running state → served refused state said ≡ served_later refused (setup_of running.core).machine state said
 unfolding served
-later_is running said refused state stands = ap (λ m. served_by m refused state said) stands.machine
+later_is running said refused state stands = ap (λ m. served_by m refused state said) stands.core.machine
 
 setup_is : (running : Running) (state : State) → RunsAs running state → setup_with (setup_of running.core).machine state.bounds ≡ setup_of running.core
-setup_is running state stands = λ i. record { machine = (setup_of running.core).machine; bounds = stands.bounds i; workers = sym stands.workers i }
+setup_is running state stands = λ i. record { machine = (setup_of running.core).machine; bounds = stands.core.bounds i; workers = sym stands.core.workers i }
+
+-- a line that changes nothing
+pub later_same : (running : Running) (said : Line) (answer : Reply)
+    → ((machine : Hardware) (state : State) → served_later false machine state said ≡ replied answer state)
+    → Takes running said (taken.Reply answer) running
+later_same running said answer right =
+    λ state stands.
+    let is : served false state said ≡ replied answer state = later_is running said false state stands ∙ right (setup_of running.core).machine state in
+    (false, sym (ap (λ r. reply_in r.answer) is), subst (λ (r : Served). RunsAs running r.state) (sym is) stands)
+
+-- a command, or a line of workers
+pub later_done : (old new : Running) (said : Line) (answer : Reply) (outcome : Bool → Setup → State → Outcome)
+    → Does old answer new (λ refused state. outcome refused (setup_of old.core) state)
+    → ((refused : Bool) (machine : Hardware) (state : State) → served_later refused machine state said ≡ moved state (outcome refused (setup_with machine state.bounds) state))
+    → Takes old said (taken.Reply answer) new
+later_done old new said answer outcome does right =
+    λ state stands.
+    let d = does state stands in
+    let is : served d.0 state said ≡ moved state (outcome d.0 (setup_of old.core) state) =
+    later_is old said d.0 state stands ∙ right d.0 (setup_of old.core).machine state ∙ ap (λ s. moved state (outcome d.0 s state)) (setup_is old state stands) in
+    (d.0, ap Some d.1 ∙ sym (ap (λ r. reply_in r.answer) is), subst (λ (r : Served). RunsAs new r.state) (sym is) d.2)
+
+-- ---- answers as bytes
+
+-- the bytes of a reply are those of the answer
+text-of_reply : (answer : Answer) (told : Reply) → Some told ≡ reply_in answer → text_of told ≡ bytes_of answer
+text-of_reply (Replied other) told e = cc
+text-of_reply (Shown text) told e = cc
 
 -- the line was served, and its answer was said, of which P tells
 abbrev pub IsServed : Running → Running → Line → (List ℕ → Type 0) → Type 0
 IsServed old new said P = (state : State) → RunsAs old state → (refused : Bool) × RunsAs new (after refused state said) × P (answer_of refused state said)
 
--- a line that changes nothing
-pub later_same : (running : Running) (said : Line) (answer : Reply) (P : List ℕ → Type 0) → ((machine : Hardware) (state : State) → served_later false machine state said ≡ replied answer state) → P (text_of answer)
-    → IsServed running running said P
-later_same running said answer P right told =
+-- a reply that was said
+pub told_later : (old new : Running) (said : Line) (answer : Reply) (P : List ℕ → Type 0) → Takes old said (taken.Reply answer) new → P (text_of answer) → IsServed old new said P
+told_later old new said answer P takes told =
     λ state stands.
-    let is : served false state said ≡ replied answer state = later_is running said false state stands ∙ right (setup_of running.core).machine state in
-    (false, subst (λ (r : Served). RunsAs running r.state) (sym is) stands, subst (λ (r : Served). P r.answer) (sym is) told)
+    let t = takes state stands in
+    (t.0, t.2, subst P (text-of_reply (served t.0 state said).answer answer t.1) told)
 
--- a command, or a line of workers
-pub later_done : (old new : Running) (said : Line) (answer : Reply) (outcome : Bool → Setup → State → Outcome) (P : List ℕ → Type 0) → Does old answer new (λ refused state. outcome refused (setup_of old.core) state)
-    → ((refused : Bool) (machine : Hardware) (state : State) → served_later refused machine state said ≡ moved state (outcome refused (setup_with machine state.bounds) state)) → P (text_of answer)
-    → IsServed old new said P
-later_done old new said answer outcome P does right told =
+pub told_first : (limits limits_then : Bounds) (running_then : Option Running) (said : Line) (answer : Reply) (P : List ℕ → Type 0) → Replies limits None said (Some answer) limits_then running_then → P (text_of answer)
+    → (state : State) → Stands limits None state → (refused : Bool) × Stands limits_then running_then (after refused state said) × P (answer_of refused state said)
+told_first limits limits_then running_then said answer P replies told =
     λ state stands.
-    let d = does state stands in
-    let is : served d.0 state said ≡ moved state (outcome d.0 (setup_of old.core) state) =
-    later_is old said d.0 state stands ∙ right d.0 (setup_of old.core).machine state ∙ ap (λ s. moved state (outcome d.0 s state)) (setup_is old state stands) in
-    (d.0, subst (λ (r : Served). RunsAs new r.state) (sym is) d.2, subst P (ap text_of d.1 ∙ sym (ap (λ r. r.answer) is)) told)
+    let t = replies state stands in
+    (t.0, t.2, subst P (text-of_reply (served t.0 state said).answer answer t.1) told)
 
 -- a question
-pub later_question : (old new : Running) (asked : Question) (P : List ℕ → Type 0)
-    → ((state : State) → RunsAs old state → (refused : Bool) × RunsAs new state × P (question_text refused (setup_of old.core).machine state.world.history asked))
-    → IsServed old new (line.Question asked) P
-later_question old new asked P h =
-    λ state stands.
+pub asked_later : (old mid new : Running) (said : Line) (asked : Question) (P : List ℕ → Type 0) → said ≡ line.Question asked → mid ≡ old
+    → ((state : State) → RunsAs mid state → (refused : Bool) × RunsAs new state × P (question_text refused (setup_of mid.core).machine state.world.history asked))
+    → IsServed old new said P
+asked_later old mid new said asked P is same h =
+    subst (λ (l : Line). IsServed old new l P) (sym is)
+    (subst (λ (r : Running). IsServed r new (line.Question asked) P) same
+    (λ state stands.
     let a = h state stands in
-    let is : served a.0 state (line.Question asked) ≡ answered (question_text a.0 (setup_of old.core).machine state.world.history asked) state = later_is old (line.Question asked) a.0 state stands in
-    (a.0, subst (λ (r : Served). RunsAs new r.state) (sym is) a.1, subst (λ (r : Served). P r.answer) (sym is) a.2)
+    let is : served a.0 state (line.Question asked) ≡ shown (question_text a.0 (setup_of mid.core).machine state.world.history asked) state = later_is mid (line.Question asked) a.0 state stands in
+    (a.0, subst (λ (r : Served). RunsAs new r.state) (sym is) a.1, subst (λ (r : Served). P (bytes_of r.answer)) (sym is) a.2)))
 
 -- maps
-pub later_maps : (running : Running) (task : ℕ) (P : List ℕ → Type 0) → ((state : State) → RunsAs running state → P (listing_of (setup_of running.core).machine state.world.history task state.resident))
-    → IsServed running running (line.Maps task) P
-later_maps running task P h =
-    λ state stands.
-    let is : served false state (line.Maps task) ≡ answered (listing_of (setup_of running.core).machine state.world.history task state.resident) state = later_is running (line.Maps task) false state stands in
-    (false, subst (λ (r : Served). RunsAs running r.state) (sym is) stands, subst (λ (r : Served). P r.answer) (sym is) (h state stands))
+pub listed_later : (old mid : Running) (said : Line) (task : ℕ) (P : List ℕ → Type 0) → said ≡ line.Maps task → mid ≡ old
+    → ((state : State) → RunsAs mid state → P (listing_of (setup_of mid.core).machine state.world.history task state.resident))
+    → IsServed old mid said P
+listed_later old mid said task P is same h =
+    subst (λ (l : Line). IsServed old mid l P) (sym is)
+    (subst (λ (r : Running). IsServed r mid (line.Maps task) P) same
+    (λ state stands.
+    let is : served false state (line.Maps task) ≡ shown (listing_of (setup_of mid.core).machine state.world.history task state.resident) state = later_is mid (line.Maps task) false state stands in
+    (false, subst (λ (r : Served). RunsAs mid r.state) (sym is) stands, subst (λ (r : Served). P (bytes_of r.answer)) (sym is) (h state stands))))
+
+-- ---- a question and `maps` have no reply
+
+abbrev pub HasNone : Running → Running → Line → Type 0
+HasNone old new said = (state : State) → RunsAs old state → (refused : Bool) × (None ≡ reply_of refused state said) × RunsAs new (after refused state said)
+
+pub question_has_none : (old new : Running) (said : Line) (asked : Question) → said ≡ line.Question asked → new ≡ old → HasNone old new said
+question_has_none old new said asked is same =
+    subst (λ (l : Line). HasNone old new l) (sym is)
+    (subst (λ (r : Running). HasNone r new (line.Question asked)) same
+    (λ state stands.
+    let is : served false state (line.Question asked) ≡ shown (question_text false (setup_of new.core).machine state.world.history asked) state = later_is new (line.Question asked) false state stands in
+    (false, sym (ap (λ r. reply_in r.answer) is), subst (λ (r : Served). RunsAs new r.state) (sym is) stands)))
+
+pub maps_have_none : (old new : Running) (said : Line) (task : ℕ) → said ≡ line.Maps task → new ≡ old → HasNone old new said
+maps_have_none old new said task is same =
+    subst (λ (l : Line). HasNone old new l) (sym is)
+    (subst (λ (r : Running). HasNone r new (line.Maps task)) same
+    (λ state stands.
+    let is : served false state (line.Maps task) ≡ shown (listing_of (setup_of new.core).machine state.world.history task state.resident) state = later_is new (line.Maps task) false state stands in
+    (false, sym (ap (λ r. reply_in r.answer) is), subst (λ (r : Served). RunsAs new r.state) (sym is) stands)))

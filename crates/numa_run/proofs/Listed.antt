@@ -1,14 +1,13 @@
 -- The ranges that a space keeps are those of its history, in this order.
-use Rattle.std.proofs.Common.{◌≡◌, ℕ, zero, suc, ◌+◌, ◌-◌, ◌<◌, ◌≤◌, ◌^◌, is_some, Bool, true, false, Option, Some, None, List, [], ◌∷◌, ◌++◌, refl, sym, ap, subst, ◌∙◌, arith, inl, inr}
+use Rattle.std.proofs.Common.{◌≡◌, ℕ, zero, suc, ◌+◌, ◌-◌, ◌<◌, ◌≤◌, ◌^◌, is_some, Bool, true, false, Option, Some, None, List, [], ◌∷◌, ◌++◌, refl, sym, ap, ◌∙◌, arith, inl, inr}
 use Rattle.std.specs.Prelude.{unwrap_or}
-use Rattle.std.proofs.lemmas.Bool.{cases_lt, cases_Bool}
-use Rattle.numa_ranges.specs.Runs.{page_at, in_pages, end_of, AreApart, AreMaximal}
+use Rattle.std.proofs.lemmas.Bool.{cases_lt}
+use Rattle.numa_ranges.specs.Runs.{page_at, end_of, AreApart, AreMaximal}
 use Rattle.numa_ranges.specs.Edits.{joined}
 use Rattle.numa_ranges.specs.declared.run.Run.{Run}
 use Rattle.numa_ranges.proofs.Apart.{in_pages-true, in_pages-below, in_pages-above, apart-top}
 use Rattle.numa_ranges.proofs.Joined.{page_at-joined, apart-joined, maximal-joined}
 use Rattle.numa_ranges.proofs.Laws.{same-runs}
-use Rattle.numa_mode.specs.Policy.{PolicyRecord}
 use Rattle.numa_space.specs.Pages.{page_in, resolved_policy}
 use Rattle.numa_space.specs.Same.{same_record}
 use Rattle.numa_space.specs.Standing.{SpaceState, StandsFor, policy_in}

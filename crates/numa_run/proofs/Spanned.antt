@@ -1,6 +1,5 @@
 -- What a plan answers is what the history means.
-use Rattle.std.proofs.Common.{◌≡◌, ℕ, zero, suc, ◌+◌, ◌-◌, ◌<◌, ◌≤◌, not, Bool, true, false, is_some, Option, Some, None, List, [], ◌∷◌, ◌++◌, length, get_or, map, refl, sym, ap, subst, ◌∙◌, arith, inl, inr}
-use Rattle.std.proofs.lemmas.Bool.{cases_Bool}
+use Rattle.std.proofs.Common.{◌≡◌, ℕ, zero, suc, ◌+◌, ◌-◌, ◌<◌, ◌≤◌, not, true, false, Some, None, List, [], ◌∷◌, ◌++◌, length, map, refl, sym, ap, subst, ◌∙◌, arith}
 use Rattle.std.proofs.lemmas.Bool.Decides.{nat_tests}
 use Rattle.std.specs.List.{flat_map, range_with_len}
 use Rattle.std.specs.Prelude.{EachIndex, nat_le, slice_index, decimal, codes}
@@ -9,7 +8,6 @@ use Rattle.numa_ranges.specs.Maps.{any_page}
 use Rattle.numa_ranges.proofs.Pages.{any_page-true, any_page-false}
 use Rattle.numa_space.specs.Pages.{is_mapped}
 use Rattle.numa_space.specs.Lists.{node_list}
-use Rattle.numa_space.specs.Standing.{place_refusal_in, place_refusal_of}
 use Rattle.numa_space.specs.declared.command.Command.{Command}
 use Rattle.numa_space.specs.declared.refusal.PlaceRefusal.{PlaceRefusal}
 use Rattle.numa_space.specs.declared.refusal.PlaceRefusal.TheVariants.{BadCpu, Unmapped}
@@ -19,7 +17,7 @@ use Rattle.numa_compile.specs.Standing.{PlanStandsFor}
 use Rattle.numa_compile.specs.Spans.{first_node, meant_count, SpanIsRefused}
 use Rattle.numa_compile.proofs.Replies.{choice-meant, refusal-meant, fill-meant, counts-meant, span-meant, run-mapped}
 use Rattle.numa_maps.specs.Listing.{node_text, nodes_text as counts_text}
-use Rattle.numa_run.specs.Questions.{nodes_line, counts_line, unless_refused, span_refusal_of, first_nodes, place_text, span_text, count_text}
+use Rattle.numa_run.specs.Questions.{nodes_line, counts_line, unless_refused, span_refusal_of, place_text, span_text, count_text}
 use Rattle.numa_run.specs.Texts.{refused_text, place_name}
 
 -- ---- lists

@@ -1,11 +1,16 @@
--- The bytes that a line is answered, and the state after it.
-use Rattle.std.specs.Prelude.{ℕ, Bool, List}
+-- The bytes and the reply that a line is answered, and the state after it.
+use Rattle.std.specs.Prelude.{ℕ, Bool, List, Option}
 use Rattle.numa_script.specs.declared.line.Line.{Line}
-use Rattle.numa_run.specs.Replies.{served}
+use Rattle.numa_run.specs.Replies.{bytes_of, reply_in, served}
+use Rattle.numa_run.specs.declared.reply.Reply.{Reply}
 pub use Rattle.numa_run.specs.States.{State, start}
 
 abbrev pub answer_of : Bool → State → Line → List ℕ
-answer_of refused state said = (served refused state said).answer
+answer_of refused state said = bytes_of (served refused state said).answer
+
+-- the reply that is answered; none where a machine is ready and the line is a question or `maps`
+abbrev pub reply_of : Bool → State → Line → Option Reply
+reply_of refused state said = reply_in (served refused state said).answer
 
 abbrev pub after : Bool → State → Line → State
 after refused state said = (served refused state said).state

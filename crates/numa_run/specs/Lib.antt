@@ -7,3 +7,4 @@ pub mod Questions
 pub mod Replies
 pub mod Answers
 pub mod Standing
+pub mod Scripts

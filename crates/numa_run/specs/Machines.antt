@@ -1,5 +1,5 @@
 -- What the lines before a machine is ready are answered.
-use Rattle.std.specs.Prelude.{ℕ, ◌==◌, ◌&&◌, ◌||◌, nat_le, nat_lt, Bool, Option, Some, None, List, if◌then◌else◌}
+use Rattle.std.specs.Prelude.{ℕ, ◌==◌, ◌&&◌, ◌||◌, nat_le, nat_lt, Bool, Option, Some, List, if◌then◌else◌}
 use Rattle.numa_machine.specs.Machine.{Hardware}
 use Rattle.numa_machine.specs.Faults.{hardware_fault}
 use Rattle.numa_machine.specs.declared.fault.MachineFault.{MachineFault}

@@ -1,6 +1,6 @@
 -- What questions are answered, by all accepted commands, published or not. `refused` says whether a growth was refused while the
 -- question was served; where it can be, that comes before every other refusal.
-use Rattle.std.specs.Prelude.{ℕ, Bool, not, Option, Some, None, List, ◌++◌, codes, decimal, flat_map, length, map, if◌then◌else◌}
+use Rattle.std.specs.Prelude.{ℕ, Bool, not, Option, Some, None, List, ◌++◌, codes, decimal, length, map, if◌then◌else◌}
 use Rattle.std.specs.List.{range_with_len}
 use Rattle.numa_machine.specs.Machine.{Hardware}
 use Rattle.numa_ranges.specs.Maps.{any_page}

@@ -21,17 +21,31 @@ use Rattle.numa_run.specs.Work.{Outcome, event_outcome, work_outcome}
 use Rattle.numa_run.specs.declared.reply.Reply.{Reply}
 use Rattle.numa_run.specs.declared.reply.Reply.TheVariants as reply
 
+-- an answer: a reply, or the text that a question or `maps` is answered
+pub data Answer : Type 0 where
+  Replied : Reply → Answer
+  Shown : List ℕ → Answer
+
+-- the bytes of an answer, and its reply, where it is one
+abbrev pub bytes_of : Answer → List ℕ
+bytes_of (Replied answer) = text_of answer
+bytes_of (Shown text) = text
+
+abbrev pub reply_in : Answer → Option Reply
+reply_in (Replied answer) = Some answer
+reply_in (Shown text) = None
+
 -- what serving a line comes to: the answer, and the state after it
 pub record Served : Type 0 where
-  pub answer : List ℕ
+  pub answer : Answer
   pub state : State
 
 -- an answer that changes nothing
-abbrev pub answered : List ℕ → State → Served
-answered answer state = record { answer = answer; state = state }
-
 abbrev pub replied : Reply → State → Served
-replied answer state = answered (text_of answer) state
+replied answer state = record { answer = Replied answer; state = state }
+
+abbrev pub shown : List ℕ → State → Served
+shown text state = record { answer = Shown text; state = state }
 
 -- ---- before a machine is ready
 
@@ -78,8 +92,8 @@ served_later refused machine state line.Malformed = replied reply.BadWords state
 served_later refused machine state (line.Limits ranges tasks commands) = replied reply.BadState state
 served_later refused machine state (line.Machine said) = replied reply.BadState state
 served_later refused machine state (line.Command said) = command_served refused machine state said
-served_later refused machine state (line.Question said) = answered (question_text refused machine state.world.history said) state
-served_later refused machine state (line.Maps task) = answered (listing_of machine state.world.history task state.resident) state
+served_later refused machine state (line.Question said) = shown (question_text refused machine state.world.history said) state
+served_later refused machine state (line.Maps task) = shown (listing_of machine state.world.history task state.resident) state
 served_later refused machine state (line.Work said) = moved state (work_outcome refused (setup_with machine state.bounds) state.world state.resident said)
 
 -- ---- every line

@@ -1,23 +1,31 @@
--- Which states a session stands for.
-use Rattle.std.specs.Prelude.{◌≡◌, ℕ, Bool, Option, Some, None, List, []}
+-- Which states a running machine stands for, and what it does with lines.
+use Rattle.std.specs.Prelude.{◌≡◌, Bool, Option, Some, None}
 use Rattle.std.specs.Option.{ForSome}
 use Rattle.numa_space.specs.Limited.{Bounds}
 use Rattle.numa_compile.specs.Standing.{PlanStandsFor}
-use Rattle.numa_core.specs.Standing.{CoreStandsFor, setup_of}
+use Rattle.numa_core.specs.Standing.{CoreState, CoreStandsFor, setup_of}
 use Rattle.numa_script.specs.declared.line.Line.{Line}
-use Rattle.numa_run.specs.Answers.{answer_of, after}
+use Rattle.numa_script.specs.declared.line.Line.TheVariants as line
+use Rattle.numa_run.specs.Answers.{reply_of, after}
 use Rattle.numa_run.specs.States.{State}
 use Rattle.numa_run.specs.Work.{Outcome}
 use Rattle.numa_run.specs.declared.reply.Reply.{Reply}
 use Rattle.numa_run.specs.declared.running.Running.{Running}
+use Rattle.numa_run.specs.declared.serving.Taken.{Taken}
+use Rattle.numa_run.specs.declared.serving.Taken.TheVariants as taken
 
--- a running machine stands for the state: its machine and limits are the state's, the core stands for the world, the same pages are
--- placed, and a plan that is kept stands for all accepted commands
+-- the core of the machine that is ready in the state: its machine and limits are the state's, it has 4 workers, and it stands for the
+-- state's world
+pub record IsCoreIn (core : CoreState) (state : State) : Type 0 where
+  pub bounds : state.bounds ≡ (setup_of core).bounds
+  pub machine : state.machine ≡ Some (setup_of core).machine
+  pub workers : (setup_of core).workers ≡ 4
+  pub world : CoreStandsFor core state.world
+
+-- a running machine stands for the state: its core is the state's, the same pages are placed, and a plan that is kept stands for all
+-- accepted commands
 pub record RunsAs (running : Running) (state : State) : Type 0 where
-  pub bounds : state.bounds ≡ (setup_of running.core).bounds
-  pub machine : state.machine ≡ Some (setup_of running.core).machine
-  pub workers : (setup_of running.core).workers ≡ 4
-  pub world : CoreStandsFor running.core state.world
+  pub core : IsCoreIn running.core state
   pub resident : running.resident ≡ state.resident
   pub plan : ForSome running.plan (λ plan. PlanStandsFor (setup_of running.core).machine plan state.world.history)
 
@@ -32,9 +40,20 @@ state_with state outcome = record state { world = outcome.world; resident = outc
 
 -- the line was answered as the definition says, and the state that it says is reached
 abbrev pub Does : Running → Reply → Running → (Bool → State → Outcome) → Type 0
-Does old answer new outcome = (state : State) → RunsAs old state → (refused : Bool) × (answer ≡ (outcome refused state).reply) × RunsAs new (state_with state (outcome refused state))
+Does old answer new outcome =
+    (state : State) → RunsAs old state
+    → (refused : Bool) × (answer ≡ (outcome refused state).reply) × RunsAs new (state_with state (outcome refused state))
 
--- the line was answered as the definition says, and the state that it says is reached
-abbrev pub Serves : Bounds → Option Running → Line → List ℕ → Bounds → Option Running → Type 0
-Serves limits running said answer limits_then running_then =
-    (state : State) → Stands limits running state → (refused : Bool) × (answer ≡ answer_of refused state said) × Stands limits_then running_then (after refused state said)
+-- the line has the reply that the definition says, and the state that it says is reached
+abbrev pub Replies : Bounds → Option Running → Line → Option Reply → Bounds → Option Running → Type 0
+Replies limits running said answer limits_then running_then =
+    (state : State) → Stands limits running state
+    → (refused : Bool) × (answer ≡ reply_of refused state said) × Stands limits_then running_then (after refused state said)
+
+-- the same where a machine is ready; a question and a line `maps` are passed on, and change nothing
+abbrev pub Takes : Running → Line → Taken → Running → Type 0
+Takes old said (taken.Reply answer) new =
+    (state : State) → RunsAs old state
+    → (refused : Bool) × (Some answer ≡ reply_of refused state said) × RunsAs new (after refused state said)
+Takes old said (taken.Question asked) new = (said ≡ line.Question asked) × (new ≡ old)
+Takes old said (taken.Maps task) new = (said ≡ line.Maps task) × (new ≡ old)

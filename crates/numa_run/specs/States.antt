@@ -1,5 +1,5 @@
 -- What the lines of a script so far have brought about.
-use Rattle.std.specs.Prelude.{ℕ, Option, None, List, []}
+use Rattle.std.specs.Prelude.{Option, None, []}
 use Rattle.numa_machine.specs.Machine.{Hardware}
 use Rattle.numa_space.specs.Limited.{Bounds}
 use Rattle.numa_core.specs.World.{Setup, World, opening}

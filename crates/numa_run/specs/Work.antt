@@ -8,7 +8,6 @@ use Rattle.numa_space.specs.declared.refusal.Refusal.TheVariants.{NoMemory as No
 use Rattle.numa_core.specs.World.{Setup, World, newest_published}
 use Rattle.numa_core.specs.Steps.{answer_of, world_after}
 use Rattle.numa_core.specs.Touching.{touched}
-use Rattle.numa_machine.specs.declared.frame.Frame.{Frame}
 use Rattle.numa_space.specs.declared.placement.Placement.{Placement}
 use Rattle.numa_space.specs.declared.request.Request.{Request}
 use Rattle.numa_core.specs.declared.event.Event.{Event}

@@ -3,13 +3,15 @@
 
 mod ask;
 mod build;
-mod names;
-mod reply;
+pub mod names;
+pub mod reply;
 mod running;
 pub mod script;
 mod serving;
-mod session;
+pub mod streams;
 mod tell;
 mod told;
 
-pub use script::run;
+pub use reply::{Reply, Win};
+pub use script::Script;
+pub use streams::run;

@@ -8,7 +8,7 @@ use numa_mode::SpecFault;
 use numa_space::{Errno, PlaceRefusal, Refusal};
 
 /// The name of a fault of a list of nodes.
-pub(crate) fn list_name(fault: ListFault) -> &'static [u8]
+pub fn list_name(fault: ListFault) -> &'static [u8]
     ensures text { result.now ≡ list_name fault }
     ensures short { length result.now ≤ 32 }
 {
@@ -21,7 +21,7 @@ pub(crate) fn list_name(fault: ListFault) -> &'static [u8]
 }
 
 /// The name of a fault of a policy.
-pub(crate) fn policy_name(fault: SpecFault) -> &'static [u8]
+pub fn policy_name(fault: SpecFault) -> &'static [u8]
     ensures text { result.now ≡ policy_name fault }
     ensures short { length result.now ≤ 32 }
 {
@@ -35,7 +35,7 @@ pub(crate) fn policy_name(fault: SpecFault) -> &'static [u8]
 }
 
 /// The name of a fault of a machine.
-pub(crate) fn machine_name(fault: MachineFault) -> &'static [u8]
+pub fn machine_name(fault: MachineFault) -> &'static [u8]
     ensures text { result.now ≡ machine_name fault }
     ensures short { length result.now ≤ 32 }
 {
@@ -49,7 +49,7 @@ pub(crate) fn machine_name(fault: MachineFault) -> &'static [u8]
 }
 
 /// The name of a command's refusal.
-pub(crate) fn refusal_name(refusal: Refusal) -> &'static [u8]
+pub fn refusal_name(refusal: Refusal) -> &'static [u8]
     ensures text { result.now ≡ refusal_name refusal }
     ensures short { length result.now ≤ 32 }
 {
@@ -72,7 +72,7 @@ pub(crate) fn refusal_name(refusal: Refusal) -> &'static [u8]
 }
 
 /// The name of an error number (errno(3)).
-pub(crate) fn errno_name(errno: Errno) -> &'static [u8]
+pub fn errno_name(errno: Errno) -> &'static [u8]
     ensures text { result.now ≡ errno_name errno }
     ensures short { length result.now ≤ 32 }
 {
@@ -87,7 +87,7 @@ pub(crate) fn errno_name(errno: Errno) -> &'static [u8]
 }
 
 /// The name of a question's refusal.
-pub(crate) fn place_name(refusal: PlaceRefusal) -> &'static [u8]
+pub fn place_name(refusal: PlaceRefusal) -> &'static [u8]
     ensures text { result.now ≡ place_name refusal }
     ensures short { length result.now ≤ 32 }
 {

@@ -1,51 +1,170 @@
-//! A script from a reader, and its answers to a writer.
-ghost use Rattle.std.specs.Prelude.{◌≡◌, ℕ, ◌+◌, ◌≤◌, ◌⊎◌, List, Bool, length, OnOk, IsErrOf, true, false};
-ghost use Rattle.std.specs.Io.KnownBytes.{Appends, Consumes, IsAtEnd, Keeps};
-ghost use Rattle.numa_script.specs.Output.{answers, output_of};
-ghost use Rattle.numa_script.specs.Split.{ended};
-ghost use Rattle.numa_script.specs.Watching.{has_failed};
-ghost use Rattle.numa_script.specs.Written.{AppendsFront};
-ghost use Rattle.numa_run.specs.Answers.{start, answer_of, after};
+//! A script that is being answered.
+ghost use Rattle.std.specs.Prelude.{◌≡◌, ℕ, ◌+◌, Bool, List, Option, None, Some, Ok, MatchOption, length};
+ghost use Rattle.numa_run.specs.Answers.{State, start};
+ghost use Rattle.numa_run.specs.Scripts.{IsCoreIn, IsResidentIn, ScriptReplies, ScriptStandsFor};
+ghost use Rattle.numa_run.specs.Standing.{Replies, Stands};
 
-use crate::session::Session;
-use numa_script::{RunFault, Watched, serve_script};
+use crate::build::build;
+use crate::reply::Reply;
+use crate::running::Running;
+use crate::serving::Taken;
+use crate::tell::tell;
+use numa_core::Core;
+use numa_machine::MachineFault;
+use numa_maps::Resident;
+use numa_script::{Gathered, Line, MachineLine, Serve, Watched, WordFault};
+use numa_space::Limits;
 use std::alloc::Global;
-use std::io::{Read, Write};
+use std::io::Write;
 
-/// Answers the script that a reader gives, and hands the answers to a writer; on neither may a call have failed before. Whatever
-/// is answered is handed over before the next read. At most 4,294,967,295 reads are made.
-///
-/// # Errors
-/// `Read` where a read failed, or one more was needed; `Write` where a write failed or took no byte, after which nothing
-/// more is read or written; `Memory` where there was none for the open line and the answers, before anything is read.
-pub fn run<R: Read, W: Write>(
-    alloc: Global,
-    input: &mut Watched<R>,
-    output: &mut Watched<W>,
-) -> Result<(), RunFault>
-    requires reader { has_failed input.old ≡ false }
-    requires writer { has_failed output.old ≡ false }
+/// How many workers a machine has.
+const WORKERS: u32 = 4;
 
-    // The script was read to its end, its output was written, and no failed call was noted.
-    ensures ok { OnOk result ((script : List ℕ) × (refused : ℕ → Bool) × Consumes (R.remaining input.old.inner) (R.remaining input.new.inner) script
-        × IsAtEnd (R.remaining input.new.inner)
-        × Appends (W.contents output.old.inner) (W.contents output.new.inner) (output_of answer_of after start refused script)
-        × (has_failed input.new ≡ has_failed input.old) × (has_failed output.new ≡ false)) }
+/// A script that is being answered: the limits of the machine to come, and the machine that is ready.
+#[derive(Drop)]
+pub struct Script {
+    pub(crate) limits: Limits,
+    pub(crate) running: Option<Running>,
+}
 
-    // The answers of the lines that had ended before the fault were written.
-    ensures read { IsErrOf result RunFault.Read → (front : List ℕ) × (refused : ℕ → Bool) × Consumes (R.remaining input.old.inner) (R.remaining input.new.inner) front
-        × Appends (W.contents output.old.inner) (W.contents output.new.inner) (answers answer_of after refused start (ended front))
-        × ((has_failed input.new ≡ true) ⊎ (4294967295 ≤ length front)) × (has_failed output.new ≡ false) }
+impl Script {
+    /// Before the first line: no machine, and the limits that hold where no line gives others. Takes no memory.
+    pub fn new() -> Script
+        ensures { ScriptStandsFor result start }
+    {
+        Script {
+            limits: Limits::new(65_536, 1_024, u32::MAX).unwrap(),
+            running: None,
+        }
+    }
 
-    // A front of the output of what was read was written.
-    ensures write { IsErrOf result RunFault.Write → (front : List ℕ) × (refused : ℕ → Bool) × Consumes (R.remaining input.old.inner) (R.remaining input.new.inner) front
-        × AppendsFront (W.contents output.old.inner) (W.contents output.new.inner) (output_of answer_of after start refused front)
-        × (has_failed input.new ≡ has_failed input.old) × (has_failed output.new ≡ true) }
+    /// The core of the machine that is ready.
+    pub fn core(&self) -> Option<&Core>
+        ensures { (state : State) → ScriptStandsFor self.now state
+            → MatchOption result (state.machine ≡ None) (λ core. IsCoreIn core.now state) }
+    {
+        match &self.running {
+            Some(running) => Some(&running.core),
+            None => None,
+        }
+    }
 
-    // Nothing was read or written.
-    ensures memory { IsErrOf result RunFault.Memory → Keeps (R.remaining input.old.inner) (R.remaining input.new.inner)
-        × Keeps (W.contents output.old.inner) (W.contents output.new.inner)
-        × (has_failed input.new ≡ has_failed input.old) × (has_failed output.new ≡ false) }
-{
-    serve_script(alloc, Session::new(), input, output)
+    /// The pages that are placed on the machine that is ready.
+    pub fn resident(&self) -> Option<&Resident>
+        ensures { (state : State) → ScriptStandsFor self.now state
+            → MatchOption result (state.machine ≡ None) (λ kept. IsResidentIn kept.now state) }
+    {
+        match &self.running {
+            Some(running) => Some(&running.resident),
+            None => None,
+        }
+    }
+
+    /// Does what a line says, and gives its reply. A question to a machine that is ready, and a line `maps`, have none: their
+    /// answers are texts, which `serve` says; for them nothing changes.
+    pub fn reply(&mut self, alloc: Global, line: &Line<'_>) -> Option<Reply>
+        ensures { ScriptReplies self.old line.now result self.new }
+    {
+        if let Some(running) = &mut self.running {
+            return match running.take(line) {
+                Taken::Reply(reply) => Some(reply),
+                Taken::Question(_) => None,
+                Taken::Maps(_) => None,
+            };
+        }
+        Some(self.reply_first(alloc, line))
+    }
+
+    /// Takes limits, where no machine is ready.
+    fn limit(&mut self, ranges: u32, tasks: u32, commands: u32) -> Reply
+        requires { self.old.running ≡ None }
+        ensures { Replies self.old.limits None (Line.Limits ranges tasks commands) (Some result) self.new.limits self.new.running }
+    {
+        match Limits::new(ranges, tasks, commands) {
+            Some(limits) => {
+                self.limits = limits;
+                Reply::LimitsOk
+            }
+            None => Reply::BadLimits,
+        }
+    }
+
+    /// Makes the machine that a line describes, where none is ready.
+    fn describe(&mut self, alloc: Global, said: &MachineLine<'_>) -> Reply
+        requires { self.old.running ≡ None }
+        ensures { Replies self.old.limits None (Line.Machine said.now) (Some result) self.new.limits self.new.running }
+    {
+        let MachineLine {
+            nodes,
+            memory,
+            frames,
+            distances,
+        } = said;
+        let memory = match memory {
+            Ok(memory) => *memory,
+            Err(fault) => return Reply::BadWord(WordFault::List(*fault)),
+        };
+        let machine = match build(alloc, *nodes, memory, frames, distances) {
+            Ok(machine) => machine,
+            Err(fault) => return Reply::BadMachine(fault),
+        };
+        match Core::new(alloc, machine, self.limits, WORKERS) {
+            Ok(core) => {
+                self.running = Some(Running::new(alloc, core));
+                Reply::Ready
+            }
+            Err(_) => Reply::BadMachine(MachineFault::NoMemory),
+        }
+    }
+
+    /// Does what a line says where no machine is ready.
+    fn reply_first(&mut self, alloc: Global, line: &Line<'_>) -> Reply
+        requires { self.old.running ≡ None }
+        ensures { Replies self.old.limits None line.now (Some result) self.new.limits self.new.running }
+    {
+        match line {
+            Line::Silent => Reply::Silent,
+            Line::Malformed => Reply::BadWords,
+            Line::Limits {
+                ranges,
+                tasks,
+                commands,
+            } => self.limit(*ranges, *tasks, *commands),
+            Line::Machine(said) => self.describe(alloc, said),
+            Line::Command(_) => Reply::BadState,
+            Line::Question(_) => Reply::BadState,
+            Line::Maps(_) => Reply::BadState,
+            Line::Work(_) => Reply::BadState,
+        }
+    }
+}
+
+impl Serve for Script {
+    ghost use Rattle.numa_run.specs.Answers.{State, start, answer_of, after};
+    ghost use Rattle.numa_run.specs.Scripts.{ScriptStandsFor};
+
+    ghost State = { State };
+
+    ghost start = { start };
+
+    ghost stands_for = { ScriptStandsFor };
+
+    ghost answer_of = { answer_of };
+
+    ghost after = { after };
+
+    fn serve<W: Write>(
+        &mut self,
+        alloc: Global,
+        line: Line<'_>,
+        gathered: &mut Gathered,
+        output: &mut Watched<W>,
+    ) {
+        if let Some(running) = &mut self.running {
+            running.serve(alloc, &line, gathered, output);
+            return;
+        }
+        let reply = self.reply_first(alloc, &line);
+        tell(gathered, output, &reply);
+    }
 }

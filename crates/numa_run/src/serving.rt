@@ -5,7 +5,7 @@ ghost use Rattle.numa_script.specs.Written.{Adds};
 ghost use Rattle.numa_run.specs.Answers.{State, after, answer_of};
 ghost use Rattle.numa_run.specs.Questions.{question_text};
 ghost use Rattle.numa_run.specs.Ranges.{listing_of};
-ghost use Rattle.numa_run.specs.Standing.{RunsAs};
+ghost use Rattle.numa_run.specs.Standing.{RunsAs, Takes};
 
 use crate::ask::{say_pages, say_place, say_span};
 use crate::reply::Reply;
@@ -15,12 +15,24 @@ use numa_compile::compile;
 use numa_core::Event;
 use numa_maps::write_maps;
 use numa_plan::NoMemory;
-use numa_script::{Gathered, Line, Question, Watched};
+use numa_script::{Gathered, Line, Question, Watched, WordFault};
+use numa_space::Command;
 use std::alloc::Global;
 use std::io::Write;
 
 /// How many bytes a page has.
 const PAGE: u64 = 4096;
+
+/// What a line comes to where a machine is ready.
+#[derive(Drop)]
+pub(crate) enum Taken {
+    /// A reply, and what the line says is done.
+    Reply(Reply),
+    /// A question, whose answer is to be said.
+    Question(Question),
+    /// The ranges are to be listed, for a task.
+    Maps(u32),
+}
 
 impl Running {
     /// Compiles a plan, where none is kept.
@@ -105,33 +117,47 @@ impl Running {
         let _ = write_maps(space, task, &self.resident, output);
     }
 
+    /// Carries out a command, unless its list or policy is faulty.
+    fn command(&mut self, said: &Result<Command, WordFault>) -> Reply
+        ensures { Takes self.old (Line.Command said.now) (Taken.Reply result) self.new }
+    {
+        match said {
+            Ok(command) => self.step(Event::Accept(*command)),
+            Err(fault) => Reply::BadWord(*fault),
+        }
+    }
+
+    /// Does what a line says. The answer of a question and of a line `maps` is left to be said.
+    pub fn take(&mut self, line: &Line<'_>) -> Taken
+        ensures { Takes self.old line.now result self.new }
+    {
+        match line {
+            Line::Silent => Taken::Reply(Reply::Silent),
+            Line::Malformed => Taken::Reply(Reply::BadWords),
+            Line::Limits { .. } => Taken::Reply(Reply::BadState),
+            Line::Machine(_) => Taken::Reply(Reply::BadState),
+            Line::Command(said) => Taken::Reply(self.command(said)),
+            Line::Work(work) => Taken::Reply(self.work(*work)),
+            Line::Question(question) => Taken::Question(*question),
+            Line::Maps(task) => Taken::Maps(*task),
+        }
+    }
+
     /// Serves a line, and says its answer.
     pub fn serve<W: Write>(
         &mut self,
         alloc: Global,
-        line: Line<'_>,
+        line: &Line<'_>,
         gathered: &mut Gathered,
         output: &mut Watched<W>,
     )
-        ensures { (state : State) → RunsAs self.old state → (refused : Bool) × RunsAs self.new (after refused state line.entry)
-            × Adds (W.contents output.old.inner) (has_failed output.old) gathered.old (W.contents output.new.inner) (has_failed output.new) gathered.new (answer_of refused state line.entry) }
+        ensures { (state : State) → RunsAs self.old state → (refused : Bool) × RunsAs self.new (after refused state line.now)
+            × Adds (W.contents output.old.inner) (has_failed output.old) gathered.old (W.contents output.new.inner) (has_failed output.new) gathered.new (answer_of refused state line.now) }
     {
-        match line {
-            Line::Silent => tell(gathered, output, &Reply::Silent),
-            Line::Malformed => tell(gathered, output, &Reply::BadWords),
-            Line::Limits { .. } => tell(gathered, output, &Reply::BadState),
-            Line::Machine(_) => tell(gathered, output, &Reply::BadState),
-            Line::Command(Err(fault)) => tell(gathered, output, &Reply::BadWord(fault)),
-            Line::Command(Ok(command)) => {
-                let reply = self.step(Event::Accept(command));
-                tell(gathered, output, &reply);
-            }
-            Line::Work(work) => {
-                let reply = self.work(work);
-                tell(gathered, output, &reply);
-            }
-            Line::Question(question) => self.answer(alloc, question, gathered, output),
-            Line::Maps(task) => self.list(task, gathered, output),
+        match self.take(line) {
+            Taken::Reply(reply) => tell(gathered, output, &reply),
+            Taken::Question(question) => self.answer(alloc, question, gathered, output),
+            Taken::Maps(task) => self.list(task, gathered, output),
         }
     }
 }

@@ -1,6 +1,5 @@
-use Rattle.std.proofs.Common.{◌∙◌, ap, sym, slice_index, true, false, refl, inl, inr, ℕ, List, length, subst, Some, None}
+use Rattle.std.proofs.Common.{◌∙◌, ap, ℕ, length}
 use Rattle.numa_script.specs.Watching.{has_failed}
-use Rattle.numa_script.specs.Written.{Adds}
 use Rattle.numa_script.proofs.Adding.{adds_same}
 use Rattle.numa_run.proofs.Spanned.{span-ok, span-err}
 use Rattle.numa_run.specs.Questions.{nodes_line, span_text, first_nodes}

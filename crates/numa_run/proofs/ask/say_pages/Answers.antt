@@ -1,9 +1,8 @@
-use Rattle.std.proofs.Common.{◌∙◌, ap, sym, slice_index, true, false, refl, inl, inr, ℕ, List, length, subst, Some, None}
+use Rattle.std.proofs.Common.{◌∙◌, ap, slice_index, length}
 use Rattle.numa_script.specs.Watching.{has_failed}
-use Rattle.numa_script.specs.Written.{Adds}
 use Rattle.numa_script.proofs.Adding.{adds_same}
 use Rattle.numa_run.proofs.Spanned.{count-ok, span-err}
-use Rattle.numa_run.specs.Questions.{counts_line, count_text, unless_refused, span_refusal_of}
+use Rattle.numa_run.specs.Questions.{counts_line}
 use Rattle.numa_compile.specs.Spans.{meant_count}
 use Rattle.numa_run.proofs.ask.say_pages.Goals as goal
 

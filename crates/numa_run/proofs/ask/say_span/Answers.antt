@@ -1,6 +1,5 @@
-use Rattle.std.proofs.Common.{◌∙◌, ap, sym, slice_index, true, false, refl, inl, inr, ℕ, List, length, subst, Some, None, ◌++◌, codes, decimal, arith, ◌/◌, ◌≡◌}
+use Rattle.std.proofs.Common.{◌∙◌, ap, false, ℕ, length, ◌≡◌}
 use Rattle.numa_script.specs.Watching.{has_failed}
-use Rattle.numa_script.specs.Written.{Adds}
 use Rattle.numa_script.proofs.Adding.{adds_same}
 use Rattle.numa_run.specs.Questions.{span_text}
 use Rattle.numa_run.proofs.ask.say_span.Goals as goal

@@ -1,4 +1,4 @@
-use Rattle.std.proofs.Common.{ℕ, slice_index, sym, ◌∙◌, arith}
+use Rattle.std.proofs.Common.{ℕ, slice_index, sym, arith}
 use Rattle.numa_script.proofs.Adding.{adds_both, adds_nothing, adds_same}
 use Rattle.numa_run.proofs.Counts.{counts-none, counts-more, counts-all}
 use Rattle.numa_run.proofs.tell.say_each_count.Goals as goal

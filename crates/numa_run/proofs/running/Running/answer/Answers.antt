@@ -1,6 +1,5 @@
-use Rattle.std.proofs.Common.{◌∙◌, ap, sym, slice_index, true, false, refl, inl, inr, ℕ, List, length, subst, Some, None, ◌++◌, codes, decimal, arith, ◌/◌, ◌≡◌}
+use Rattle.std.proofs.Common.{◌∙◌, ap, sym, false, ℕ, subst, ◌++◌, codes, decimal, ◌/◌}
 use Rattle.numa_script.specs.Watching.{has_failed}
-use Rattle.numa_script.specs.Written.{Adds}
 use Rattle.numa_script.proofs.Adding.{adds_same}
 use Rattle.numa_space.specs.Refusals.{range_count_of}
 use Rattle.numa_space.specs.Standing.{SpaceState, StandsFor}
@@ -11,7 +10,7 @@ use Rattle.numa_run.proofs.running.Running.answer.Goals as goal
 pub returns-in-Ranges : goal.returns-in-Ranges
 returns-in-Ranges g c =
     λ state stands.
-    let there = subst (λ s. StandsFor s state.world.history) (sym c.space.ensures.space) stands.world.space in
+    let there = subst (λ s. StandsFor s state.world.history) (sym c.space.ensures.space) stands.core.world.space in
     let count = c.ranges-ranges.ensures.meaning state.world.history there ∙ ap (λ (s : SpaceState). range_count_of s.machine state.world.history) c.space.ensures.space in
     rw c.in-Ranges.is (false, stands, adds_same (g.W.Write.contents c.args.output.now.inner) (g.W.Write.contents c.say_count.new.output.inner) (has_failed c.args.output.now) (has_failed c.say_count.new.output) c.args.gathered.now c.say_count.new.gathered _ _ (ap (λ (n : ℕ). codes "ranges " ++ decimal n ++ codes "\n") count) c.say_count.ensures)
 

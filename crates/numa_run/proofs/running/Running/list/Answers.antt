@@ -1,6 +1,5 @@
-use Rattle.std.proofs.Common.{◌∙◌, ap, sym, slice_index, true, false, refl, inl, inr, ℕ, List, length, subst, Some, None, ◌++◌, codes, decimal, arith, ◌/◌, ◌≡◌}
+use Rattle.std.proofs.Common.{◌∙◌, ap, sym, subst}
 use Rattle.numa_script.specs.Watching.{has_failed}
-use Rattle.numa_script.specs.Written.{Adds}
 use Rattle.numa_script.proofs.Adding.{adds_same}
 use Rattle.numa_script.proofs.Adding.{past_failed, past_put}
 use Rattle.numa_space.specs.Standing.{SpaceState, StandsFor}
@@ -19,7 +18,7 @@ pub returns : goal.returns
 returns g c =
     λ state stands.
     let space : SpaceState = c.space-space.result.now in
-    let there : StandsFor space state.world.history = subst (λ s. StandsFor s state.world.history) (sym c.space-space.ensures.space) stands.world.space in
+    let there : StandsFor space state.world.history = subst (λ s. StandsFor s state.world.history) (sym c.space-space.ensures.space) stands.core.world.space in
     let text = listing-same space state.world.history c.args.task c.args.self.now.resident there c.range_iter.ensures.rising c.range_iter.ensures.maximal
     ∙ ap (λ (s : SpaceState). listing_of s.machine state.world.history c.args.task c.args.self.now.resident) c.space-space.ensures.space
     ∙ ap (λ kept. listing_of c.args.self.now.core.space.machine state.world.history c.args.task kept) stands.resident in

@@ -1,4 +1,4 @@
-use Rattle.std.proofs.Common.{refl, sym, ◌∙◌, ap}
+use Rattle.std.proofs.Common.{refl, sym, ◌∙◌}
 use Rattle.numa_maps.specs.Residents.{without_page}
 use Rattle.numa_run.proofs.Doing.{releases, kept-where_refused, gone-where_given}
 use Rattle.numa_run.proofs.running.Running.release.Goals as goal

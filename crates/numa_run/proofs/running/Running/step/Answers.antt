@@ -1,7 +1,4 @@
-use Rattle.std.proofs.Common.{refl, inl, inr, sym, ◌∙◌, ◌≡◌, false, None, Option, subst}
-use Rattle.numa_core.specs.Standing.{setup_of}
-use Rattle.numa_run.specs.Standing.{Does}
-use Rattle.numa_run.specs.Work.{event_outcome}
+use Rattle.std.proofs.Common.{refl, inl, inr, sym, ◌∙◌, None}
 use Rattle.numa_run.proofs.Doing.{does-event}
 use Rattle.numa_run.proofs.running.Running.step.Goals as goal
 

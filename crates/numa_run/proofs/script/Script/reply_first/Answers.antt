@@ -1,7 +1,7 @@
 use Rattle.numa_run.proofs.LineLemmas.{first_same}
 use Rattle.std.proofs.Common.{refl, false}
 use Rattle.numa_run.specs.declared.reply.Reply.TheVariants as reply
-use Rattle.numa_run.proofs.session.Session.serve_first.Goals as goal
+use Rattle.numa_run.proofs.script.Script.reply_first.Goals as goal
 
 pub returns-in-Silent : goal.returns-in-Silent
 returns-in-Silent c = rw (c.in-Silent.is, c.requires) (first_same c.args.self.now.limits _ reply.Silent false (λ state. refl))
@@ -20,3 +20,9 @@ returns-in-Maps c = rw (c.in-Maps.is, c.requires) (first_same c.args.self.now.li
 
 pub returns-in-Work : goal.returns-in-Work
 returns-in-Work c = rw (c.in-Work.is, c.requires) (first_same c.args.self.now.limits _ reply.BadState false (λ state. refl))
+
+pub returns-in-Limits : goal.returns-in-Limits
+returns-in-Limits c = rw c.in-Limits.is c.limit.ensures
+
+pub returns-in-Machine : goal.returns-in-Machine
+returns-in-Machine c = rw c.in-Machine.is c.describe.ensures

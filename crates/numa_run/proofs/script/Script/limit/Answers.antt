@@ -1,7 +1,7 @@
 use Rattle.std.proofs.Common.{refl}
 use Rattle.numa_run.proofs.LineLemmas.{first_limits, first_no_limits}
 use Rattle.numa_run.proofs.Limiting.{fit, exceed}
-use Rattle.numa_run.proofs.session.Session.limit.Goals as goal
+use Rattle.numa_run.proofs.script.Script.limit.Goals as goal
 
 pub returns-in-Some : goal.returns-in-Some
 returns-in-Some c =
