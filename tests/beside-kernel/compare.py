@@ -2,7 +2,7 @@
 """Compares what a kernel answered with what numaplan answers: compare.py PROGRAM SEEN..
 
 SEEN is what boot.py printed. The nodes' distances are taken from the kernel's fallback orders, as
-docs/KERNEL.md says. A difference either falls under a row of that page's last table, or is told. The
+docs/KERNEL.md says. A difference falls under a row of that page's table of differences, or is told. The
 last line counts; the status is 1 where a difference falls under no row. Not proved."""
 
 import collections
