@@ -1,7 +1,9 @@
 pub mod Adding
 pub mod Answering
+pub mod Columns
 pub mod Eaches
 pub mod Endings
+pub mod Malformations
 pub mod Numerals
 pub mod Saturates
 pub mod Saying
@@ -9,3 +11,4 @@ pub mod Sessions
 pub mod Splits
 pub mod Splitting
 pub mod Worked
+pub mod WorkedCauses

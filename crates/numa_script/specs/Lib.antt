@@ -1,3 +1,4 @@
+pub mod Causes
 pub mod Lines
 pub mod Machines
 pub mod Numbers

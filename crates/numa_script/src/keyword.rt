@@ -1,5 +1,5 @@
 //! The first words of lines.
-ghost use Rattle.std.specs.Prelude.{◌≡◌, ℕ, Option};
+ghost use Rattle.std.specs.Prelude.{◌≡◌, ℕ, Option, Some};
 ghost use Rattle.numa_script.specs.Lines.{setting_keyword, command_keyword, question_keyword, work_keyword, keyword_of};
 
 /// What the first word of a line asks for.
@@ -47,6 +47,38 @@ pub enum Keyword {
     Touch,
     /// `release`
     Release,
+}
+
+impl Keyword {
+    /// The first word of its lines.
+    #[tactic(auto, unfolding(crate::specs::Lines::keyword_of, crate::specs::Lines::setting_keyword, crate::specs::Lines::command_keyword, crate::specs::Lines::question_keyword, crate::specs::Lines::work_keyword))]
+    pub fn name(self) -> &'static str
+        ensures { keyword_of result.now ≡ Some self }
+    {
+        match self {
+            Keyword::Limits => "limits",
+            Keyword::Machine => "machine",
+            Keyword::Map => "map",
+            Keyword::Unmap => "unmap",
+            Keyword::Mbind => "mbind",
+            Keyword::Home => "home",
+            Keyword::Task => "task",
+            Keyword::Weight => "weight",
+            Keyword::Mems => "mems",
+            Keyword::Place => "place",
+            Keyword::Span => "span",
+            Keyword::Counts => "counts",
+            Keyword::Ranges => "ranges",
+            Keyword::Maps => "maps",
+            Keyword::Publish => "publish",
+            Keyword::Begin => "begin",
+            Keyword::Look => "look",
+            Keyword::Try => "try",
+            Keyword::Give => "give",
+            Keyword::Touch => "touch",
+            Keyword::Release => "release",
+        }
+    }
 }
 
 /// A first word that sets up a machine.

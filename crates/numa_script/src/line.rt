@@ -82,7 +82,7 @@ pub enum Line<'a> {
 }
 
 /// Whether the line is empty or a comment.
-fn is_silent_line(line: &[u8]) -> bool
+pub(crate) fn is_silent_line(line: &[u8]) -> bool
     ensures { result ≡ is_silent line.now }
 {
     match line {

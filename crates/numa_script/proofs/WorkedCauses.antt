@@ -1,0 +1,77 @@
+-- Malformed lines, what is wrong with them, and where.
+use Rattle.std.specs.Prelude.{◌≡◌, codes, ◌++◌, [], ◌∷◌, Some, None, refl}
+use Rattle.numa_script.specs.Causes.{fault_of}
+use Rattle.numa_script.specs.Lines.{keyword_of, setting_keyword, command_keyword, question_keyword, work_keyword}
+use Rattle.numa_script.specs.Machines.{distances_of}
+use Rattle.numa_script.specs.Numbers.{number_of, numeral_of, fitting}
+use Rattle.numa_script.specs.declared.keyword.Keyword.TheVariants as keyword
+use Rattle.numa_script.specs.declared.malformed.Cause.TheVariants as cause
+use Rattle.numa_script.specs.declared.parameter.Misfit.TheVariants.{Unreadable, TooGreat}
+use Rattle.numa_script.specs.declared.parameter.Parameter.TheVariants as parameter
+
+-- ---- spaces
+
+leading : fault_of (codes " ranges") ≡ Some (record { cause = cause.LeadingSpace; column = 1 })
+unfolding fault_of
+leading = refl
+
+two_in_a_row : fault_of (codes "map 0  1 2") ≡ Some (record { cause = cause.TwoSpaces; column = 7 })
+unfolding fault_of
+two_in_a_row = refl
+
+trailing : fault_of (codes "ranges ") ≡ Some (record { cause = cause.TrailingSpace; column = 8 })
+unfolding fault_of
+trailing = refl
+
+-- ---- bytes
+
+-- a DOS line end
+carriage_return : fault_of (codes "ranges" ++ 13 ∷ []) ≡ Some (record { cause = cause.StrayByte 13; column = 7 })
+unfolding fault_of keyword_of setting_keyword command_keyword question_keyword work_keyword
+carriage_return = refl
+
+-- it is the list that is faulty, and has a name of its own
+carriage_return-behind_a_list : fault_of (codes "mems 0" ++ 13 ∷ []) ≡ None
+unfolding fault_of keyword_of setting_keyword command_keyword question_keyword work_keyword
+carriage_return-behind_a_list = refl
+
+-- ---- words
+
+unknown : fault_of (codes "mapp 0 1 2") ≡ Some (record { cause = cause.UnknownWord; column = 1 })
+unfolding fault_of keyword_of setting_keyword command_keyword question_keyword work_keyword
+unknown = refl
+
+too_few : fault_of (codes "mbind 0 bind:0") ≡ Some (record { cause = cause.TooFewWords keyword.Mbind; column = 16 })
+unfolding fault_of keyword_of setting_keyword command_keyword question_keyword work_keyword
+too_few = refl
+
+too_many : fault_of (codes "unmap 0 1 2") ≡ Some (record { cause = cause.TooManyWords keyword.Unmap; column = 11 })
+unfolding fault_of keyword_of setting_keyword command_keyword question_keyword work_keyword
+too_many = refl
+
+no_number : fault_of (codes "map 0 four 2") ≡ Some (record { cause = cause.BadWord keyword.Map parameter.Length Unreadable; column = 7 })
+unfolding fault_of keyword_of setting_keyword command_keyword question_keyword work_keyword number_of numeral_of fitting
+no_number = refl
+
+too_great : fault_of (codes "span 1 0 65537 0") ≡ Some (record { cause = cause.BadWord keyword.Span parameter.SpanPages TooGreat; column = 10 })
+unfolding fault_of keyword_of setting_keyword command_keyword question_keyword work_keyword number_of numeral_of fitting
+too_great = refl
+
+-- no list of distances has one above 255
+no_distances : fault_of (codes "machine 1 0 1 256") ≡ Some (record { cause = cause.BadWord keyword.Machine parameter.Distances Unreadable; column = 15 })
+unfolding fault_of keyword_of setting_keyword command_keyword question_keyword work_keyword number_of numeral_of fitting distances_of
+no_distances = refl
+
+-- ---- lines that aren't malformed
+
+empty : fault_of [] ≡ None
+unfolding fault_of
+empty = refl
+
+comment : fault_of (codes "#  two spaces") ≡ None
+unfolding fault_of
+comment = refl
+
+policy : fault_of (codes "mbind 0 1 nothing") ≡ None
+unfolding fault_of keyword_of setting_keyword command_keyword question_keyword work_keyword number_of numeral_of fitting
+policy = refl

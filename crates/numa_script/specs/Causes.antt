@@ -1,0 +1,167 @@
+-- Why a line is malformed, and where.
+use Rattle.std.specs.Prelude.{ℕ, ◌+◌, ◌==◌, ◌||◌, Bool, true, false, List, [], ◌∷◌, length, take, position, slice_index, nat_lt, is_some, if◌then◌else◌, Option, Some, None}
+use Rattle.std.specs.Option.{option_map}
+use Rattle.numa_script.specs.Lines.{keyword_of, is_silent}
+use Rattle.numa_script.specs.Machines.{frames_of, distances_of}
+use Rattle.numa_script.specs.Numbers.{number_of}
+use Rattle.numa_script.specs.Parts.{words_of}
+use Rattle.numa_script.specs.declared.keyword.Keyword.{Keyword}
+use Rattle.numa_script.specs.declared.keyword.Keyword.TheVariants as keyword
+use Rattle.numa_script.specs.declared.line.Line.{Line}
+use Rattle.numa_script.specs.declared.line.Line.TheVariants as line
+use Rattle.numa_script.specs.declared.malformed.Cause.{Cause}
+use Rattle.numa_script.specs.declared.malformed.Cause.TheVariants as cause
+use Rattle.numa_script.specs.declared.malformed.Malformed.{Malformed}
+use Rattle.numa_script.specs.declared.parameter.Form.{Form}
+use Rattle.numa_script.specs.declared.parameter.Form.TheVariants as form
+use Rattle.numa_script.specs.declared.parameter.Misfit.{Misfit}
+use Rattle.numa_script.specs.declared.parameter.Misfit.TheVariants.{Unreadable, TooGreat}
+use Rattle.numa_script.specs.declared.parameter.Parameter.{Parameter}
+use Rattle.numa_script.specs.declared.parameter.Parameter.TheVariants as parameter
+
+-- ---- the words behind the first
+
+-- the table of lines: what each keyword wants behind it
+abbrev pub parameters_of : Keyword → List Parameter
+parameters_of keyword.Limits = parameter.Ranges ∷ parameter.Tasks ∷ parameter.Commands ∷ []
+parameters_of keyword.Machine = parameter.Nodes ∷ parameter.Memory ∷ parameter.Frames ∷ parameter.Distances ∷ []
+parameters_of keyword.Map = parameter.Start ∷ parameter.Length ∷ parameter.Offset ∷ []
+parameters_of keyword.Unmap = parameter.Start ∷ parameter.Length ∷ []
+parameters_of keyword.Mbind = parameter.Start ∷ parameter.Length ∷ parameter.Policy ∷ []
+parameters_of keyword.Home = parameter.Start ∷ parameter.Length ∷ parameter.Node ∷ []
+parameters_of keyword.Task = parameter.Task ∷ parameter.Policy ∷ []
+parameters_of keyword.Weight = parameter.Node ∷ parameter.Weight ∷ []
+parameters_of keyword.Mems = parameter.List ∷ []
+parameters_of keyword.Place = parameter.Task ∷ parameter.Address ∷ parameter.Cpu ∷ []
+parameters_of keyword.Span = parameter.Task ∷ parameter.Address ∷ parameter.SpanPages ∷ parameter.Cpu ∷ []
+parameters_of keyword.Counts = parameter.Task ∷ parameter.Address ∷ parameter.Pages ∷ parameter.Cpu ∷ []
+parameters_of keyword.Ranges = []
+parameters_of keyword.Maps = parameter.Task ∷ []
+parameters_of keyword.Publish = []
+parameters_of keyword.Begin = parameter.Worker ∷ parameter.Task ∷ parameter.Address ∷ parameter.Cpu ∷ []
+parameters_of keyword.Look = parameter.Worker ∷ parameter.Word ∷ []
+parameters_of keyword.Try = parameter.Worker ∷ parameter.FrameNode ∷ parameter.Frame ∷ []
+parameters_of keyword.Give = parameter.Worker ∷ parameter.FrameNode ∷ parameter.Frame ∷ []
+parameters_of keyword.Touch = parameter.Worker ∷ parameter.Task ∷ parameter.Address ∷ parameter.Cpu ∷ []
+parameters_of keyword.Release = parameter.Worker ∷ parameter.Address ∷ []
+
+-- what each has to be: a number has a greatest, and for lists and policies anything may stand there
+abbrev pub form_of : Parameter → Form
+form_of parameter.Start = form.Number 18446744073709551615
+form_of parameter.Length = form.Number 18446744073709551615
+form_of parameter.Offset = form.Number 18446744073709551615
+form_of parameter.Address = form.Number 18446744073709551615
+form_of parameter.Pages = form.Number 18446744073709551615
+form_of parameter.Ranges = form.Number 4294967295
+form_of parameter.Tasks = form.Number 4294967295
+form_of parameter.Commands = form.Number 4294967295
+form_of parameter.Nodes = form.Number 4294967295
+form_of parameter.Node = form.Number 4294967295
+form_of parameter.Weight = form.Number 4294967295
+form_of parameter.Task = form.Number 4294967295
+form_of parameter.Cpu = form.Number 4294967295
+form_of parameter.Worker = form.Number 4294967295
+form_of parameter.Word = form.Number 4294967295
+form_of parameter.SpanPages = form.Number 65536
+form_of parameter.FrameNode = form.Number 255
+form_of parameter.Frame = form.Number 65535
+form_of parameter.Frames = form.Frames
+form_of parameter.Distances = form.Distances
+form_of parameter.Memory = form.Any
+form_of parameter.List = form.Any
+form_of parameter.Policy = form.Any
+
+-- how a number isn't one of at most `greatest`
+abbrev pub number_misfit : ℕ → Option ℕ → Option Misfit
+number_misfit greatest None = Some Unreadable
+number_misfit greatest (Some n) = if nat_lt greatest n then Some TooGreat else None
+
+abbrev pub unless_readable : Bool → Option Misfit
+unless_readable true = None
+unless_readable false = Some Unreadable
+
+-- how a word isn't of its form
+abbrev pub misfit_of : Form → List ℕ → Option Misfit
+misfit_of (form.Number greatest) word = number_misfit greatest (number_of word)
+misfit_of form.Frames word = unless_readable (is_some (frames_of word))
+misfit_of form.Distances word = unless_readable (is_some (distances_of word))
+misfit_of form.Any word = None
+
+-- the words in turn, the first of them at this column: the first that isn't of its form, and where it begins
+abbrev pub misfit_else : Keyword → Parameter → ℕ → Option Misfit → Option Malformed → Option Malformed
+misfit_else k p column (Some misfit) later = Some (record { cause = cause.BadWord k p misfit; column = column })
+misfit_else k p column None later = later
+
+abbrev pub first_misfit : Keyword → List Parameter → ℕ → List (List ℕ) → Option Malformed
+first_misfit k [] column words = None
+first_misfit k (p ∷ ps) column [] = None
+first_misfit k (p ∷ ps) column (word ∷ words) =
+    misfit_else k p column (misfit_of (form_of p) word) (first_misfit k ps (column + length word + 1) words)
+
+-- the bytes of words, each with the space behind it
+abbrev pub width_of : List (List ℕ) → ℕ
+width_of [] = 0
+width_of (word ∷ words) = length word + 1 + width_of words
+
+-- Their number is judged first. Of too few the column is where the next word would begin, of too many where the first of
+-- these begins.
+abbrev pub fault_behind : Keyword → ℕ → List (List ℕ) → Option Malformed
+fault_behind k column words =
+    let wanted = length (parameters_of k) in
+    if nat_lt (length words) wanted then Some (record { cause = cause.TooFewWords k; column = column + width_of words })
+    else if nat_lt wanted (length words)
+    then Some (record { cause = cause.TooManyWords k; column = column + width_of (take wanted words) })
+    else first_misfit k (parameters_of k) column words
+
+-- ---- the line
+
+abbrev pub keyword_fault : Option Keyword → ℕ → List (List ℕ) → Option Malformed
+keyword_fault None column words = Some (record { cause = cause.UnknownWord; column = 1 })
+keyword_fault (Some k) column words = fault_behind k column words
+
+-- the words of a line, of which none is empty: the second begins behind the first and its space
+abbrev pub words_fault : List (List ℕ) → Option Malformed
+words_fault [] = None
+words_fault (first ∷ words) = keyword_fault (keyword_of first) (length first + 2) words
+
+-- where the first empty word begins, where the first word begins at this column
+abbrev pub empty_word : ℕ → List (List ℕ) → Option ℕ
+empty_word column [] = None
+empty_word column (word ∷ words) = if length word == 0 then Some column else empty_word (column + length word + 1) words
+
+-- what an empty word at this column means in a line of this length
+abbrev pub spare_space : ℕ → ℕ → Cause
+spare_space size column =
+    if column == 1 then cause.LeadingSpace else if nat_lt size column then cause.TrailingSpace else cause.TwoSpaces
+
+abbrev pub empty_else : ℕ → Option ℕ → Option Malformed → Option Malformed
+empty_else size (Some column) later = Some (record { cause = spare_space size column; column = column })
+empty_else size None later = later
+
+-- a byte that is neither a space nor a character that ASCII prints, as a tab or a carriage return
+abbrev pub is_stray : ℕ → Bool
+is_stray b = nat_lt b 32 || nat_lt 126 b
+
+-- what is wrong with a line is first of all such a byte
+abbrev pub stray_else : List ℕ → Option ℕ → Malformed → Malformed
+stray_else bytes (Some place) fault = record { cause = cause.StrayByte (slice_index bytes place); column = place + 1 }
+stray_else bytes None fault = fault
+
+-- why the line is malformed, and at which column what is wrong begins; none where it isn't malformed
+unfoldable pub fault_of : List ℕ → Option Malformed
+fault_of bytes =
+    if is_silent bytes then None
+    else if nat_lt 4096 (length bytes) then Some (record { cause = cause.TooLong; column = 4097 })
+    else option_map (stray_else bytes (position is_stray bytes))
+    (empty_else (length bytes) (empty_word 1 (words_of bytes)) (words_fault (words_of bytes)))
+
+-- the line is malformed
+abbrev pub is_malformed : Line → Bool
+is_malformed line.Silent = false
+is_malformed line.Malformed = true
+is_malformed (line.Limits ranges tasks commands) = false
+is_malformed (line.Machine said) = false
+is_malformed (line.Command said) = false
+is_malformed (line.Question said) = false
+is_malformed (line.Maps task) = false
+is_malformed (line.Work said) = false

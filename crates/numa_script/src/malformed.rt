@@ -1,0 +1,226 @@
+//! Why a line is malformed.
+ghost use Rattle.std.specs.Prelude.{◌≡◌, ℕ, ◌+◌, ◌<◌, ◌≤◌, ◌^◌, length, drop, is_some, position, take};
+ghost use Rattle.numa_script.specs.Causes.{empty_else, empty_word, fault_behind, fault_of, first_misfit, is_malformed, is_stray, spare_space, stray_else, width_of, words_fault};
+ghost use Rattle.numa_script.specs.Lines.{line_of};
+ghost use Rattle.numa_script.specs.Parts.{words_of};
+
+use crate::keyword::{Keyword, read_keyword};
+use crate::line::{LIMIT, is_silent_line};
+use crate::parameter::{Misfit, Parameter, parameters, read_misfit};
+use crate::parts::{Parts, words};
+
+/// What is wrong with a line that is malformed.
+#[derive(Clone, Copy, Debug, PartialEq, Eq)]
+pub enum Cause {
+    /// It has more than 4,096 bytes.
+    TooLong,
+    /// It has a byte that is neither a space nor a character that ASCII prints: a tab, or the
+    /// carriage return of a DOS line end.
+    StrayByte(u8),
+    /// It begins with a space.
+    LeadingSpace,
+    /// It ends with a space.
+    TrailingSpace,
+    /// It has two spaces in a row.
+    TwoSpaces,
+    /// Its first word is none that a line begins with.
+    UnknownWord,
+    /// There are too few words behind the first.
+    TooFewWords(Keyword),
+    /// There are too many words behind the first.
+    TooManyWords(Keyword),
+    /// A word isn't what it has to be.
+    BadWord(Keyword, Parameter, Misfit),
+}
+
+/// What is wrong with a line, and the column at which that begins, in bytes from 1.
+#[derive(Clone, Copy, Debug, PartialEq, Eq)]
+pub struct Malformed {
+    pub cause: Cause,
+    pub column: usize,
+}
+
+/// How many words there are.
+fn count_of(words: Parts) -> usize
+    requires { width_of words < 2 ^ 32 }
+    ensures { result ≡ length words.entry }
+{
+    words.count()
+}
+
+/// The bytes of the first so many words, or of all where there are fewer, each with the space
+/// behind it.
+fn width_of(mut words: Parts, count: usize) -> usize
+    requires { width_of words < 2 ^ 32 }
+    ensures { result ≡ width_of (take count words.entry) }
+{
+    let mut width = 0;
+    let mut left = count;
+    while left > 0 {
+        let Some(word) = words.next() else {
+            return width;
+        };
+        width += word.len() + 1;
+        left -= 1;
+    }
+    width
+}
+
+/// The first word that isn't of its form, where the first of the words begins at the column.
+fn first_misfit(
+    keyword: Keyword,
+    parameters: &[Parameter],
+    column: usize,
+    mut words: Parts,
+) -> Option<Malformed>
+    requires { column + width_of words < 2 ^ 32 }
+    ensures { result ≡ first_misfit keyword parameters.now column words.entry }
+{
+    let mut column = column;
+    for parameter in parameters {
+        let Some(word) = words.next() else {
+            return None;
+        };
+        if let Some(misfit) = read_misfit(parameter.form(), word) {
+            let cause = Cause::BadWord(keyword, *parameter, misfit);
+            return Some(Malformed { cause, column });
+        }
+        column += word.len() + 1;
+    }
+    None
+}
+
+/// The words behind the first.
+fn words_behind(line: &[u8]) -> Parts<'_>
+    ensures { result ≡ drop 1 (words_of line.now) }
+{
+    let mut words = words(line);
+    let _ = words.next();
+    words
+}
+
+/// What is wrong with the words behind the first, a keyword, where the first of them begins at the
+/// column.
+fn fault_behind(keyword: Keyword, column: usize, line: &[u8]) -> Option<Malformed>
+    requires { column + width_of (drop 1 (words_of line.now)) < 2 ^ 32 }
+    ensures { result ≡ fault_behind keyword column (drop 1 (words_of line.now)) }
+{
+    let wanted = parameters(keyword);
+    let count = count_of(words_behind(line));
+    if count == wanted.len() {
+        return first_misfit(keyword, wanted, column, words_behind(line));
+    }
+    let column = column + width_of(words_behind(line), wanted.len());
+    if count < wanted.len() {
+        let cause = Cause::TooFewWords(keyword);
+        return Some(Malformed { cause, column });
+    }
+    let cause = Cause::TooManyWords(keyword);
+    Some(Malformed { cause, column })
+}
+
+/// What is wrong with the words of a line, of which none is empty.
+fn words_fault(line: &[u8]) -> Option<Malformed>
+    requires { length line.now ≤ 4096 }
+    ensures { result ≡ words_fault (words_of line.now) }
+{
+    let Some(first) = words(line).next() else {
+        unreachable!()
+    };
+    let Some(keyword) = read_keyword(first) else {
+        return Some(Malformed {
+            cause: Cause::UnknownWord,
+            column: 1,
+        });
+    };
+    fault_behind(keyword, first.len() + 2, line)
+}
+
+/// Where the first empty word begins.
+fn empty_word(line: &[u8]) -> Option<usize>
+    requires { length line.now ≤ 4096 }
+    ensures { result ≡ empty_word 1 (words_of line.now) }
+{
+    let mut column = 1;
+    for word in words(line) {
+        if word.is_empty() {
+            return Some(column);
+        }
+        column += word.len() + 1;
+    }
+    None
+}
+
+/// What an empty word at the column means in a line of so many bytes.
+fn spare_space(size: usize, column: usize) -> Cause
+    ensures { result ≡ spare_space size column }
+{
+    if column == 1 {
+        Cause::LeadingSpace
+    } else if column > size {
+        Cause::TrailingSpace
+    } else {
+        Cause::TwoSpaces
+    }
+}
+
+/// What is wrong with the spaces or the words of a line.
+fn written_fault(line: &[u8]) -> Option<Malformed>
+    requires { length line.now ≤ 4096 }
+    ensures { result ≡ empty_else (length line.now) (empty_word 1 (words_of line.now))
+        (words_fault (words_of line.now)) }
+{
+    if let Some(column) = empty_word(line) {
+        let cause = spare_space(line.len(), column);
+        return Some(Malformed { cause, column });
+    }
+    words_fault(line)
+}
+
+/// Whether a byte is neither a space nor a character that ASCII prints.
+fn is_stray(byte: u8) -> bool
+    ensures { result ≡ is_stray byte }
+{
+    byte < 32 || byte > 126
+}
+
+/// Where the first such byte is.
+fn first_stray(line: &[u8]) -> Option<usize>
+    ensures { result ≡ position is_stray line.now }
+{
+    line.iter().position(|byte| is_stray(*byte))
+}
+
+/// What is wrong with a line that is malformed: first of all a byte that no word has.
+fn with_stray(line: &[u8], fault: Malformed) -> Malformed
+    requires { length line.now ≤ 4096 }
+    ensures { result ≡ stray_else line.now (position is_stray line.now) fault }
+{
+    let Some(place) = first_stray(line) else {
+        return fault;
+    };
+    Malformed {
+        cause: Cause::StrayByte(line[place]),
+        column: place + 1,
+    }
+}
+
+/// Why a line, without its line feed, is malformed, and where; None where it isn't. Of several
+/// things that are wrong it is the first in the order of [`Cause`], and of several words that aren't
+/// what they have to be the first. A line of more than 4,096 bytes may be cut behind the 4,097th.
+pub fn why_malformed(line: &[u8]) -> Option<Malformed>
+    ensures fault { result ≡ fault_of line.now }
+    ensures malformed { is_some result ≡ is_malformed (line_of line.now) }
+{
+    if is_silent_line(line) {
+        return None;
+    }
+    if line.len() > LIMIT {
+        return Some(Malformed {
+            cause: Cause::TooLong,
+            column: LIMIT + 1,
+        });
+    }
+    let fault = written_fault(line)?;
+    Some(with_stray(line, fault))
+}

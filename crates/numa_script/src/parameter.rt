@@ -1,0 +1,209 @@
+//! The words that a line has behind its first.
+ghost use Rattle.std.specs.Prelude.{◌≡◌, ℕ, List, Option};
+ghost use Rattle.numa_script.specs.Causes.{parameters_of, form_of, misfit_of};
+
+use crate::keyword::Keyword;
+use crate::machine::{Distances, Frames};
+use crate::number::number;
+
+/// A word behind the first of a line.
+#[derive(Clone, Copy, Debug, PartialEq, Eq)]
+pub enum Parameter {
+    /// R, the most ranges.
+    Ranges,
+    /// T, the most tasks with a policy.
+    Tasks,
+    /// C, the most accepted commands.
+    Commands,
+    /// NODES, how many nodes the machine has.
+    Nodes,
+    /// MEM, the nodes with memory.
+    Memory,
+    /// FRAMES, the frames of the nodes.
+    Frames,
+    /// DIST, the distances between the nodes.
+    Distances,
+    /// START, the address at which a span begins, in bytes.
+    Start,
+    /// LENGTH, how long a span is, in bytes.
+    Length,
+    /// OFFSET, the index of a mapping's first page, in pages.
+    Offset,
+    /// POLICY.
+    Policy,
+    /// NODE of `home` and `weight`.
+    Node,
+    /// WEIGHT, the weight of a node.
+    Weight,
+    /// LIST, the nodes that are allowed.
+    List,
+    /// TASK, the number of a task.
+    Task,
+    /// ADDR, any address of a page, in bytes.
+    Address,
+    /// CPU, the number of the node of a CPU.
+    Cpu,
+    /// PAGES of `counts`.
+    Pages,
+    /// PAGES of `span`.
+    SpanPages,
+    /// W, the number of a worker.
+    Worker,
+    /// WORD, the number of a word of 64 frames.
+    Word,
+    /// NODE of `try` and `give`.
+    FrameNode,
+    /// FRAME, the number of a frame of a node.
+    Frame,
+}
+
+/// What a word has to be for its line not to be malformed.
+#[derive(Clone, Copy, Debug, PartialEq, Eq)]
+pub enum Form {
+    /// A number of at most so much.
+    Number(u64),
+    /// Decimal numbers below 2^32, with commas between them.
+    Frames,
+    /// `flat`, or decimal numbers of at most 255, with commas and semicolons between them.
+    Distances,
+    /// Anything: a node list or a policy, whose faults have names of their own.
+    Any,
+}
+
+/// How a word isn't of its form.
+#[derive(Clone, Copy, Debug, PartialEq, Eq)]
+pub enum Misfit {
+    /// It is written otherwise.
+    Unreadable,
+    /// It is a number above the greatest.
+    TooGreat,
+}
+
+impl Parameter {
+    /// What the word has to be.
+    pub fn form(self) -> Form
+        ensures { result ≡ form_of self }
+    {
+        match self {
+            Parameter::Start
+            | Parameter::Length
+            | Parameter::Offset
+            | Parameter::Address
+            | Parameter::Pages => Form::Number(u64::MAX),
+            Parameter::Ranges
+            | Parameter::Tasks
+            | Parameter::Commands
+            | Parameter::Nodes
+            | Parameter::Node
+            | Parameter::Weight
+            | Parameter::Task
+            | Parameter::Cpu
+            | Parameter::Worker
+            | Parameter::Word => Form::Number(u32::MAX as u64),
+            Parameter::SpanPages => Form::Number(65_536),
+            Parameter::FrameNode => Form::Number(255),
+            Parameter::Frame => Form::Number(65_535),
+            Parameter::Frames => Form::Frames,
+            Parameter::Distances => Form::Distances,
+            Parameter::Memory | Parameter::List | Parameter::Policy => Form::Any,
+        }
+    }
+
+    /// The name of the word in the table of lines: docs/SCRIPT.md.
+    pub fn name(self) -> &'static str {
+        match self {
+            Parameter::Ranges => "R",
+            Parameter::Tasks => "T",
+            Parameter::Commands => "C",
+            Parameter::Nodes => "NODES",
+            Parameter::Memory => "MEM",
+            Parameter::Frames => "FRAMES",
+            Parameter::Distances => "DIST",
+            Parameter::Start => "START",
+            Parameter::Length => "LENGTH",
+            Parameter::Offset => "OFFSET",
+            Parameter::Policy => "POLICY",
+            Parameter::Node | Parameter::FrameNode => "NODE",
+            Parameter::Weight => "WEIGHT",
+            Parameter::List => "LIST",
+            Parameter::Task => "TASK",
+            Parameter::Address => "ADDR",
+            Parameter::Cpu => "CPU",
+            Parameter::Pages | Parameter::SpanPages => "PAGES",
+            Parameter::Worker => "W",
+            Parameter::Word => "WORD",
+            Parameter::Frame => "FRAME",
+        }
+    }
+}
+
+/// How a number isn't one of at most `greatest`; none where it is.
+fn number_misfit(greatest: u64, word: &[u8]) -> Option<Misfit>
+    ensures { result ≡ misfit_of (Form.Number greatest) word.now }
+{
+    match number(word) {
+        None => Some(Misfit::Unreadable),
+        Some(value) if value > greatest => Some(Misfit::TooGreat),
+        Some(_) => None,
+    }
+}
+
+/// How a word isn't of the form; none where it is.
+pub fn read_misfit(form: Form, word: &[u8]) -> Option<Misfit>
+    ensures { result ≡ misfit_of form word.now }
+{
+    match form {
+        Form::Number(greatest) => number_misfit(greatest, word),
+        Form::Frames if Frames::read(word).is_none() => Some(Misfit::Unreadable),
+        Form::Distances if Distances::read(word).is_none() => Some(Misfit::Unreadable),
+        _ => None,
+    }
+}
+
+/// The words that a line of the keyword has behind its first, in their order.
+pub fn parameters(keyword: Keyword) -> &'static [Parameter]
+    ensures { result.now ≡ parameters_of keyword }
+{
+    match keyword {
+        Keyword::Limits => &[Parameter::Ranges, Parameter::Tasks, Parameter::Commands],
+        Keyword::Machine => &[
+            Parameter::Nodes,
+            Parameter::Memory,
+            Parameter::Frames,
+            Parameter::Distances,
+        ],
+        Keyword::Map => &[Parameter::Start, Parameter::Length, Parameter::Offset],
+        Keyword::Unmap => &[Parameter::Start, Parameter::Length],
+        Keyword::Mbind => &[Parameter::Start, Parameter::Length, Parameter::Policy],
+        Keyword::Home => &[Parameter::Start, Parameter::Length, Parameter::Node],
+        Keyword::Task => &[Parameter::Task, Parameter::Policy],
+        Keyword::Weight => &[Parameter::Node, Parameter::Weight],
+        Keyword::Mems => &[Parameter::List],
+        Keyword::Place => &[Parameter::Task, Parameter::Address, Parameter::Cpu],
+        Keyword::Span => &[
+            Parameter::Task,
+            Parameter::Address,
+            Parameter::SpanPages,
+            Parameter::Cpu,
+        ],
+        Keyword::Counts => &[
+            Parameter::Task,
+            Parameter::Address,
+            Parameter::Pages,
+            Parameter::Cpu,
+        ],
+        Keyword::Ranges | Keyword::Publish => &[],
+        Keyword::Maps => &[Parameter::Task],
+        Keyword::Begin | Keyword::Touch => &[
+            Parameter::Worker,
+            Parameter::Task,
+            Parameter::Address,
+            Parameter::Cpu,
+        ],
+        Keyword::Look => &[Parameter::Worker, Parameter::Word],
+        Keyword::Try | Keyword::Give => {
+            &[Parameter::Worker, Parameter::FrameNode, Parameter::Frame]
+        }
+        Keyword::Release => &[Parameter::Worker, Parameter::Address],
+    }
+}
