@@ -1,0 +1,61 @@
+//! Script lines, each with what it was answered, as worked scripts hold them.
+ghost use Rattle.std.specs.Prelude.{◌≡◌, ◌==◌, ◌<◌, ◌++◌, length, position, OnOk, IfSome};
+ghost use Rattle.numa_files.specs.Echo.{echo_of, is_one_line, with_marks};
+
+use std::alloc::AllocError;
+
+/// Where the first line feed is.
+fn first_end(text: &[u8]) -> Option<usize>
+    ensures value { result ≡ position (λ b. b == 10) text.now }
+    ensures bound { IfSome result (λ end. end < length text.now) }
+{
+    text.iter().position(|byte| *byte == b'\n')
+}
+
+/// Whether the answer is one line, with its line feed.
+fn is_one_line(answer: &[u8]) -> bool
+    ensures { result ≡ is_one_line answer.now }
+{
+    match first_end(answer) {
+        Some(end) => end + 1 == answer.len(),
+        None => false,
+    }
+}
+
+/// Says an answer with `=> ` before each of its lines.
+#[tactic(auto, using(crate::proofs::Marking::begun, crate::proofs::Marking::inside, crate::proofs::Marking::over))]
+fn say_with_marks(text: &mut Vec<u8>, answer: &[u8]) -> Result<(), AllocError>
+    ensures { OnOk result (text.new.items ≡ text.old.items ++ with_marks answer.now) }
+{
+    let mut begins = true;
+    let mut rest = answer;
+    while let Some((byte, after)) = rest.split_first() {
+        if begins {
+            text.extend_from_slice(b"=> ")?;
+        }
+        text.push(*byte)?;
+        begins = *byte == b'\n';
+        rest = after;
+    }
+    Ok(())
+}
+
+/// Says a script line, and what it was answered: an answer of one line on the same line, behind
+/// ` => `, and each line of a longer one on a line of its own, behind `=> `. An answer is whole
+/// lines with their line feeds, or nothing.
+///
+/// # Errors
+/// `AllocError` where there is no memory: then a part of that may have been said.
+#[tactic(auto, using(crate::proofs::Marking::echo_of_one_line, crate::proofs::Marking::echo_of_more))]
+pub fn say_echo(text: &mut Vec<u8>, line: &[u8], answer: &[u8]) -> Result<(), AllocError>
+    ensures { OnOk result (text.new.items ≡ text.old.items ++ echo_of line.now answer.now) }
+{
+    text.extend_from_slice(line)?;
+    if is_one_line(answer) {
+        text.extend_from_slice(b" => ")?;
+        text.extend_from_slice(answer)?;
+        return Ok(());
+    }
+    text.extend_from_slice(b"\n")?;
+    say_with_marks(text, answer)
+}
