@@ -2,9 +2,9 @@
 use Rattle.std.specs.Prelude.{⊤}
 use Rattle.numa_fault.specs.Crew.{IsCrew}
 use Rattle.numaplan.specs.declared.jobs.Job.{Job}
-use Rattle.numaplan.specs.declared.jobs.Job.TheVariants.{Run, Storm}
+use Rattle.numaplan.specs.declared.jobs.Job.TheVariants.{Storm}
 
 -- a storm is of as many workers as a crew may have
 abbrev pub CanBeDone : Job → Type 0
-CanBeDone Run = ⊤
 CanBeDone (Storm workers) = IsCrew workers
+CanBeDone job = ⊤

@@ -1,78 +1,40 @@
 //! The command line.
 ghost use Rattle.std.specs.Prelude.{IfOk};
-ghost use Rattle.numa_fault.specs.Crew.{IsCrew};
 ghost use Rattle.numaplan.specs.Jobs.{CanBeDone};
 
 use crate::jobs::{Job, JobFault};
+use crate::words::{run, storm};
 use clap::error::ErrorKind;
-use clap::{Arg, ArgAction, ArgMatches, Command, Error};
+use clap::{ArgMatches, Command, Error};
 use std::alloc::{AllocError, Global};
+
+/// The version, which the file VERSION has too, and the kit that it is proved with.
+const VERSION: &str = "0.10.0 (proved with rattle-kit-13b)";
 
 /// What the help of the program says.
 const PROGRAM: &str =
     "Says where Linux would place memory under NUMA memory policies: which nodes a page may come from, in \
-which order, and which frame each fault gets. It reads a script on standard input and writes the answer to each line \
+which order, and which frame each fault gets. It reads scripts and writes the answer to each line \
 to standard output; or it shows that this holds while threads place pages and change policies.";
 
-/// What the help of `run` says in full.
-const RUN: &str =
-    "Answers a script. The script is read from standard input, and its answers are written to standard output: one \
-line for each line of the script, but none for an empty line or a comment, and for `maps` one for each range.";
-
-/// What stands at the end of the helps of the program and of `run`.
+/// What stands at the end of the help of the program.
 const MORE: &str =
-    "Example, from the top of the repository:\n  ./numaplan run < examples/first-run.numaplan\n\nThe language of scripts is told in docs/SCRIPT.md of \
-the repository.";
+    "Example, from the top of the repository:\n  ./numaplan run examples/first-run.numaplan\n\nThe language of scripts is told in \
+docs/SCRIPT.md of the repository, the commands in docs/COMMANDS.md.";
 
-/// What the help of `storm` says in full.
-const STORM: &str =
-    "Lets K workers, each in a thread of its own, place 320 pages on a machine of 4 nodes with 64 frames each, while one more \
-thread changes the policy of their task eight times. Then each placement is compared with the list of nodes that the space of \
-its version gives. Five lines on standard output tell how many workers there were, how many pages were placed and for how many \
-no frame was free, whether all placements match, and how many frames are held at the end. The status is 0 where all is as it \
-must be whichever thread is first, and else 1.";
-
-/// What stands at the end of the help of `storm`.
-const MORE_OF_STORM: &str =
-    "Example, from the top of the repository:\n  ./numaplan storm --workers 4";
-
-/// What is told where the number of workers is faulty.
-const BAD_WORKERS: &str =
-    "error: '--workers <K>' takes a number from 1 to 16\n\nFor more information, try '--help'.\n";
-
-/// The command `run`.
-fn run<'a>(alloc: Global) -> Command<'a> {
-    Command::new(alloc, "run")
-        .about("Reads a script on standard input and writes the answers to standard output")
-        .long_about(RUN)
-        .after_help(MORE)
-}
-
-/// The command `storm`.
-fn storm<'a>(alloc: Global) -> Result<Command<'a>, AllocError> {
-    let workers = Arg::new(alloc, "workers")
-        .long("workers")
-        .value_name("K")
-        .help("How many workers there are, from 1 to 16")
-        .required(true)
-        .action(ArgAction::Set);
-    Command::new(alloc, "storm")
-        .about("Lets workers place pages while policies change, and compares each placement")
-        .long_about(STORM)
-        .after_help(MORE_OF_STORM)
-        .arg(workers)
-}
+/// What is told where there is no command.
+const NO_COMMAND: &str = "error: a command is missing\n\nFor more information, try '--help'.\n";
 
 /// The commands that the program knows.
 fn command<'a>(alloc: Global) -> Result<Command<'a>, AllocError> {
     Command::new(alloc, "numaplan")
         .about(PROGRAM)
         .after_help(MORE)
+        .version(VERSION)
         .subcommand_required(true)
         .arg_required_else_help(true)
-        .disable_help_subcommand(true)
-        .subcommand(run(alloc))?
-        .subcommand(storm(alloc)?)
+        .subcommand(run::command(alloc)?)?
+        .subcommand(storm::command(alloc)?)
 }
 
 /// What an error of the command line is.
@@ -88,28 +50,20 @@ fn fault(alloc: Global, error: &Error) -> JobFault {
     }
 }
 
-/// The number of workers in the words of `storm`.
-fn workers(alloc: Global, matches: &ArgMatches<'_>) -> Result<u32, JobFault>
-    ensures { IfOk result IsCrew }
-{
-    match matches.get_one::<u32>("workers") {
-        Some(count) if 1 <= count && count <= 16 => Ok(count),
-        _ => Err(JobFault::Usage(String::from_str(alloc, BAD_WORKERS)?)),
-    }
-}
-
 /// The job of a command line that the program knows.
 fn known_job(alloc: Global, matches: &ArgMatches<'_>) -> Result<Job, JobFault>
     ensures { IfOk result CanBeDone }
 {
-    match matches.subcommand_matches("storm") {
-        Some(storm) => Ok(Job::Storm(workers(alloc, storm)?)),
-        None => Ok(Job::Run),
+    match matches.subcommand() {
+        Some(("run", words)) => run::job(alloc, words),
+        Some(("storm", words)) => storm::job(alloc, words),
+        _ => Err(JobFault::Usage(String::from_str(alloc, NO_COMMAND)?)),
     }
 }
 
-/// The job that the words of a command line ask for; the first word is the program's name. `Help` where they ask for help,
-/// `Usage` where they are faulty, as where there are none beside the name.
+/// The job that the words of a command line ask for; the first word is the program's name. `Help`
+/// where they ask for help or the version, `Usage` where they are faulty, as where there are none
+/// beside the name.
 pub fn job(alloc: Global, words: &[String]) -> Result<Job, JobFault>
     ensures { IfOk result CanBeDone }
 {

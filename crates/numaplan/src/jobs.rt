@@ -1,28 +1,35 @@
 //! What the program is asked to do.
-use std::alloc::AllocError;
+use std::alloc::{AllocError, AllocFailed};
 
-/// What the program is asked to do.
-#[derive(Clone, Copy, Debug, PartialEq, Eq)]
+/// What the program is asked to do, a variant for each word.
+#[derive(Debug, Drop)]
 pub enum Job {
-    /// To answer the script on standard input.
-    Run,
+    /// To answer the scripts of these files in turn, `-` being standard input, which is read where
+    /// none is named; each line beside its answer, where `echo` says so.
+    Run { files: Vec<String>, echo: bool },
     /// To let so many workers place pages while policies change.
     Storm(u32),
 }
 
-/// Why there is no job.
+/// Why there is no job, or it was not begun.
 #[derive(Debug, Drop)]
 pub enum JobFault {
-    /// Help was asked for: its text.
+    /// Help, or the version, was asked for: its text.
     Help(String),
     /// The command line is faulty: what to tell.
     Usage(String),
-    /// There was no memory to read it.
+    /// There was no memory.
     NoMemory,
 }
 
 impl From<AllocError> for JobFault {
     fn from(_error: AllocError) -> JobFault {
+        JobFault::NoMemory
+    }
+}
+
+impl<T: Drop> From<AllocFailed<T>> for JobFault {
+    fn from(_failed: AllocFailed<T>) -> JobFault {
         JobFault::NoMemory
     }
 }

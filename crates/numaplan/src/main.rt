@@ -1,60 +1,28 @@
-//! `numaplan run` answers the script on standard input. `numaplan storm` lets workers place pages
-//! while policies change.
+//! `numaplan run` answers scripts. `numaplan storm` lets workers place pages while policies change.
 #![tactic(auto)]
 
 ghost use Rattle.std.specs.Prelude.{IfOk};
-ghost use Rattle.numa_fault.specs.Crew.{IsCrew};
 ghost use Rattle.numaplan.specs.Jobs.{CanBeDone};
 
 mod command_line;
+mod endings;
+mod files;
 mod jobs;
 mod storm;
 #[cfg(test)]
 mod tests;
+mod words;
 
 use command_line::job;
+use endings::tell_fault;
 use jobs::{Job, JobFault};
-use numa_run::run;
-use numa_script::{RunFault, Watched};
 use std::env::Env;
 use std::process::ExitCode;
-use std::sync::Wait;
-use std::thread::Threads;
 use std::{env, io};
-use storm::storm;
+use words::{run, storm as storms};
 
 /// What is told of an argument that isn't UTF-8.
 const NOT_UTF_8: &str = "error: an argument isn't UTF-8\n\nFor more information, try '--help'.\n";
-
-/// Ends with a fault's text on standard error.
-fn fail(rt: &impl Eprint, fault: RunFault) -> ExitCode {
-    let _ = eprintln!(rt; "numaplan: {fault}");
-    ExitCode::FAILURE
-}
-
-/// Answers the script on standard input.
-fn answer_script<R: Input + Print + Eprint + AllocGlobal>(rt: &R) -> ExitCode {
-    let mut input = Watched::new(rt.reader());
-    let mut output = Watched::new(io::writer(rt));
-    match run(rt.alloc(), &mut input, &mut output) {
-        Ok(()) => ExitCode::SUCCESS,
-        Err(fault) => fail(rt, fault),
-    }
-}
-
-/// Lets so many workers place pages while policies change.
-fn show_storm<R: Threads + Wait + Sync + Print + Eprint + AllocGlobal>(
-    rt: &R,
-    workers: u32,
-) -> ExitCode
-    requires { IsCrew workers }
-{
-    let mut output = Watched::new(io::writer(rt));
-    match storm(rt, rt.alloc(), workers, &mut output) {
-        Ok(status) => ExitCode::from(status),
-        Err(fault) => fail(rt, fault),
-    }
-}
 
 /// The words of the command line, the program's name first. `Usage` where one of them isn't UTF-8.
 fn command_words<R: Env + AllocGlobal>(rt: &R) -> Result<Vec<String>, JobFault> {
@@ -75,16 +43,8 @@ fn asked_job<R: Env + AllocGlobal>(rt: &R) -> Result<Job, JobFault>
 
 fn main(rt: HostRuntime) -> ExitCode {
     match asked_job(&rt) {
-        Ok(Job::Run) => answer_script(&rt),
-        Ok(Job::Storm(workers)) => show_storm(&rt, workers),
-        Err(JobFault::Help(text)) => {
-            let _ = print!(rt; "{text}");
-            ExitCode::SUCCESS
-        }
-        Err(JobFault::Usage(text)) => {
-            let _ = eprint!(rt; "{text}");
-            ExitCode::from(2)
-        }
-        Err(JobFault::NoMemory) => fail(&rt, RunFault::Memory),
+        Ok(Job::Run { files, echo: _ }) => run::answer(&rt, &files),
+        Ok(Job::Storm(workers)) => storms::show(&rt, workers),
+        Err(fault) => tell_fault(&rt, fault),
     }
 }

@@ -12,7 +12,7 @@ fn asked(alloc: Global, line: &[&str]) -> Result<&'static str, AllocError> {
         words.push(String::from_str(alloc, word)?)?;
     }
     Ok(match job(alloc, words.as_slice()) {
-        Ok(Job::Run) => "run",
+        Ok(Job::Run { .. }) => "run",
         Ok(Job::Storm(1)) => "storm of 1",
         Ok(Job::Storm(16)) => "storm of 16",
         Ok(Job::Storm(_)) => "storm",
@@ -28,9 +28,9 @@ fn jobs(rt: HostRuntime) -> Result<(), Fail> {
     assert_eq!(rt; asked(rt.alloc(), &["numaplan"])?, "usage");
     assert_eq!(rt; asked(rt.alloc(), &["numaplan", "--help"])?, "help");
     assert_eq!(rt; asked(rt.alloc(), &["numaplan", "run", "--help"])?, "help");
-    assert_eq!(rt; asked(rt.alloc(), &["numaplan", "run", "spare"])?, "usage");
+    assert_eq!(rt; asked(rt.alloc(), &["numaplan", "run", "FILE"])?, "run");
     assert_eq!(rt; asked(rt.alloc(), &["numaplan", "storms"])?, "usage");
-    assert_eq!(rt; asked(rt.alloc(), &["numaplan", "--version"])?, "usage");
+    assert_eq!(rt; asked(rt.alloc(), &["numaplan", "--version"])?, "help");
     Ok(())
 }
 

@@ -1,0 +1,102 @@
+//! The files that a word is given: `-` is standard input, which is also read where none is named.
+use crate::jobs::JobFault;
+use clap::{Arg, ArgAction, ArgMatches};
+use std::alloc::{AllocError, Global};
+use std::fs::OpenFile;
+use std::io::{ErrorKind, IsTerminal, Read};
+use std::rt::Files;
+use std::{fs, io};
+
+/// What is told on a terminal.
+const AWAITED: &str = "numaplan: a script is awaited, line by line; Ctrl-D ends it";
+
+/// A file, or standard input.
+#[derive(Drop)]
+pub enum Source<F, I> {
+    File(F),
+    Standard(I),
+}
+
+impl<F: Read, I: Read> Read for Source<F, I> {
+    fn read(&mut self, buffer: &mut [u8]) -> io::Result<usize> {
+        match self {
+            Source::File(file) => file.read(buffer),
+            Source::Standard(input) => input.read(buffer),
+        }
+    }
+}
+
+/// The argument `[FILE]..` of a word.
+pub fn argument<'a>(alloc: Global) -> Arg<'a> {
+    Arg::new(alloc, "FILE")
+        .help("Scripts, read in turn; - is standard input, which is read where none is named")
+        .num_args(0..)
+        .action(ArgAction::Append)
+}
+
+/// The files that are named.
+pub fn named(alloc: Global, matches: &ArgMatches<'_>) -> Result<Vec<String>, AllocError> {
+    let mut files = Vec::new(alloc);
+    for name in matches.get_strs("FILE").unwrap_or(&[]) {
+        files.push(String::from_str(alloc, name)?)?;
+    }
+    Ok(files)
+}
+
+/// Standard input. On a terminal a line says that a script is awaited.
+fn standard_input<R: Input + Eprint>(rt: &R) -> R::Reader
+where
+    R::Reader: IsTerminal,
+{
+    let reader = rt.reader();
+    if reader.is_terminal() {
+        let _ = eprintln!(rt; "{AWAITED}");
+    }
+    reader
+}
+
+/// A file that can be read; a folder can't.
+fn open_file<R: Files>(rt: &R, name: &str) -> io::Result<R::File> {
+    let file = fs::open(rt, name)?;
+    if file.metadata()?.is_dir() {
+        return Err(io::Error::from(ErrorKind::IsADirectory));
+    }
+    Ok(file)
+}
+
+/// Opens what has this name.
+fn open<R>(rt: &R, name: &str) -> Result<Source<R::File, R::Reader>, JobFault>
+where
+    R: Files + Input + Eprint + AllocGlobal,
+    R::Reader: IsTerminal,
+{
+    if name == "-" {
+        return Ok(Source::Standard(standard_input(rt)));
+    }
+    match open_file(rt, name) {
+        Ok(file) => Ok(Source::File(file)),
+        Err(error) if error.kind() == ErrorKind::OutOfMemory => Err(JobFault::NoMemory),
+        Err(error) => Err(JobFault::Usage(format!(in rt.alloc();
+            "error: can't open '{name}': {error}\n"
+        )?)),
+    }
+}
+
+/// Opens the files, and standard input where none is named.
+///
+/// # Errors
+/// `Usage` where a file can't be opened, with its name and the cause.
+pub fn open_all<R>(rt: &R, names: &[String]) -> Result<Vec<Source<R::File, R::Reader>>, JobFault>
+where
+    R: Files + Input + Eprint + AllocGlobal,
+    R::Reader: IsTerminal,
+{
+    let mut sources = Vec::new(rt.alloc());
+    if names.is_empty() {
+        sources.push(open(rt, "-")?)?;
+    }
+    for name in names {
+        sources.push(open(rt, name.as_str())?)?;
+    }
+    Ok(sources)
+}

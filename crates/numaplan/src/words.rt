@@ -1,0 +1,3 @@
+//! The words of the command line, a file for each: its command, its job, and how that is done.
+pub mod run;
+pub mod storm;

@@ -1,0 +1,68 @@
+//! `numaplan storm --workers K`: workers place pages while policies change.
+ghost use Rattle.std.specs.Prelude.{IfOk};
+ghost use Rattle.numa_fault.specs.Crew.{IsCrew};
+ghost use Rattle.numaplan.specs.Jobs.{CanBeDone};
+
+use crate::endings::fail;
+use crate::jobs::{Job, JobFault};
+use clap::{Arg, ArgAction, ArgMatches, Command};
+use numa_script::Watched;
+use std::alloc::{AllocError, Global};
+use std::io;
+use std::process::ExitCode;
+use std::sync::Wait;
+use std::thread::Threads;
+
+/// What the help says in full.
+const ABOUT: &str =
+    "Lets K workers, each in a thread of its own, place 320 pages on a machine of 4 nodes with 64 frames each, while one more \
+thread changes the policy of their task eight times. Then each placement is compared with the list of nodes that the space of \
+its version gives. Five lines on standard output tell how many workers there were, how many pages were placed and for how many \
+no frame was free, whether all placements match, and how many frames are held at the end. The status is 0 where all is as it \
+must be whichever thread is first, and else 1.";
+
+/// What stands at the end of the help.
+const MORE: &str = "Example, from the top of the repository:\n  ./numaplan storm --workers 4";
+
+/// What is told where the number of workers is faulty.
+const BAD_WORKERS: &str =
+    "error: '--workers <K>' takes a number from 1 to 16\n\nFor more information, try '--help'.\n";
+
+/// The command.
+pub fn command<'a>(alloc: Global) -> Result<Command<'a>, AllocError> {
+    let workers = Arg::new(alloc, "workers")
+        .long("workers")
+        .value_name("K")
+        .help("How many workers there are, from 1 to 16")
+        .required(true)
+        .action(ArgAction::Set);
+    Command::new(alloc, "storm")
+        .about("Lets workers place pages while policies change, and compares each placement")
+        .long_about(ABOUT)
+        .after_help(MORE)
+        .arg(workers)
+}
+
+/// The job that its words ask for.
+pub fn job(alloc: Global, matches: &ArgMatches<'_>) -> Result<Job, JobFault>
+    ensures { IfOk result CanBeDone }
+{
+    match matches.get_one::<u32>("workers") {
+        Some(count) if 1 <= count && count <= 16 => Ok(Job::Storm(count)),
+        _ => Err(JobFault::Usage(String::from_str(alloc, BAD_WORKERS)?)),
+    }
+}
+
+/// Lets so many workers place pages while policies change.
+pub fn show<R: Threads + Wait + Sync + Print + Eprint + AllocGlobal>(
+    rt: &R,
+    workers: u32,
+) -> ExitCode
+    requires { IsCrew workers }
+{
+    let mut output = Watched::new(io::writer(rt));
+    match crate::storm::storm(rt, rt.alloc(), workers, &mut output) {
+        Ok(status) => ExitCode::from(status),
+        Err(fault) => fail(rt, fault),
+    }
+}
