@@ -1,6 +1,6 @@
 -- What jobs there are.
 use Rattle.std.specs.Prelude.{⊤}
-use Rattle.numa_fault.specs.Crew.{IsCrew}
+use Rattle.numa_storm.specs.Crew.{IsCrew}
 use Rattle.numaplan.specs.declared.jobs.Job.{Job}
 use Rattle.numaplan.specs.declared.jobs.Job.TheVariants.{Storm}
 

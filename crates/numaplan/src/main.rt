@@ -8,9 +8,6 @@ mod command_line;
 mod endings;
 mod files;
 mod jobs;
-mod storm;
-#[cfg(test)]
-mod tests;
 mod words;
 
 use command_line::job;
@@ -19,7 +16,7 @@ use jobs::{Job, JobFault};
 use std::env::Env;
 use std::process::ExitCode;
 use std::{env, io};
-use words::{run, storm as storms};
+use words::{run, storm};
 
 /// What is told of an argument that isn't UTF-8.
 const NOT_UTF_8: &str = "error: an argument isn't UTF-8\n\nFor more information, try '--help'.\n";
@@ -44,7 +41,7 @@ fn asked_job<R: Env + AllocGlobal>(rt: &R) -> Result<Job, JobFault>
 fn main(rt: HostRuntime) -> ExitCode {
     match asked_job(&rt) {
         Ok(Job::Run { files, echo: _ }) => run::answer(&rt, &files),
-        Ok(Job::Storm(workers)) => storms::show(&rt, workers),
+        Ok(Job::Storm(workers)) => storm::show(&rt, workers),
         Err(fault) => tell_fault(&rt, fault),
     }
 }

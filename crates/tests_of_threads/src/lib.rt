@@ -1,5 +1,6 @@
 //! Tests of what threads share: a desk's published versions and their readers, workers that place
-//! pages by them, and crews. It holds nothing but tests, so that the crates themselves are proved once.
+//! pages by them, crews and storms. It holds nothing but tests, so that the crates themselves are
+//! proved once.
 #![tactic(auto)]
 
 #[cfg(test)]
@@ -24,6 +25,8 @@ mod refused_span;
 mod setting;
 #[cfg(test)]
 mod spans;
+#[cfg(test)]
+mod storms;
 #[cfg(test)]
 mod tally;
 #[cfg(test)]

@@ -1,6 +1,6 @@
 //! `numaplan storm --workers K`: workers place pages while policies change.
 ghost use Rattle.std.specs.Prelude.{IfOk};
-ghost use Rattle.numa_fault.specs.Crew.{IsCrew};
+ghost use Rattle.numa_storm.specs.Crew.{IsCrew};
 ghost use Rattle.numaplan.specs.Jobs.{CanBeDone};
 
 use crate::endings::fail;
@@ -61,7 +61,7 @@ pub fn show<R: Threads + Wait + Sync + Print + Eprint + AllocGlobal>(
     requires { IsCrew workers }
 {
     let mut output = Watched::new(io::writer(rt));
-    match crate::storm::storm(rt, rt.alloc(), workers, &mut output) {
+    match numa_storm::storm(rt, rt.alloc(), workers, &mut output) {
         Ok(status) => ExitCode::from(status),
         Err(fault) => fail(rt, fault),
     }

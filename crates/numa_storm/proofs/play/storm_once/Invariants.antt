@@ -1,4 +1,4 @@
-use Rattle.numaplan.proofs.storm.storm_once.Given as goal
+use Rattle.numa_storm.proofs.play.storm_once.Given as goal
 
 -- the desk that is handed over
 abbrev pub ghosts-play_to_the_end : goal.ghosts-play_to_the_end

@@ -1,5 +1,4 @@
-//! `numaplan storm`: workers place pages while policies change, and each placement is compared with
-//! the slow resolution of its version.
+//! The storm itself: a desk, a crew and a thread of policies beside it, and what is written of them.
 ghost use Rattle.std.specs.Prelude.{◌≡◌, false, true, IfOk, IfSome, IsErrOf};
 ghost use Rattle.std.specs.Io.KnownBytes.{Appends, Keeps};
 ghost use Rattle.std.specs.List.{All};
@@ -7,27 +6,19 @@ ghost use Rattle.numa_fault.specs.Crew.{IsCrew};
 ghost use Rattle.numa_fault.specs.declared.worker.FaultWorker.{FaultWorker};
 ghost use Rattle.numa_script.specs.Watching.{has_failed};
 ghost use Rattle.numa_script.specs.Written.{AppendsFront};
-ghost use Rattle.numaplan.specs.Storm.{status_of, text_of};
-ghost use Rattle.numaplan.specs.declared.storm.report.Report.{Report};
+ghost use Rattle.numa_storm.specs.Storm.{status_of, text_of};
+ghost use Rattle.numa_storm.specs.declared.report.Report.{Report};
 
-mod compare;
-mod crew;
-mod gate;
-mod report;
-mod setting;
-#[cfg(test)]
-mod tests;
-
-use compare::{all_listed, exhausted, placed, spaces};
-use crew::{joined, serve, workers};
-use gate::Together;
+use crate::compare::{all_listed, exhausted, placed, spaces};
+use crate::crew::{joined, serve, workers};
+use crate::gate::Together;
+use crate::report::{Report, say_report};
+use crate::setting::{FIRST_COMMANDS, POLICIES, command, limits, machine, requests};
 use numa_fault::{Answer, FaultWorker};
 use numa_pool::{Closed, Pools};
 use numa_publish::{Desk, DeskName, Receipt, SharedDesk};
 use numa_script::{Gathered, RunFault, Watched};
 use numa_space::Request;
-use report::{Report, say_report};
-use setting::{FIRST_COMMANDS, POLICIES, command, limits, machine, requests};
 use std::alloc::Global;
 use std::io::Write;
 use std::marker::Brand;

@@ -3,7 +3,7 @@ ghost use Rattle.std.specs.Prelude.{◌≡◌, ◌<◌, IfSome, length};
 ghost use Rattle.std.specs.List.{All};
 ghost use Rattle.numa_fault.specs.declared.worker.FaultWorker.{FaultWorker};
 
-use crate::storm::gate::Together;
+use crate::gate::Together;
 use numa_fault::{Answer, Crew, FaultWorker};
 use numa_pool::{PoolSeat, Pools};
 use numa_publish::{DeskName, Receipt, SharedDesk};

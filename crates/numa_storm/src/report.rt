@@ -2,7 +2,7 @@
 ghost use Rattle.std.specs.Prelude.{◌≡◌, ◌≤◌, length};
 ghost use Rattle.numa_script.specs.Watching.{has_failed};
 ghost use Rattle.numa_script.specs.Written.{Adds};
-ghost use Rattle.numaplan.specs.Storm.{line_of, match_line, status_of, text_of};
+ghost use Rattle.numa_storm.specs.Storm.{line_of, match_line, status_of, text_of};
 
 use numa_script::{Gathered, Watched};
 use std::io::Write;

@@ -1,5 +1,5 @@
 //! How the threads of a storm keep together.
-use crate::storm::setting::POLICIES;
+use crate::setting::POLICIES;
 use numa_fault::Gate;
 use std::sync::atomic::{AtomicU64, Ordering};
 use std::thread;

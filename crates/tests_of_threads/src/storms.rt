@@ -1,5 +1,5 @@
-use crate::storm::storm;
 use numa_script::{RunFault, Watched};
+use numa_storm::storm;
 use std::io;
 use std::io::Write;
 use std::test::Fail;

@@ -1,7 +1,7 @@
 use Rattle.std.proofs.Common.{◌≡◌, length}
 use Rattle.std.specs.List.{All}
 use Rattle.numa_fault.specs.declared.worker.FaultWorker.{FaultWorker}
-use Rattle.numaplan.proofs.storm.crew.joined.Given as goal
+use Rattle.numa_storm.proofs.crew.joined.Given as goal
 
 -- how many workers are left
 abbrev pub decreases-loop-worker : goal.decreases-loop-worker

@@ -1,6 +1,6 @@
 -- What a storm tells.
 use Rattle.std.specs.Prelude.{ℕ, ◌++◌, ◌&&◌, ◌==◌, if◌then◌else◌, Bool, List, codes, decimal}
-use Rattle.numaplan.specs.declared.storm.report.Report.{Report}
+use Rattle.numa_storm.specs.declared.report.Report.{Report}
 
 -- a line of a name and a number
 unfoldable pub line_of : List ℕ → ℕ → List ℕ

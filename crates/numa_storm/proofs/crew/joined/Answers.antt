@@ -1,8 +1,8 @@
 use Rattle.std.proofs.Common.{◌≡◌, ◌∙◌, ap}
 use Rattle.numa_fault.specs.declared.worker.FaultWorker.{FaultWorker}
 use Rattle.numa_pool.specs.Seats.{SeatView}
-use Rattle.numaplan.proofs.Popped.{popped}
-use Rattle.numaplan.proofs.storm.crew.joined.Goals as goal
+use Rattle.numa_storm.proofs.Popped.{popped}
+use Rattle.numa_storm.proofs.crew.joined.Goals as goal
 
 pub loop-worker-init : goal.loop-worker-init
 loop-worker-init c =

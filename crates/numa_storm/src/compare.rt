@@ -1,5 +1,5 @@
 //! Answers beside the slow resolution.
-use crate::storm::setting::{FIRST_COMMANDS, POLICIES, command, limits, machine};
+use crate::setting::{FIRST_COMMANDS, POLICIES, command, limits, machine};
 use numa_fault::{Answer, FaultRefusal};
 use numa_space::{Placement, Request, Space};
 use std::alloc::Global;

@@ -1,9 +1,9 @@
 use Rattle.std.proofs.Common.{rules, ◌≡◌, true, false}
 use Rattle.std.specs.Prelude.{is_err}
 use Rattle.numa_script.specs.Watching.{has_failed}
-use Rattle.numaplan.specs.Storm.{text_of}
-use Rattle.numaplan.proofs.HandedOver.{front, handed_over, on_err, on_ok, whole}
-use Rattle.numaplan.proofs.storm.storm.Goals as goal
+use Rattle.numa_storm.specs.Storm.{text_of}
+use Rattle.numa_storm.proofs.HandedOver.{front, handed_over, on_err, on_ok, whole}
+use Rattle.numa_storm.proofs.play.storm.Goals as goal
 
 pub returns-then-is_err-clause-write : goal.returns-then-is_err-clause-write
 returns-then-is_err-clause-write g c told =

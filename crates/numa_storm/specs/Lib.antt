@@ -1,0 +1,2 @@
+pub use Rattle.numa_fault.specs.Crew
+pub mod Storm

@@ -1,0 +1,13 @@
+//! A storm: workers place pages while policies change, and each placement is compared with the slow
+//! resolution of its version.
+#![tactic(auto)]
+
+mod compare;
+mod crew;
+mod gate;
+pub mod play;
+pub mod report;
+mod setting;
+
+pub use play::storm;
+pub use report::Report;
