@@ -1,8 +1,8 @@
--- What a closure makes of a row.
+-- What a closure makes of a value.
 use Rattle.std.specs.Prelude.{◌≡◌}
 use Rattle.std.specs.Fn.{Shared, FnReturnsAt}
 use denote.Ref.{Bor}
 
--- what a closure makes of a row is what the function makes of it
+-- what a closure makes of a value is what the function makes of it
 abbrev pub Makes : {F T R : Type 0} → Shared F (Bor T × Unit {0}) R → F → (T → R) → Type 0
-Makes {F} {T} {R} calls f change = (row : T) (made : R) → FnReturnsAt calls f row made → made ≡ change row
+Makes {F} {T} {R} calls f change = (value : T) (made : R) → FnReturnsAt calls f value made → made ≡ change value

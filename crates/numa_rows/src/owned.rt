@@ -1,5 +1,5 @@
 //! Rows that one chunk has for itself.
-ghost use Rattle.std.specs.Prelude.{◌≡◌, length, map, IfOk};
+ghost use Rattle.std.specs.Prelude.{◌≡◌, ◌<◌, length, map, slice_set, take, IfOk};
 ghost use Rattle.numa_rows.specs.Changes.{Makes};
 
 use crate::chunk::{MOST, put_in};
@@ -72,6 +72,21 @@ impl<T: Copy + Drop> Owned<T> {
         ensures made { (change : T → T) → Makes F.Fn f.now change → self.new ≡ map change self.old }
     {
         change_rows(&mut self.rows, f);
+    }
+
+    /// Puts a row in the place of another.
+    pub(crate) fn put(&mut self, place: usize, row: T)
+        requires { place < length self.old }
+        ensures { self.new ≡ slice_set self.old place row }
+    {
+        self.rows[place] = row;
+    }
+
+    /// Takes out the rows behind the first so many.
+    pub(crate) fn truncate(&mut self, len: usize)
+        ensures { self.new ≡ take len self.old }
+    {
+        self.rows.truncate(len);
     }
 }
 

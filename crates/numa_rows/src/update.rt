@@ -1,10 +1,11 @@
-//! Changes of all rows, which take no memory.
-ghost use Rattle.std.specs.Prelude.{◌≡◌, map};
+//! Changes of owned rows, which take no memory.
+ghost use Rattle.std.specs.Prelude.{◌≡◌, ◌+◌, map, slice_set, take};
 ghost use Rattle.numa_rows.specs.Changes.{Makes};
-ghost use Rattle.numa_rows.specs.Parts.{IsTable, flat};
+ghost use Rattle.numa_rows.specs.Parts.{HasRank, IsTable, flat};
 
 use crate::chunk::Chunk;
 use crate::owned::Owned;
+use crate::table::Place;
 
 /// Gives each row what `f` makes of it.
 pub(crate) fn update_rows<T: Copy + Drop, F: Fn(&T) -> T>(
@@ -22,4 +23,42 @@ pub(crate) fn update_rows<T: Copy + Drop, F: Fn(&T) -> T>(
     for i in 0..chunks.len() {
         chunks[i].update(f);
     }
+}
+
+/// Puts a row in the place of another, which a chunk has.
+pub(crate) fn put_row<T: Copy + Drop>(
+    chunks: &mut Vec<Chunk<T, Owned<T>>>,
+    _starts: &[u32],
+    _len: usize,
+    place: Place,
+    rank: usize,
+    row: T,
+)
+    requires table { IsTable 256 chunks.old.items _starts.now _len }
+    requires has { HasRank chunks.old.items place.chunk place.start rank }
+    ensures row { flat chunks.new.items ≡ slice_set (flat chunks.old.items) rank row }
+    ensures table { IsTable 256 chunks.new.items _starts.now _len }
+{
+    let chunk = &mut chunks[place.chunk];
+    chunk.put(rank - place.start, row);
+}
+
+/// Takes out the rows behind one, which a chunk has.
+pub(crate) fn cut_behind<T: Copy + Drop>(
+    chunks: &mut Vec<Chunk<T, Owned<T>>>,
+    starts: &mut Vec<u32>,
+    _len: usize,
+    place: Place,
+    rank: usize,
+)
+    requires table { IsTable 256 chunks.old.items starts.old.items _len }
+    requires has { HasRank chunks.old.items place.chunk place.start rank }
+    ensures rows { flat chunks.new.items ≡ take (rank + 1) (flat chunks.old.items) }
+    ensures table { IsTable 256 chunks.new.items starts.new.items (rank + 1) }
+{
+    let kept = rank - place.start + 1;
+    chunks.truncate(place.chunk + 1);
+    starts.truncate(place.chunk + 1);
+    let chunk = &mut chunks[place.chunk];
+    chunk.truncate(kept);
 }

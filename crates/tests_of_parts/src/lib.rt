@@ -21,4 +21,6 @@ mod pool;
 #[cfg(test)]
 mod ranges;
 #[cfg(test)]
+mod rows;
+#[cfg(test)]
 mod space;
