@@ -1,5 +1,5 @@
 -- One more run, and one more task.
-use Rattle.std.proofs.Common.{◌≡◌, ◌≢◌, ℕ, ◌+◌, ◌<◌, Option, Some, None, List, [], ◌∷◌, ◌++◌, length, take, get_or, AllPairs, refl, sym, ap, subst, ◌∙◌, arith}
+use Rattle.std.proofs.Common.{◌≡◌, ◌≢◌, ℕ, ◌+◌, ◌<◌, ◌≤◌, Option, Some, None, List, [], ◌∷◌, ◌++◌, length, take, drop, get_or, AllPairs, refl, sym, ap, subst, ◌∙◌, arith}
 use Rattle.numa_mode.specs.Policy.{PolicyRecord}
 use Rattle.numa_ranges.specs.declared.run.Run.{Run}
 use Rattle.numa_space.specs.Policies.{where_live}
@@ -13,6 +13,16 @@ use Rattle.numa_compile.specs.Standing.{IsPlanOf}
 use Rattle.numa_compile.proofs.CopyLemmas.{copies-grow, copies-next}
 use Rattle.numa_compile.proofs.PlanLemmas.{plan-of, shares}
 use Rattle.numa_compile.proofs.ServeLemmas.{serves-run, serves-task}
+
+-- what holds while the runs of the first k ranges are there, and the rest is ahead
+pub record HasAdded (space : SpaceState) (rest : List (Run (Option PolicyRecord))) (plan : PlanData) (records : List PolicyRecord) : Type 0 where
+  pub k : ℕ
+  pub within : k ≤ length space.ranges
+  pub left : rest ≡ drop k space.ranges
+  pub under_way : IsUnderWay space plan records
+  pub copies : AreCopies records (take k space.ranges) plan.runs
+  pub tasks : plan.tasks ≡ []
+  pub room : length records ≤ k
 
 -- a range and its run behind the others
 pub copied-next : (old keys : List PolicyRecord) (ranges : List (Run (Option PolicyRecord))) (runs before : List (Run (Option ℕ))) (i : ℕ) (range : Run (Option PolicyRecord)) (policy : Option PolicyRecord) (number : Option ℕ)

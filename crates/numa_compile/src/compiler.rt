@@ -1,7 +1,6 @@
 //! Compiling.
 ghost use Rattle.std.specs.Prelude.{◌≡◌, ℕ, ◌+◌, ◌-◌, ◌^◌, ◌<◌, ◌≤◌, IfOk, OnOk, List, [], length};
 ghost use Rattle.std.specs.Option.{ForSome};
-ghost use Rattle.numa_ranges.specs.Runs.{AreApart};
 ghost use Rattle.numa_plan.specs.Meaning.{planned_list};
 ghost use Rattle.numa_space.specs.declared.command.Command.{Command};
 ghost use Rattle.numa_space.specs.Policies.{allowed_nodes};
@@ -17,7 +16,7 @@ use numa_machine::Machine;
 use numa_mode::Record;
 use numa_plan::{NoMemory, Plan, Steps};
 use numa_ranges::Run;
-use numa_space::{Command, Limits, RangeRecord, Space};
+use numa_space::{Command, Limits, Space};
 use std::alloc::Global;
 
 /// Looks at what holds of every space and its machine.
@@ -39,24 +38,21 @@ fn survey(space: &Space)
 fn add_runs(
     alloc: Global,
     space: &Space,
-    ranges: &[Run<RangeRecord>],
     plan: &mut Plan,
     records: &mut IndexSet<Record>,
 ) -> Result<(), NoMemory>
     requires ready { IsReady space.now }
-    requires ranges { ranges.now ≡ space.now.ranges }
-    requires apart { AreApart 0 ranges.now }
-    requires few { length ranges.now < 2 ^ 31 }
+    requires few { length space.now.ranges < 2 ^ 31 }
     requires none { records.old.keys ≡ [] }
     requires under_way { IsUnderWay space.now plan.old records.old.keys }
     requires runs { plan.old.runs ≡ [] }
     requires tasks { plan.old.tasks ≡ [] }
     ensures under_way { OnOk result (IsUnderWay space.now plan.new records.new.keys) }
-    ensures copies { OnOk result (AreCopies records.new.keys ranges.now plan.new.runs) }
+    ensures copies { OnOk result (AreCopies records.new.keys space.now.ranges plan.new.runs) }
     ensures tasks { OnOk result (plan.new.tasks ≡ []) }
-    ensures room { OnOk result (length records.new.keys ≤ length ranges.now) }
+    ensures room { OnOk result (length records.new.keys ≤ length space.now.ranges) }
 {
-    for range in ranges {
+    for range in space.range_iter() {
         let value = number_for(alloc, space, range.value.policy(), plan, records)?;
         let run = Run {
             first: range.first,
@@ -110,11 +106,10 @@ pub fn compile(alloc: Global, space: &Space) -> Result<Plan, NoMemory>
     ensures sound { IfOk result (λ plan. (task page cpu : ℕ) → cpu < plan.nodes → ForSome (planned_list plan task page cpu) (IsNodeList space.now.allowed)) }
 {
     survey(space);
-    let ranges = space.range_iter().as_slice();
     let local = local_rule(alloc, space)?;
     let mut plan = Plan::new(alloc, space.machine().nodes(), local);
     let mut records = IndexSet::new(alloc);
-    add_runs(alloc, space, ranges, &mut plan, &mut records)?;
+    add_runs(alloc, space, &mut plan, &mut records)?;
     set_tasks(alloc, space, &mut plan, &mut records)?;
     plan.set_version(space.version());
     // Tells the proof that no record is there twice.

@@ -3,11 +3,11 @@ use Rattle.std.proofs.Common.{◌≡◌, append_assoc, ℕ, suc, ◌+◌, ◌<�
 use Rattle.std.proofs.Math.ListN.{set}
 use Rattle.std.specs.Prelude.{All}
 use Rattle.std.proofs.lemmas.Bool.{cases_Bool}
-use Rattle.std.proofs.lemmas.List.{drop_more, take_more, take_more_set, set_at, get_or_at, get_or-drop, map-append, length-map, length-take-le}
+use Rattle.std.proofs.lemmas.List.{drop_all, drop_more, take_more_set, get_or-drop}
 use Rattle.std.proofs.lemmas.Grind.{drop_more_same}
 use Rattle.numa_ranges.specs.Runs.{page_at, in_pages, AreApart, Continues, end_of}
 use Rattle.numa_ranges.specs.Maps.{changed_page}
-use Rattle.numa_ranges.specs.Edits.{IsInRange, joins, grown, joined, joined_from, revalued}
+use Rattle.numa_ranges.specs.Edits.{IsInRange, IsRevalued, joins, grown, joined, joined_from, revalued}
 use Rattle.numa_ranges.specs.declared.run.Run.{Run}
 use Rattle.numa_ranges.proofs.Apart.{apart-bounds}
 use Rattle.numa_ranges.proofs.Joined.{not-joins, joins-continues}
@@ -17,19 +17,8 @@ module _ {T : Type 0} where
   next-run runs whole i run within ahead is =
       sym ahead ∙ drop_more runs i run within ∙ ap (λ r. r ∷ drop (i + 1) runs) (sym is) ∙ ap (λ l. run ∷ l) (drop_more_same runs whole i ahead)
 
-  -- one more run with its new value
-  pub change-more : (runs whole : List (Run T)) (i : ℕ) (f : Run T → Run T) (run new : Run T) → i < length whole → runs ≡ map f (take i whole) ++ drop i whole → run ≡ get_or runs i run → new ≡ f run → set runs i new ≡ map f (take (i + 1) whole) ++ drop (i + 1) whole
-  change-more runs whole i f run new within is read made =
-      let front = map f (take i whole) in
-      let here = get_or whole i run in
-      let size : length front ≡ i = length-map (take i whole) f ∙ length-take-le i whole (omega arith) in
-      let opens : runs ≡ front ++ here ∷ drop (i + 1) whole = is ∙ ap (λ l. front ++ l) (drop_more whole i run within) in
-      let same : run ≡ here = read ∙ ap (λ l. get_or l i run) opens ∙ get_or_at front here (drop (i + 1) whole) run i size in
-      let value : new ≡ f here = made ∙ ap f same in
-      ap (λ l. set l i new) opens ∙ set_at front here (drop (i + 1) whole) new i size
-      ∙ ap (λ r. front ++ r ∷ drop (i + 1) whole) value
-      ∙ sym (append_assoc front (f here ∷ []) (drop (i + 1) whole))
-      ∙ ap (λ l. l ++ drop (i + 1) whole) (sym (ap (map f) (take_more whole i run within) ∙ map-append f (take i whole) (here ∷ [])))
+  pub revalued-is : (change : T → T) (Made : T → T → Type 0) (run made : Run T) → IsRevalued Made run made → ((value new : T) → Made value new → new ≡ change value) → made ≡ revalued change run
+  revalued-is change Made run made is gives = λ i. record { first = is.first i; pages = is.pages i; index = is.index i; value = gives run.value made.value is.value i }
 
   pub apart-revalued : (change : T → T) (from : ℕ) (runs : List (Run T)) → AreApart from runs → AreApart from (map (revalued change) runs)
   apart-revalued change from [] apart = apart
@@ -58,6 +47,12 @@ module _ {T : Type 0} (same : T → T → Bool) (exact : (a b : T) → same a b 
   step-closes runs rest whole kept last run within h stops =
       let e : joined_from same (run ∷ rest) last ≡ last ∷ joined_from same rest run = rw (not-joins same exact itself last run stops) refl in
       ap (λ l. l ++ joined_from same rest run) (take_more_set runs kept last within) ∙ append_assoc (take kept runs) (last ∷ []) (joined_from same rest run) ∙ ap (λ l. take kept runs ++ l) (sym e) ∙ h
+
+  -- the open run is written, and what is behind it is cut off
+  pub closed-last : (runs whole new cut : List (Run T)) (kept i : ℕ) (last : Run T) → kept < length runs → length whole ≤ i → new ≡ set runs kept last → cut ≡ take (kept + 1) new → take kept runs ++ joined_from same (drop i whole) last ≡ joined same whole → cut ≡ joined same whole
+  closed-last runs whole new cut kept i last within past put taken so =
+      let none : drop i whole ≡ [] = drop_all i whole past in
+      taken ∙ (ap (take (kept + 1)) put ∙ (take_more_set runs kept last within ∙ (ap (λ l. take kept runs ++ joined_from same l last) (sym none) ∙ so)))
 
   length-joined_from : (runs : List (Run T)) (run : Run T) → length (joined_from same runs run) ≤ suc (length runs)
   length-joined_from [] run = omega arith

@@ -9,4 +9,5 @@ pub mod Laws
 pub mod Pages
 pub mod Placed
 pub mod Spans
+pub mod Walked
 pub mod Window

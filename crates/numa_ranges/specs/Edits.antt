@@ -75,6 +75,13 @@ inserted place run runs = take place runs ++ run ∷ drop place runs
 abbrev pub revalued : {T : Type 0} → (T → T) → Run T → Run T
 revalued change run = record { first = run.first; pages = run.pages; index = run.index; value = change run.value }
 
+-- a run that has the pages and indexes of another, and a value that is made of that one's
+pub record IsRevalued {T : Type 0} (Made : T → T → Type 0) (run changed : Run T) : Type 0 where
+  pub first : changed.first ≡ run.first
+  pub pages : changed.pages ≡ run.pages
+  pub index : changed.index ≡ run.index
+  pub value : Made run.value changed.value
+
 -- a run that ends below the last page and index
 pub record IsInRange {T : Type 0} (run : Run T) : Type 0 where
   pub end : end_of run ≤ 2 ^ 35

@@ -1,7 +1,5 @@
 -- A map from pages to an index and a value: what each call makes of it, and why a call is refused.
 use Rattle.std.specs.Prelude.{◌≡◌, ℕ, ◌+◌, ◌-◌, Bool, not, is_some, Option, Some, None, List, nat_lt, if◌then◌else◌}
-use Rattle.std.specs.Fn.{Shared, FnReturnsAt}
-use denote.Ref.{Bor}
 use Rattle.std.specs.List.{list_any, range_with_len}
 use Rattle.numa_ranges.specs.declared.fault.RangeFault.{RangeFault}
 use Rattle.numa_ranges.specs.declared.fault.RangeFault.TheVariants.{Hole, Overlap, TooManyRanges, NoMemory}
@@ -29,10 +27,6 @@ changed_page change (Some p) = Some (p.0, change p.1)
 -- the map with the value of each mapped page of a span changed
 abbrev pub changed_span : {T : Type 0} → ℕ → ℕ → (T → T) → (ℕ → Option (ℕ × T)) → ℕ → Option (ℕ × T)
 changed_span first pages change at page = if in_pages first pages page then changed_page change (at page) else at page
-
--- what a closure makes of a value is what the function makes of it
-abbrev pub Makes : {F T R : Type 0} → Shared F (Bor T × Unit {0}) R → F → (T → R) → Type 0
-Makes {F} {T} {R} calls f change = (x : T) (made : R) → FnReturnsAt calls f x made → made ≡ change x
 
 -- whether some page of a span passes the test
 unfoldable pub any_page : (ℕ → Bool) → ℕ → ℕ → Bool

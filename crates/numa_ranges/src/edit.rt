@@ -1,44 +1,61 @@
 //! Runs, cut at the ends of a span and edited inside.
-ghost use Rattle.std.specs.Prelude.{◌+◌, ◌*◌, ◌<◌, ◌≤◌, ◌^◌, List, ◌++◌, length, Option, All};
-ghost use Rattle.numa_ranges.specs.Maps.{Makes};
+ghost use Rattle.std.specs.Prelude.{◌≡◌, ◌+◌, ◌*◌, ◌<◌, ◌≤◌, ◌^◌, List, ◌++◌, length, take, drop, Option, All};
+ghost use Rattle.numa_rows.specs.Changes.{Makes};
 ghost use Rattle.numa_ranges.specs.Edits.{IsInRange, part_before, part_within, part_from, parts, edited};
 ghost use Rattle.numa_ranges.specs.Gathered.{Gathered};
 
 use crate::exact::Exact;
 use crate::pieces::Pieces;
 use crate::run::Run;
+use numa_rows::{Iter, Owned};
 use std::alloc::Global;
 
-/// Gathers runs, with those pages edited that lie in the span.
+/// Gathers the next runs, so many, with those pages edited that lie in the span.
 pub(crate) fn gather_edited<T: Exact, F: Fn(&T) -> Option<T>>(
     alloc: Global,
-    runs: &[Run<T>],
+    rest: &mut Iter<'_, Run<T>, Owned<Run<T>>>,
+    count: usize,
     first: u64,
     end: u64,
     edit: &F,
 ) -> Pieces<T>
     requires callable { F.IsAlwaysCallable edit.now }
-    requires len { length runs.now ≤ 2 ^ 32 }
-    requires in_range { All IsInRange runs.now }
-    ensures gathered { (change : T → Option T) → Makes F.Fn edit.now change → Gathered T.eq result (edited first end change runs.now) }
-    ensures count { result.count ≤ 3 * length runs.now }
+    requires within { count ≤ length rest.old }
+    requires len { count ≤ 2 ^ 32 }
+    requires in_range { All IsInRange (take count rest.old) }
+    ensures gathered { (change : T → Option T) → Makes F.Fn edit.now change
+        → Gathered T.eq result (edited first end change (take count rest.old)) }
+    ensures count { result.count ≤ 3 * count }
 {
     let mut pieces = Pieces::new(alloc);
-    for run in runs {
+    for k in 0..count {
+        let Some(run) = rest.next() else {
+            unreachable!()
+        };
         add_parts(&mut pieces, *run, first, end, edit);
     }
     pieces
 }
 
-/// Adds runs as they are.
-pub(crate) fn add_all<T: Exact>(pieces: &mut Pieces<T>, runs: &[Run<T>])
-    requires len { length runs.now ≤ 2 ^ 32 }
-    requires in_range { All IsInRange runs.now }
+/// Adds the next runs, so many, as they are.
+pub(crate) fn add_all<T: Exact>(
+    pieces: &mut Pieces<T>,
+    rest: &mut Iter<'_, Run<T>, Owned<Run<T>>>,
+    count: usize,
+)
+    requires within { count ≤ length rest.old }
+    requires len { count ≤ 2 ^ 32 }
+    requires in_range { All IsInRange (take count rest.old) }
     requires room { pieces.old.count < 2 ^ 60 }
-    ensures gathered { (added : List (Run T)) → Gathered T.eq pieces.old added → Gathered T.eq pieces.new (added ++ runs.now) }
-    ensures count { pieces.new.count ≤ pieces.old.count + length runs.now }
+    ensures gathered { (added : List (Run T)) → Gathered T.eq pieces.old added
+        → Gathered T.eq pieces.new (added ++ take count rest.old) }
+    ensures rest { rest.new ≡ drop count rest.old }
+    ensures count { pieces.new.count ≤ pieces.old.count + count }
 {
-    for run in runs {
+    for k in 0..count {
+        let Some(run) = rest.next() else {
+            unreachable!()
+        };
         pieces.add(*run);
     }
 }

@@ -17,6 +17,7 @@ mod join;
 mod pieces;
 mod range_map;
 mod run;
+mod walk;
 
 pub use exact::Exact;
 pub use fault::RangeFault;

@@ -5,6 +5,7 @@ ghost use Rattle.numa_ranges.specs.Edits.{IsInRange};
 use crate::exact::Exact;
 use crate::fault::RangeFault;
 use crate::run::{Run, continues};
+use numa_rows::{Owned, Rows};
 use std::alloc::Global;
 
 /// Runs that were added one after another, each joined to the one before where it continues that.
@@ -79,17 +80,16 @@ impl<T: Exact> Pieces<T> {
     /// Puts the gathered runs in the place of a window of runs, unless that makes too many.
     pub(crate) fn put(
         mut self,
-        runs: &mut Vec<Run<T>>,
+        runs: &mut Rows<Run<T>, Owned<Run<T>>>,
         from: usize,
         to: usize,
         limit: u32,
     ) -> Result<(), RangeFault>
-        requires window { (from ≤ to) × (to ≤ length runs.old.items) }
+        requires window { (from ≤ to) × (to ≤ length runs.old) }
         requires room { self.count < 2 ^ 62 }
-        requires len { length runs.old.items ≤ 2 ^ 32 }
-        ensures ok { (added : List (Run T)) → Gathered T.eq self added → OnOk result ((runs.new.items ≡ splice runs.old.items from to (joined T.eq added)) × (length (splice runs.old.items from to (joined T.eq added)) ≤ limit)) }
-        ensures err { (added : List (Run T)) → Gathered T.eq self added → IfErr result (λ refusal. refusal ≡ (if nat_lt limit (length (splice runs.old.items from to (joined T.eq added))) then TooManyRanges else NoMemory)) }
-        ensures unchanged { OnErr result (runs.new.items ≡ runs.old.items) }
+        ensures ok { (added : List (Run T)) → Gathered T.eq self added → OnOk result ((runs.new ≡ splice runs.old from to (joined T.eq added)) × (length (splice runs.old from to (joined T.eq added)) ≤ limit)) }
+        ensures err { (added : List (Run T)) → Gathered T.eq self added → IfErr result (λ refusal. refusal ≡ (if nat_lt limit (length (splice runs.old from to (joined T.eq added))) then TooManyRanges else NoMemory)) }
+        ensures unchanged { OnErr result (runs.new ≡ runs.old) }
     {
         self.seal();
         let Pieces {
@@ -105,7 +105,7 @@ impl<T: Exact> Pieces<T> {
         if is_refused {
             return Err(RangeFault::NoMemory);
         }
-        let Ok(_) = runs.splice(from..to, closed) else {
+        let Ok(()) = runs.splice(from, to, &closed) else {
             return Err(RangeFault::NoMemory);
         };
         Ok(())

@@ -4,7 +4,8 @@ ghost use Rattle.std.specs.List.{splice, slice_range};
 ghost use Rattle.std.specs.Fn.{FnReturnsAt};
 ghost use Rattle.numa_ranges.specs.Runs.{end_of, page_at, AreApart, AreMaximal};
 ghost use Rattle.numa_ranges.specs.Counts.{range_count, IsRange};
-ghost use Rattle.numa_ranges.specs.Maps.{Shows, Makes, IsRefusal, any_page, with_span, without_span, changed_page, changed_span, count_refusal, map_refusal, set_refusal};
+ghost use Rattle.numa_rows.specs.Changes.{Makes};
+ghost use Rattle.numa_ranges.specs.Maps.{Shows, IsRefusal, any_page, with_span, without_span, changed_page, changed_span, count_refusal, map_refusal, set_refusal};
 ghost use Rattle.numa_ranges.specs.Edits.{StartsAround, joined, edited, HoldsPage, HasRoom, Becomes, edited_span};
 
 use crate::edit::{add_all, gather_edited};
@@ -13,6 +14,8 @@ use crate::fault::RangeFault;
 use crate::join::{change_values, join_in_place};
 use crate::pieces::Pieces;
 use crate::run::Run;
+use crate::walk::{lacks_page, starts_on};
+use numa_rows::{Iter, Owned, Rows};
 use std::alloc::Global;
 use std::marker::Model;
 
@@ -23,16 +26,16 @@ use std::marker::Model;
 /// mmap(2), it belongs to its page, whatever happens to the pages beside it. Ranges split and join as Linux splits
 /// and merges the areas of an address space under mbind(2).
 ///
-/// The ranges stand in one sorted vector. A call over a span works on the ranges that it touches and one more on
-/// each side, judges their number, and then moves the tail of the vector once.
+/// The ranges stand in one sorted list in chunks. A call over a span finds its first range by one search, works on the
+/// ranges that it touches and one or two more on each side, judges their number, and edits one chunk or a few.
 #[derive(Drop)]
-pub struct RangeMap<T> {
-    runs: Vec<Run<T>>,
+pub struct RangeMap<T: Exact> {
+    runs: Rows<Run<T>, Owned<Run<T>>>,
     alloc: Global,
     max_ranges: u32,
 }
 
-impl<T> Model for RangeMap<T> {
+impl<T: Exact> Model for RangeMap<T> {
     ghost use Rattle.std.specs.Prelude.{List, ℕ, length, ◌≤◌};
     ghost use Rattle.numa_ranges.specs.declared.run.Run.{Run};
     ghost use Rattle.numa_ranges.specs.Ranges.{Ranges};
@@ -40,25 +43,23 @@ impl<T> Model for RangeMap<T> {
 
     ghost Value = { Ranges T };
 
-    ghost view = { λ a. record { runs = a.runs.items; max_ranges = a.max_ranges } };
+    ghost view = { λ a. record { runs = a.runs; max_ranges = a.max_ranges } };
 
-    ghost invariant = { λ a. AreApart 0 a.runs.items × AreMaximal a.runs.items × (length a.runs.items ≤ a.max_ranges) };
+    ghost invariant = { λ a. AreApart 0 a.runs × AreMaximal a.runs × (length a.runs ≤ a.max_ranges) };
 }
 
-impl<T> RangeMap<T> {
+impl<T: Exact> RangeMap<T> {
     /// A map without pages, for at most `max_ranges` ranges. It keeps the allocator and takes no memory.
     pub fn new(alloc: Global, max_ranges: u32) -> RangeMap<T>
         ensures { result ≡ record { runs = []; max_ranges = max_ranges } }
     {
         RangeMap {
-            runs: Vec::new(alloc),
+            runs: Rows::new(alloc),
             alloc,
             max_ranges,
         }
     }
-}
 
-impl<T: Exact> RangeMap<T> {
     /// How many ranges there are: as many as mapped pages whose predecessor is unmapped, has another value or an
     /// index that is not one less.
     pub fn len(&self) -> usize
@@ -70,8 +71,8 @@ impl<T: Exact> RangeMap<T> {
     }
 
     /// The ranges in rising order, each as its first page, its number of pages, its first index and its value.
-    pub fn iter(&self) -> std::slice::Iter<'_, Run<T>>
-        ensures runs { result.rest.now ≡ self.now.runs }
+    pub fn iter(&self) -> Iter<'_, Run<T>, Owned<Run<T>>>
+        ensures runs { result ≡ self.now.runs }
         ensures rising { AreApart 0 self.now.runs }
         ensures maximal { AreMaximal self.now.runs }
         ensures ranges { (run : Run T) → Contains self.now.runs run ↔ IsRange T.eq (page_at self.now.runs) run }
@@ -96,15 +97,8 @@ impl<T: Exact> RangeMap<T> {
         requires span { first + pages ≤ 2 ^ 35 }
         ensures { result ≡ any_page (λ page. not (is_some (page_at self.now.runs page))) first pages }
     {
-        let end = first + pages;
-        let mut page = first;
-        while page < end {
-            let Some(run) = self.run_at(page) else {
-                return true;
-            };
-            page = run.first + run.pages;
-        }
-        false
+        let place = self.starts_up_to(first);
+        lacks_page(&self.runs, place, first, pages)
     }
 
     /// Maps the `pages` pages from `first` on, with the indexes from `index` on and one value.
@@ -112,7 +106,7 @@ impl<T: Exact> RangeMap<T> {
     /// Refusals, in this order, after which the map is as it was:
     /// - `Overlap`: a page of the span is mapped.
     /// - `TooManyRanges`: there would be more than `max_ranges` ranges.
-    /// - `NoMemory`: the vector could not grow.
+    /// - `NoMemory`: there was none for the ranges that the call makes.
     pub fn map_span(
         &mut self,
         first: u64,
@@ -155,9 +149,10 @@ impl<T: Exact> RangeMap<T> {
         let from = place.saturating_sub(1);
         let to = self.runs.len().min(place + 1);
         let mut pieces = Pieces::new(self.alloc);
-        add_all(&mut pieces, &self.runs[from..place]);
+        let mut rest = self.runs.iter_from(from);
+        add_all(&mut pieces, &mut rest, place - from);
         pieces.add(run);
-        add_all(&mut pieces, &self.runs[place..to]);
+        add_all(&mut pieces, &mut rest, to - place);
         pieces.put(&mut self.runs, from, to, self.max_ranges)?;
         Ok(())
     }
@@ -174,7 +169,7 @@ impl<T: Exact> RangeMap<T> {
         if place == 0 {
             return Some(0);
         }
-        let run = self.runs[place - 1];
+        let run = *self.runs.get(place - 1);
         if run.first + run.pages > first {
             None
         } else {
@@ -187,7 +182,7 @@ impl<T: Exact> RangeMap<T> {
     /// Refusals, in this order, after which the map is as it was:
     /// - `Hole`: a page of the span is not mapped, which mbind(2) answers with EFAULT.
     /// - `TooManyRanges`: there would be more than `max_ranges` ranges.
-    /// - `NoMemory`: the vector could not grow.
+    /// - `NoMemory`: there was none for the ranges that the call makes.
     pub fn set_span(&mut self, first: u64, pages: u64, value: T) -> Result<(), RangeFault>
         requires some { 0 < pages }
         requires span { first + pages ≤ 2 ^ 35 }
@@ -197,10 +192,11 @@ impl<T: Exact> RangeMap<T> {
         ensures unchanged { OnErr result (self.new ≡ self.old) }
         ensures max_ranges { self.new.max_ranges ≡ self.old.max_ranges }
     {
-        if self.has_hole(first, pages) {
+        let place = self.starts_up_to(first);
+        if lacks_page(&self.runs, place, first, pages) {
             return Err(RangeFault::Hole);
         }
-        self.edit_span(first, pages, &|_: &T| Some(value))
+        self.edit_span(place, first, pages, &|_: &T| Some(value))
     }
 
     /// Unmaps the `pages` pages from `first` on, as munmap(2) does: pages of the span that are not mapped are passed
@@ -218,7 +214,8 @@ impl<T: Exact> RangeMap<T> {
         ensures unchanged { OnErr result (self.new ≡ self.old) }
         ensures max_ranges { self.new.max_ranges ≡ self.old.max_ranges }
     {
-        self.edit_span(first, pages, &|_: &T| None)
+        let place = self.starts_up_to(first);
+        self.edit_span(place, first, pages, &|_: &T| None)
     }
 
     /// Gives each mapped page among the `pages` pages from `first` on the value that `f` makes of its own. Each keeps
@@ -226,7 +223,7 @@ impl<T: Exact> RangeMap<T> {
     ///
     /// Refusals, in this order, after which the map is as it was:
     /// - `TooManyRanges`: there would be more than `max_ranges` ranges.
-    /// - `NoMemory`: the vector could not grow.
+    /// - `NoMemory`: there was none for the ranges that the call makes.
     pub fn update_span<F: Fn(&T) -> T>(
         &mut self,
         first: u64,
@@ -249,7 +246,8 @@ impl<T: Exact> RangeMap<T> {
             requires { F.IsAlwaysCallable f }
             ensures { IsSomeAnd result (λ made. FnReturnsAt F.Fn f value.now made) }
         { Some(f(value)) };
-        self.edit_span(first, pages, &edit)
+        let place = self.starts_up_to(first);
+        self.edit_span(place, first, pages, &edit)
     }
 
     /// Gives each mapped page the value that `f` makes of its own. Each keeps its index, and neighbours that become
@@ -261,17 +259,21 @@ impl<T: Exact> RangeMap<T> {
             → (page : ℕ) → page_at self.new.runs page ≡ changed_page change (page_at self.old.runs page) }
         ensures max_ranges { self.new.max_ranges ≡ self.old.max_ranges }
     {
-        change_values(&mut self.runs, &f);
+        change_values(&mut self.runs, f);
         join_in_place(&mut self.runs);
     }
 
-    /// Gives every mapped page of a span the value that `edit` makes of its own, or unmaps it.
+    /// Gives every mapped page of a span the value that `edit` makes of its own, or unmaps it, where so many runs start at
+    /// its first page or before it.
     fn edit_span<F: Fn(&T) -> Option<T>>(
         &mut self,
+        place: usize,
         first: u64,
         pages: u64,
         edit: &F,
     ) -> Result<(), RangeFault>
+        requires within { place ≤ length self.old.runs }
+        requires parts { StartsAround self.old.runs place first }
         requires span { first + pages ≤ 2 ^ 35 }
         requires callable { F.IsAlwaysCallable edit.now }
         requires function { (change : T → Option T) × Makes F.Fn edit.now change }
@@ -283,22 +285,28 @@ impl<T: Exact> RangeMap<T> {
         ensures max_ranges { self.new.max_ranges ≡ self.old.max_ranges }
     {
         let end = first + pages;
-        let (from, to) = self.window(first, end);
-        let pieces = gather_edited(self.alloc, &self.runs[from..to], first, end, edit);
+        let (from, to) = self.window(place, first, end);
+        let mut rest = self.runs.iter_from(from);
+        let pieces = gather_edited(self.alloc, &mut rest, to - from, first, end, edit);
         pieces.put(&mut self.runs, from, to, self.max_ranges)?;
         Ok(())
     }
 
-    /// The places of the runs that an edit of a span can change or join.
-    fn window(&self, first: u64, end: u64) -> (usize, usize)
-        requires { first ≤ end }
+    /// The places of the runs that an edit of a span can change or join, where so many start at its first page or before it.
+    fn window(&self, place: usize, first: u64, end: u64) -> (usize, usize)
+        requires rises { first ≤ end }
+        requires within { place ≤ length self.now.runs }
+        requires parts { StartsAround self.now.runs place first }
         ensures rises { result.0 ≤ result.1 }
         ensures within { result.1 ≤ length self.now.runs }
         ensures whole { (change : T → Option T) → splice self.now.runs result.0 result.1 (joined T.eq (edited first end change (slice_range self.now.runs result.0 result.1)))
             ≡ joined T.eq (edited first end change self.now.runs) }
     {
-        let from = self.starts_up_to(first).saturating_sub(2);
-        let to = self.runs.len().min(self.starts_up_to(end) + 1);
+        let from = place.saturating_sub(2);
+        let to = self
+            .runs
+            .len()
+            .min(starts_on(&self.runs, place, first, end) + 1);
         (from, to)
     }
 
@@ -310,7 +318,7 @@ impl<T: Exact> RangeMap<T> {
         if count == 0 {
             return None;
         }
-        let run = self.runs[count - 1];
+        let run = *self.runs.get(count - 1);
         if page - run.first < run.pages {
             Some(run)
         } else {
@@ -325,6 +333,7 @@ impl<T: Exact> RangeMap<T> {
         ensures maximal { AreMaximal self.now.runs }
         ensures parts { StartsAround self.now.runs result page }
     {
-        self.runs.partition_point(|run| run.first <= page)
+        self.runs
+            .partition_point(&mut |run: &Run<T>| run.first <= page)
     }
 }

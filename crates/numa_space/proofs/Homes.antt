@@ -1,5 +1,5 @@
 -- Whether a span has a page that takes no home, looked for run by run.
-use Rattle.std.proofs.Common.{◌≡◌, ℕ, zero, suc, ◌+◌, ◌-◌, ◌<◌, ◌≤◌, Bool, true, false, ◌&&◌, ◌||◌, Option, Some, None, List, [], ◌∷◌, refl, sym, ◌∙◌, arith, inl, inr, nat_lt}
+use Rattle.std.proofs.Common.{◌≡◌, ℕ, zero, suc, ◌+◌, ◌-◌, ◌<◌, ◌≤◌, Bool, true, false, ◌&&◌, ◌||◌, Option, Some, None, List, [], ◌∷◌, refl, sym, ap, ◌∙◌, arith, inl, inr, nat_lt}
 use Rattle.std.specs.List.{list_any}
 use Rattle.std.proofs.lemmas.Bool.{cases_Bool, cases_lt, lt-ltb, ltb-true}
 use Rattle.numa_mode.specs.Policy.{PolicyRecord}
@@ -68,3 +68,10 @@ refuses-pages (run ∷ runs) from first pages some apart =
           let tail : list_any (refuses first (first + pages)) runs ≡ any_page (λ page. takes_no_home (page_at runs page)) first pages = refuses-pages runs (end_of run) first pages some apart.3 in
           rw fails (tail ∙ any_page-within (λ page. takes_no_home (page_at runs page)) (λ page. takes_no_home (page_at (run ∷ runs) page)) first pages (λ page low high. skipped run runs first pages page fails apart.3 low high))
     ]
+
+-- a run that refuses, at the front of what is left, and one that doesn't
+pub refuses-one : (first end : ℕ) (before rest : List (Run (Option PolicyRecord))) (run : Run (Option PolicyRecord)) → before ≡ run ∷ rest → refuses first end run ≡ true → list_any (refuses first end) before ≡ true
+refuses-one first end before rest run steps held = ap (list_any (refuses first end)) steps ∙ ap (λ b. b || list_any (refuses first end) rest) held
+
+pub refuses-next : (first end : ℕ) (before rest : List (Run (Option PolicyRecord))) (run : Run (Option PolicyRecord)) → before ≡ run ∷ rest → refuses first end run ≡ false → list_any (refuses first end) rest ≡ list_any (refuses first end) before
+refuses-next first end before rest run steps fails = sym (ap (list_any (refuses first end)) steps ∙ ap (λ b. b || list_any (refuses first end) rest) fails)

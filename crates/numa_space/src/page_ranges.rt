@@ -1,6 +1,5 @@
 //! The pages of a space: a map that splits and joins, with refusals as a space gives them.
 ghost use Rattle.std.specs.Prelude.{◌≡◌, ◌≢◌, ◌+◌, ◌<◌, ◌≤◌, ◌^◌, ℕ, Some, None, Option, Ok, Err, MatchResult, is_some, not, [], length, Contains, ◌↔◌};
-ghost use Rattle.std.specs.List.{list_any};
 ghost use Rattle.numa_mode.specs.Policy.{PolicyRecord};
 ghost use Rattle.numa_ranges.specs.Runs.{AreApart, AreMaximal, page_at};
 ghost use Rattle.numa_ranges.specs.declared.run.Run.{Run};
@@ -18,6 +17,7 @@ use crate::refusal::Refusal;
 use numa_mask::NodeMask;
 use numa_mode::Record;
 use numa_ranges::{RangeFault, RangeMap, Run};
+use numa_rows::{Iter, Owned};
 use std::alloc::Global;
 use std::marker::Model;
 
@@ -55,8 +55,8 @@ impl Pages {
     }
 
     /// The ranges, rising.
-    pub(crate) fn iter(&self) -> std::slice::Iter<'_, Run<RangeRecord>>
-        ensures runs { result.rest.now ≡ self.now.runs }
+    pub(crate) fn iter(&self) -> Iter<'_, Run<RangeRecord>, Owned<Run<RangeRecord>>>
+        ensures runs { result ≡ self.now.runs }
         ensures rising { AreApart 0 self.now.runs }
         ensures maximal { AreMaximal self.now.runs }
         ensures ranges { (run : Run (Option PolicyRecord)) → Contains self.now.runs run ↔ IsRange same_record (page_at self.now.runs) run }
@@ -150,15 +150,14 @@ impl Pages {
         requires span { first + pages ≤ 2 ^ 35 }
         ensures { result ≡ any_page (λ page. takes_no_home (page_at self.now.runs page)) first pages }
     {
-        any_refuses(self.map.iter().as_slice(), first, first + pages)
+        let end = first + pages;
+        for run in self.map.iter() {
+            if refuses(run, first, end) {
+                return true;
+            }
+        }
+        false
     }
-}
-
-/// Whether one of these runs reaches into the pages from `first` up to `end`, and takes no home node.
-fn any_refuses(runs: &[Run<RangeRecord>], first: u64, end: u64) -> bool
-    ensures { result ≡ list_any (refuses first end) runs.now }
-{
-    runs.iter().any(|run| refuses(run, first, end))
 }
 
 /// Whether a run reaches into the pages from `first` up to `end`, and takes no home node.

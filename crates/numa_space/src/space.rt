@@ -24,6 +24,7 @@ use numa_machine::{Machine, Weights};
 use numa_mask::NodeMask;
 use numa_mode::Record;
 use numa_ranges::Run;
+use numa_rows::{Iter, Owned};
 use std::alloc::Global;
 use std::marker::Model;
 
@@ -162,8 +163,8 @@ impl Space {
 
     /// The ranges, rising: each as its first page, how many pages it has, the index of the first and, by `value.policy()`, the
     /// policy of its own, if it has one. No two of them could be one.
-    pub fn range_iter(&self) -> std::slice::Iter<'_, Run<RangeRecord>>
-        ensures runs { result.rest.now ≡ self.now.ranges }
+    pub fn range_iter(&self) -> Iter<'_, Run<RangeRecord>, Owned<Run<RangeRecord>>>
+        ensures runs { result ≡ self.now.ranges }
         ensures rising { AreApart 0 self.now.ranges }
         ensures maximal { AreMaximal self.now.ranges }
         ensures ranges { (run : Run (Option PolicyRecord)) → Contains self.now.ranges run ↔ IsRange same_record (page_at self.now.ranges) run }

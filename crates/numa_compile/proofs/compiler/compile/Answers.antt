@@ -1,6 +1,4 @@
-use Rattle.std.proofs.Common.{List, Option, length, ap, arith, rules}
-use Rattle.numa_mode.specs.Policy.{PolicyRecord}
-use Rattle.numa_ranges.specs.declared.run.Run.{Run}
+use Rattle.std.proofs.Common.{arith, rules}
 use Rattle.numa_compile.proofs.CompileSteps.{under-empty, plan-done, shares-done}
 use Rattle.numa_compile.proofs.CopyLemmas.{copies-length}
 use Rattle.numa_compile.proofs.Meaning.{plan-stands}
@@ -14,11 +12,11 @@ add_runs-requires-clause-under_way c =
 
 pub set_tasks-requires-clause-few : goal.set_tasks-requires-clause-few
 set_tasks-requires-clause-few c =
-    omega (arith, copies-length c.add_runs.new.records.keys c.as_slice-ranges.result.now c.add_runs.new.plan.runs c.in_ok-add_runs.ensures.copies, c.survey.ensures.ranges, c.survey.ensures.tasks, ap (λ (l : List (Run (Option PolicyRecord))). length l) c.range_iter.ensures.runs)
+    omega (arith, copies-length c.add_runs.new.records.keys c.args.space.now.ranges c.add_runs.new.plan.runs c.in_ok-add_runs.ensures.copies, c.survey.ensures.ranges, c.survey.ensures.tasks)
 
 pub set_tasks-requires-clause-room : goal.set_tasks-requires-clause-room
 set_tasks-requires-clause-room c =
-    omega (arith, c.in_ok-add_runs.ensures.room, c.survey.ensures.ranges, c.survey.ensures.tasks, ap (λ (l : List (Run (Option PolicyRecord))). length l) c.range_iter.ensures.runs)
+    omega (arith, c.in_ok-add_runs.ensures.room, c.survey.ensures.ranges, c.survey.ensures.tasks)
 
 pub returns-clause-stands : goal.returns-clause-stands
 returns-clause-stands c = λ history stands. plan-stands c.args.space.now c.set_version.new.self history (plan-done c.args.space.now c.set_tasks.new.plan c.set_version.new.self c.set_tasks.new.records.keys c.version.result c.version.ensures.version c.set_version.ensures c.in_ok-set_tasks.ensures.under_way c.in_ok-set_tasks.ensures.copies c.in_ok-set_tasks.ensures.tasks) stands

@@ -7,7 +7,7 @@ use Rattle.numa_maps.proofs.listing.write_maps.Given as goal
 
 abbrev pub invariant-loop-range : goal.invariant-loop-range
 invariant-loop-range g l = record {
-  wrote : (sent : List ℕ) × Appends (g.W.Write.contents l.fn.output.inner) (g.W.Write.contents l.output.inner) sent × (listing_in l.space l.task l.resident ≡ sent ++ listing (policy_in l.space l.task) l.resident l.range-iterator.rest.now);
-  apart : (from : ℕ) × AreApart from l.range-iterator.rest.now;
+  wrote : (sent : List ℕ) × Appends (g.W.Write.contents l.fn.output.inner) (g.W.Write.contents l.output.inner) sent × (listing_in l.space l.task l.resident ≡ sent ++ listing (policy_in l.space l.task) l.resident l.range-iterator);
+  apart : (from : ℕ) × AreApart from l.range-iterator;
   same : l.output.failed ≡ l.fn.output.failed;
 }

@@ -5,9 +5,10 @@ use Rattle.numa_ranges.proofs.join.join_in_place.Given as goal
 
 abbrev pub invariant-loop-i : goal.invariant-loop-i
 invariant-loop-i g l = record {
+  some : 0 < length l.initial.runs;
   behind : l.kept < l.i;
-  size : length l.runs.items ≡ length l.initial.runs.items;
-  ahead : drop l.i l.runs.items ≡ drop l.i l.initial.runs.items;
-  so_far : take l.kept l.runs.items ++ joined_from g.T.PartialEq.eq (drop l.i l.initial.runs.items) l.last ≡ joined g.T.PartialEq.eq l.initial.runs.items;
+  size : length l.runs ≡ length l.initial.runs;
+  ahead : drop l.i l.runs ≡ drop l.i l.initial.runs;
+  so_far : take l.kept l.runs ++ joined_from g.T.PartialEq.eq (drop l.i l.initial.runs) l.last ≡ joined g.T.PartialEq.eq l.initial.runs;
   in_range : IsInRange l.last;
 }

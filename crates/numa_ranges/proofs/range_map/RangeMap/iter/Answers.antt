@@ -6,8 +6,8 @@ use Rattle.numa_ranges.proofs.range_map.RangeMap.iter.Goals as goal
 pub returns-clause-ranges : goal.returns-clause-ranges
 returns-clause-ranges g c run =
     rw (← (ap (λ v. v.runs) c.self.view_is)) (
-      contains-range g.T.PartialEq.eq g.met.T.Exact.exact g.met.T.Eq.laws.refl c.self.inside.runs.items run c.self.invariant.0 c.self.invariant.1,
-      range-contains g.T.PartialEq.eq g.met.T.Exact.exact g.met.T.Eq.laws.refl c.self.inside.runs.items run c.self.invariant.0 c.self.invariant.1,
+      contains-range g.T.PartialEq.eq g.met.T.Exact.exact g.met.T.Eq.laws.refl c.self.inside.runs run c.self.invariant.0 c.self.invariant.1,
+      range-contains g.T.PartialEq.eq g.met.T.Exact.exact g.met.T.Eq.laws.refl c.self.inside.runs run c.self.invariant.0 c.self.invariant.1,
     )
 
 pub returns-clause-alone : goal.returns-clause-alone

@@ -1,9 +1,17 @@
 -- The span has no hole, so only the count can refuse the call.
-use Rattle.std.proofs.Common.{◌≡◌, ℕ, false, Option, Some, None, not, is_some, OnOk, IfErr, sym, subst, rules}
+use Rattle.std.proofs.Common.{◌≡◌, ℕ, false, Option, Some, None, not, is_some, OnOk, IfErr, List, length, ap, sym, subst, ◌∙◌, arith, rules}
 use Rattle.numa_ranges.specs.Runs.{page_at}
+use Rattle.numa_ranges.specs.Edits.{StartsAround}
+use Rattle.numa_ranges.specs.declared.run.Run.{Run}
 use Rattle.numa_ranges.specs.Maps.{Shows, IsRefusal, any_page, count_refusal}
 use Rattle.numa_ranges.proofs.Spans.{changed-is, on_ok}
 use Rattle.numa_ranges.proofs.range_map.RangeMap.set_span.Goals as goal
+
+pub lacks_page-requires-clause-within : goal.lacks_page-requires-clause-within
+lacks_page-requires-clause-within g c = omega (arith, c.starts_up_to-place.ensures.within, ap (λ v. length v.runs) c.self.view_is)
+
+pub lacks_page-requires-clause-parts : goal.lacks_page-requires-clause-parts
+lacks_page-requires-clause-parts g c = subst (λ (l : List (Run g.row.T.Denot)). StartsAround l c.starts_up_to-place.result c.args.first) (sym (ap (λ v. v.runs) c.self.view_is)) c.starts_up_to-place.ensures.parts
 
 pub edit_span-requires-clause-function : goal.edit_span-requires-clause-function
 edit_span-requires-clause-function g c = (λ x. Some c.args.value, λ x r h. search rules)
@@ -16,7 +24,7 @@ returns-clause-ok g c =
 
 pub returns-clause-accepted : goal.returns-clause-accepted
 returns-clause-accepted g c =
-    let whole : any_page (λ page. not (is_some (page_at c.args.self.now.runs page))) c.args.first c.args.pages ≡ false = sym c.if-has_hole.ensures in
+    let whole : any_page (λ page. not (is_some (page_at c.args.self.now.runs page))) c.args.first c.args.pages ≡ false = sym (c.if-lacks_page.ensures ∙ ap (λ v. any_page (λ page. not (is_some (page_at v.runs page))) c.args.first c.args.pages) c.self.view_is) in
     let same = changed-is c.args.first c.args.pages (λ (old : g.row.T.Denot). c.args.value) (page_at c.args.self.now.runs) in
     rw whole
     (subst (λ (at : ℕ → Option (ℕ × g.row.T.Denot)). OnOk c.edit_span.result (count_refusal g.T.PartialEq.eq c.args.self.now.max_ranges at ≡ None)) same
@@ -24,7 +32,7 @@ returns-clause-accepted g c =
 
 pub returns-clause-err : goal.returns-clause-err
 returns-clause-err g c =
-    let whole : any_page (λ page. not (is_some (page_at c.args.self.now.runs page))) c.args.first c.args.pages ≡ false = sym c.if-has_hole.ensures in
+    let whole : any_page (λ page. not (is_some (page_at c.args.self.now.runs page))) c.args.first c.args.pages ≡ false = sym (c.if-lacks_page.ensures ∙ ap (λ v. any_page (λ page. not (is_some (page_at v.runs page))) c.args.first c.args.pages) c.self.view_is) in
     let same = changed-is c.args.first c.args.pages (λ (old : g.row.T.Denot). c.args.value) (page_at c.args.self.now.runs) in
     rw whole
     (subst (λ (at : ℕ → Option (ℕ × g.row.T.Denot)). IfErr c.edit_span.result (IsRefusal (count_refusal g.T.PartialEq.eq c.args.self.now.max_ranges at))) same

@@ -7,6 +7,6 @@ use Rattle.numa_ranges.proofs.range_map.RangeMap.starts_up_to.Goals as goal
 
 pub returns-clause-parts : goal.returns-clause-parts
 returns-clause-parts g c =
-    let same : c.deref.result.now ≡ c.args.self.now.runs = c.deref.ensures.value ∙ (ap (λ v. v.runs) c.self.view_is) in
-    let found = IsPartitionPoint-from_clause (λ run. leb run.first c.args.page) _ _ c.partition_point.ensures.partitioned (IsPartitionedBy-leb (λ run. run.first) _ c.args.page (rw c.deref.ensures.value (apart-rising 0 _ c.self.invariant.0))) (λ a r f k. search rules) in
+    let same : c.self.inside.runs ≡ c.args.self.now.runs = ap (λ v. v.runs) c.self.view_is in
+    let found = IsPartitionPoint-from_clause (λ run. leb run.first c.args.page) _ _ c.partition_point.ensures.partitioned (IsPartitionedBy-leb (λ run. run.first) _ c.args.page (apart-rising 0 _ c.self.invariant.0)) (λ a r f k. search rules) in
     rw (← same) (λ k d low high. leb-true _ _ (found.0 k d low high), λ k d low high. leb-false _ _ (found.1 k d low high))

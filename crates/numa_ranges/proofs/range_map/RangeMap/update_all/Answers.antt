@@ -8,13 +8,13 @@ use Rattle.numa_ranges.proofs.range_map.RangeMap.update_all.Goals as goal
 
 pub join_in_place-requires : goal.join_in_place-requires
 join_in_place-requires g c =
-    record { in_range = rw (c.change_values.ensures c.requires.function.0 c.requires.function.1) (in-range-revalued c.requires.function.0 c.self.inside.runs.items c.self.invariant.0) }
+    record { in_range = rw (c.change_values.ensures.made c.requires.function.0 c.requires.function.1) (in-range-revalued c.requires.function.0 c.self.inside.runs c.self.invariant.0) }
 
 pub invariant_of-self : goal.invariant_of-self
 invariant_of-self g c =
-    let old = c.self.inside.runs.items in
+    let old = c.self.inside.runs in
     let change = c.requires.function.0 in
-    let all = c.join_in_place.ensures ∙ ap (joined g.T.PartialEq.eq) (c.change_values.ensures change c.requires.function.1) in
+    let all = c.join_in_place.ensures ∙ ap (joined g.T.PartialEq.eq) (c.change_values.ensures.made change c.requires.function.1) in
     rw all (
       apart-joined-all g.T.PartialEq.eq g.met.T.Exact.exact g.met.T.Eq.laws.refl (map (revalued change) old) (apart-revalued change 0 old c.self.invariant.0),
       maximal-joined-all g.T.PartialEq.eq g.met.T.Exact.exact g.met.T.Eq.laws.refl (map (revalued change) old),
@@ -23,6 +23,6 @@ invariant_of-self g c =
 
 pub returns-clause-pages : goal.returns-clause-pages
 returns-clause-pages g c change gives page =
-    let old = c.self.inside.runs.items in
-    let all = c.join_in_place.ensures ∙ ap (joined g.T.PartialEq.eq) (c.change_values.ensures change gives) in
+    let old = c.self.inside.runs in
+    let all = c.join_in_place.ensures ∙ ap (joined g.T.PartialEq.eq) (c.change_values.ensures.made change gives) in
     rw (all, ← (ap (λ v. v.runs) c.self.view_is)) (page_at-joined-all g.T.PartialEq.eq g.met.T.Exact.exact g.met.T.Eq.laws.refl (map (revalued change) old) page ∙ page_at-revalued change old page)

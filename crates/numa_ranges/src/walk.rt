@@ -1,0 +1,62 @@
+//! Runs that are walked one by one, from a place that a search found.
+ghost use Rattle.std.specs.Prelude.{◌≡◌, ◌+◌, ◌≤◌, ◌^◌, length, not, is_some};
+ghost use Rattle.numa_ranges.specs.Runs.{page_at, AreApart};
+ghost use Rattle.numa_ranges.specs.Maps.{any_page};
+ghost use Rattle.numa_ranges.specs.Edits.{StartsAround};
+
+use crate::exact::Exact;
+use crate::run::Run;
+use numa_rows::{Owned, Rows};
+
+/// Whether one of the pages of a span is not mapped, where so many runs start at its first page or before it.
+pub(crate) fn lacks_page<T: Exact>(
+    runs: &Rows<Run<T>, Owned<Run<T>>>,
+    place: usize,
+    first: u64,
+    pages: u64,
+) -> bool
+    requires apart { AreApart 0 runs.now }
+    requires within { place ≤ length runs.now }
+    requires parts { StartsAround runs.now place first }
+    requires span { first + pages ≤ 2 ^ 35 }
+    ensures { result ≡ any_page (λ page. not (is_some (page_at runs.now page))) first pages }
+{
+    let end = first + pages;
+    let mut page = first;
+    for run in runs.iter_from(place.saturating_sub(1)) {
+        if page >= end {
+            return false;
+        }
+        if page < run.first {
+            return true;
+        }
+        page = page.max(run.first + run.pages);
+    }
+    page < end
+}
+
+/// How many runs start at a page or before it, where so many start at an earlier page or before that.
+pub(crate) fn starts_on<T: Exact>(
+    runs: &Rows<Run<T>, Owned<Run<T>>>,
+    place: usize,
+    _first: u64,
+    page: u64,
+) -> usize
+    requires rises { _first ≤ page }
+    requires apart { AreApart 0 runs.now }
+    requires within { place ≤ length runs.now }
+    requires parts { StartsAround runs.now place _first }
+    ensures within { result ≤ length runs.now }
+    ensures parts { StartsAround runs.now result page }
+{
+    // Tells the proof that the count fits.
+    let _ = runs.len();
+    let mut count = place;
+    for run in runs.iter_from(place) {
+        if run.first > page {
+            return count;
+        }
+        count += 1;
+    }
+    count
+}
