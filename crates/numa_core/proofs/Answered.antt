@@ -5,12 +5,12 @@ use Rattle.std.proofs.lemmas.Bool.Decides.{nat_tests}
 use Rattle.numa_space.specs.declared.request.Request.{Request}
 use Rattle.numa_machine.specs.declared.frame.Frame.{Frame}
 use Rattle.numa_space.specs.declared.placement.Placement.{Placement}
-use Rattle.numa_core.specs.declared.event.Event.{Event}
-use Rattle.numa_core.specs.declared.event.Event.TheVariants.{Accept, Publish, Begin, Look, Try, Give}
-use Rattle.numa_core.specs.declared.event.Reply.{Reply}
-use Rattle.numa_core.specs.declared.event.Reply.TheVariants.{Still, Exhausted, Won}
-use Rattle.numa_core.specs.declared.event.CoreRefusal.{CoreRefusal}
-use Rattle.numa_core.specs.declared.event.CoreRefusal.TheVariants.{Command as Because, NoSuchWorker, Busy, Idle, BadTry, NotOwned, BadCpu, Unmapped}
+use Rattle.numa_space.specs.declared.event.Event.{Event}
+use Rattle.numa_space.specs.declared.event.Event.TheVariants.{Accept, Publish, Begin, Look, Try, Give}
+use Rattle.numa_space.specs.declared.event.CoreReply.{CoreReply}
+use Rattle.numa_space.specs.declared.event.CoreReply.TheVariants.{Still, Exhausted, Won}
+use Rattle.numa_space.specs.declared.event.CoreRefusal.{CoreRefusal}
+use Rattle.numa_space.specs.declared.event.CoreRefusal.TheVariants.{Command as Because, NoSuchWorker, Busy, Idle, BadTry, NotOwned, BadCpu, Unmapped}
 use Rattle.numa_space.specs.declared.refusal.Refusal.TheVariants.{NoMemory as NoRoom}
 use Rattle.numa_core.specs.World.{Setup, Hunt, World, hunt_of, owner_of, is_frame, list_at, current_rank, looked, missed, may_try, begun}
 use Rattle.numa_core.specs.Steps.{first_refusal, refusal_of, reply_of, refused_or, goes_on, placement_of, owns, IsAnswer, IsOutOfMemory}
@@ -21,25 +21,25 @@ pub legal_before : (s : Setup) (later rest : List Moment) → IsLegalRun s (late
 legal_before s [] rest legal = legal
 legal_before s (m ∷ later) rest legal = legal_before s later rest legal.0
 
-not_ok : (event : Event) (reply : Reply) → IsOutOfMemory event (Ok reply) → ⊥
-not_ok (Accept command) reply h = let odd : ◌≡◌ {A = Result Reply CoreRefusal} (Ok reply) (Err (Because NoRoom)) = h.0 in cc
+not_ok : (event : Event) (reply : CoreReply) → IsOutOfMemory event (Ok reply) → ⊥
+not_ok (Accept command) reply h = let odd : ◌≡◌ {A = Result CoreReply CoreRefusal} (Ok reply) (Err (Because NoRoom)) = h.0 in cc
 not_ok Publish reply h = cc
 not_ok (Begin w request) reply h = h
 not_ok (Look w word) reply h = h
 not_ok (Try w frame) reply h = h
 not_ok (Give w frame) reply h = h
 
-same_reply : (a b : Reply) → ◌≡◌ {A = Result Reply CoreRefusal} (Ok a) (Ok b) → a ≡ b
+same_reply : (a b : CoreReply) → ◌≡◌ {A = Result CoreReply CoreRefusal} (Ok a) (Ok b) → a ≡ b
 same_reply a b e = cc
 
-no_refusal : (a : Reply) (b : CoreRefusal) → ◌≡◌ {A = Result Reply CoreRefusal} (Ok a) (Err b) → ⊥
+no_refusal : (a : CoreReply) (b : CoreRefusal) → ◌≡◌ {A = Result CoreReply CoreRefusal} (Ok a) (Err b) → ⊥
 no_refusal a b e = cc
 
 -- a reply says that nothing refused the event, and is the one that the world gives
-pub replied : (s : Setup) (world : World) (version : ℕ) (event : Event) (reply : Reply) → IsAnswer s world version event (Ok reply) → (refusal_of s world version event ≡ None) × (reply ≡ reply_of s world version event)
+pub replied : (s : Setup) (world : World) (version : ℕ) (event : Event) (reply : CoreReply) → IsAnswer s world version event (Ok reply) → (refusal_of s world version event ≡ None) × (reply ≡ reply_of s world version event)
 replied s world version event reply answer = go (refusal_of s world version event) answer
   where
-    go : (o : Option CoreRefusal) → (◌≡◌ {A = Result Reply CoreRefusal} (Ok reply) (refused_or o (reply_of s world version event))) ⊎ ((o ≡ None) × IsOutOfMemory event (Ok reply)) → (o ≡ None) × (reply ≡ reply_of s world version event)
+    go : (o : Option CoreRefusal) → (◌≡◌ {A = Result CoreReply CoreRefusal} (Ok reply) (refused_or o (reply_of s world version event))) ⊎ ((o ≡ None) × IsOutOfMemory event (Ok reply)) → (o ≡ None) × (reply ≡ reply_of s world version event)
     go None (inl e) = (refl, same_reply reply (reply_of s world version event) e)
     go (Some refusal) (inl e) = absurd (no_refusal reply refusal e)
     go o (inr h) = absurd (not_ok event reply h.1)

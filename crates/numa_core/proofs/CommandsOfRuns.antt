@@ -15,10 +15,10 @@ use Rattle.numa_space.specs.declared.command.Command.{Command}
 use Rattle.numa_space.specs.declared.refusal.Refusal.{Refusal}
 use Rattle.numa_space.proofs.Meant.{meant-list}
 use Rattle.numa_space.specs.declared.request.Request.{Request}
-use Rattle.numa_core.specs.declared.event.Event.{Event}
-use Rattle.numa_core.specs.declared.event.Event.TheVariants.{Accept, Publish, Begin, Look, Try, Give}
-use Rattle.numa_core.specs.declared.event.Reply.{Reply}
-use Rattle.numa_core.specs.declared.event.CoreRefusal.{CoreRefusal}
+use Rattle.numa_space.specs.declared.event.Event.{Event}
+use Rattle.numa_space.specs.declared.event.Event.TheVariants.{Accept, Publish, Begin, Look, Try, Give}
+use Rattle.numa_space.specs.declared.event.CoreReply.{CoreReply}
+use Rattle.numa_space.specs.declared.event.CoreRefusal.{CoreRefusal}
 use Rattle.numa_space.specs.declared.placement.Placement.{Placement}
 use Rattle.numa_core.specs.World.{Setup, World, first_commands, is_published, list_at, newest_published, owner_of}
 use Rattle.numa_core.specs.Steps.{because, refusal_of, effect_of, world_after, IsAnswer}
@@ -85,7 +85,7 @@ module _ (s : Setup) (world : World) (version : ℕ) where
   accepted-event (Try w frame) none accepted = accepted
   accepted-event (Give w frame) none accepted = accepted
 
-  accepted-step : (event : Event) (answer : Result Reply CoreRefusal) → IsAnswer s world version event answer → IsAccepted s.machine s.bounds world.history → IsAccepted s.machine s.bounds (world_after s world version event answer).history
+  accepted-step : (event : Event) (answer : Result CoreReply CoreRefusal) → IsAnswer s world version event answer → IsAccepted s.machine s.bounds world.history → IsAccepted s.machine s.bounds (world_after s world version event answer).history
   accepted-step event (Ok reply) is accepted =
       subst (λ (h : List Command). IsAccepted s.machine s.bounds h) (sym (effect-history event)) (accepted-event event (replied s world version event reply is).0 accepted)
   accepted-step event (Err refusal) is accepted = accepted
@@ -100,7 +100,7 @@ module _ (s : Setup) (world : World) (version : ℕ) where
   counted-event (Try w frame) = omega arith
   counted-event (Give w frame) = omega arith
 
-  counted-step : (event : Event) (answer : Result Reply CoreRefusal) → length (world_after s world version event answer).history ≡ (if is_ok answer && is_accept event then 1 else 0) + length world.history
+  counted-step : (event : Event) (answer : Result CoreReply CoreRefusal) → length (world_after s world version event answer).history ≡ (if is_ok answer && is_accept event then 1 else 0) + length world.history
   counted-step event (Ok reply) = ap (λ (h : List Command). length h) (effect-history event) ∙ counted-event event
   counted-step event (Err refusal) = omega arith
 
@@ -114,7 +114,7 @@ module _ (s : Setup) (world : World) (version : ℕ) where
   first-event (Try w frame) v low = (refl, low)
   first-event (Give w frame) v low = (refl, low)
 
-  first-step : (event : Event) (answer : Result Reply CoreRefusal) (v : ℕ) → v ≤ length world.history
+  first-step : (event : Event) (answer : Result CoreReply CoreRefusal) (v : ℕ) → v ≤ length world.history
       → (first_commands v (world_after s world version event answer).history ≡ first_commands v world.history) × (v ≤ length (world_after s world version event answer).history)
   first-step event (Ok reply) v low =
       let P : List Command → Type 0 = λ h. (first_commands v h ≡ first_commands v world.history) × (v ≤ length h) in
@@ -129,7 +129,7 @@ module _ (s : Setup) (world : World) (version : ℕ) where
   rises-event (Try w frame) known = omega arith
   rises-event (Give w frame) known = omega arith
 
-  rises-step : (event : Event) (answer : Result Reply CoreRefusal) → newest_published world ≤ length world.history → newest_published world ≤ newest_published (world_after s world version event answer)
+  rises-step : (event : Event) (answer : Result CoreReply CoreRefusal) → newest_published world ≤ length world.history → newest_published world ≤ newest_published (world_after s world version event answer)
   rises-step event (Ok reply) known = subst (λ (vs : List ℕ). newest_published world ≤ slice_index vs 0) (sym (effect-published event)) (rises-event event known)
   rises-step event (Err refusal) known = omega arith
 

@@ -15,12 +15,12 @@ use Rattle.numa_compile.specs.Standing.{PlanStandsFor}
 use Rattle.numa_machine.specs.Machine.{Hardware}
 use Rattle.numa_space.specs.declared.request.Request.{Request}
 use Rattle.numa_machine.specs.declared.frame.Frame.{Frame}
-use Rattle.numa_core.specs.declared.event.Event.{Event}
-use Rattle.numa_core.specs.declared.event.Event.TheVariants.{Accept, Publish, Begin, Look, Try, Give}
-use Rattle.numa_core.specs.declared.event.Reply.{Reply}
-use Rattle.numa_core.specs.declared.event.Reply.TheVariants.{Accepted, Published, Still, Won, Given}
-use Rattle.numa_core.specs.declared.event.CoreRefusal.{CoreRefusal}
-use Rattle.numa_core.specs.declared.event.CoreRefusal.TheVariants.{Idle, BadTry}
+use Rattle.numa_space.specs.declared.event.Event.{Event}
+use Rattle.numa_space.specs.declared.event.Event.TheVariants.{Accept, Publish, Begin, Look, Try, Give}
+use Rattle.numa_space.specs.declared.event.CoreReply.{CoreReply}
+use Rattle.numa_space.specs.declared.event.CoreReply.TheVariants.{Accepted, Published, Still, Won, Given}
+use Rattle.numa_space.specs.declared.event.CoreRefusal.{CoreRefusal}
+use Rattle.numa_space.specs.declared.event.CoreRefusal.TheVariants.{Idle, BadTry}
 use Rattle.numa_core.specs.World.{Setup, Hunt, Worker, World, opening, newest_published, first_commands, hunt_of, last_of, owner_of, is_frame, list_at, may_look, may_try, looked, missed, begun}
 use Rattle.numa_core.specs.Steps.{because, refusal_of, reply_of, effect_of, goes_on, going_on, placement_of, with_worker, with_owner, refused_or, IsAnswer, world_after, MayTake}
 use Rattle.numa_core.specs.Runs.{Moment, IsLegalRun, world_of}
@@ -135,18 +135,18 @@ stands-owner core world frame place x stands here is low = record {
 }
 
 -- a refused event leaves the worker as it was
-pub stands-result : (core : CoreState) (world after : World) (w : ℕ) (old new : Option Busy) (result : Result Reply CoreRefusal) → (is_ok result ≡ true → CoreStandsFor (with_seat core w new) after) → OnErr result (new ≡ old) → slice_get core.workers w ≡ Some old → CoreStandsFor core world → CoreStandsFor (with_seat core w new) (if is_ok result then after else world)
+pub stands-result : (core : CoreState) (world after : World) (w : ℕ) (old new : Option Busy) (result : Result CoreReply CoreRefusal) → (is_ok result ≡ true → CoreStandsFor (with_seat core w new) after) → OnErr result (new ≡ old) → slice_get core.workers w ≡ Some old → CoreStandsFor core world → CoreStandsFor (with_seat core w new) (if is_ok result then after else world)
 stands-result core world after w old new (Ok reply) ok err at stands = ok refl
 stands-result core world after w old new (Err refusal) ok err at stands = subst (λ ws. CoreStandsFor (record { space = core.space; plan = core.plan; workers = ws; owners = core.owners }) world) (sym (ap (set core.workers w) err ∙ set_back core.workers w old at)) stands
 
 -- ---- refusals
 
-answered : (s : Setup) (world : World) (version : ℕ) (event : Event) (o : Option CoreRefusal) (result : Result Reply CoreRefusal) → refusal_of s world version event ≡ o → result ≡ refused_or o (reply_of s world version event) → IsAnswer s world version event result
+answered : (s : Setup) (world : World) (version : ℕ) (event : Event) (o : Option CoreRefusal) (result : Result CoreReply CoreRefusal) → refusal_of s world version event ≡ o → result ≡ refused_or o (reply_of s world version event) → IsAnswer s world version event result
 answered s world version event o result is e = inl (e ∙ ap (λ r. refused_or r (reply_of s world version event)) (sym is))
 
 -- ---- a Look
 
-pub look_answer : (s : Setup) (world : World) (version w word : ℕ) (old new : Option Hunt) (result : Result Reply CoreRefusal) → w < s.workers → hunt_of world w ≡ old
+pub look_answer : (s : Setup) (world : World) (version w word : ℕ) (old new : Option Hunt) (result : Result CoreReply CoreRefusal) → w < s.workers → hunt_of world w ≡ old
     → MatchOption old (result ≡ Err Idle) (λ hunt. MatchBool (may_look s hunt word) ((result ≡ Ok (goes_on s (looked s world word hunt))) × (new ≡ going_on s (looked s world word hunt))) (result ≡ Err BadTry))
     → IsAnswer s world version (Look w word) result × (is_ok result ≡ true → new ≡ option_map_or (λ hunt. going_on s (looked s world word hunt)) (hunt_of world w) None)
 look_answer s world version w word old new result low is looks = go old is looks
@@ -170,7 +170,7 @@ look_answer s world version w word old new result low is looks = go old is looks
 
 -- ---- a Try
 
-pub try_answer : (s : Setup) (world : World) (version w : ℕ) (frame : Frame) (owned : Bool) (old new : Option Hunt) (result : Result Reply CoreRefusal) → w < s.workers → hunt_of world w ≡ old → (is_ok result ≡ true → is_some (owner_of world frame) ≡ owned)
+pub try_answer : (s : Setup) (world : World) (version w : ℕ) (frame : Frame) (owned : Bool) (old new : Option Hunt) (result : Result CoreReply CoreRefusal) → w < s.workers → hunt_of world w ≡ old → (is_ok result ≡ true → is_some (owner_of world frame) ≡ owned)
     → MatchOption old (result ≡ Err Idle) (λ hunt. MatchBool (may_try s hunt frame)
     (MatchBool owned ((result ≡ Ok (goes_on s (missed frame hunt))) × (new ≡ going_on s (missed frame hunt))) ((result ≡ Ok (Won (placement_of s hunt frame))) × (new ≡ None)))
     (result ≡ Err BadTry))
@@ -209,7 +209,7 @@ give_answer s world version w frame low idle owner = answered s world version (G
 
 -- ---- a Begin
 
-pub begin_answer : (s : Setup) (world : World) (version w : ℕ) (request : Request) (row : List ℕ) (reply : Reply) → refusal_of s world version (Begin w request) ≡ None → list_at s.machine world.history version request ≡ Some row → reply ≡ goes_on s (fresh request version row) → IsAnswer s world version (Begin w request) (Ok reply)
+pub begin_answer : (s : Setup) (world : World) (version w : ℕ) (request : Request) (row : List ℕ) (reply : CoreReply) → refusal_of s world version (Begin w request) ≡ None → list_at s.machine world.history version request ≡ Some row → reply ≡ goes_on s (fresh request version row) → IsAnswer s world version (Begin w request) (Ok reply)
 begin_answer s world version w request row reply allowed listed is = answered s world version (Begin w request) None (Ok reply) allowed (ap Ok (is ∙ ap (λ o. goes_on s (fresh request version (unwrap_or o []))) (sym listed)))
 
 pub begin_hunt : (s : Setup) (world : World) (version : ℕ) (request : Request) (row : List ℕ) → list_at s.machine world.history version request ≡ Some row → going_on s (fresh request version row) ≡ going_on s (begun s world version request)
@@ -227,7 +227,7 @@ may_take core world (Try w frame) stands = tt
 may_take core world (Give w frame) stands = tt
 
 -- a step leads on
-pub leads_on : (old new : CoreState) (event : Event) (answer : Result Reply CoreRefusal) → setup_of new ≡ setup_of old → ((world : World) → CoreStandsFor old world → IsAnswer (setup_of old) world (newest_published world) event answer × CoreStandsFor new (world_after (setup_of old) world (newest_published world) event answer))
+pub leads_on : (old new : CoreState) (event : Event) (answer : Result CoreReply CoreRefusal) → setup_of new ≡ setup_of old → ((world : World) → CoreStandsFor old world → IsAnswer (setup_of old) world (newest_published world) event answer × CoreStandsFor new (world_after (setup_of old) world (newest_published world) event answer))
     → (run : List Moment) → LeadsTo run old → LeadsTo (moment_after (setup_of old) run event answer ∷ run) new
 leads_on old new event answer same follows run leads =
     let step = follows (world_of (setup_of old) run) leads.stands in
@@ -273,7 +273,7 @@ module _ (space : SpaceState) (plan : PlanData) (places : List ℕ) (seats : Lis
     moved : (new : Seat) (table : List (Option ℕ)) (after : World) → CoreStandsFor (record { space = space; plan = plan; workers = set (map busy_of seats) w (busy_of new); owners = table }) after → CoreStandsFor (core_of space plan (set seats w new) table) after
     moved new table after now = subst (λ ws. CoreStandsFor (record { space = space; plan = plan; workers = ws; owners = table }) after) (sym (map-set busy_of seats w new)) now
 
-    seen_err : (new : Seat) (result : Result Reply CoreRefusal) → OnErr result (new ≡ old) → OnErr result (busy_of new ≡ busy_of old)
+    seen_err : (new : Seat) (result : Result CoreReply CoreRefusal) → OnErr result (new ≡ old) → OnErr result (busy_of new ≡ busy_of old)
     seen_err new (Ok reply) err = tt
     seen_err new (Err refusal) err = ap busy_of err
 
@@ -281,7 +281,7 @@ module _ (space : SpaceState) (plan : PlanData) (places : List ℕ) (seats : Lis
     with_new : (new : Seat) (last : ℕ) (hunt : Option Hunt) → seat_hunt places new ≡ hunt → last ≤ newest_published world → CoreStandsFor (with_seat (core_of space plan seats owners) w (busy_of new)) (with_worker world w last hunt)
     with_new new last hunt is not_newer = stands-seat (core_of space plan seats owners) world w last (busy_of new) hunt stands few (hunt-same space.machine places (busy_of new) same ∙ is) not_newer
 
-    pub look-follows : (word : ℕ) (new : Seat) (result : Result Reply CoreRefusal) → OnErr result (new ≡ old) → (((n k : ℕ) → world.owner n k ≡ owner_at owners (place_in places n k)) → SeatLooks places (setup_of (core_of space plan seats owners)) world word old result new)
+    pub look-follows : (word : ℕ) (new : Seat) (result : Result CoreReply CoreRefusal) → OnErr result (new ≡ old) → (((n k : ℕ) → world.owner n k ≡ owner_at owners (place_in places n k)) → SeatLooks places (setup_of (core_of space plan seats owners)) world word old result new)
         → IsAnswer (setup_of (core_of space plan seats owners)) world (newest_published world) (Look w word) result × CoreStandsFor (core_of space plan (set seats w new) owners) (world_after (setup_of (core_of space plan seats owners)) world (newest_published world) (Look w word) result)
     look-follows word new result err looks =
         let answer = look_answer (setup_of (core_of space plan seats owners)) world (newest_published world) w word (seat_hunt places old) (seat_hunt places new) result few its_hunt (looks told_owner) in (
@@ -290,7 +290,7 @@ module _ (space : SpaceState) (plan : PlanData) (places : List ℕ) (seats : Lis
               (λ ok. with_new new (last_of world w) _ (answer.1 ok) (stands.not_newer w)) (seen_err new result err) shown_there stands),
         )
 
-    pub begin-follows : (request : Request) (row : List ℕ) (version : ℕ) (new : Seat) (reply : Reply) → version ≡ plan.version → IsJudged (core_of space plan seats owners) w request None → IsListed (core_of space plan seats owners) request row
+    pub begin-follows : (request : Request) (row : List ℕ) (version : ℕ) (new : Seat) (reply : CoreReply) → version ≡ plan.version → IsJudged (core_of space plan seats owners) w request None → IsListed (core_of space plan seats owners) request row
         → ((s : Setup) → places ≡ s.machine.frames → reply ≡ goes_on s (fresh request version row)) → ((s : Setup) → places ≡ s.machine.frames → seat_hunt places new ≡ going_on s (fresh request version row))
         → IsAnswer (setup_of (core_of space plan seats owners)) world (newest_published world) (Begin w request) (Ok reply) × CoreStandsFor (core_of space plan (set seats w new) owners) (effect_of (setup_of (core_of space plan seats owners)) world (newest_published world) (Begin w request))
     begin-follows request row version new reply is allowed listed answer hunt =
@@ -300,7 +300,7 @@ module _ (space : SpaceState) (plan : PlanData) (places : List ℕ) (seats : Lis
         )
 
     -- a Try of an owned frame
-    pub owned-follows : (frame : Frame) (place : ℕ) (new : Seat) (result : Result Reply CoreRefusal) → place_in places frame.node frame.number ≡ Some place → is_some (owner_at owners (Some place)) ≡ true → OnErr result (new ≡ old) → SeatTries places (setup_of (core_of space plan seats owners)) true frame old result new
+    pub owned-follows : (frame : Frame) (place : ℕ) (new : Seat) (result : Result CoreReply CoreRefusal) → place_in places frame.node frame.number ≡ Some place → is_some (owner_at owners (Some place)) ≡ true → OnErr result (new ≡ old) → SeatTries places (setup_of (core_of space plan seats owners)) true frame old result new
         → IsAnswer (setup_of (core_of space plan seats owners)) world (newest_published world) (Try w frame) result × CoreStandsFor (core_of space plan (set seats w new) owners) (world_after (setup_of (core_of space plan seats owners)) world (newest_published world) (Try w frame) result)
     owned-follows frame place new result at owned err tries =
         let own : is_some (owner_of world frame) ≡ true = ap is_some (told_owner frame.node frame.number ∙ ap (owner_at owners) at) ∙ owned in
@@ -328,7 +328,7 @@ module _ (space : SpaceState) (plan : PlanData) (places : List ℕ) (seats : Lis
         (tries-nowhere (setup_of (core_of space plan seats owners)) places false frame old old refusal same at why)).0
 
     -- a Try of a free frame that is won
-    pub won-follows : (frame : Frame) (place : ℕ) (reply : Reply) (new : Seat) → place_in places frame.node frame.number ≡ Some place → place < length owners → is_some (owner_at owners (Some place)) ≡ false → SeatTries places (setup_of (core_of space plan seats owners)) false frame old (Ok reply) new
+    pub won-follows : (frame : Frame) (place : ℕ) (reply : CoreReply) (new : Seat) → place_in places frame.node frame.number ≡ Some place → place < length owners → is_some (owner_at owners (Some place)) ≡ false → SeatTries places (setup_of (core_of space plan seats owners)) false frame old (Ok reply) new
         → IsAnswer (setup_of (core_of space plan seats owners)) world (newest_published world) (Try w frame) (Ok reply) × CoreStandsFor (core_of space plan (set seats w new) (set owners place (Some w))) (effect_of (setup_of (core_of space plan seats owners)) world (newest_published world) (Try w frame))
     won-follows frame place reply new at within free tries =
         let own : is_some (owner_of world frame) ≡ false = ap is_some (told_owner frame.node frame.number ∙ ap (owner_at owners) at) ∙ free in

@@ -1,7 +1,7 @@
 -- The cursor of a seat, and the current node of its hunt.
 use Rattle.std.proofs.Common.{zero, suc, ◌≡◌, ◌≢◌, ℕ, ◌+◌, ◌<◌, ◌≤◌, ◌==◌, ◌||◌, ◌⊎◌, inl, inr, Bool, true, false, not, Option, Some, None, List, [], ◌∷◌, length, refl, sym, ap, subst, arith, slice_index}
 use Rattle.std.proofs.lemmas.Bool.Decides.{eqb_tells}
-use Rattle.numa_core.specs.declared.event.Reply.TheVariants.{Still, Exhausted}
+use Rattle.numa_space.specs.declared.event.CoreReply.TheVariants.{Still, Exhausted}
 use Rattle.numa_core.specs.World.{Setup, Hunt, any_below, first_place, current_rank}
 use Rattle.numa_core.specs.Steps.{goes_on, going_on}
 use Rattle.numa_core.specs.Standing.{Busy, met_at, hunt_in}

@@ -3,9 +3,9 @@ use Rattle.std.proofs.Common.{◌≡◌, ℕ, Option, Some, None, Ok, is_some, L
 use Rattle.std.specs.Option.{option_map_or}
 use Rattle.std.proofs.lemmas.Bool.{eq-eqb}
 use Rattle.numa_machine.specs.Machine.{frames_of}
-use Rattle.numa_core.specs.declared.event.Event.{Event}
-use Rattle.numa_core.specs.declared.event.Event.TheVariants.{Accept, Publish, Begin, Look, Try, Give}
-use Rattle.numa_core.specs.declared.event.Reply.TheVariants.{Still, Exhausted, Won}
+use Rattle.numa_space.specs.declared.event.Event.{Event}
+use Rattle.numa_space.specs.declared.event.Event.TheVariants.{Accept, Publish, Begin, Look, Try, Give}
+use Rattle.numa_space.specs.declared.event.CoreReply.TheVariants.{Still, Exhausted, Won}
 use Rattle.numa_core.specs.World.{Setup, Hunt, hunt_of, owner_of, current_rank, has_unmet, begun, looked, missed}
 use Rattle.numa_core.specs.Steps.{refusal_of, reply_of, goes_on, placement_of, IsAnswer, MayTake}
 use Rattle.numa_core.specs.Runs.{Moment, world_of, IsLegalRun, IsExhausted, worker_of}

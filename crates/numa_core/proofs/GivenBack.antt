@@ -4,11 +4,11 @@ use Rattle.std.specs.List.{list_any}
 use Rattle.std.proofs.lemmas.Bool.{eq-eqb}
 use Rattle.std.proofs.lemmas.Bool.Decides.{nat_tests}
 use Rattle.numa_machine.specs.declared.frame.Frame.{Frame}
-use Rattle.numa_core.specs.declared.event.Event.{Event}
-use Rattle.numa_core.specs.declared.event.Event.TheVariants.{Accept, Publish, Begin, Look, Try, Give}
-use Rattle.numa_core.specs.declared.event.Reply.{Reply}
-use Rattle.numa_core.specs.declared.event.Reply.TheVariants.{Won}
-use Rattle.numa_core.specs.declared.event.CoreRefusal.{CoreRefusal}
+use Rattle.numa_space.specs.declared.event.Event.{Event}
+use Rattle.numa_space.specs.declared.event.Event.TheVariants.{Accept, Publish, Begin, Look, Try, Give}
+use Rattle.numa_space.specs.declared.event.CoreReply.{CoreReply}
+use Rattle.numa_space.specs.declared.event.CoreReply.TheVariants.{Won}
+use Rattle.numa_space.specs.declared.event.CoreRefusal.{CoreRefusal}
 use Rattle.numa_core.specs.World.{Setup, World, owner_of, is_frame}
 use Rattle.numa_core.specs.Steps.{refusal_of, reply_of, effect_of, IsAnswer}
 use Rattle.numa_core.specs.Runs.{Moment, world_of, IsLegalRun, IsWin, worker_of, gives_back, gives_event}
@@ -70,7 +70,7 @@ has_won s run w frame m legal win =
 moment_keeps : (s : Setup) (run : List Moment) (m : Moment) (w : ℕ) (frame : Frame) → IsLegalRun s (m ∷ run) → owner_of (world_of s run) frame ≡ Some w → gives_back w frame m ≡ false → owner_of (world_of s (m ∷ run)) frame ≡ Some w
 moment_keeps s run m w frame legal e g = go m.answer legal.2 g
   where
-    go : (answer : Result Reply CoreRefusal) → IsAnswer s (world_of s run) m.version m.event answer → (is_ok answer && gives_event w frame m.event) ≡ false → owner_of (if is_ok answer then effect_of s (world_of s run) m.version m.event else world_of s run) frame ≡ Some w
+    go : (answer : Result CoreReply CoreRefusal) → IsAnswer s (world_of s run) m.version m.event answer → (is_ok answer && gives_event w frame m.event) ≡ false → owner_of (if is_ok answer then effect_of s (world_of s run) m.version m.event else world_of s run) frame ≡ Some w
     go (Ok reply) answer g = keeps s (world_of s run) w m.version frame m.event (replied s (world_of s run) m.version m.event reply answer).0 e g
     go (Err refusal) answer g = e
 

@@ -1,10 +1,10 @@
 -- The newest published version is the greatest, and no worker's last one is above it: each worker may take it.
 use Rattle.std.proofs.Common.{◌≡◌, ℕ, ◌≤◌, ◌==◌, ◌||◌, Bool, true, false, Option, Some, None, Result, Ok, Err, is_ok, List, [], ◌∷◌, length, refl, arith, if◌then◌else◌}
 use Rattle.std.proofs.lemmas.Bool.{eq-eqb, eqb-true}
-use Rattle.numa_core.specs.declared.event.Event.{Event}
-use Rattle.numa_core.specs.declared.event.Event.TheVariants.{Accept, Publish, Begin, Look, Try, Give}
-use Rattle.numa_core.specs.declared.event.Reply.{Reply}
-use Rattle.numa_core.specs.declared.event.CoreRefusal.{CoreRefusal}
+use Rattle.numa_space.specs.declared.event.Event.{Event}
+use Rattle.numa_space.specs.declared.event.Event.TheVariants.{Accept, Publish, Begin, Look, Try, Give}
+use Rattle.numa_space.specs.declared.event.CoreReply.{CoreReply}
+use Rattle.numa_space.specs.declared.event.CoreRefusal.{CoreRefusal}
 use Rattle.numa_core.specs.World.{Setup, Worker, World, is_published, newest_published, last_of, owner_of}
 use Rattle.numa_core.specs.Steps.{effect_of, MayTake}
 use Rattle.numa_core.specs.Runs.{Moment, world_of, IsLegalRun}
@@ -60,7 +60,7 @@ newest s [] legal = record { there = refl; greatest = λ v h. go v (0 == v) refl
     go v false e h = absurd (cc)
 newest s (m ∷ run) legal = go m.answer (newest s run legal.0)
   where
-    go : (answer : Result Reply CoreRefusal) → HasNewest (world_of s run) → HasNewest (if is_ok answer then effect_of s (world_of s run) m.version m.event else world_of s run)
+    go : (answer : Result CoreReply CoreRefusal) → HasNewest (world_of s run) → HasNewest (if is_ok answer then effect_of s (world_of s run) m.version m.event else world_of s run)
     go (Ok reply) h = newest-step s (world_of s run) m.version m.event legal.1 (sound s run legal.0) h
     go (Err refusal) h = h
 

@@ -7,8 +7,8 @@ use Rattle.numa_machine.specs.Machine.{frames_of}
 use Rattle.numa_space.specs.declared.request.Request.{Request}
 use Rattle.numa_machine.specs.declared.frame.Frame.{Frame}
 use Rattle.numa_space.specs.declared.placement.Placement.{Placement}
-use Rattle.numa_core.specs.declared.event.Event.TheVariants.{Try}
-use Rattle.numa_core.specs.declared.event.Reply.TheVariants.{Won}
+use Rattle.numa_space.specs.declared.event.Event.TheVariants.{Try}
+use Rattle.numa_space.specs.declared.event.CoreReply.TheVariants.{Won}
 use Rattle.numa_core.specs.World.{Setup, Hunt, owner_of, any_below, first_place, one_further, current_rank, at_current, has_unmet}
 use Rattle.numa_core.specs.Steps.{refusal_of, reply_of, placement_of, IsAnswer}
 use Rattle.numa_core.specs.Runs.{Moment, world_of, IsLegalRun, IsRightPlacement}

@@ -11,12 +11,12 @@ use Rattle.numa_space.specs.declared.refusal.Refusal.TheVariants.{NoSuchNode}
 use Rattle.numa_space.proofs.Rows.{flat, asked, mems}
 use Rattle.numa_machine.specs.declared.frame.Frame.{Frame}
 use Rattle.numa_space.specs.declared.request.Request.{Request}
-use Rattle.numa_core.specs.declared.event.Event.{Event}
-use Rattle.numa_core.specs.declared.event.Event.TheVariants.{Accept, Publish, Begin, Look, Try, Give}
-use Rattle.numa_core.specs.declared.event.Reply.{Reply}
-use Rattle.numa_core.specs.declared.event.Reply.TheVariants.{Accepted, Published, Still, Exhausted, Won, Given}
-use Rattle.numa_core.specs.declared.event.CoreRefusal.{CoreRefusal}
-use Rattle.numa_core.specs.declared.event.CoreRefusal.TheVariants.{Command as Because, NoSuchWorker, Busy, Idle, BadTry, NotOwned, BadCpu, Unmapped}
+use Rattle.numa_space.specs.declared.event.Event.{Event}
+use Rattle.numa_space.specs.declared.event.Event.TheVariants.{Accept, Publish, Begin, Look, Try, Give}
+use Rattle.numa_space.specs.declared.event.CoreReply.{CoreReply}
+use Rattle.numa_space.specs.declared.event.CoreReply.TheVariants.{Accepted, Published, Still, Exhausted, Won, Given}
+use Rattle.numa_space.specs.declared.event.CoreRefusal.{CoreRefusal}
+use Rattle.numa_space.specs.declared.event.CoreRefusal.TheVariants.{Command as Because, NoSuchWorker, Busy, Idle, BadTry, NotOwned, BadCpu, Unmapped}
 use Rattle.numa_core.specs.World.{Setup, World, opening, list_at}
 use Rattle.numa_core.specs.Steps.{answer_of, world_after}
 
@@ -35,7 +35,7 @@ abbrev accepted : List Command → World
 accepted history = record opening { history = history }
 
 -- what the events answer with ample memory, each with the version that it takes if it is a Begin
-abbrev answers : Setup → World → List (Event × ℕ) → List (Result Reply CoreRefusal)
+abbrev answers : Setup → World → List (Event × ℕ) → List (Result CoreReply CoreRefusal)
 answers s world [] = []
 answers s world (step ∷ steps) = answer_of s world step.1 step.0 ∷ answers s (world_after s world step.1 step.0 (answer_of s world step.1 step.0)) steps
 
@@ -52,7 +52,7 @@ abbrev pub frame : ℕ → ℕ → Frame
 frame node number = record { node = node; number = number }
 
 -- the reply of a win
-abbrev pub won : ℕ → ℕ → ℕ → ℕ → ℕ → ℕ → Result Reply CoreRefusal
+abbrev pub won : ℕ → ℕ → ℕ → ℕ → ℕ → ℕ → Result CoreReply CoreRefusal
 won version task page node number rank = Ok (Won (record { version = version; task = task; page = page; node = node; frame = frame node number; rank = rank }))
 
 -- ---- versions: nothing is mapped in version 0, and publishing twice publishes once

@@ -6,10 +6,10 @@ use Rattle.std.proofs.lemmas.Bool.Decides.{eqb_tells}
 use Rattle.numa_space.specs.declared.request.Request.{Request}
 use Rattle.numa_machine.specs.declared.frame.Frame.{Frame}
 use Rattle.numa_space.specs.declared.placement.Placement.{Placement}
-use Rattle.numa_core.specs.declared.event.Reply.{Reply}
-use Rattle.numa_core.specs.declared.event.Reply.TheVariants.{Won}
-use Rattle.numa_core.specs.declared.event.CoreRefusal.{CoreRefusal}
-use Rattle.numa_core.specs.declared.event.CoreRefusal.TheVariants.{BadTry, Idle}
+use Rattle.numa_space.specs.declared.event.CoreReply.{CoreReply}
+use Rattle.numa_space.specs.declared.event.CoreReply.TheVariants.{Won}
+use Rattle.numa_space.specs.declared.event.CoreRefusal.{CoreRefusal}
+use Rattle.numa_space.specs.declared.event.CoreRefusal.TheVariants.{BadTry, Idle}
 use Rattle.numa_core.specs.declared.seat.Cursor.{Cursor}
 use Rattle.numa_core.specs.declared.seat.Job.{Job}
 use Rattle.numa_core.specs.declared.seat.Seat.{Seat}
@@ -54,7 +54,7 @@ module _ (s : Setup) (world : World) (word : ℕ) (frames : List ℕ) (old new :
   current : current_rank s (hunt_in frames (busy_at job old.nodes.items old.met.items)) ≡ Some job.at.rank
   current = rank-at s frames (busy_at job old.nodes.items old.met.items) job.at.rank job.at.next same cursor
 
-  looks : (result : Result Reply CoreRefusal) (b : Bool) → nat_lt (64 * word) (slice_index frames node) ≡ b
+  looks : (result : Result CoreReply CoreRefusal) (b : Bool) → nat_lt (64 * word) (slice_index frames node) ≡ b
       → MatchBool b ((result ≡ Ok (goes_on s (looked s world word (hunt_in frames (busy_at job old.nodes.items old.met.items))))) × (seat_hunt frames new ≡ going_on s (looked s world word (hunt_in frames (busy_at job old.nodes.items old.met.items))))) (result ≡ Err BadTry)
       → SeatLooks frames s world word old result new
   looks result b test h = rw busy (matched _ b _ _ (ap (λ o. option_map_or (λ r. nat_lt (64 * word) (slice_index s.machine.frames (slice_index old.nodes.items r))) o false) current ∙ ap (λ n. nat_lt (64 * word) (slice_index s.machine.frames n)) (sym at) ∙ ap (λ fs. nat_lt (64 * word) (slice_index fs node)) (sym same) ∙ test) h)
@@ -64,7 +64,7 @@ module _ (s : Setup) (world : World) (word : ℕ) (frames : List ℕ) (old new :
   looks-past past = looks (Err BadTry) false (not_lt (64 * word) (slice_index frames node) past) refl
 
   -- at one of them
-  pub looks-at : (owners : List (Option ℕ)) (words : List ℕ) (reply : Reply) → 64 * word < slice_index frames node → ((n k : ℕ) → world.owner n k ≡ owner_at owners (place_in frames n k))
+  pub looks-at : (owners : List (Option ℕ)) (words : List ℕ) (reply : CoreReply) → 64 * word < slice_index frames node → ((n k : ℕ) → world.owner n k ≡ owner_at owners (place_in frames n k))
       → ((n k : ℕ) → met_at frames words n k ≡ (((n == node) && ((k / 64 == word) && is_some (owner_at owners (place_in frames n k)))) || met_at frames old.met.items n k))
       → reply ≡ goes_on s (hunt_in frames (busy_at job old.nodes.items words)) → seat_hunt frames new ≡ going_on s (hunt_in frames (busy_at job old.nodes.items words)) → SeatLooks frames s world word old (Ok reply) new
   looks-at owners words reply within owner met answer hunt = looks (Ok reply) true (is_lt (64 * word) (slice_index frames node) within) (ap Ok (answer ∙ ap (goes_on s) is), hunt ∙ ap (going_on s) is)
@@ -104,7 +104,7 @@ module _ (s : Setup) (frames : List ℕ) (owned : Bool) (frame : Frame) (old new
   current' : current_rank s (hunt_in frames (busy_at job old.nodes.items old.met.items)) ≡ Some job.at.rank
   current' = rank-at s frames (busy_at job old.nodes.items old.met.items) job.at.rank job.at.next same cursor
 
-  tries : (result : Result Reply CoreRefusal) (b : Bool) → is_next frames old.met.items node frame ≡ b
+  tries : (result : Result CoreReply CoreRefusal) (b : Bool) → is_next frames old.met.items node frame ≡ b
       → MatchBool b (MatchBool owned
       ((result ≡ Ok (goes_on s (missed frame (hunt_in frames (busy_at job old.nodes.items old.met.items))))) × (seat_hunt frames new ≡ going_on s (missed frame (hunt_in frames (busy_at job old.nodes.items old.met.items)))))
       ((result ≡ Ok (Won (placement_of s (hunt_in frames (busy_at job old.nodes.items old.met.items)) frame))) × (seat_hunt frames new ≡ None))) (result ≡ Err BadTry)
@@ -117,7 +117,7 @@ module _ (s : Setup) (frames : List ℕ) (owned : Bool) (frame : Frame) (old new
   pub tries-bad : is_next frames old.met.items node frame ≡ false → SeatTries frames s owned frame old (Err BadTry) new
   tries-bad test = tries (Err BadTry) false test refl
 
-  pub tries-owned : (words : List ℕ) (reply : Reply) → is_next frames old.met.items node frame ≡ true → owned ≡ true → ((n k : ℕ) → met_at frames words n k ≡ (is_frame frame n k || met_at frames old.met.items n k))
+  pub tries-owned : (words : List ℕ) (reply : CoreReply) → is_next frames old.met.items node frame ≡ true → owned ≡ true → ((n k : ℕ) → met_at frames words n k ≡ (is_frame frame n k || met_at frames old.met.items n k))
       → reply ≡ goes_on s (hunt_in frames (busy_at job old.nodes.items words)) → seat_hunt frames new ≡ going_on s (hunt_in frames (busy_at job old.nodes.items words)) → SeatTries frames s owned frame old (Ok reply) new
   tries-owned words reply test is met answer hunt = tries (Ok reply) true test (matched owned true _ _ is (ap Ok (answer ∙ ap (goes_on s) missed-is), hunt ∙ ap (going_on s) missed-is))
     where

@@ -3,9 +3,9 @@ use Rattle.std.proofs.Common.{◌≡◌, ℕ, false, Option, Some, None, Ok, Err
 use Rattle.numa_space.specs.declared.request.Request.{Request}
 use Rattle.numa_core.specs.declared.state.State.{State}
 use Rattle.numa_core.specs.declared.touching.Spot.{Spot}
-use Rattle.numa_core.specs.declared.event.Reply.TheVariants.{Exhausted, Won}
-use Rattle.numa_core.specs.declared.event.CoreRefusal.{CoreRefusal}
-use Rattle.numa_core.specs.declared.event.CoreRefusal.TheVariants.{NoSuchWorker, Busy, BadCpu, Unmapped}
+use Rattle.numa_space.specs.declared.event.CoreReply.TheVariants.{Exhausted, Won}
+use Rattle.numa_space.specs.declared.event.CoreRefusal.{CoreRefusal}
+use Rattle.numa_space.specs.declared.event.CoreRefusal.TheVariants.{NoSuchWorker, Busy, BadCpu, Unmapped}
 use Rattle.numa_core.specs.World.{Hunt, World, newest_published, hunt_of, list_at}
 use Rattle.numa_core.specs.Steps.{with_owner, put_frame}
 use Rattle.numa_core.specs.Standing.{CoreState, CoreStandsFor, setup_of, owner_at, place_in}

@@ -12,8 +12,8 @@ use Rattle.numa_plan.specs.Meaning.{PlanData, planned_list, place_refusal}
 use Rattle.numa_space.specs.declared.request.Request.{Request}
 use Rattle.numa_core.specs.declared.seat.Job.{Job}
 use Rattle.numa_core.specs.declared.seat.Seat.{Seat}
-use Rattle.numa_core.specs.declared.event.Event.TheVariants.{Begin}
-use Rattle.numa_core.specs.declared.event.CoreRefusal.TheVariants.{BadCpu, Unmapped}
+use Rattle.numa_space.specs.declared.event.Event.TheVariants.{Begin}
+use Rattle.numa_space.specs.declared.event.CoreRefusal.TheVariants.{BadCpu, Unmapped}
 use Rattle.numa_core.specs.World.{World, newest_published, first_commands, hunt_of, list_at}
 use Rattle.numa_core.specs.Steps.{refusal_of, first_refusal}
 use Rattle.numa_core.specs.Standing.{CoreState, CoreStandsFor, Busy, setup_of, hunt_by}

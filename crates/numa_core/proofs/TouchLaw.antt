@@ -5,10 +5,10 @@ use Rattle.std.proofs.lemmas.Bool.{eq-eqb, lt-ltb}
 use Rattle.numa_machine.specs.Machine.{frames_of}
 use Rattle.numa_machine.specs.declared.frame.Frame.{Frame}
 use Rattle.numa_space.specs.declared.request.Request.{Request}
-use Rattle.numa_core.specs.declared.event.Event.TheVariants.{Try}
-use Rattle.numa_core.specs.declared.event.Reply.TheVariants.{Still, Exhausted, Won}
-use Rattle.numa_core.specs.declared.event.CoreRefusal.{CoreRefusal}
-use Rattle.numa_core.specs.declared.event.CoreRefusal.TheVariants.{NoSuchWorker, Busy, BadCpu, Unmapped}
+use Rattle.numa_space.specs.declared.event.Event.TheVariants.{Try}
+use Rattle.numa_space.specs.declared.event.CoreReply.TheVariants.{Still, Exhausted, Won}
+use Rattle.numa_space.specs.declared.event.CoreRefusal.{CoreRefusal}
+use Rattle.numa_space.specs.declared.event.CoreRefusal.TheVariants.{NoSuchWorker, Busy, BadCpu, Unmapped}
 use Rattle.numa_core.specs.declared.touching.Spot.{Spot}
 use Rattle.numa_core.specs.World.{Setup, Hunt, World, newest_published, hunt_of, last_of, list_at, is_frame, current_rank, has_unmet, may_try, missed, begun}
 use Rattle.numa_core.specs.Steps.{goes_on, going_on, with_worker, with_owner}

@@ -9,10 +9,10 @@ use Rattle.numa_space.specs.declared.command.Command.{Command}
 use Rattle.numa_space.specs.declared.command.Command.TheVariants.{Map, Mbind, SetTask}
 use Rattle.numa_space.proofs.Rows.{asked}
 use Rattle.numa_space.specs.declared.request.Request.{Request}
-use Rattle.numa_core.specs.declared.event.Reply.{Reply}
-use Rattle.numa_core.specs.declared.event.Reply.TheVariants.{Exhausted}
-use Rattle.numa_core.specs.declared.event.CoreRefusal.{CoreRefusal}
-use Rattle.numa_core.specs.declared.event.CoreRefusal.TheVariants.{NoSuchWorker, BadCpu, Unmapped}
+use Rattle.numa_space.specs.declared.event.CoreReply.{CoreReply}
+use Rattle.numa_space.specs.declared.event.CoreReply.TheVariants.{Exhausted}
+use Rattle.numa_space.specs.declared.event.CoreRefusal.{CoreRefusal}
+use Rattle.numa_space.specs.declared.event.CoreRefusal.TheVariants.{NoSuchWorker, BadCpu, Unmapped}
 use Rattle.numa_core.specs.World.{Setup, World, opening, list_at}
 use Rattle.numa_core.specs.Touching.{touched}
 use Rattle.numa_core.proofs.Rows.{four_on, with_frames, fault, won}
@@ -22,7 +22,7 @@ abbrev published : List Command → World
 published history = record opening { history = history; published = length history ∷ 0 ∷ [] }
 
 -- what the touches of one worker are answered
-abbrev answers : Setup → World → ℕ → List Request → List (Result Reply CoreRefusal)
+abbrev answers : Setup → World → ℕ → List Request → List (Result CoreReply CoreRefusal)
 answers s world w [] = []
 answers s world w (request ∷ requests) = (touched s world w request).answer ∷ answers s (touched s world w request).world w requests
 

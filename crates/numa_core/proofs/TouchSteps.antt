@@ -2,8 +2,8 @@
 use Rattle.std.proofs.Common.{zero, suc, ◌≡◌, ℕ, ◌+◌, ◌<◌, ◌==◌, Bool, true, false, Option, Some, None, Ok, List, [], ◌∷◌, length, refl, ap, arith, nat_le, if◌then◌else◌, slice_index}
 use Rattle.std.proofs.lemmas.Bool.{eq-eqb}
 use Rattle.numa_machine.specs.declared.frame.Frame.{Frame}
-use Rattle.numa_core.specs.declared.event.Event.TheVariants.{Try}
-use Rattle.numa_core.specs.declared.event.Reply.TheVariants.{Won}
+use Rattle.numa_space.specs.declared.event.Event.TheVariants.{Try}
+use Rattle.numa_space.specs.declared.event.CoreReply.TheVariants.{Won}
 use Rattle.numa_core.specs.World.{Setup, Hunt, Worker, World, newest_published, hunt_of, last_of, owner_of, may_try, missed}
 use Rattle.numa_core.specs.Steps.{refusal_of, goes_on, going_on, placement_of, with_worker, with_owner, put}
 use Rattle.numa_core.specs.Touching.{answered_with, lowest_free, first_free}

@@ -4,10 +4,10 @@ use Rattle.std.specs.Option.{option_map_or}
 use Rattle.std.proofs.lemmas.Bool.{eqb-true}
 use Rattle.numa_space.specs.declared.request.Request.{Request}
 use Rattle.numa_machine.specs.declared.frame.Frame.{Frame}
-use Rattle.numa_core.specs.declared.event.Event.{Event}
-use Rattle.numa_core.specs.declared.event.Event.TheVariants.{Accept, Publish, Begin, Look, Try, Give}
-use Rattle.numa_core.specs.declared.event.Reply.{Reply}
-use Rattle.numa_core.specs.declared.event.CoreRefusal.{CoreRefusal}
+use Rattle.numa_space.specs.declared.event.Event.{Event}
+use Rattle.numa_space.specs.declared.event.Event.TheVariants.{Accept, Publish, Begin, Look, Try, Give}
+use Rattle.numa_space.specs.declared.event.CoreReply.{CoreReply}
+use Rattle.numa_space.specs.declared.event.CoreRefusal.{CoreRefusal}
 use Rattle.numa_core.specs.World.{Setup, Hunt, Worker, World, is_frame, is_published, hunt_of, owner_of, first_commands, list_at, at_current, begun, looked, missed}
 use Rattle.numa_core.specs.Steps.{refusal_of, effect_of, going_on, IsAnswer, MayTake}
 use Rattle.numa_core.specs.Runs.{Moment, Begun, world_of, IsLegalRun, begun_at, last_begin, or_else, finds, found_owned}
@@ -80,11 +80,11 @@ world_kept s run event version = (effect_of s (world_of s run) version event).hi
 asked_kept : (s : Setup) (run : List Moment) (event : Event) (version : ℕ) (hunt : Hunt) → world_kept s run event version → list_at s.machine (effect_of s (world_of s run) version event).history hunt.version hunt.request ≡ list_at s.machine (world_of s run).history hunt.version hunt.request
 asked_kept s run event version hunt kept = ap (λ h. list_at s.machine h hunt.version hunt.request) kept
 
-abbrev pub moment : Event → ℕ → Result Reply CoreRefusal → Moment
+abbrev pub moment : Event → ℕ → Result CoreReply CoreRefusal → Moment
 moment event version answer = record { event = event; version = version; answer = answer }
 
 -- the hunt of a worker that begins, whether it goes on or is over at once
-pub tracked-begun : (s : Setup) (run : List Moment) (version v w : ℕ) (request : Request) (reply : Reply) → IsSound (world_of s run) → MayTake (world_of s run) version (Begin v request) → refusal_of s (world_of s run) version (Begin v request) ≡ None → (v == w) ≡ true → Tracked s (moment (Begin v request) version (Ok reply) ∷ run) w (begun s (world_of s run) version request)
+pub tracked-begun : (s : Setup) (run : List Moment) (version v w : ℕ) (request : Request) (reply : CoreReply) → IsSound (world_of s run) → MayTake (world_of s run) version (Begin v request) → refusal_of s (world_of s run) version (Begin v request) ≡ None → (v == w) ≡ true → Tracked s (moment (Begin v request) version (Ok reply) ∷ run) w (begun s (world_of s run) version request)
 tracked-begun s run version v w request reply sound may ok same = record {
   begun = record { request = request; version = version; before = run };
   is_last = rw same refl;
@@ -97,19 +97,19 @@ tracked-begun s run version v w request reply sound may ok same = record {
 }
 
 -- the same of a worker that looks
-pub tracked-looked : (s : Setup) (run : List Moment) (version v w word : ℕ) (reply : Reply) (old : Hunt) → (v == w) ≡ true → hunt_of (world_of s run) w ≡ Some old → Tracked s run w old → Tracked s (moment (Look v word) version (Ok reply) ∷ run) w (looked s (world_of s run) word old)
+pub tracked-looked : (s : Setup) (run : List Moment) (version v w word : ℕ) (reply : CoreReply) (old : Hunt) → (v == w) ≡ true → hunt_of (world_of s run) w ≡ Some old → Tracked s run w old → Tracked s (moment (Look v word) version (Ok reply) ∷ run) w (looked s (world_of s run) word old)
 tracked-looked s run version v w word reply old same here t =
     tracked_on s (moment (Look v word) version (Ok reply)) run w old (looked s (world_of s run) word old) refl refl refl refl refl (omega arith)
     (λ n k. rw (same, here) (ap (λ b. b || old.met n k) (regrouped (at_current s old (λ m. n == m)) (k / 64 == word) (is_some ((world_of s run).owner n k))))) t
 
 -- the same of a worker that tries a frame and misses it
-pub tracked-missed : (s : Setup) (run : List Moment) (version v w u : ℕ) (frame : Frame) (reply : Reply) (old : Hunt) → owner_of (world_of s run) frame ≡ Some u → (v == w) ≡ true → Tracked s run w old → Tracked s (moment (Try v frame) version (Ok reply) ∷ run) w (missed frame old)
+pub tracked-missed : (s : Setup) (run : List Moment) (version v w u : ℕ) (frame : Frame) (reply : CoreReply) (old : Hunt) → owner_of (world_of s run) frame ≡ Some u → (v == w) ≡ true → Tracked s run w old → Tracked s (moment (Try v frame) version (Ok reply) ∷ run) w (missed frame old)
 tracked-missed s run version v w u frame reply old is same t =
     let kept : world_kept s run (Try v frame) version = rw is refl in
     tracked_on s (moment (Try v frame) version (Ok reply)) run w old (missed frame old) refl refl refl refl (asked_kept s run (Try v frame) version old kept) (subst (λ h. length (world_of s run).history ≤ length h) (sym kept) (omega arith))
     (λ n k. rw same (ap (λ b. b || old.met n k) (found-tried (world_of s run) frame u n k is))) t
 
-tracked-step : (s : Setup) (run : List Moment) (version : ℕ) (event : Event) (reply : Reply) → IsSound (world_of s run) → MayTake (world_of s run) version event → refusal_of s (world_of s run) version event ≡ None
+tracked-step : (s : Setup) (run : List Moment) (version : ℕ) (event : Event) (reply : CoreReply) → IsSound (world_of s run) → MayTake (world_of s run) version event → refusal_of s (world_of s run) version event ≡ None
     → ((w : ℕ) (hunt : Hunt) → hunt_of (world_of s run) w ≡ Some hunt → Tracked s run w hunt)
     → (w : ℕ) (hunt : Hunt) → hunt_of (effect_of s (world_of s run) version event) w ≡ Some hunt → Tracked s (moment event version (Ok reply) ∷ run) w hunt
 tracked-step s run version (Accept command) reply sound may ok ih w hunt e =
@@ -157,6 +157,6 @@ pub tracked : (s : Setup) (run : List Moment) → IsLegalRun s run → (w : ℕ)
 tracked s [] legal w hunt e = absurd (cc)
 tracked s (m ∷ run) legal w hunt e = go m.answer legal.2 (tracked s run legal.0) e
   where
-    go : (answer : Result Reply CoreRefusal) → IsAnswer s (world_of s run) m.version m.event answer → ((w : ℕ) (hunt : Hunt) → hunt_of (world_of s run) w ≡ Some hunt → Tracked s run w hunt) → hunt_of (if is_ok answer then effect_of s (world_of s run) m.version m.event else world_of s run) w ≡ Some hunt → Tracked s (moment m.event m.version answer ∷ run) w hunt
+    go : (answer : Result CoreReply CoreRefusal) → IsAnswer s (world_of s run) m.version m.event answer → ((w : ℕ) (hunt : Hunt) → hunt_of (world_of s run) w ≡ Some hunt → Tracked s run w hunt) → hunt_of (if is_ok answer then effect_of s (world_of s run) m.version m.event else world_of s run) w ≡ Some hunt → Tracked s (moment m.event m.version answer ∷ run) w hunt
     go (Ok reply) answer ih e = tracked-step s run m.version m.event reply (sound s run legal.0) legal.1 (replied s (world_of s run) m.version m.event reply answer).0 ih w hunt e
     go (Err refusal) answer ih e = tracked_on s (moment m.event m.version (Err refusal)) run w hunt hunt refl refl refl refl refl (omega arith) (λ n k. refl) (ih w hunt e)

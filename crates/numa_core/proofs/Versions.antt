@@ -4,11 +4,11 @@ use Rattle.std.specs.List.{list_any}
 use Rattle.std.specs.Option.{option_map_or}
 use Rattle.std.proofs.lemmas.Bool.{eq-eqb, eqb-true}
 use Rattle.numa_machine.specs.declared.frame.Frame.{Frame}
-use Rattle.numa_core.specs.declared.event.Event.{Event}
-use Rattle.numa_core.specs.declared.event.Event.TheVariants.{Accept, Publish, Begin, Look, Try, Give}
-use Rattle.numa_core.specs.declared.event.Reply.{Reply}
-use Rattle.numa_core.specs.declared.event.Reply.TheVariants.{Still, Exhausted, Won}
-use Rattle.numa_core.specs.declared.event.CoreRefusal.{CoreRefusal}
+use Rattle.numa_space.specs.declared.event.Event.{Event}
+use Rattle.numa_space.specs.declared.event.Event.TheVariants.{Accept, Publish, Begin, Look, Try, Give}
+use Rattle.numa_space.specs.declared.event.CoreReply.{CoreReply}
+use Rattle.numa_space.specs.declared.event.CoreReply.TheVariants.{Still, Exhausted, Won}
+use Rattle.numa_space.specs.declared.event.CoreRefusal.{CoreRefusal}
 use Rattle.numa_core.specs.World.{Setup, Hunt, Worker, World, is_published, last_of, hunt_of, owner_of, current_rank, begun, looked, missed}
 use Rattle.numa_core.specs.Steps.{reply_of, effect_of, goes_on, going_on, placement_of, IsAnswer, MayTake}
 use Rattle.numa_core.specs.Runs.{Moment, world_of, IsLegalRun, version_told, worker_of}
@@ -104,7 +104,7 @@ sound s [] legal = record {
         pick false e h = absurd (cc)
 sound s (m ∷ run) legal = go m.answer (sound s run legal.0)
   where
-    go : (answer : Result Reply CoreRefusal) → IsSound (world_of s run) → IsSound (if is_ok answer then effect_of s (world_of s run) m.version m.event else world_of s run)
+    go : (answer : Result CoreReply CoreRefusal) → IsSound (world_of s run) → IsSound (if is_ok answer then effect_of s (world_of s run) m.version m.event else world_of s run)
     go (Ok reply) h = sound-step s (world_of s run) m.version m.event legal.1 h
     go (Err refusal) h = h
 
@@ -125,7 +125,7 @@ pub rises : (s : Setup) (between run : List Moment) (w : ℕ) → IsLegalRun s (
 rises s [] run w legal = omega arith
 rises s (m ∷ between) run w legal = go m.answer (rises s between run w legal.0)
   where
-    go : (answer : Result Reply CoreRefusal) → last_of (world_of s run) w ≤ last_of (world_of s (between ++ run)) w → last_of (world_of s run) w ≤ last_of (if is_ok answer then effect_of s (world_of s (between ++ run)) m.version m.event else world_of s (between ++ run)) w
+    go : (answer : Result CoreReply CoreRefusal) → last_of (world_of s run) w ≤ last_of (world_of s (between ++ run)) w → last_of (world_of s run) w ≤ last_of (if is_ok answer then effect_of s (world_of s (between ++ run)) m.version m.event else world_of s (between ++ run)) w
     go (Ok reply) h = let more : last_of (world_of s (between ++ run)) w ≤ last_of (effect_of s (world_of s (between ++ run)) m.version m.event) w = rises-step s (world_of s (between ++ run)) m.version w m.event legal.1 in omega arith
     go (Err refusal) h = h
 
@@ -174,7 +174,7 @@ told-step s world version (Give v frame) w a sound own_step e = absurd (cc)
 pub told_is_last : (s : Setup) (run : List Moment) (m : Moment) (w a : ℕ) → IsLegalRun s (m ∷ run) → worker_of m.event ≡ Some w → version_told m.answer ≡ Some a → last_of (world_of s (m ∷ run)) w ≡ a
 told_is_last s run m w a legal own_step e = go m.answer legal.2 e
   where
-    go : (answer : Result Reply CoreRefusal) → IsAnswer s (world_of s run) m.version m.event answer → version_told answer ≡ Some a → last_of (if is_ok answer then effect_of s (world_of s run) m.version m.event else world_of s run) w ≡ a
+    go : (answer : Result CoreReply CoreRefusal) → IsAnswer s (world_of s run) m.version m.event answer → version_told answer ≡ Some a → last_of (if is_ok answer then effect_of s (world_of s run) m.version m.event else world_of s run) w ≡ a
     go (Ok reply) answer e =
         let same = (replied s (world_of s run) m.version m.event reply answer).1 in
         told-step s (world_of s run) m.version m.event w a (sound s run legal.0) own_step (sym (ap (λ r. version_told (Ok r)) same) ∙ e)

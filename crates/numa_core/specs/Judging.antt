@@ -1,8 +1,8 @@
 -- What a Begin is judged by in a core that stands for a world.
 use Rattle.std.specs.Prelude.{◌≡◌, ℕ, Option, Some, List}
 use Rattle.numa_space.specs.declared.request.Request.{Request}
-use Rattle.numa_core.specs.declared.event.Event.TheVariants.{Begin}
-use Rattle.numa_core.specs.declared.event.CoreRefusal.{CoreRefusal}
+use Rattle.numa_space.specs.declared.event.Event.TheVariants.{Begin}
+use Rattle.numa_space.specs.declared.event.CoreRefusal.{CoreRefusal}
 use Rattle.numa_core.specs.World.{World, newest_published, list_at}
 use Rattle.numa_core.specs.Steps.{refusal_of}
 use Rattle.numa_core.specs.Standing.{CoreState, CoreStandsFor, setup_of}

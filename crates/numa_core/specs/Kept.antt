@@ -2,9 +2,9 @@
 use Rattle.std.specs.Prelude.{◌≡◌, ℕ, ◌≤◌, Some, length, vec_len, slice_get, Result}
 use Rattle.numa_core.specs.declared.state.State.{State}
 use Rattle.numa_core.specs.declared.seat.Seat.{Seat}
-use Rattle.numa_core.specs.declared.event.Event.{Event}
-use Rattle.numa_core.specs.declared.event.Reply.{Reply}
-use Rattle.numa_core.specs.declared.event.CoreRefusal.{CoreRefusal}
+use Rattle.numa_space.specs.declared.event.Event.{Event}
+use Rattle.numa_space.specs.declared.event.CoreReply.{CoreReply}
+use Rattle.numa_space.specs.declared.event.CoreRefusal.{CoreRefusal}
 use Rattle.numa_core.specs.World.{World, newest_published}
 use Rattle.numa_core.specs.Steps.{IsAnswer, world_after}
 use Rattle.numa_core.specs.Standing.{CoreState, CoreStandsFor, setup_of, frames_before}
@@ -24,7 +24,7 @@ pub record IsKept (state : State) : Type 0 where
   pub taken : AreTaken state.places state.owners.items state.taken.items
 
 -- where the old core stands for a world, the event may have the answer there, and the new core stands for the world afterwards
-abbrev pub Follows : CoreState → Event → Result Reply CoreRefusal → CoreState → Type 0
+abbrev pub Follows : CoreState → Event → Result CoreReply CoreRefusal → CoreState → Type 0
 Follows old event answer new = (world : World) → CoreStandsFor old world →
     IsAnswer (setup_of old) world (newest_published world) event answer
     × CoreStandsFor new (world_after (setup_of old) world (newest_published world) event answer)

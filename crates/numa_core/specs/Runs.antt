@@ -5,11 +5,11 @@ use Rattle.numa_machine.specs.Machine.{frames_of}
 use Rattle.numa_machine.specs.declared.frame.Frame.{Frame}
 use Rattle.numa_space.specs.declared.placement.Placement.{Placement}
 use Rattle.numa_space.specs.declared.request.Request.{Request}
-use Rattle.numa_core.specs.declared.event.Event.{Event}
-use Rattle.numa_core.specs.declared.event.Event.TheVariants.{Accept, Publish, Begin, Look, Try, Give}
-use Rattle.numa_core.specs.declared.event.Reply.{Reply}
-use Rattle.numa_core.specs.declared.event.Reply.TheVariants.{Accepted, Published, Still, Exhausted, Won, Given}
-use Rattle.numa_core.specs.declared.event.CoreRefusal.{CoreRefusal}
+use Rattle.numa_space.specs.declared.event.Event.{Event}
+use Rattle.numa_space.specs.declared.event.Event.TheVariants.{Accept, Publish, Begin, Look, Try, Give}
+use Rattle.numa_space.specs.declared.event.CoreReply.{CoreReply}
+use Rattle.numa_space.specs.declared.event.CoreReply.TheVariants.{Accepted, Published, Still, Exhausted, Won, Given}
+use Rattle.numa_space.specs.declared.event.CoreRefusal.{CoreRefusal}
 use Rattle.numa_core.specs.World.{Setup, World, opening, is_published, newest_published, hunt_of, owner_of, is_frame, list_at, at_current}
 use Rattle.numa_core.specs.Steps.{world_after, answer_of, IsAnswer, MayTake}
 
@@ -17,7 +17,7 @@ use Rattle.numa_core.specs.Steps.{world_after, answer_of, IsAnswer, MayTake}
 pub record Moment : Type 0 where
   pub event : Event
   pub version : ℕ
-  pub answer : Result Reply CoreRefusal
+  pub answer : Result CoreReply CoreRefusal
 
 -- the worker whose step the event is; a command or a publication is no worker's
 abbrev pub worker_of : Event → Option ℕ
@@ -164,7 +164,7 @@ abbrev pub gives_back : ℕ → Frame → Moment → Bool
 gives_back w frame m = is_ok m.answer && gives_event w frame m.event
 
 -- the version that a reply Won or Exhausted carries
-abbrev pub version_told : Result Reply CoreRefusal → Option ℕ
+abbrev pub version_told : Result CoreReply CoreRefusal → Option ℕ
 version_told (Err refusal) = None
 version_told (Ok Still) = None
 version_told (Ok Given) = None

@@ -2,10 +2,10 @@
 use Rattle.std.specs.Prelude.{◌≡◌, ℕ, ◌*◌, ◌<◌, ◌≤◌, Bool, true, false, Option, Some, None, Result, Ok, Err, List, length, vec_len, slice_index, MatchOption, MatchBool, map}
 use Rattle.numa_machine.specs.declared.frame.Frame.{Frame}
 use Rattle.numa_space.specs.declared.request.Request.{Request}
-use Rattle.numa_core.specs.declared.event.Reply.{Reply}
-use Rattle.numa_core.specs.declared.event.Reply.TheVariants.{Won}
-use Rattle.numa_core.specs.declared.event.CoreRefusal.{CoreRefusal}
-use Rattle.numa_core.specs.declared.event.CoreRefusal.TheVariants.{Idle, BadTry}
+use Rattle.numa_space.specs.declared.event.CoreReply.{CoreReply}
+use Rattle.numa_space.specs.declared.event.CoreReply.TheVariants.{Won}
+use Rattle.numa_space.specs.declared.event.CoreRefusal.{CoreRefusal}
+use Rattle.numa_space.specs.declared.event.CoreRefusal.TheVariants.{Idle, BadTry}
 use Rattle.numa_core.specs.declared.seat.Job.{Job}
 use Rattle.numa_core.specs.declared.seat.Seat.{Seat}
 use Rattle.numa_core.specs.World.{Setup, Hunt, World, may_look, may_try, looked, missed}
@@ -73,14 +73,14 @@ abbrev pub fresh : Request → ℕ → List ℕ → Hunt
 fresh request version nodes = record { request = request; version = version; nodes = nodes; met = λ n k. false }
 
 -- what the seat answers to a Look, and its hunt afterwards
-abbrev pub SeatLooks : List ℕ → Setup → World → ℕ → Seat → Result Reply CoreRefusal → Seat → Type 0
+abbrev pub SeatLooks : List ℕ → Setup → World → ℕ → Seat → Result CoreReply CoreRefusal → Seat → Type 0
 SeatLooks frames s world word old result new = MatchOption (seat_hunt frames old) (result ≡ Err Idle) (λ hunt.
     MatchBool (may_look s hunt word)
     ((result ≡ Ok (goes_on s (looked s world word hunt))) × (seat_hunt frames new ≡ going_on s (looked s world word hunt)))
     (result ≡ Err BadTry))
 
 -- what the seat answers to a Try of a frame that is owned or not, and its hunt afterwards
-abbrev pub SeatTries : List ℕ → Setup → Bool → Frame → Seat → Result Reply CoreRefusal → Seat → Type 0
+abbrev pub SeatTries : List ℕ → Setup → Bool → Frame → Seat → Result CoreReply CoreRefusal → Seat → Type 0
 SeatTries frames s owned frame old result new = MatchOption (seat_hunt frames old) (result ≡ Err Idle) (λ hunt.
     MatchBool (may_try s hunt frame)
     (MatchBool owned

@@ -8,9 +8,9 @@ use Rattle.numa_compile.specs.Standing.{PlanStandsFor}
 use Rattle.numa_core.specs.World.{Setup, Hunt, World, newest_published, is_published, first_commands, hunt_of, last_of}
 use Rattle.numa_core.specs.Runs.{Moment, IsLegalRun, world_of}
 use Rattle.numa_space.specs.declared.request.Request.{Request}
-use Rattle.numa_core.specs.declared.event.Event.{Event}
-use Rattle.numa_core.specs.declared.event.Reply.{Reply}
-use Rattle.numa_core.specs.declared.event.CoreRefusal.{CoreRefusal}
+use Rattle.numa_space.specs.declared.event.Event.{Event}
+use Rattle.numa_space.specs.declared.event.CoreReply.{CoreReply}
+use Rattle.numa_space.specs.declared.event.CoreRefusal.{CoreRefusal}
 
 -- ---- frames in a row
 
@@ -108,5 +108,5 @@ pub record HasRun (core : CoreState) : Type 0 where
   pub leads : LeadsTo run core
 
 -- the moment of an event that comes after a run and was answered so; a Begin takes the newest published version
-abbrev pub moment_after : Setup → List Moment → Event → Result Reply CoreRefusal → Moment
+abbrev pub moment_after : Setup → List Moment → Event → Result CoreReply CoreRefusal → Moment
 moment_after s run event answer = record { event = event; version = newest_published (world_of s run); answer = answer }

@@ -7,12 +7,12 @@ use Rattle.numa_space.specs.declared.refusal.Refusal.{Refusal}
 use Rattle.numa_space.specs.declared.refusal.Refusal.TheVariants.{NoMemory as NoRoom}
 use Rattle.numa_machine.specs.declared.frame.Frame.{Frame}
 use Rattle.numa_space.specs.declared.placement.Placement.{Placement}
-use Rattle.numa_core.specs.declared.event.Event.{Event}
-use Rattle.numa_core.specs.declared.event.Event.TheVariants.{Accept, Publish, Begin, Look, Try, Give}
-use Rattle.numa_core.specs.declared.event.Reply.{Reply}
-use Rattle.numa_core.specs.declared.event.Reply.TheVariants.{Accepted, Published, Still, Exhausted, Won, Given}
-use Rattle.numa_core.specs.declared.event.CoreRefusal.{CoreRefusal}
-use Rattle.numa_core.specs.declared.event.CoreRefusal.TheVariants.{Command as Because, NoSuchWorker, Busy, Idle, BadTry, NotOwned, BadCpu, Unmapped, NoMemory}
+use Rattle.numa_space.specs.declared.event.Event.{Event}
+use Rattle.numa_space.specs.declared.event.Event.TheVariants.{Accept, Publish, Begin, Look, Try, Give}
+use Rattle.numa_space.specs.declared.event.CoreReply.{CoreReply}
+use Rattle.numa_space.specs.declared.event.CoreReply.TheVariants.{Accepted, Published, Still, Exhausted, Won, Given}
+use Rattle.numa_space.specs.declared.event.CoreRefusal.{CoreRefusal}
+use Rattle.numa_space.specs.declared.event.CoreRefusal.TheVariants.{Command as Because, NoSuchWorker, Busy, Idle, BadTry, NotOwned, BadCpu, Unmapped, NoMemory}
 use Rattle.numa_core.specs.World.{Setup, Hunt, World, is_published, last_of, hunt_of, owner_of, is_frame, list_at, current_rank, may_look, may_try, begun, looked, missed}
 
 -- ---- which versions a worker may take
@@ -94,7 +94,7 @@ module _ (s : Setup) where
       ∷ [])
 
   -- a hunt goes on while there is a current node; then it is over, and the worker is idle
-  abbrev pub goes_on : Hunt → Reply
+  abbrev pub goes_on : Hunt → CoreReply
   goes_on hunt = if is_some (current_rank s hunt) then Still else Exhausted hunt.version
 
   abbrev pub going_on : Hunt → Option Hunt
@@ -112,7 +112,7 @@ module _ (s : Setup) where
   }
 
   -- what an event answers that isn't refused
-  abbrev pub reply_of : World → ℕ → Event → Reply
+  abbrev pub reply_of : World → ℕ → Event → CoreReply
   reply_of world version (Accept command) = Accepted (length world.history + 1)
   reply_of world version Publish = Published (length world.history)
   reply_of world version (Begin w request) = goes_on (begun s world version request)
@@ -136,18 +136,18 @@ module _ (s : Setup) where
   effect_of world version (Give w frame) = with_owner world frame None
 
   -- the world after an event with this answer: a refused event leaves it as it was
-  abbrev pub world_after : World → ℕ → Event → Result Reply CoreRefusal → World
+  abbrev pub world_after : World → ℕ → Event → Result CoreReply CoreRefusal → World
   world_after world version event answer = if is_ok answer then effect_of world version event else world
 
 -- ---- answers
 
 -- the refusal where there is one, else the reply
-abbrev pub refused_or : Option CoreRefusal → Reply → Result Reply CoreRefusal
+abbrev pub refused_or : Option CoreRefusal → CoreReply → Result CoreReply CoreRefusal
 refused_or None reply = Ok reply
 refused_or (Some refusal) reply = Err refusal
 
 -- memory may be wanting for a command that may need room, and for a Publish
-abbrev pub IsOutOfMemory : Event → Result Reply CoreRefusal → Type 0
+abbrev pub IsOutOfMemory : Event → Result CoreReply CoreRefusal → Type 0
 IsOutOfMemory (Accept command) answer = (answer ≡ Err (Because NoRoom)) × MayNeedRoom command
 IsOutOfMemory Publish answer = answer ≡ Err NoMemory
 IsOutOfMemory (Begin w request) answer = ⊥
@@ -157,9 +157,9 @@ IsOutOfMemory (Give w frame) answer = ⊥
 
 module _ (s : Setup) where
   -- what the event answers with ample memory
-  abbrev pub answer_of : World → ℕ → Event → Result Reply CoreRefusal
+  abbrev pub answer_of : World → ℕ → Event → Result CoreReply CoreRefusal
   answer_of world version event = refused_or (refusal_of s world version event) (reply_of s world version event)
 
   -- the event may have this answer: that with ample memory, or want of memory where nothing else refuses it
-  abbrev pub IsAnswer : World → ℕ → Event → Result Reply CoreRefusal → Type 0
+  abbrev pub IsAnswer : World → ℕ → Event → Result CoreReply CoreRefusal → Type 0
   IsAnswer world version event answer = (answer ≡ answer_of world version event) ⊎ ((refusal_of s world version event ≡ None) × IsOutOfMemory event answer)

@@ -6,11 +6,11 @@ use Rattle.numa_machine.specs.Machine.{frames_of}
 use Rattle.numa_machine.specs.declared.frame.Frame.{Frame}
 use Rattle.numa_space.specs.declared.request.Request.{Request}
 use Rattle.numa_core.specs.declared.touching.Spot.{Spot}
-use Rattle.numa_core.specs.declared.event.Event.{Event}
-use Rattle.numa_core.specs.declared.event.Event.TheVariants.{Begin, Try}
-use Rattle.numa_core.specs.declared.event.Reply.{Reply}
-use Rattle.numa_core.specs.declared.event.Reply.TheVariants.{Exhausted, Won}
-use Rattle.numa_core.specs.declared.event.CoreRefusal.{CoreRefusal}
+use Rattle.numa_space.specs.declared.event.Event.{Event}
+use Rattle.numa_space.specs.declared.event.Event.TheVariants.{Begin, Try}
+use Rattle.numa_space.specs.declared.event.CoreReply.{CoreReply}
+use Rattle.numa_space.specs.declared.event.CoreReply.TheVariants.{Exhausted, Won}
+use Rattle.numa_space.specs.declared.event.CoreRefusal.{CoreRefusal}
 use Rattle.numa_core.specs.World.{Setup, Hunt, World, newest_published, hunt_of, current_rank, begun}
 use Rattle.numa_core.specs.Steps.{refusal_of, refused_or, answer_of, world_after, with_worker, with_owner}
 use Rattle.numa_core.specs.Runs.{Moment}
@@ -23,7 +23,7 @@ lowest_below test (suc n) = option_or (lowest_below test n) (if test n then Some
 
 -- an event's answer, and the world after it
 pub record Answered : Type 0 where
-  pub answer : Result Reply CoreRefusal
+  pub answer : Result CoreReply CoreRefusal
   pub world : World
 
 module _ (s : Setup) where
@@ -80,7 +80,7 @@ module _ (s : Setup) where
   free_for world request = first_free world (begun s world (newest_published world) request).nodes
 
   -- the worker wins the spot; without one its list is exhausted
-  abbrev pub touch_reply : World → Request → Option Spot → Reply
+  abbrev pub touch_reply : World → Request → Option Spot → CoreReply
   touch_reply world request None = Exhausted (newest_published world)
   touch_reply world request (Some spot) = Won (record {
     version = newest_published world;
@@ -100,7 +100,7 @@ module _ (s : Setup) where
   abbrev pub touch_refusal : World → ℕ → Request → Option CoreRefusal
   touch_refusal world w request = refusal_of s world (newest_published world) (Begin w request)
 
-  abbrev pub touch_answer : World → ℕ → Request → Result Reply CoreRefusal
+  abbrev pub touch_answer : World → ℕ → Request → Result CoreReply CoreRefusal
   touch_answer world w request = refused_or (touch_refusal world w request) (touch_reply world request (free_for world request))
 
   -- a refused touch leaves the world as it was
@@ -115,7 +115,7 @@ AreSteps w request event [] = event ≡ Begin w request
 AreSteps w request event (m ∷ earlier) = ((frame : Frame) × (event ≡ Try w frame)) × AreSteps w request m.event earlier
 
 -- the moments, the newest first, are a touch of the worker that is answered so
-abbrev pub IsTouch : ℕ → Request → Result Reply CoreRefusal → List Moment → Type 0
+abbrev pub IsTouch : ℕ → Request → Result CoreReply CoreRefusal → List Moment → Type 0
 IsTouch w request answer [] = ⊥
 IsTouch w request answer (m ∷ earlier) = (m.answer ≡ answer) × AreSteps w request m.event earlier
 

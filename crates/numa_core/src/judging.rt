@@ -2,9 +2,9 @@
 ghost use Rattle.std.specs.Prelude.{◌<◌, ◌≤◌, None, Some, IfOk, IfErr, OnOk, length, vec_len};
 ghost use Rattle.numa_core.specs.Judging.{Judges, Lists};
 
-use crate::event::CoreRefusal;
 use crate::seat::Seat;
 use numa_plan::{Plan, Steps};
+use numa_space::event::CoreRefusal;
 use numa_space::{PlaceRefusal, Request};
 
 /// The list of nodes that the plan of the newest published version has for a worker's request, lent by the plan. Or the refusal

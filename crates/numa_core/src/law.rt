@@ -8,8 +8,8 @@ ghost use Rattle.numa_core.specs.World.{Setup, first_commands, is_published, lis
 ghost use Rattle.numa_core.specs.Standing.{CoreState, CoreStandsFor, ShowsWorld, setup_of};
 ghost use Rattle.numa_space.specs.declared.request.Request.{Request};
 ghost use Rattle.numa_core.specs.Runs.{Moment, accepts, world_of, answered, IsLegalRun, IsRightPlacement, IsExhausted, IsWin, worker_of, gives_back, version_told};
-ghost use Rattle.numa_core.specs.declared.event.Event.{Event};
-ghost use Rattle.numa_core.specs.declared.event.Reply.{Reply};
+ghost use Rattle.numa_space.specs.declared.event.Event.{Event};
+ghost use Rattle.numa_space.specs.declared.event.CoreReply.{CoreReply};
 ghost use Rattle.numa_machine.specs.declared.frame.Frame.{Frame};
 ghost use Rattle.numa_space.specs.declared.placement.Placement.{Placement};
 
@@ -19,10 +19,10 @@ ghost use Rattle.numa_space.specs.declared.placement.Placement.{Placement};
 /// carry never fall.
 pub fn every_run()
     ensures right { (s : Setup) (later earlier : List Moment) (m : Moment) (placement : Placement) →
-        IsLegalRun s (later ++ m ∷ earlier) → m.answer ≡ Ok (Reply.Won placement) →
+        IsLegalRun s (later ++ m ∷ earlier) → m.answer ≡ Ok (CoreReply.Won placement) →
         (w : ℕ) × (m.event ≡ Event.Try w placement.frame) × IsRightPlacement s w placement earlier }
     ensures exhausted { (s : Setup) (later earlier : List Moment) (m : Moment) (version : ℕ) →
-        IsLegalRun s (later ++ m ∷ earlier) → m.answer ≡ Ok (Reply.Exhausted version) →
+        IsLegalRun s (later ++ m ∷ earlier) → m.answer ≡ Ok (CoreReply.Exhausted version) →
         (w : ℕ) × (worker_of m.event ≡ Some w) × IsExhausted s w version (m ∷ earlier) }
     ensures given_back { (s : Setup) (later between earlier : List Moment) (first second : Moment) (v w : ℕ) (frame : Frame) →
         IsLegalRun s (later ++ second ∷ (between ++ first ∷ earlier)) → IsWin v frame first → IsWin w frame second →
@@ -63,7 +63,7 @@ pub fn every_list()
         IsNodeList (allowed_nodes s.machine (first_commands version (world_of s run).history)) nodes }
     ensures allowed { (s : Setup) (later earlier : List Moment) (m : Moment) (placement : Placement) →
         s.machine.memory ≢ 0 → s.machine.memory < 2 ^ 256 → IsLegalRun s (later ++ m ∷ earlier) →
-        m.answer ≡ Ok (Reply.Won placement) →
+        m.answer ≡ Ok (CoreReply.Won placement) →
         has (allowed_nodes s.machine (first_commands placement.version (world_of s earlier).history)) placement.node ≡ true }
 {}
 

@@ -3,7 +3,6 @@
 //! was placed.
 #![tactic(auto)]
 
-pub mod event;
 mod judging;
 pub mod law;
 mod places;
@@ -13,9 +12,9 @@ mod state;
 mod tables;
 mod touching;
 
-pub use event::{CoreRefusal, Event, Reply};
 pub use numa_machine::NoMemory;
 pub use numa_machine::frame::{self, Frame};
+pub use numa_space::event::{self, CoreRefusal, CoreReply, Event};
 pub use numa_space::placement::{self, Placement};
 pub use numa_space::request::{self, Request};
 pub use running::Core;

@@ -6,9 +6,9 @@ ghost use Rattle.numa_core.specs.Steps.{IsAnswer, world_after};
 ghost use Rattle.numa_core.specs.Runs.{Moment};
 ghost use Rattle.numa_core.specs.Standing.{CoreState, CoreStandsFor, HasRun, LeadsTo, moment_after, setup_of};
 
-use crate::event::{CoreRefusal, Event, Reply};
 use crate::state::State;
 use numa_machine::{Machine, NoMemory};
+use numa_space::event::{CoreRefusal, CoreReply, Event};
 use numa_space::{Limits, Space};
 use std::alloc::Global;
 use std::marker::Model;
@@ -63,7 +63,7 @@ impl Core {
     ///   no such page, in this order.
     /// - Look and Try: `NoSuchWorker`, `Idle`, `BadTry` where the current node lacks the word, or where the frame is none of it or met.
     /// - Give: `NoSuchWorker`, `Busy`, `NotOwned` where the frame isn't the worker's.
-    pub fn step(&mut self, event: Event) -> Result<Reply, CoreRefusal>
+    pub fn step(&mut self, event: Event) -> Result<CoreReply, CoreRefusal>
         ensures answer { (world : World) → CoreStandsFor self.old world → IsAnswer (setup_of self.old) world (newest_published world) event result × CoreStandsFor self.new (world_after (setup_of self.old) world (newest_published world) event result) }
         ensures runs { (run : List Moment) → LeadsTo run self.old → LeadsTo (moment_after (setup_of self.old) run event result ∷ run) self.new }
         ensures unchanged { OnErr result (self.new ≡ self.old) }

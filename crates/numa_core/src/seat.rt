@@ -5,11 +5,11 @@ ghost use Rattle.numa_core.specs.Steps.{goes_on, going_on};
 ghost use Rattle.numa_core.specs.Standing.{frames_before, owner_at, place_in, met_at, hunt_in};
 ghost use Rattle.numa_core.specs.Seats.{busy_at, busy_of, seat_hunt, fresh, HasRoom, IsPassed, IsCursor, IsAllMet, SeatFits, SeatLooks, SeatTries};
 
-use crate::event::{CoreRefusal, Reply};
 use crate::places::Places;
 use crate::tables::{clear, is_met, meet, meet_owned, none_met};
 use arrayvec::ArrayVec;
 use numa_machine::Frame;
+use numa_space::event::{CoreRefusal, CoreReply};
 use numa_space::{Placement, Request};
 use std::alloc::{AllocError, Global};
 
@@ -103,7 +103,7 @@ impl Seat {
     }
 
     /// Goes on with the job while a listed node has an unmet frame, and else is idle. All before the job's cursor is met.
-    fn settle(&mut self, places: &Places, job: Job) -> Reply
+    fn settle(&mut self, places: &Places, job: Job) -> CoreReply
         requires room { HasRoom places.now (vec_len self.old.met) }
         requires passed { IsPassed places.now self.old.nodes.items self.old.met.items job.at.rank job.at.next }
         ensures reply { (s : Setup) → places.now ≡ s.machine.frames → result ≡ goes_on s (hunt_in places.now (busy_at job self.old.nodes.items self.old.met.items)) }
@@ -112,14 +112,14 @@ impl Seat {
     {
         let Some(at) = first_from(places, self.nodes.as_slice(), &self.met, job.at) else {
             self.job = None;
-            return Reply::Exhausted(job.version);
+            return CoreReply::Exhausted(job.version);
         };
         self.job = Some(Job {
             request: job.request,
             version: job.version,
             at,
         });
-        Reply::Still
+        CoreReply::Still
     }
 
     /// Takes a request with the version and the list for it.
@@ -129,7 +129,7 @@ impl Seat {
         request: Request,
         version: u64,
         row: &[u8],
-    ) -> Reply
+    ) -> CoreReply
         requires few { length row.now ≤ 256 }
         requires fits { SeatFits places.now self.old }
         ensures reply { (s : Setup) → places.now ≡ s.machine.frames → result ≡ goes_on s (fresh request version row.now) }
@@ -155,7 +155,7 @@ impl Seat {
         places: &Places,
         owners: &Vec<Option<u8>>,
         word: u32,
-    ) -> Result<Reply, CoreRefusal>
+    ) -> Result<CoreReply, CoreRefusal>
         requires owners { vec_len owners.now ≡ frames_before places.now (length places.now) }
         requires fits { SeatFits places.now self.old }
         ensures looks { (s : Setup) (world : World) → places.now ≡ s.machine.frames → ((n k : ℕ) → world.owner n k ≡ owner_at owners.now.items (place_in places.now n k)) → SeatLooks places.now s world word self.old result self.new }
@@ -193,7 +193,7 @@ impl Seat {
         owned: bool,
         frame: Frame,
         place: u32,
-    ) -> Result<Reply, CoreRefusal>
+    ) -> Result<CoreReply, CoreRefusal>
         requires place { place_in places.now frame.node frame.number ≡ Some place }
         requires within { place < frames_before places.now (length places.now) }
         requires fits { SeatFits places.now self.old }
@@ -216,7 +216,7 @@ impl Seat {
             return Ok(self.settle(places, job));
         }
         self.job = None;
-        Ok(Reply::Won(Placement {
+        Ok(CoreReply::Won(Placement {
             version: job.version,
             task: job.request.task,
             page: job.request.page,

@@ -5,9 +5,8 @@ ghost use Rattle.numa_core.specs.Standing.{CoreStandsFor, setup_of};
 ghost use Rattle.numa_core.specs.Kept.{shown, IsKept, Follows};
 ghost use Rattle.numa_core.specs.Seats.{SeatFits};
 ghost use Rattle.numa_core.specs.declared.seat.Seat.{Seat};
-ghost use Rattle.numa_core.specs.declared.event.Event.{Event};
+ghost use Rattle.numa_space.specs.declared.event.Event.{Event};
 
-use crate::event::{CoreRefusal, Reply};
 use crate::judging::row_for;
 use crate::places::Places;
 use crate::seat::Seat;
@@ -16,6 +15,7 @@ use crate::touching::{lower, none_taken};
 use numa_compile::compile;
 use numa_machine::{Frame, Machine, NoMemory};
 use numa_plan::Plan;
+use numa_space::event::{CoreRefusal, CoreReply};
 use numa_space::{Command, Limits, Request, Space};
 use std::alloc::Global;
 
@@ -76,7 +76,7 @@ impl State {
     }
 
     /// The command is accepted, where nothing refuses it.
-    pub(crate) fn accept(&mut self, command: Command) -> Result<Reply, CoreRefusal>
+    pub(crate) fn accept(&mut self, command: Command) -> Result<CoreReply, CoreRefusal>
         requires kept { IsKept self.old }
         ensures kept { IsKept self.new }
         ensures follows { Follows (shown self.old) (Event.Accept command) result (shown self.new) }
@@ -87,11 +87,11 @@ impl State {
             Ok(()) => {}
             Err(refusal) => return Err(CoreRefusal::Command(refusal)),
         }
-        Ok(Reply::Accepted(self.space.version()))
+        Ok(CoreReply::Accepted(self.space.version()))
     }
 
     /// All accepted commands are published.
-    pub(crate) fn publish(&mut self) -> Result<Reply, CoreRefusal>
+    pub(crate) fn publish(&mut self) -> Result<CoreReply, CoreRefusal>
         requires kept { IsKept self.old }
         ensures kept { IsKept self.new }
         ensures follows { Follows (shown self.old) Event.Publish result (shown self.new) }
@@ -102,11 +102,11 @@ impl State {
             Ok(plan) => self.plan = plan,
             Err(_) => return Err(CoreRefusal::NoMemory),
         }
-        Ok(Reply::Published(self.plan.version()))
+        Ok(CoreReply::Published(self.plan.version()))
     }
 
     /// A worker takes the newest published version, and its list for the request.
-    pub(crate) fn begin(&mut self, worker: u32, request: Request) -> Result<Reply, CoreRefusal>
+    pub(crate) fn begin(&mut self, worker: u32, request: Request) -> Result<CoreReply, CoreRefusal>
         requires kept { IsKept self.old }
         ensures kept { IsKept self.new }
         ensures follows { Follows (shown self.old) (Event.Begin worker request) result (shown self.new) }
@@ -119,7 +119,7 @@ impl State {
     }
 
     /// A worker looks at a word of its current node.
-    pub(crate) fn look(&mut self, worker: u32, word: u32) -> Result<Reply, CoreRefusal>
+    pub(crate) fn look(&mut self, worker: u32, word: u32) -> Result<CoreReply, CoreRefusal>
         requires kept { IsKept self.old }
         ensures kept { IsKept self.new }
         ensures follows { Follows (shown self.old) (Event.Look worker word) result (shown self.new) }
@@ -133,7 +133,7 @@ impl State {
     }
 
     /// A worker tries a frame of its current node.
-    pub(crate) fn attempt(&mut self, worker: u32, frame: Frame) -> Result<Reply, CoreRefusal>
+    pub(crate) fn attempt(&mut self, worker: u32, frame: Frame) -> Result<CoreReply, CoreRefusal>
         requires kept { IsKept self.old }
         ensures kept { IsKept self.new }
         ensures follows { Follows (shown self.old) (Event.Try worker frame) result (shown self.new) }
@@ -158,7 +158,7 @@ impl State {
     }
 
     /// A worker gives a frame back.
-    pub(crate) fn give(&mut self, worker: u32, frame: Frame) -> Result<Reply, CoreRefusal>
+    pub(crate) fn give(&mut self, worker: u32, frame: Frame) -> Result<CoreReply, CoreRefusal>
         requires kept { IsKept self.old }
         ensures kept { IsKept self.new }
         ensures follows { Follows (shown self.old) (Event.Give worker frame) result (shown self.new) }
@@ -183,6 +183,6 @@ impl State {
         }
         self.owners[place as usize] = None;
         lower(&mut self.taken, frame);
-        Ok(Reply::Given)
+        Ok(CoreReply::Given)
     }
 }

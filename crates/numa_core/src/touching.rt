@@ -9,12 +9,12 @@ ghost use Rattle.numa_core.specs.Kept.{shown, IsKept};
 ghost use Rattle.numa_core.specs.Hints.{AreTaken, IsLow};
 ghost use Rattle.numa_core.specs.Touching.{lowest_free, first_free, touched, touch_answer, touch_world, IsTouch, Shows};
 
-use crate::event::{CoreRefusal, Reply};
 use crate::judging::row_for;
 use crate::places::Places;
 use crate::running::Core;
 use crate::state::State;
 use numa_machine::Frame;
+use numa_space::event::{CoreRefusal, CoreReply};
 use numa_space::{Placement, Request};
 use std::alloc::{AllocError, Global};
 
@@ -99,7 +99,7 @@ fn first_free(
 
 impl State {
     /// A touch of a page by a worker.
-    pub(crate) fn touch(&mut self, worker: u32, request: Request) -> Result<Reply, CoreRefusal>
+    pub(crate) fn touch(&mut self, worker: u32, request: Request) -> Result<CoreReply, CoreRefusal>
         requires kept { IsKept self.old }
         ensures kept { IsKept self.new }
         ensures touches { (world : World) → CoreStandsFor (shown self.old) world → (result ≡ touch_answer (setup_of (shown self.old)) world worker request)
@@ -111,11 +111,11 @@ impl State {
         let found = first_free(&self.places, &self.owners, &self.taken, row);
         let version = self.plan.version();
         let Some(spot) = found else {
-            return Ok(Reply::Exhausted(version));
+            return Ok(CoreReply::Exhausted(version));
         };
         let frame = spot.frame;
         self.own(frame, worker);
-        Ok(Reply::Won(Placement {
+        Ok(CoreReply::Won(Placement {
             version,
             task: request.task,
             page: request.page,
@@ -148,7 +148,7 @@ impl Core {
     ///
     /// # Errors
     /// As for a Begin: `NoSuchWorker`, `Busy`, `BadCpu` or `Unmapped`, in this order.
-    pub fn touch(&mut self, worker: u32, request: Request) -> Result<Reply, CoreRefusal>
+    pub fn touch(&mut self, worker: u32, request: Request) -> Result<CoreReply, CoreRefusal>
         ensures answer { (world : World) → CoreStandsFor self.old world → (result ≡ (touched (setup_of self.old) world worker request).answer)
             × CoreStandsFor self.new (touched (setup_of self.old) world worker request).world }
         ensures runs { (run : List Moment) → LeadsTo run self.old → (moments : List Moment) × IsTouch worker request result moments × LeadsTo (moments ++ run) self.new }

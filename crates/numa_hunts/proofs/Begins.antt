@@ -10,8 +10,8 @@ use Rattle.numa_space.specs.declared.refusal.PlaceRefusal.{PlaceRefusal}
 use Rattle.numa_space.specs.declared.refusal.PlaceRefusal.TheVariants.{BadCpu as cpu_is_bad, Unmapped as is_unmapped}
 use Rattle.numa_core.specs.World.{Setup, World, first_commands, list_at}
 use Rattle.numa_core.specs.Steps.{first_refusal, refusal_of, refused_or, reply_of, answer_of}
-use Rattle.numa_core.specs.declared.event.CoreRefusal.TheVariants.{NoSuchWorker, Busy, BadCpu, Unmapped}
-use Rattle.numa_core.specs.declared.event.Event.TheVariants.{Begin}
+use Rattle.numa_space.specs.declared.event.CoreRefusal.TheVariants.{NoSuchWorker, Busy, BadCpu, Unmapped}
+use Rattle.numa_space.specs.declared.event.Event.TheVariants.{Begin}
 use Rattle.numa_core.proofs.InARow.{not_le}
 use Rattle.numa_fault.specs.Fault.{list_of, refusal_of as refusal_by}
 use Rattle.numa_tie.specs.Moments.{MayBegin}

@@ -3,14 +3,14 @@ use Rattle.std.proofs.Common.{◌≡◌, ◌≢◌, ℕ, Bool, Option, Some, Non
 use Rattle.numa_core.specs.World.{Setup, Hunt, World, owner_of}
 use Rattle.numa_core.specs.Steps.{effect_of, with_owner, with_worker, world_after}
 use Rattle.numa_core.specs.Runs.{worker_of}
-use Rattle.numa_core.specs.declared.event.CoreRefusal.{CoreRefusal}
-use Rattle.numa_core.specs.declared.event.Event.{Event}
-use Rattle.numa_core.specs.declared.event.Event.TheVariants.{Accept, Publish, Begin, Look, Try, Give}
-use Rattle.numa_core.specs.declared.event.Reply.{Reply}
+use Rattle.numa_space.specs.declared.event.CoreRefusal.{CoreRefusal}
+use Rattle.numa_space.specs.declared.event.Event.{Event}
+use Rattle.numa_space.specs.declared.event.Event.TheVariants.{Accept, Publish, Begin, Look, Try, Give}
+use Rattle.numa_space.specs.declared.event.CoreReply.{CoreReply}
 use Rattle.numa_tie.specs.Moves.{PoolState}
 use Rattle.numa_tie.specs.Tie.{IsTied}
 
-pub desk : (s : Setup) (world : World) (version : ℕ) (event : Event) (answer : Result Reply CoreRefusal) (w : ℕ) → worker_of event ≡ None
+pub desk : (s : Setup) (world : World) (version : ℕ) (event : Event) (answer : Result CoreReply CoreRefusal) (w : ℕ) → worker_of event ≡ None
     → (world_after s world version event answer).worker w ≡ world.worker w
 desk s world version event (Err refusal) w none = refl
 desk s world version (Accept command) (Ok reply) w none = refl
@@ -27,7 +27,7 @@ other world v w last o apart = ap (λ (b : Bool). if b then (record { last = las
 same-worker : (a v w : ℕ) → ◌≡◌ {A = Option ℕ} (Some a) (Some v) → v ≢ w → a ≢ w
 same-worker a v w e apart same = apart (let is : a ≡ v = cc in sym is ∙ same)
 
-pub workers : (s : Setup) (world : World) (version : ℕ) (event : Event) (answer : Result Reply CoreRefusal) (v w : ℕ) → worker_of event ≡ Some v → v ≢ w
+pub workers : (s : Setup) (world : World) (version : ℕ) (event : Event) (answer : Result CoreReply CoreRefusal) (v w : ℕ) → worker_of event ≡ Some v → v ≢ w
     → (world_after s world version event answer).worker w ≡ world.worker w
 workers s world version event (Err refusal) v w of apart = refl
 workers s world version (Accept command) (Ok reply) v w of apart = refl
@@ -41,7 +41,7 @@ workers s world version (Try a frame) (Ok reply) v w of apart = go (owner_of wor
     go (Some u) is = rw is (other world a w (world.worker a).last _ (same-worker a v w of apart))
     go None is = rw is (other (with_owner world frame (Some a)) a w (world.worker a).last None (same-worker a v w of apart))
 
-pub tied : (s : Setup) (world : World) (version : ℕ) (event : Event) (answer : Result Reply CoreRefusal) (state : PoolState) → worker_of event ≡ None → IsTied s world state
+pub tied : (s : Setup) (world : World) (version : ℕ) (event : Event) (answer : Result CoreReply CoreRefusal) (state : PoolState) → worker_of event ≡ None → IsTied s world state
     → IsTied s (world_after s world version event answer) state
 tied s world version event (Err refusal) state none tie = tie
 tied s world version (Accept command) (Ok reply) state none tie = record { few = tie.few; rule = tie.rule; owners = tie.owners; workers = tie.workers }

@@ -6,7 +6,7 @@ use Rattle.numa_publish.specs.Shown.{DeskState}
 use Rattle.numa_core.specs.World.{Setup}
 use Rattle.numa_core.specs.Steps.{answer_of, effect_of}
 use Rattle.numa_core.specs.Runs.{world_of}
-use Rattle.numa_core.specs.declared.event.Event.TheVariants.{Accept, Publish, Begin, Look, Try, Give}
+use Rattle.numa_space.specs.declared.event.Event.TheVariants.{Accept, Publish, Begin, Look, Try, Give}
 use Rattle.numa_tie.specs.Moments.{event_of}
 use Rattle.numa_tie.specs.Moves.{PoolState}
 use Rattle.numa_tie.specs.Plays.{Deed, makes_step, splits, has_event, Done, IsPlay, run_of}

@@ -12,11 +12,11 @@ use Rattle.numa_publish.specs.Shown.{DeskState, Refuses, ViewState, accepted, an
 use Rattle.numa_core.specs.World.{Setup, World, first_commands, is_published, opening, owner_of}
 use Rattle.numa_core.specs.Steps.{because, refused_or, effect_of, world_after}
 use Rattle.numa_core.specs.Runs.{worker_of}
-use Rattle.numa_core.specs.declared.event.CoreRefusal.{CoreRefusal}
-use Rattle.numa_core.specs.declared.event.Event.{Event}
-use Rattle.numa_core.specs.declared.event.Event.TheVariants.{Accept, Publish, Begin, Look, Try, Give}
-use Rattle.numa_core.specs.declared.event.Reply.{Reply}
-use Rattle.numa_core.specs.declared.event.Reply.TheVariants.{Accepted, Published}
+use Rattle.numa_space.specs.declared.event.CoreRefusal.{CoreRefusal}
+use Rattle.numa_space.specs.declared.event.Event.{Event}
+use Rattle.numa_space.specs.declared.event.Event.TheVariants.{Accept, Publish, Begin, Look, Try, Give}
+use Rattle.numa_space.specs.declared.event.CoreReply.{CoreReply}
+use Rattle.numa_space.specs.declared.event.CoreReply.TheVariants.{Accepted, Published}
 use Rattle.numa_core.proofs.Tracking.{first_commands-more}
 use Rattle.numa_hunts.specs.Moments.{IsPublishedIn, after_moment, moment_of}
 use Rattle.numa_hunts.specs.Desks.{Accepts, IsDeskOf, IsNew, LeadsTo, Publishes}
@@ -97,7 +97,7 @@ no_moment s world desk version is leads = longer (length world.history) world.pu
 
 -- ---- the moments of workers
 
-pub workers : (s : Setup) (world : World) (desk : DeskState) (version w : ℕ) (event : Event) (answer : Result Reply CoreRefusal) → IsDeskOf s world desk → worker_of event ≡ Some w
+pub workers : (s : Setup) (world : World) (desk : DeskState) (version w : ℕ) (event : Event) (answer : Result CoreReply CoreRefusal) → IsDeskOf s world desk → worker_of event ≡ Some w
     → IsDeskOf s (world_after s world version event answer) desk
 workers s world desk version w event (Err refusal) is of = is
 workers s world desk version w (Accept command) (Ok reply) is of = absurd (cc)
@@ -155,7 +155,7 @@ fits world history is =
     let m : length (first_commands (length history) world.history) ≡ length world.history - (length world.history - length history) = length-drop (length world.history - length history) world.history in
     omega arith
 
-pub stays : (s : Setup) (world : World) (version : ℕ) (event : Event) (answer : Result Reply CoreRefusal) (history : List Command) → IsPublishedIn world history
+pub stays : (s : Setup) (world : World) (version : ℕ) (event : Event) (answer : Result CoreReply CoreRefusal) (history : List Command) → IsPublishedIn world history
     → IsPublishedIn (world_after s world version event answer) history
 stays s world version event (Err refusal) history is = is
 stays s world version (Accept command) (Ok reply) history is = record {

@@ -11,8 +11,8 @@ use Rattle.numa_space.specs.declared.placement.Placement.{Placement}
 use Rattle.numa_space.specs.declared.request.Request.{Request}
 use Rattle.numa_core.specs.World.{Setup, Hunt, Worker, World, hunt_of, last_of, owner_of}
 use Rattle.numa_core.specs.Steps.{effect_of, with_owner, with_worker}
-use Rattle.numa_core.specs.declared.event.Event.TheVariants.{Try}
-use Rattle.numa_core.specs.declared.event.Reply.TheVariants.{Exhausted, Won as replied_won}
+use Rattle.numa_space.specs.declared.event.Event.TheVariants.{Try}
+use Rattle.numa_space.specs.declared.event.CoreReply.TheVariants.{Exhausted, Won as replied_won}
 use Rattle.numa_fault.specs.Fault.{FindsNone, Places, Walks, list_of, refusal_of}
 use Rattle.numa_pool.specs.Seats.{SeatView}
 use Rattle.numa_pool.specs.Walk.{IsDistinct, IsWalk}

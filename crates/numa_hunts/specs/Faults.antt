@@ -4,7 +4,7 @@ use Rattle.numa_space.specs.declared.command.Command.{Command}
 use Rattle.numa_space.specs.declared.request.Request.{Request}
 use Rattle.numa_core.specs.World.{Setup, World, hunt_of, last_of}
 use Rattle.numa_core.specs.Steps.{effect_of}
-use Rattle.numa_core.specs.declared.event.Event.TheVariants.{Begin}
+use Rattle.numa_space.specs.declared.event.Event.TheVariants.{Begin}
 use Rattle.numa_pool.specs.Seats.{SeatView}
 use Rattle.numa_tie.specs.Hunts.{TakesTurns, Turn, steps_of, world_left}
 use Rattle.numa_hunts.specs.Moments.{IsPublishedIn}

@@ -4,9 +4,9 @@ use Rattle.numa_space.specs.declared.command.Command.{Command}
 use Rattle.numa_core.specs.World.{Setup, World, first_commands, is_published}
 use Rattle.numa_core.specs.Steps.{IsAnswer, MayTake, world_after}
 use Rattle.numa_core.specs.Runs.{Moment}
-use Rattle.numa_core.specs.declared.event.CoreRefusal.{CoreRefusal}
-use Rattle.numa_core.specs.declared.event.Event.{Event}
-use Rattle.numa_core.specs.declared.event.Reply.{Reply}
+use Rattle.numa_space.specs.declared.event.CoreRefusal.{CoreRefusal}
+use Rattle.numa_space.specs.declared.event.Event.{Event}
+use Rattle.numa_space.specs.declared.event.CoreReply.{CoreReply}
 
 -- the moment may come next: its version may be taken, and the event may have this answer
 abbrev pub IsLegal : Setup → World → Moment → Type 0
@@ -18,7 +18,7 @@ abbrev pub after_moment : Setup → World → Moment → World
 after_moment s world m = world_after s world m.version m.event m.answer
 
 -- the moment of an event that takes no version
-abbrev pub moment_of : Event → Result Reply CoreRefusal → Moment
+abbrev pub moment_of : Event → Result CoreReply CoreRefusal → Moment
 moment_of event answer = record { event = event; version = 0; answer = answer }
 
 -- the history is that of a published version of the world

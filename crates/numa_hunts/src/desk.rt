@@ -3,9 +3,9 @@
 ghost use Rattle.std.specs.Prelude.{◌≡◌, ◌≢◌, ◌≤◌, [], length, Ok, Err, IfOk, IfErr, OnOk, OnErr};
 ghost use Rattle.numa_publish.specs.Shown.{accepted};
 ghost use Rattle.numa_core.specs.World.{Setup, World, opening};
-ghost use Rattle.numa_core.specs.declared.event.CoreRefusal.{CoreRefusal};
-ghost use Rattle.numa_core.specs.declared.event.Event.{Event};
-ghost use Rattle.numa_core.specs.declared.event.Reply.{Reply};
+ghost use Rattle.numa_space.specs.declared.event.CoreRefusal.{CoreRefusal};
+ghost use Rattle.numa_space.specs.declared.event.Event.{Event};
+ghost use Rattle.numa_space.specs.declared.event.CoreReply.{CoreReply};
 ghost use Rattle.numa_hunts.specs.Desks.{IsDeskOf, LeadsTo};
 ghost use Rattle.numa_hunts.specs.Moments.{moment_of};
 
@@ -40,7 +40,7 @@ pub fn open<R: Wait>(
 /// As `Desk::accept`.
 pub fn accept(desk: &mut Desk, command: &Command) -> Result<u64, Refusal>
     ensures ok { IfOk result (λ version. (s : Setup) (world : World) → IsDeskOf s world desk.old
-        → LeadsTo s world (moment_of (Event.Accept command.now) (Ok (Reply.Accepted version)))
+        → LeadsTo s world (moment_of (Event.Accept command.now) (Ok (CoreReply.Accepted version)))
         desk.new) }
     ensures err { IfErr result (λ refusal. (s : Setup) (world : World) → IsDeskOf s world desk.old
         → refusal ≢ Refusal.NoMemory
@@ -58,7 +58,7 @@ pub fn publish<R: Wait>(desk: &mut Desk, rt: &R) -> Result<Receipt, NoMemory>
     ensures ok { OnOk result ((s : Setup) (world : World) → IsDeskOf s world desk.old
         → desk.old.pending ≢ []
         → LeadsTo s world
-        (moment_of Event.Publish (Ok (Reply.Published (length (accepted desk.old))))) desk.new) }
+        (moment_of Event.Publish (Ok (CoreReply.Published (length (accepted desk.old))))) desk.new) }
     ensures idle { OnOk result (desk.old.pending ≡ [] → desk.new ≡ desk.old) }
     ensures err { OnErr result ((s : Setup) (world : World) → IsDeskOf s world desk.old
         → LeadsTo s world (moment_of Event.Publish (Err CoreRefusal.NoMemory)) desk.new) }

@@ -3,9 +3,9 @@ ghost use Rattle.std.specs.Prelude.{◌≡◌, ◌≢◌, ℕ, ◌<◌, ◌≤�
 ghost use Rattle.numa_core.specs.Runs.{Moment, IsLegalRun, worker_of, world_of};
 ghost use Rattle.numa_core.specs.Steps.{answer_of};
 ghost use Rattle.numa_core.specs.World.{Setup, World, opening, owner_of};
-ghost use Rattle.numa_core.specs.declared.event.CoreRefusal.{CoreRefusal};
-ghost use Rattle.numa_core.specs.declared.event.Event.{Event};
-ghost use Rattle.numa_core.specs.declared.event.Reply.{Reply};
+ghost use Rattle.numa_space.specs.declared.event.CoreRefusal.{CoreRefusal};
+ghost use Rattle.numa_space.specs.declared.event.Event.{Event};
+ghost use Rattle.numa_space.specs.declared.event.CoreReply.{CoreReply};
 ghost use Rattle.numa_fault.specs.Fault.{IsServed, list_of, refusal_of};
 ghost use Rattle.numa_fault.specs.declared.refusal.FaultRefusal.{FaultRefusal};
 ghost use Rattle.numa_pool.specs.Seats.{SeatView};
@@ -35,7 +35,7 @@ pub fn a_desk_is_the_worlds()
         → IsDeskOf s opening desk }
     ensures accepts { (s : Setup) (world : World) (before after : DeskState) (command : Command)
         (version : ℕ) → IsDeskOf s world before → Accepts before command version after
-        → LeadsTo s world (moment_of (Event.Accept command) (Ok (Reply.Accepted version))) after }
+        → LeadsTo s world (moment_of (Event.Accept command) (Ok (CoreReply.Accepted version))) after }
     ensures refuses { (s : Setup) (world : World) (desk : DeskState) (command : Command)
         (refusal : Refusal) → IsDeskOf s world desk → Refuses desk command refusal
         → refusal ≢ Refusal.NoMemory
@@ -44,14 +44,14 @@ pub fn a_desk_is_the_worlds()
     ensures publishes { (s : Setup) (world : World) (before after : DeskState)
         → IsDeskOf s world before → Publishes before after → before.pending ≢ []
         → LeadsTo s world
-        (moment_of Event.Publish (Ok (Reply.Published (length (accepted before))))) after }
+        (moment_of Event.Publish (Ok (CoreReply.Published (length (accepted before))))) after }
     ensures unpublished { (s : Setup) (world : World) (desk : DeskState) → IsDeskOf s world desk
         → LeadsTo s world (moment_of Event.Publish (Err CoreRefusal.NoMemory)) desk }
     ensures idle { (before after : DeskState) → Publishes before after → before.pending ≡ []
         → after ≡ before }
     ensures no_moment { (s : Setup) (world : World) (desk : DeskState) (version : ℕ)
         → IsDeskOf s world desk
-        → LeadsTo s world (moment_of Event.Publish (Ok (Reply.Published version))) desk → ⊥ }
+        → LeadsTo s world (moment_of Event.Publish (Ok (CoreReply.Published version))) desk → ⊥ }
 {}
 
 /// The moments of workers leave the desk the world's; and what a legal run led to, the desk's next
@@ -124,12 +124,12 @@ pub fn a_fault_is_a_hunt()
         → Falls s w history request first before after turns
         → IsServed s.machine.frames s.machine history request before after
         (Err (FaultRefusal.Exhausted version))
-        → IsHunt s w first version request (Reply.Exhausted version) turns }
+        → IsHunt s w first version request (CoreReply.Exhausted version) turns }
     ensures won { (s : Setup) (w : ℕ) (history : List Command) (request : Request)
         (first : World) (before after : SeatView) (turns : List Turn) (placement : Placement)
         → Falls s w history request first before after turns
         → IsServed s.machine.frames s.machine history request before after (Ok placement)
-        → IsHunt s w first placement.version request (Reply.Won placement) turns }
+        → IsHunt s w first placement.version request (CoreReply.Won placement) turns }
     ensures owned { (s : Setup) (w : ℕ) (history : List Command) (request : Request)
         (first : World) (before after : SeatView) (turns : List Turn) (placement : Placement)
         → Falls s w history request first before after turns

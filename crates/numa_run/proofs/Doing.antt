@@ -12,11 +12,11 @@ use Rattle.numa_core.specs.Standing.{CoreState, CoreStandsFor, setup_of}
 use Rattle.numa_machine.specs.declared.frame.Frame.{Frame}
 use Rattle.numa_space.specs.declared.placement.Placement.{Placement}
 use Rattle.numa_space.specs.declared.request.Request.{Request}
-use Rattle.numa_core.specs.declared.event.Event.{Event}
-use Rattle.numa_core.specs.declared.event.Event.TheVariants.{Give}
-use Rattle.numa_core.specs.declared.event.Reply.{Reply as CoreReply}
-use Rattle.numa_core.specs.declared.event.CoreRefusal.{CoreRefusal}
-use Rattle.numa_core.specs.declared.event.CoreRefusal.TheVariants.{NoMemory}
+use Rattle.numa_space.specs.declared.event.Event.{Event}
+use Rattle.numa_space.specs.declared.event.Event.TheVariants.{Give}
+use Rattle.numa_space.specs.declared.event.CoreReply.{CoreReply}
+use Rattle.numa_space.specs.declared.event.CoreRefusal.{CoreRefusal}
+use Rattle.numa_space.specs.declared.event.CoreRefusal.TheVariants.{NoMemory}
 use Rattle.numa_maps.specs.Residents.{Kept, placed_at, with_placement, without_page}
 use Rattle.numa_run.specs.States.{State}
 use Rattle.numa_run.specs.Standing.{RunsAs, Does, state_with}

@@ -6,7 +6,7 @@ use Rattle.numa_machine.specs.Machine.{Hardware}
 use Rattle.numa_machine.specs.declared.fault.MachineFault.{MachineFault}
 use Rattle.numa_space.specs.declared.command.Command.{Command}
 use Rattle.numa_core.specs.World.{opening}
-use Rattle.numa_core.specs.declared.event.Event.TheVariants.{Accept}
+use Rattle.numa_space.specs.declared.event.Event.TheVariants.{Accept}
 use Rattle.numa_script.specs.declared.policy.WordFault.{WordFault}
 use Rattle.numa_script.specs.declared.policy.WordFault.TheVariants as word_fault
 use Rattle.numa_script.specs.declared.line.MachineLine.{MachineLine}

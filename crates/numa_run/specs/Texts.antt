@@ -13,8 +13,8 @@ use Rattle.numa_space.specs.declared.refusal.Refusal.{Refusal}
 use Rattle.numa_space.specs.declared.refusal.Refusal.TheVariants as refusal
 use Rattle.numa_space.specs.declared.refusal.PlaceRefusal.{PlaceRefusal}
 use Rattle.numa_space.specs.declared.refusal.PlaceRefusal.TheVariants as place
-use Rattle.numa_core.specs.declared.event.CoreRefusal.{CoreRefusal}
-use Rattle.numa_core.specs.declared.event.CoreRefusal.TheVariants as core
+use Rattle.numa_space.specs.declared.event.CoreRefusal.{CoreRefusal}
+use Rattle.numa_space.specs.declared.event.CoreRefusal.TheVariants as core
 use Rattle.numa_script.specs.declared.policy.WordFault.{WordFault}
 use Rattle.numa_script.specs.declared.policy.WordFault.TheVariants as word
 use Rattle.numa_run.specs.declared.reply.Win.{Win}

@@ -10,12 +10,12 @@ use Rattle.numa_core.specs.Steps.{answer_of, world_after}
 use Rattle.numa_core.specs.Touching.{touched}
 use Rattle.numa_space.specs.declared.placement.Placement.{Placement}
 use Rattle.numa_space.specs.declared.request.Request.{Request}
-use Rattle.numa_core.specs.declared.event.Event.{Event}
-use Rattle.numa_core.specs.declared.event.Event.TheVariants.{Accept, Publish, Begin, Look, Try, Give}
-use Rattle.numa_core.specs.declared.event.Reply.{Reply as CoreReply}
-use Rattle.numa_core.specs.declared.event.Reply.TheVariants as done
-use Rattle.numa_core.specs.declared.event.CoreRefusal.{CoreRefusal}
-use Rattle.numa_core.specs.declared.event.CoreRefusal.TheVariants.{Command as Because, NotOwned, NoMemory}
+use Rattle.numa_space.specs.declared.event.Event.{Event}
+use Rattle.numa_space.specs.declared.event.Event.TheVariants.{Accept, Publish, Begin, Look, Try, Give}
+use Rattle.numa_space.specs.declared.event.CoreReply.{CoreReply}
+use Rattle.numa_space.specs.declared.event.CoreReply.TheVariants as done
+use Rattle.numa_space.specs.declared.event.CoreRefusal.{CoreRefusal}
+use Rattle.numa_space.specs.declared.event.CoreRefusal.TheVariants.{Command as Because, NotOwned, NoMemory}
 use Rattle.numa_maps.specs.Residents.{Kept, placed_at, with_placement, without_page}
 use Rattle.numa_script.specs.declared.work.Work.{Work}
 use Rattle.numa_script.specs.declared.work.Work.TheVariants as work

@@ -1,6 +1,6 @@
 -- Lines of scripts, and what they say.
 use Rattle.std.specs.Prelude.{◌≡◌, codes, Ok, refl}
-use Rattle.numa_core.specs.declared.event.Event.TheVariants as event
+use Rattle.numa_space.specs.declared.event.Event.TheVariants as event
 use Rattle.numa_space.specs.declared.command.Command.TheVariants as command
 use Rattle.numa_script.specs.Lines.{line_of, keyword_of, setting_keyword, command_keyword, question_keyword, work_keyword}
 use Rattle.numa_script.specs.Numbers.{number_of, numeral_of, fitting}

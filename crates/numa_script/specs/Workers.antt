@@ -1,6 +1,6 @@
 -- What the lines of workers ask for.
 use Rattle.std.specs.Prelude.{ℕ, List, [], ◌∷◌, Option, Some, None}
-use Rattle.numa_core.specs.declared.event.Event.TheVariants as event
+use Rattle.numa_space.specs.declared.event.Event.TheVariants as event
 use Rattle.numa_machine.specs.declared.frame.Frame.{Frame}
 use Rattle.numa_space.specs.declared.request.Request.{Request}
 use Rattle.numa_script.specs.Numbers.{small_of, page_of, node_of, frame_number_of}

@@ -4,7 +4,8 @@ ghost use Rattle.numa_script.specs.Workers.{request_of, frame_of, publish_work, 
 
 use crate::number::{frame_number, node, page, small};
 use crate::parts::Parts;
-use numa_core::{Event, Frame, Request};
+use numa_machine::Frame;
+use numa_space::{Event, Request};
 
 /// Work for a worker, or the publication of the commands so far. Workers are numbered from 0.
 #[derive(Clone, Copy, Debug, PartialEq, Eq)]

@@ -57,12 +57,14 @@
 //! nothing. Want of memory is the last, and the only one that the history doesn't decide. Mbind and Unmap of no bytes change
 //! nothing but the version; so does SetHome of no bytes, once its node is one of the machine's.
 //!
-//! **Faults.** What a page fault asks for is a `Request`, and what it gets a `Placement`. The space answers neither: they are
-//! the plain types of the crates that publish its policies and take frames by them.
+//! **Faults.** What a page fault asks for is a `Request`, and what it gets a `Placement`. An `Event` is one atomic step of a core:
+//! a command, a publication, or a worker's step towards a frame. The space answers none of them: they are the plain types of the
+//! crates that publish its policies and take frames by them.
 #![tactic(auto)]
 
 mod choice;
 pub mod command;
+pub mod event;
 pub mod laws;
 pub mod limits;
 mod page_ranges;
@@ -74,6 +76,7 @@ pub mod space;
 mod task_policies;
 
 pub use command::Command;
+pub use event::{CoreRefusal, CoreReply, Event};
 pub use limits::Limits;
 pub use numa_ranges::Run;
 pub use placement::Placement;

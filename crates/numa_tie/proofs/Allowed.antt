@@ -6,8 +6,8 @@ use Rattle.std.proofs.lemmas.Bool.Decides.{nat_tests}
 use Rattle.numa_machine.specs.declared.frame.Frame.{Frame}
 use Rattle.numa_core.specs.World.{Setup, World, Hunt, hunt_of, owner_of, last_of, may_look, may_try, looked, missed}
 use Rattle.numa_core.specs.Steps.{answer_of, effect_of, goes_on, going_on, placement_of, with_owner, with_worker}
-use Rattle.numa_core.specs.declared.event.Event.TheVariants.{Look, Try, Give}
-use Rattle.numa_core.specs.declared.event.Reply.TheVariants.{Won, Given}
+use Rattle.numa_space.specs.declared.event.Event.TheVariants.{Look, Try, Give}
+use Rattle.numa_space.specs.declared.event.CoreReply.TheVariants.{Won, Given}
 
 pub no_less : (a b : ℕ) → b < a → nat_le a b ≡ false
 no_less a b l = grind (arith, nat_tests)

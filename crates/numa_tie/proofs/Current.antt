@@ -4,7 +4,7 @@ use Rattle.std.specs.Prelude.{slice_index, slice_get, nat_lt, ◌==◌, ◌&&◌
 use Rattle.std.specs.Option.{option_map_or}
 use Rattle.numa_core.specs.World.{Setup, Hunt, first_place, one_further, has_unmet, at_current, may_look, may_try}
 use Rattle.numa_core.specs.Steps.{goes_on, going_on}
-use Rattle.numa_core.specs.declared.event.Reply.TheVariants.{Still, Exhausted}
+use Rattle.numa_space.specs.declared.event.CoreReply.TheVariants.{Still, Exhausted}
 use Rattle.numa_core.proofs.Cursors.{any_below-true, any_below-false}
 use Rattle.numa_core.proofs.InARow.{is_lt}
 use Rattle.numa_machine.specs.declared.frame.Frame.{Frame}

@@ -11,8 +11,8 @@ use Rattle.atomic_table.specs.Table.{State}
 use Rattle.std.specs.Option.{option_map_or}
 use Rattle.numa_core.specs.World.{Setup, World, opening, hunt_of, last_of, owner_of, missed, is_frame}
 use Rattle.numa_core.specs.Steps.{effect_of, going_on, with_owner, with_worker}
-use Rattle.numa_core.specs.declared.event.Event.{Event}
-use Rattle.numa_core.specs.declared.event.Event.TheVariants.{Accept, Publish, Begin, Look, Try, Give}
+use Rattle.numa_space.specs.declared.event.Event.{Event}
+use Rattle.numa_space.specs.declared.event.Event.TheVariants.{Accept, Publish, Begin, Look, Try, Give}
 use Rattle.numa_pool.specs.declared.view.View.{View}
 use Rattle.numa_pool.specs.Frames.{times}
 use Rattle.numa_pool.specs.Rule.{Counted, holdings}

@@ -6,9 +6,9 @@ use Rattle.numa_space.specs.declared.request.Request.{Request}
 use Rattle.numa_core.specs.Seats.{fresh}
 use Rattle.numa_core.specs.World.{Setup, World, Hunt, hunt_of, last_of, list_at, looked, look_finds, missed, is_frame}
 use Rattle.numa_core.specs.Steps.{effect_of, goes_on, going_on, placement_of, with_owner, with_worker}
-use Rattle.numa_core.specs.declared.event.Event.TheVariants.{Begin}
-use Rattle.numa_core.specs.declared.event.Reply.{Reply}
-use Rattle.numa_core.specs.declared.event.Reply.TheVariants.{Still, Won as replied_won}
+use Rattle.numa_space.specs.declared.event.Event.TheVariants.{Begin}
+use Rattle.numa_space.specs.declared.event.CoreReply.{CoreReply}
+use Rattle.numa_space.specs.declared.event.CoreReply.TheVariants.{Still, Won as replied_won}
 use Rattle.numa_pool.specs.declared.view.Entry.{Entry}
 use Rattle.numa_pool.specs.declared.view.Entry.TheVariants.{Load, Won, Lost, Gave}
 use Rattle.numa_pool.specs.Walk.{met, Searches, IsWalk, IsNext}
@@ -108,12 +108,12 @@ module _ (s : Setup) (id version : ℕ) (request : Request) (nodes : List ℕ) w
         (now.0, now.1, (now.2, subst (λ r. IsHunt s id first version request r turns) on.0 so_far.2))
 
     abbrev Ends : Option Frame → List Turn → Type 0
-    Ends found turns = ((reply : Reply) × Tells version request nodes found reply × IsHunt s id first version request reply turns) × (hunt_of (world_left s id start turns) id ≡ None)
+    Ends found turns = ((reply : CoreReply) × Tells version request nodes found reply × IsHunt s id first version request reply turns) × (hunt_of (world_left s id start turns) id ≡ None)
 
     -- the last step wins a frame
     wins : (f : Frame) (world : World) (before after : PoolState) (e : Entry) (turns : List Turn) → e ≡ Won f → IsTied s world before → Makes e id before after → hunt_of world id ≡ hunt_of (world_left s id start turns) id
         → TakesTurns s id start turns → Searches s.machine.frames nodes (steps_of turns) → IsNext s.machine.frames (steps_of turns) nodes f
-        → ((reply : Reply) × Tells version request nodes (Some f) reply × IsMoment s world 0 (event_of id e) reply × IsHunt s id first version request Still turns) × (hunt_of (effect_of s world 0 (event_of id e)) id ≡ None)
+        → ((reply : CoreReply) × Tells version request nodes (Some f) reply × IsMoment s world 0 (event_of id e) reply × IsHunt s id first version request Still turns) × (hunt_of (effect_of s world 0 (event_of id e)) id ≡ None)
     wins f world before after (Won g) turns is tied m same took h next =
         let frames_same : g ≡ f = cc in
         let next_g = subst (λ x. IsNext s.machine.frames (steps_of turns) nodes x) (sym frames_same) next in

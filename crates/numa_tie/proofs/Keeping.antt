@@ -9,8 +9,8 @@ use Rattle.atomic_table.proofs.Lists.{at_set, set_here, set_else}
 use Rattle.numa_machine.specs.declared.frame.Frame.{Frame}
 use Rattle.numa_core.specs.World.{Setup, World, Hunt, hunt_of, owner_of, last_of, current_rank, looked, missed}
 use Rattle.numa_core.specs.Steps.{effect_of, goes_on, going_on, placement_of, put, with_owner, with_worker}
-use Rattle.numa_core.specs.declared.event.Reply.TheVariants.{Won as replied_won, Given}
-use Rattle.numa_core.specs.declared.event.Event.TheVariants.{Look, Try, Give}
+use Rattle.numa_space.specs.declared.event.CoreReply.TheVariants.{Won as replied_won, Given}
+use Rattle.numa_space.specs.declared.event.Event.TheVariants.{Look, Try, Give}
 use Rattle.numa_pool.specs.declared.view.Entry.{Entry}
 use Rattle.numa_pool.specs.declared.view.Entry.TheVariants.{Load, Won, Lost, Gave}
 use Rattle.numa_pool.specs.declared.view.View.{View}

@@ -4,10 +4,10 @@ use Rattle.std.specs.Prelude.{slice_index}
 use Rattle.numa_core.specs.World.{Setup, World, Hunt, begun, hunt_of}
 use Rattle.numa_core.specs.Steps.{answer_of, effect_of, going_on, world_after}
 use Rattle.numa_core.specs.Runs.{Moment, IsLegalRun, world_of}
-use Rattle.numa_core.specs.declared.event.Event.{Event}
-use Rattle.numa_core.specs.declared.event.Event.TheVariants.{Accept, Publish, Begin, Look, Try, Give}
-use Rattle.numa_core.specs.declared.event.Reply.{Reply}
-use Rattle.numa_core.specs.declared.event.Reply.TheVariants.{Won as replied_won, Given}
+use Rattle.numa_space.specs.declared.event.Event.{Event}
+use Rattle.numa_space.specs.declared.event.Event.TheVariants.{Accept, Publish, Begin, Look, Try, Give}
+use Rattle.numa_space.specs.declared.event.CoreReply.{CoreReply}
+use Rattle.numa_space.specs.declared.event.CoreReply.TheVariants.{Won as replied_won, Given}
 use Rattle.numa_core.specs.Steps.{goes_on, placement_of}
 use Rattle.numa_core.specs.World.{looked, missed}
 use Rattle.numa_pool.specs.declared.view.Entry.{Entry}
@@ -28,7 +28,7 @@ module _ (s : Setup) where
     pub met : HaveMet (world_of s run) since
 
   -- one moment more
-  more : (run : List Moment) (state new : PoolState) (since later : ℕ → List Entry) (version : ℕ) (event : Event) (reply : Reply) → Stands run state since → IsMoment s (world_of s run) version event reply
+  more : (run : List Moment) (state new : PoolState) (since later : ℕ → List Entry) (version : ℕ) (event : Event) (reply : CoreReply) → Stands run state since → IsMoment s (world_of s run) version event reply
       → IsTied s (effect_of s (world_of s run) version event) new → HaveMet (effect_of s (world_of s run) version event) later → Stands (with_event s version event run) new later
   more run state new since later version event reply h m tied met =
       let world = world_of s run in
@@ -63,7 +63,7 @@ module _ (s : Setup) where
     world = world_of s run
 
     -- a step of a walk
-    walks : (id : ℕ) (e : Entry) (hunt : Hunt) (reply : Reply) → hunt_of world id ≡ Some hunt → MayCome s.machine.frames hunt.nodes (since id) e → Makes e id old new → IsMoment s world 0 (event_of id e) reply → Stands (with_event s 0 (event_of id e) run) new (noted since id e)
+    walks : (id : ℕ) (e : Entry) (hunt : Hunt) (reply : CoreReply) → hunt_of world id ≡ Some hunt → MayCome s.machine.frames hunt.nodes (since id) e → Makes e id old new → IsMoment s world 0 (event_of id e) reply → Stands (with_event s 0 (event_of id e) run) new (noted since id e)
     walks id e hunt reply busy next m moment =
         let met = h.met id hunt busy in
         more run old new since (noted since id e) 0 (event_of id e) reply h moment

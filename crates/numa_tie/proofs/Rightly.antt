@@ -6,10 +6,10 @@ use Rattle.numa_space.specs.declared.placement.Placement.{Placement}
 use Rattle.numa_core.specs.World.{Setup, World, Hunt, hunt_of, looked, missed}
 use Rattle.numa_core.specs.Steps.{answer_of, placement_of}
 use Rattle.numa_core.specs.Runs.{Moment, IsRightPlacement, IsExhausted, world_of, worker_of}
-use Rattle.numa_core.specs.declared.event.Event.{Event}
-use Rattle.numa_core.specs.declared.event.Event.TheVariants.{Try}
-use Rattle.numa_core.specs.declared.event.Reply.{Reply}
-use Rattle.numa_core.specs.declared.event.Reply.TheVariants.{Still, Exhausted}
+use Rattle.numa_space.specs.declared.event.Event.{Event}
+use Rattle.numa_space.specs.declared.event.Event.TheVariants.{Try}
+use Rattle.numa_space.specs.declared.event.CoreReply.{CoreReply}
+use Rattle.numa_space.specs.declared.event.CoreReply.TheVariants.{Still, Exhausted}
 use Rattle.numa_core.proofs.Placing.{right}
 use Rattle.numa_core.proofs.Exhausting.{exhausted}
 use Rattle.numa_pool.specs.declared.view.Entry.{Entry}
@@ -102,6 +102,6 @@ module _ (s : Setup) (few : (n : ℕ) → slice_index s.machine.frames n ≤ 409
       let next = subst (λ (a : Hunt). MayCome s.machine.frames a.nodes es (Won f)) (same-hunt h.1.0.0 hunt h.1.0.1 busy) h.1.0.2 in
       let on = still s hunt es has f.node next.0 in
       let off = over s hunt (Won f ∷ es) (λ n k. has n k) full in
-      let odd : ◌≡◌ {A = Reply} Still (Exhausted hunt.version) = sym on.0 ∙ off.0 in
+      let odd : ◌≡◌ {A = CoreReply} Still (Exhausted hunt.version) = sym on.0 ∙ off.0 in
       absurd (cc)
   end-right (Gave f) hunt h busy full = let odd : ◌≡◌ {A = Option Hunt} None (Some hunt) = sym h.1.0 ∙ busy in absurd (cc)

@@ -5,9 +5,9 @@ use Rattle.numa_space.specs.declared.placement.Placement.{Placement}
 use Rattle.numa_space.specs.declared.request.Request.{Request}
 use Rattle.numa_core.specs.World.{Setup, World, hunt_of}
 use Rattle.numa_core.specs.Steps.{effect_of}
-use Rattle.numa_core.specs.declared.event.Event.TheVariants.{Begin}
-use Rattle.numa_core.specs.declared.event.Reply.{Reply}
-use Rattle.numa_core.specs.declared.event.Reply.TheVariants.{Still, Exhausted, Won}
+use Rattle.numa_space.specs.declared.event.Event.TheVariants.{Begin}
+use Rattle.numa_space.specs.declared.event.CoreReply.{CoreReply}
+use Rattle.numa_space.specs.declared.event.CoreReply.TheVariants.{Still, Exhausted, Won}
 use Rattle.numa_pool.specs.declared.view.Entry.{Entry}
 use Rattle.numa_tie.specs.Moments.{IsMoment, event_of}
 use Rattle.numa_tie.specs.Moves.{PoolState, Makes}
@@ -42,7 +42,7 @@ module _ (s : Setup) (id : ℕ) where
 
   -- A hunt: in this world the worker begins, and looks and tries at each turn. None of it is
   -- refused, the newest moment is answered so, and each before it Still
-  abbrev pub IsHunt : World → ℕ → Request → Reply → List Turn → Type 0
+  abbrev pub IsHunt : World → ℕ → Request → CoreReply → List Turn → Type 0
   IsHunt first version request reply [] = IsMoment s first version (Begin id request) reply
   IsHunt first version request reply (t ∷ turns) =
       IsMoment s t.world 0 (event_of id t.step) reply × IsHunt first version request Still turns
@@ -60,7 +60,7 @@ module _ (version : ℕ) (request : Request) (nodes : List ℕ) where
 
   -- the reply tells what the walk found: a placement in the frame that it won, or that the list is
   -- exhausted
-  abbrev pub Tells : Option Frame → Reply → Type 0
+  abbrev pub Tells : Option Frame → CoreReply → Type 0
   Tells None reply = reply ≡ Exhausted version
   Tells (Some frame) reply =
       (placement : Placement) × (reply ≡ Won placement) × IsPlaced frame placement

@@ -3,9 +3,9 @@ use Rattle.std.specs.Prelude.{◌≡◌, ℕ, ◌*◌, ◌<◌, ◌≤◌, ◌==
 use Rattle.numa_core.specs.World.{Setup, World, Hunt, hunt_of, is_published, last_of, list_at}
 use Rattle.numa_core.specs.Runs.{Moment}
 use Rattle.numa_core.specs.Steps.{MayTake, answer_of}
-use Rattle.numa_core.specs.declared.event.Event.{Event}
-use Rattle.numa_core.specs.declared.event.Event.TheVariants.{Look, Try, Give}
-use Rattle.numa_core.specs.declared.event.Reply.{Reply}
+use Rattle.numa_space.specs.declared.event.Event.{Event}
+use Rattle.numa_space.specs.declared.event.Event.TheVariants.{Look, Try, Give}
+use Rattle.numa_space.specs.declared.event.CoreReply.{CoreReply}
 use Rattle.numa_space.specs.declared.request.Request.{Request}
 use Rattle.numa_pool.specs.declared.view.Entry.{Entry}
 use Rattle.numa_pool.specs.declared.view.Entry.TheVariants.{Load, Won, Lost, Gave}
@@ -14,12 +14,12 @@ use Rattle.numa_tie.specs.Moves.{PoolState, Makes}
 use Rattle.numa_tie.specs.Tie.{IsTied, HaveMet}
 
 -- in this world the event is a legal moment that is not refused, and this is its reply
-abbrev pub IsMoment : Setup → World → ℕ → Event → Reply → Type 0
+abbrev pub IsMoment : Setup → World → ℕ → Event → CoreReply → Type 0
 IsMoment s world version event reply =
     MayTake world version event × (answer_of s world version event ≡ Ok reply)
 
 -- the moment of an event that is answered so; the version counts for a Begin alone
-abbrev pub told : ℕ → Event → Reply → Moment
+abbrev pub told : ℕ → Event → CoreReply → Moment
 told version event reply = record { event = event; version = version; answer = Ok reply }
 
 module _ (s : Setup) (world : World) where

@@ -3,9 +3,9 @@ use Rattle.std.specs.Prelude.{◌≡◌, ℕ, ◌<◌, true, List, [], ◌∷◌
 use Rattle.numa_core.specs.World.{Setup, World, Hunt, hunt_of}
 use Rattle.numa_core.specs.Steps.{answer_of, put}
 use Rattle.numa_core.specs.Runs.{Moment, world_of}
-use Rattle.numa_core.specs.declared.event.Event.{Event}
-use Rattle.numa_core.specs.declared.event.Event.TheVariants.{Accept, Publish, Begin, Look, Try, Give}
-use Rattle.numa_core.specs.declared.event.Reply.{Reply}
+use Rattle.numa_space.specs.declared.event.Event.{Event}
+use Rattle.numa_space.specs.declared.event.Event.TheVariants.{Accept, Publish, Begin, Look, Try, Give}
+use Rattle.numa_space.specs.declared.event.CoreReply.{CoreReply}
 use Rattle.numa_pool.specs.declared.view.Entry.{Entry}
 use Rattle.numa_pool.specs.declared.view.Entry.TheVariants.{Load, Won, Lost, Gave}
 use Rattle.numa_tie.specs.Moments.{IsMoment, MayCome, event_of}
@@ -71,7 +71,7 @@ module _ (s : Setup) where
   Fits world since (makes_step id e) old new = MayStep world since id e × Makes e id old new
   Fits world since (splits id) old new = Splits id old new × (length old.views < s.workers)
   Fits world since (has_event version event) old new =
-      IsApart event × (new ≡ old) × ((reply : Reply) × IsMoment s world version event reply)
+      IsApart event × (new ≡ old) × ((reply : CoreReply) × IsMoment s world version event reply)
 
   -- the run with one moment more, of this event
   abbrev pub with_event : ℕ → Event → List Moment → List Moment

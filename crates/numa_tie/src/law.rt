@@ -5,8 +5,8 @@ ghost use lib.ListN.{get_elem?};
 ghost use Rattle.numa_core.specs.Runs.{Moment, IsExhausted, IsLegalRun, IsRightPlacement, world_of};
 ghost use Rattle.numa_core.specs.Steps.{effect_of, goes_on, going_on, placement_of, put, with_owner};
 ghost use Rattle.numa_core.specs.World.{Setup, World, Hunt, opening, hunt_of, looked, may_look, may_try, missed, owner_of};
-ghost use Rattle.numa_core.specs.declared.event.Event.{Event};
-ghost use Rattle.numa_core.specs.declared.event.Reply.{Reply};
+ghost use Rattle.numa_space.specs.declared.event.Event.{Event};
+ghost use Rattle.numa_space.specs.declared.event.CoreReply.{CoreReply};
 ghost use Rattle.numa_machine.specs.declared.frame.Frame.{Frame};
 ghost use Rattle.numa_pool.specs.Frames.{Holds};
 ghost use Rattle.numa_pool.specs.Rule.{PoolRule};
@@ -31,10 +31,10 @@ pub fn walks_are_hunts()
         → IsCurrent s.machine.frames es hunt.nodes n → IsAt s hunt n }
     ensures goes_on { (s : Setup) (hunt : Hunt) (es : List Entry) (n : ℕ) → HasMet hunt es
         → IsCurrent s.machine.frames es hunt.nodes n
-        → (goes_on s hunt ≡ Reply.Still) × (going_on s hunt ≡ Some hunt) }
+        → (goes_on s hunt ≡ CoreReply.Still) × (going_on s hunt ≡ Some hunt) }
     ensures ended { (s : Setup) (hunt : Hunt) (es : List Entry) → HasMet hunt es
         → AllFull s.machine.frames es hunt.nodes
-        → (goes_on s hunt ≡ Reply.Exhausted hunt.version) × (going_on s hunt ≡ None) }
+        → (goes_on s hunt ≡ CoreReply.Exhausted hunt.version) × (going_on s hunt ≡ None) }
     ensures may_look { (s : Setup) (hunt : Hunt) (es : List Entry) (n w : ℕ) → HasMet hunt es
         → IsCurrent s.machine.frames es hunt.nodes n → 64 * w < slice_index s.machine.frames n
         → may_look s hunt w ≡ true }
@@ -70,7 +70,7 @@ pub fn owners_stay_holders()
 
 /// A moment makes a legal run one longer, and leads to the world that the core's law says.
 pub fn moments_make_runs()
-    ensures { (s : Setup) (run : List Moment) (version : ℕ) (event : Event) (reply : Reply)
+    ensures { (s : Setup) (run : List Moment) (version : ℕ) (event : Event) (reply : CoreReply)
         → IsLegalRun s run → IsMoment s (world_of s run) version event reply
         → IsLegalRun s (told version event reply ∷ run)
         × (world_of s (told version event reply ∷ run)
@@ -91,7 +91,7 @@ pub fn try_is_a_try()
     ensures won { (s : Setup) (world : World) (since : ℕ → List Entry) (old new : PoolState)
         (id version : ℕ) (f : Frame) (hunt : Hunt)
         → WalksOn s world since id hunt (Entry.Won f) old new
-        → IsMoment s world version (Event.Try id f) (Reply.Won (placement_of s hunt f)) }
+        → IsMoment s world version (Event.Try id f) (CoreReply.Won (placement_of s hunt f)) }
     ensures lost { (s : Setup) (world : World) (since : ℕ → List Entry) (old new : PoolState)
         (id version : ℕ) (f : Frame) (hunt : Hunt)
         → WalksOn s world since id hunt (Entry.Lost f) old new
@@ -113,7 +113,7 @@ pub fn walks_keep_the_tie()
 pub fn return_is_a_give()
     ensures moment { (s : Setup) (world : World) (old new : PoolState) (id version : ℕ) (f : Frame)
         → IsTied s world old → hunt_of world id ≡ None → Makes (Entry.Gave f) id old new
-        → IsMoment s world version (Event.Give id f) Reply.Given }
+        → IsMoment s world version (Event.Give id f) CoreReply.Given }
     ensures tied { (s : Setup) (world : World) (old new : PoolState) (id version : ℕ) (f : Frame)
         → IsTied s world old → hunt_of world id ≡ None → Makes (Entry.Gave f) id old new
         → IsTied s (effect_of s world version (Event.Give id f)) new }
@@ -168,7 +168,7 @@ pub fn a_walk_is_a_hunt()
         (found : Option Frame) (turns : List Turn) → MayBegin s first id version request nodes
         → TakesTurns s id (effect_of s first version (Event.Begin id request)) turns
         → IsWalk s.machine.frames nodes found (steps_of turns)
-        → (reply : Reply) × Tells version request nodes found reply
+        → (reply : CoreReply) × Tells version request nodes found reply
         × IsHunt s id first version request reply turns }
     ensures idle { (s : Setup) (first : World) (id version : ℕ) (request : Request) (nodes : List ℕ)
         (found : Option Frame) (turns : List Turn) → MayBegin s first id version request nodes

@@ -2,7 +2,7 @@
 //! set_mempolicy(2): 1 is PREFERRED, 2 BIND, 5 PREFERRED_MANY.
 ghost use Rattle.std.specs.Prelude.{◌≤◌};
 
-use numa_core::{Core, CoreRefusal, Event, Frame, Reply, Request};
+use numa_core::{Core, CoreRefusal, CoreReply, Event, Frame, Request};
 use numa_examples::Asked::{Map, Task};
 use numa_examples::{Asked, command_of, flat_machine, limits};
 use numa_space::Refusal;
@@ -23,19 +23,19 @@ enum Answer {
 
 use Answer::{Accepted, Exhausted, Given, Published, Refused, Still, Won};
 
-fn answer_of(reply: Result<Reply, CoreRefusal>) -> Answer {
+fn answer_of(reply: Result<CoreReply, CoreRefusal>) -> Answer {
     match reply {
-        Ok(Reply::Accepted(version)) => Accepted(version),
-        Ok(Reply::Published(version)) => Published(version),
-        Ok(Reply::Still) => Still,
-        Ok(Reply::Exhausted(version)) => Exhausted(version),
-        Ok(Reply::Won(placement)) => Won(
+        Ok(CoreReply::Accepted(version)) => Accepted(version),
+        Ok(CoreReply::Published(version)) => Published(version),
+        Ok(CoreReply::Still) => Still,
+        Ok(CoreReply::Exhausted(version)) => Exhausted(version),
+        Ok(CoreReply::Won(placement)) => Won(
             placement.version,
             placement.node,
             placement.frame.number,
             placement.rank,
         ),
-        Ok(Reply::Given) => Given,
+        Ok(CoreReply::Given) => Given,
         Err(refusal) => Refused(refusal),
     }
 }
@@ -58,7 +58,7 @@ enum Call<'a> {
 use Call::{Begin, Does, Give, Look, Publish, Touch, Try};
 
 /// Puts a call to the core.
-fn reply(rt: &impl Abort, core: &mut Core, call: Call) -> Result<Reply, CoreRefusal> {
+fn reply(rt: &impl Abort, core: &mut Core, call: Call) -> Result<CoreReply, CoreRefusal> {
     match call {
         Does(asked) => core.step(Event::Accept(command_of(&asked).expect(rt, "a command"))),
         Publish => core.step(Event::Publish),

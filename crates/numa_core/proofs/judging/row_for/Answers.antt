@@ -1,7 +1,7 @@
 use Rattle.std.proofs.Common.{◌≡◌, None, Some, sym, ap, subst, ◌∙◌, vec_len, arith, slice_get, map}
 use Rattle.numa_core.specs.Seats.{core_of, busy_of}
 use Rattle.numa_core.specs.Judging.{IsJudged}
-use Rattle.numa_core.specs.declared.event.CoreRefusal.TheVariants.{Unmapped}
+use Rattle.numa_space.specs.declared.event.CoreRefusal.TheVariants.{Unmapped}
 use Rattle.numa_core.proofs.TouchJudged.{idle-seat, judged-allowed, judged-listed, judged-bad_cpu, judged-unmapped, refused-bad_cpu, refused-unmapped}
 use Rattle.numa_core.proofs.judging.row_for.Goals as goal
 

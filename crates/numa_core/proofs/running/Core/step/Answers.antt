@@ -1,16 +1,16 @@
 use Rattle.std.proofs.Common.{◌∷◌, List, sym, subst}
 use Rattle.numa_core.specs.Runs.{Moment}
 use Rattle.numa_core.specs.Standing.{CoreState, HasRun, LeadsTo, setup_of, moment_after}
-use Rattle.numa_core.specs.declared.event.Event.{Event}
-use Rattle.numa_core.specs.declared.event.Reply.{Reply}
-use Rattle.numa_core.specs.declared.event.CoreRefusal.{CoreRefusal}
-use Rattle.numa_core.specs.declared.event.Event.TheVariants.{Accept, Publish, Begin, Look, Try, Give}
+use Rattle.numa_space.specs.declared.event.Event.{Event}
+use Rattle.numa_space.specs.declared.event.CoreReply.{CoreReply}
+use Rattle.numa_space.specs.declared.event.CoreRefusal.{CoreRefusal}
+use Rattle.numa_space.specs.declared.event.Event.TheVariants.{Accept, Publish, Begin, Look, Try, Give}
 use Rattle.std.proofs.Common.{◌≡◌, Result}
 use Rattle.numa_core.specs.Kept.{shown, Follows}
 use Rattle.numa_core.proofs.CoreSteps.{leads_on}
 use Rattle.numa_core.proofs.running.Core.step.Goals as goal
 
-ran : (old new : CoreState) (event : Event) (answer : Result Reply CoreRefusal) → setup_of new ≡ setup_of old → Follows old event answer new → HasRun old → HasRun new
+ran : (old new : CoreState) (event : Event) (answer : Result CoreReply CoreRefusal) → setup_of new ≡ setup_of old → Follows old event answer new → HasRun old → HasRun new
 ran old new event answer same follows had = record {
   run = moment_after (setup_of old) had.run event answer ∷ had.run;
   leads = leads_on old new event answer same follows had.run had.leads;

@@ -1,6 +1,6 @@
 use Rattle.std.proofs.Common.{refl}
 use Rattle.std.specs.Prelude.{Ok, Err}
-use Rattle.numa_core.specs.declared.event.Event.TheVariants.{Accept}
+use Rattle.numa_space.specs.declared.event.Event.TheVariants.{Accept}
 use Rattle.numa_run.specs.Work.{event_outcome}
 use Rattle.numa_run.specs.declared.reply.Reply.TheVariants as reply
 use Rattle.numa_script.specs.declared.line.Line.TheVariants as line

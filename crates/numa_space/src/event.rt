@@ -1,6 +1,9 @@
 //! Events, replies and refusals of the core.
+use crate::command::Command;
+use crate::placement::Placement;
+use crate::refusal::Refusal;
+use crate::request::Request;
 use numa_machine::Frame;
-use numa_space::{Command, Placement, Refusal, Request};
 
 /// One atomic step of the core. Workers are numbered from 0. A word is 64 frames of a node: word 0 is the frames 0 to 63,
 /// word 1 the frames 64 to 127, and so on.
@@ -24,7 +27,7 @@ pub enum Event {
 
 /// What an event that isn't refused answers.
 #[derive(Debug, PartialEq, Eq, Drop)]
-pub enum Reply {
+pub enum CoreReply {
     /// The command was accepted: how many now are.
     Accepted(u64),
     /// The commands were published: how many.
