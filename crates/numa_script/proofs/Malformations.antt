@@ -7,7 +7,7 @@ use Rattle.std.proofs.lemmas.Bool.Decides.{nat_tests}
 use Rattle.numa_mask.specs.Lists.{list_of}
 use Rattle.numa_mask.specs.declared.list.ListFault.{ListFault}
 use Rattle.numa_mode.specs.Policy.{Specification}
-use Rattle.numa_core.specs.declared.event.Event.TheVariants as event
+use Rattle.numa_space.specs.declared.event.Event.TheVariants as event
 use Rattle.numa_space.specs.declared.command.Command.{Command}
 use Rattle.numa_space.specs.declared.command.Command.TheVariants as command
 use Rattle.numa_script.specs.Causes.{parameters_of, form_of, misfit_of, misfit_else, number_misfit, unless_readable, fault_behind, first_misfit, keyword_fault, words_fault, width_of, empty_word, empty_else, is_stray, stray_else, fault_of, is_malformed}
