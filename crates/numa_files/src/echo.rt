@@ -2,7 +2,10 @@
 ghost use Rattle.std.specs.Prelude.{◌≡◌, ◌==◌, ◌<◌, ◌++◌, length, position, OnOk, IfSome};
 ghost use Rattle.numa_files.specs.Echo.{echo_of, is_one_line, with_marks};
 
-use std::alloc::AllocError;
+use crate::expect::Respond;
+use crate::reading::{Stop, TakeLine};
+use std::alloc::{AllocError, Global};
+use std::io::Write;
 
 /// Where the first line feed is.
 fn first_end(text: &[u8]) -> Option<usize>
@@ -58,4 +61,38 @@ pub fn say_echo(text: &mut Vec<u8>, line: &[u8], answer: &[u8]) -> Result<(), Al
     }
     text.extend_from_slice(b"\n")?;
     say_with_marks(text, answer)
+}
+
+/// Writes script lines as they are answered, each with its answer.
+#[derive(Drop)]
+pub struct Echo<A, W> {
+    answerer: A,
+    output: W,
+    answer: Vec<u8>,
+    text: Vec<u8>,
+}
+
+impl<A: Respond, W: Write> Echo<A, W> {
+    /// Before the first line.
+    pub fn new(alloc: Global, answerer: A, output: W) -> Echo<A, W> {
+        Echo {
+            answerer,
+            output,
+            answer: Vec::new(alloc),
+            text: Vec::new(alloc),
+        }
+    }
+}
+
+impl<A: Respond, W: Write> TakeLine for Echo<A, W> {
+    fn take(&mut self, _name: &str, _place: u64, line: &[u8]) -> Result<(), Stop> {
+        self.answer.clear();
+        self.answerer.respond(line, &mut self.answer)?;
+        self.text.clear();
+        say_echo(&mut self.text, line, self.answer.as_slice())?;
+        match self.output.write_all(self.text.as_slice()) {
+            Ok(()) => Ok(()),
+            Err(_) => Err(Stop::Write),
+        }
+    }
 }

@@ -2,9 +2,13 @@
 #![tactic(auto)]
 
 pub mod echo;
+pub mod expect;
 pub mod joined;
+pub mod reading;
 pub mod worked;
 
-pub use echo::say_echo;
+pub use echo::{Echo, say_echo};
+pub use expect::{Counts, Expect, Respond};
 pub use joined::Joined;
+pub use reading::{Lines, Stop, TakeLine, TakeText, read_all};
 pub use worked::{HEAD, LineForm, read_form};

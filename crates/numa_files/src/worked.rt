@@ -60,7 +60,6 @@ fn head_of(line: &[u8]) -> &[u8]
 }
 
 /// What a line of a worked script holds, by its first 4,101 bytes; its line feed is no part of it.
-
 pub fn read_form(line: &[u8]) -> LineForm
     ensures value { result ≡ form_of line.now }
     ensures within { IsWithin line.now result }

@@ -1,0 +1,149 @@
+//! Texts from readers, by pieces and by lines.
+use std::alloc::{AllocError, AllocFailed, Global};
+use std::io::Read;
+
+/// How many reads are made at most, for all readers together.
+const READS: u64 = 4_294_967_295;
+
+/// How many bytes of a line are kept: as many as show whether a script line is too long.
+const KEPT: usize = 4097;
+
+/// Why a reading ended early.
+#[derive(Clone, Copy, Debug, PartialEq, Eq)]
+pub enum Stop {
+    /// A read failed, or one more than 4,294,967,295 was needed.
+    Read,
+    /// A write failed.
+    Write,
+    /// There was no memory.
+    Memory,
+}
+
+impl From<AllocError> for Stop {
+    fn from(_error: AllocError) -> Stop {
+        Stop::Memory
+    }
+}
+
+impl<T: Drop> From<AllocFailed<T>> for Stop {
+    fn from(_failed: AllocFailed<T>) -> Stop {
+        Stop::Memory
+    }
+}
+
+/// What takes texts as they are read.
+pub trait TakeText {
+    /// Takes the name of the text that begins.
+    fn begin(&mut self, name: &str) -> Result<(), Stop>;
+
+    /// Takes a piece of it, of any length.
+    fn take(&mut self, piece: &[u8]) -> Result<(), Stop>;
+
+    /// The text has ended, by a line feed or not.
+    fn end(&mut self) -> Result<(), Stop>;
+}
+
+/// Reads a text to its end. How many of the reads that may be made are left.
+fn read_one<R: Read, T: TakeText>(reader: &mut R, reads: u64, taker: &mut T) -> Result<u64, Stop> {
+    let mut buffer = [0u8; 4096];
+    for made in 0..reads {
+        let Ok(count) = reader.read(&mut buffer) else {
+            return Err(Stop::Read);
+        };
+        if count == 0 {
+            return Ok(reads - made - 1);
+        }
+        taker.take(&buffer[..count])?;
+    }
+    Err(Stop::Read)
+}
+
+/// Reads the texts in turn, each with its name, and hands on what is read before the next read.
+///
+/// # Errors
+/// Those of the taker; `Read` where a read failed, or more than 4,294,967,295 were needed.
+pub fn read_all<R: Read + Drop, T: TakeText>(
+    texts: Vec<(String, R)>,
+    taker: &mut T,
+) -> Result<(), Stop> {
+    let mut reads = READS;
+    for (name, mut reader) in texts {
+        taker.begin(name.as_str())?;
+        reads = read_one(&mut reader, reads, taker)?;
+        taker.end()?;
+    }
+    Ok(())
+}
+
+/// What takes the lines of texts.
+pub trait TakeLine {
+    /// Takes a line without its line feed: the name of its text, its place there from 1, and as
+    /// many of its bytes as show whether a script line is too long, 4,097.
+    fn take(&mut self, name: &str, place: u64, line: &[u8]) -> Result<(), Stop>;
+}
+
+/// Cuts texts into lines. The last one of a text may lack its line feed.
+#[derive(Drop)]
+pub struct Lines<T> {
+    /// What takes the lines.
+    pub taker: T,
+    alloc: Global,
+    name: String,
+    place: u64,
+    line: Vec<u8>,
+}
+
+impl<T: TakeLine> Lines<T> {
+    /// Before the first text.
+    pub fn new(alloc: Global, taker: T) -> Lines<T> {
+        Lines {
+            taker,
+            alloc,
+            name: String::new(alloc),
+            place: 1,
+            line: Vec::new(alloc),
+        }
+    }
+
+    /// Hands the line on, and opens the next.
+    fn end_line(&mut self) -> Result<(), Stop> {
+        self.taker
+            .take(self.name.as_str(), self.place, self.line.as_slice())?;
+        self.place = self.place.saturating_add(1);
+        self.line.clear();
+        Ok(())
+    }
+
+    /// Takes one byte.
+    fn feed(&mut self, byte: u8) -> Result<(), Stop> {
+        if byte == b'\n' {
+            return self.end_line();
+        }
+        if self.line.len() < KEPT {
+            self.line.push(byte)?;
+        }
+        Ok(())
+    }
+}
+
+impl<T: TakeLine> TakeText for Lines<T> {
+    fn begin(&mut self, name: &str) -> Result<(), Stop> {
+        self.name = String::from_str(self.alloc, name)?;
+        self.place = 1;
+        Ok(())
+    }
+
+    fn take(&mut self, piece: &[u8]) -> Result<(), Stop> {
+        for byte in piece {
+            self.feed(*byte)?;
+        }
+        Ok(())
+    }
+
+    fn end(&mut self) -> Result<(), Stop> {
+        if self.line.is_empty() {
+            return Ok(());
+        }
+        self.end_line()
+    }
+}
