@@ -1,5 +1,6 @@
 //! How the program ends.
 use crate::jobs::JobFault;
+use numa_files::Stop;
 use numa_script::RunFault;
 use std::process::ExitCode;
 
@@ -22,5 +23,14 @@ pub fn tell_fault<R: Print + Eprint>(rt: &R, fault: JobFault) -> ExitCode {
             ExitCode::from(2)
         }
         JobFault::NoMemory => fail(rt, RunFault::Memory),
+    }
+}
+
+/// Ends where a reading ended early.
+pub fn stop(rt: &impl Eprint, why: Stop) -> ExitCode {
+    match why {
+        Stop::Read => fail(rt, RunFault::Read),
+        Stop::Write => fail(rt, RunFault::Write),
+        Stop::Memory => fail(rt, RunFault::Memory),
     }
 }

@@ -82,21 +82,37 @@ where
     }
 }
 
-/// Opens the files, and standard input where none is named.
+/// Opens the files, and standard input where none is named, each with its name.
 ///
 /// # Errors
 /// `Usage` where a file can't be opened, with its name and the cause.
-pub fn open_all<R>(rt: &R, names: &[String]) -> Result<Vec<Source<R::File, R::Reader>>, JobFault>
+pub fn open_all<R>(
+    rt: &R,
+    names: &[String],
+) -> Result<Vec<(String, Source<R::File, R::Reader>)>, JobFault>
 where
     R: Files + Input + Eprint + AllocGlobal,
     R::Reader: IsTerminal,
 {
-    let mut sources = Vec::new(rt.alloc());
+    let mut texts = Vec::new(rt.alloc());
     if names.is_empty() {
-        sources.push(open(rt, "-")?)?;
+        texts.push((String::from_str(rt.alloc(), "-")?, open(rt, "-")?))?;
     }
     for name in names {
-        sources.push(open(rt, name.as_str())?)?;
+        let source = open(rt, name.as_str())?;
+        texts.push((String::from_str(rt.alloc(), name.as_str())?, source))?;
+    }
+    Ok(texts)
+}
+
+/// What was opened, without the names.
+pub fn without_names<S: Drop>(
+    alloc: Global,
+    texts: Vec<(String, S)>,
+) -> Result<Vec<S>, AllocError> {
+    let mut sources = Vec::new(alloc);
+    for (_, source) in texts {
+        sources.push(source)?;
     }
     Ok(sources)
 }

@@ -7,6 +7,8 @@ pub enum Job {
     /// To answer the scripts of these files in turn, `-` being standard input, which is read where
     /// none is named; each line beside its answer, where `echo` says so.
     Run { files: Vec<String>, echo: bool },
+    /// To compare these worked scripts with what their lines are answered.
+    Expect(Vec<String>),
     /// To let so many workers place pages while policies change.
     Storm(u32),
 }

@@ -1,9 +1,11 @@
-//! `numaplan run` answers scripts. `numaplan storm` lets workers place pages while policies change.
+//! `numaplan run` answers scripts. `numaplan expect` compares the answers that scripts hold with those
+//! that they get. `numaplan storm` lets workers place pages while policies change.
 #![tactic(auto)]
 
 ghost use Rattle.std.specs.Prelude.{IfOk};
 ghost use Rattle.numaplan.specs.Jobs.{CanBeDone};
 
+mod answering;
 mod command_line;
 mod endings;
 mod files;
@@ -16,7 +18,7 @@ use jobs::{Job, JobFault};
 use std::env::Env;
 use std::process::ExitCode;
 use std::{env, io};
-use words::{run, storm};
+use words::{expect, run, storm};
 
 /// What is told of an argument that isn't UTF-8.
 const NOT_UTF_8: &str = "error: an argument isn't UTF-8\n\nFor more information, try '--help'.\n";
@@ -40,7 +42,8 @@ fn asked_job<R: Env + AllocGlobal>(rt: &R) -> Result<Job, JobFault>
 
 fn main(rt: HostRuntime) -> ExitCode {
     match asked_job(&rt) {
-        Ok(Job::Run { files, echo: _ }) => run::answer(&rt, &files),
+        Ok(Job::Run { files, echo }) => run::answer(&rt, &files, echo),
+        Ok(Job::Expect(files)) => expect::check(&rt, &files),
         Ok(Job::Storm(workers)) => storm::show(&rt, workers),
         Err(fault) => tell_fault(&rt, fault),
     }

@@ -2,15 +2,17 @@
 ghost use Rattle.std.specs.Prelude.{IfOk};
 ghost use Rattle.numaplan.specs.Jobs.{CanBeDone};
 
-use crate::endings::{fail, tell_fault};
+use crate::answering::Answering;
+use crate::endings::{fail, stop, tell_fault};
 use crate::files;
+use crate::files::Source;
 use crate::jobs::{Job, JobFault};
 use clap::{Arg, ArgAction, ArgMatches, Command};
-use numa_files::Joined;
-use numa_script::Watched;
+use numa_files::{Echo, Joined, Lines, Stop, read_all};
+use numa_script::{RunFault, Watched};
 use std::alloc::{AllocError, Global};
 use std::io;
-use std::io::IsTerminal;
+use std::io::{IsTerminal, Read};
 use std::process::ExitCode;
 use std::rt::Files;
 
@@ -49,19 +51,50 @@ pub fn job(alloc: Global, matches: &ArgMatches<'_>) -> Result<Job, JobFault>
     })
 }
 
-/// Answers the scripts.
-pub fn answer<R>(rt: &R, names: &[String]) -> ExitCode
+/// Answers scripts.
+fn answer_all<R, F, I>(rt: &R, texts: Vec<(String, Source<F, I>)>) -> Result<(), RunFault>
+where
+    R: Print + AllocGlobal,
+    F: Read + Drop,
+    I: Read + Drop,
+{
+    let Ok(sources) = files::without_names(rt.alloc(), texts) else {
+        return Err(RunFault::Memory);
+    };
+    let mut input = Watched::new(Joined::new(sources));
+    let mut output = Watched::new(io::writer(rt));
+    numa_run::run(rt.alloc(), &mut input, &mut output)
+}
+
+/// Answers scripts, and writes each line beside its answer.
+fn echo_all<R, F, I>(rt: &R, texts: Vec<(String, Source<F, I>)>) -> Result<(), Stop>
+where
+    R: Print + AllocGlobal,
+    F: Read + Drop,
+    I: Read + Drop,
+{
+    let answering = Answering::new(rt.alloc())?;
+    let echo = Echo::new(rt.alloc(), answering, io::writer(rt));
+    read_all(texts, &mut Lines::new(rt.alloc(), echo))
+}
+
+/// Answers the scripts of files, and says each line too, where `echo` says so.
+pub fn answer<R>(rt: &R, names: &[String], echo: bool) -> ExitCode
 where
     R: Files + Input + Print + Eprint + AllocGlobal,
     R::Reader: IsTerminal,
 {
-    let sources = match files::open_all(rt, names) {
-        Ok(sources) => sources,
+    let texts = match files::open_all(rt, names) {
+        Ok(texts) => texts,
         Err(fault) => return tell_fault(rt, fault),
     };
-    let mut input = Watched::new(Joined::new(sources));
-    let mut output = Watched::new(io::writer(rt));
-    match numa_run::run(rt.alloc(), &mut input, &mut output) {
+    if echo {
+        return match echo_all(rt, texts) {
+            Ok(()) => ExitCode::SUCCESS,
+            Err(why) => stop(rt, why),
+        };
+    }
+    match answer_all(rt, texts) {
         Ok(()) => ExitCode::SUCCESS,
         Err(fault) => fail(rt, fault),
     }
