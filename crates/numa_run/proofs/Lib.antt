@@ -1,8 +1,9 @@
+mod Examples
+pub mod Counts
+pub mod Doing
+pub mod Histories
+pub mod JudgeLemmas
+pub mod Limiting
+pub mod LineLemmas
 pub mod Listed
 pub mod Spanned
-pub mod Histories
-pub mod Doing
-pub mod LineLemmas
-pub mod Limiting
-pub mod Counts
-mod Examples

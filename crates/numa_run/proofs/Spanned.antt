@@ -42,14 +42,14 @@ counts-agree f g each = flat_map-agree (λ node. node_text node (f node)) (λ no
 
 -- ---- refusals
 
-span-none : (machine : Hardware) (history : List Command) (first pages cpu : ℕ) → cpu < machine.nodes → ((page : ℕ) → first ≤ page → page < first + pages → is_mapped history page ≡ true)
+pub span-none : (machine : Hardware) (history : List Command) (first pages cpu : ℕ) → cpu < machine.nodes → ((page : ℕ) → first ≤ page → page < first + pages → is_mapped history page ≡ true)
     → span_refusal_of machine history first pages cpu ≡ None
 span-none machine history first pages cpu known mapped =
     let near : nat_le machine.nodes cpu ≡ false = grind (arith, nat_tests) in
     let all : any_page (λ page. not (is_mapped history page)) first pages ≡ false = any_page-false (λ page. not (is_mapped history page)) first pages (λ page low high. ap not (mapped page low high)) in
     rw (near, all) refl
 
-span-refused : (machine : Hardware) (history : List Command) (first pages cpu : ℕ) (refusal : PlaceRefusal) → SpanIsRefused machine history first pages cpu refusal
+pub span-refused : (machine : Hardware) (history : List Command) (first pages cpu : ℕ) (refusal : PlaceRefusal) → SpanIsRefused machine history first pages cpu refusal
     → span_refusal_of machine history first pages cpu ≡ Some refusal
 span-refused machine history first pages cpu BadCpu far =
     let far' : nat_le machine.nodes cpu ≡ true = grind (arith, nat_tests) in
@@ -64,7 +64,7 @@ span-refused machine history first pages cpu Unmapped missing =
 -- ---- answers
 
 module _ (machine : Hardware) (plan : PlanData) (history : List Command) (stands : PlanStandsFor machine plan history) where
-  known : (cpu : ℕ) → cpu < plan.nodes → cpu < machine.nodes
+  pub known : (cpu : ℕ) → cpu < plan.nodes → cpu < machine.nodes
   known cpu lt = subst (λ nodes. cpu < nodes) stands.nodes lt
 
   pub place-ok : (task page cpu : ℕ) (nodes : List ℕ) → cpu < plan.nodes → planned_list plan task page cpu ≡ Some nodes → nodes_line plan.version nodes ≡ place_text machine history task page cpu

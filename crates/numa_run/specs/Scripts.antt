@@ -2,6 +2,7 @@
 use Rattle.std.specs.Prelude.{◌≡◌, Bool, Option, IsSome}
 use Rattle.numa_maps.specs.Residents.{Kept}
 use Rattle.numa_script.specs.declared.line.Line.{Line}
+use Rattle.numa_run.specs.Judged.{fault_of}
 pub use Rattle.numa_run.specs.Standing.{IsCoreIn}
 use Rattle.numa_run.specs.Answers.{reply_of, after}
 use Rattle.numa_run.specs.Standing.{Stands}
@@ -23,3 +24,9 @@ abbrev pub ScriptReplies : Script → Line → Option Reply → Script → Type 
 ScriptReplies old said answer new =
     (state : State) → ScriptStandsFor old state
     → (refused : Bool) × (answer ≡ reply_of refused state said) × ScriptStandsFor new (after refused state said)
+
+-- the fault or the refusal that the definition says is given, or none where it says none, and the state that it says is reached
+abbrev pub ScriptJudges : Script → Line → Option Reply → Script → Type 0
+ScriptJudges old said fault new =
+    (state : State) → ScriptStandsFor old state
+    → (refused : Bool) × (fault ≡ fault_of refused state said) × ScriptStandsFor new (after refused state said)

@@ -3,6 +3,7 @@
 
 mod ask;
 mod build;
+mod judging;
 pub mod names;
 pub mod reply;
 mod running;

@@ -118,7 +118,7 @@ impl Script {
     }
 
     /// Does what a line says where no machine is ready.
-    fn reply_first(&mut self, alloc: Global, line: &Line<'_>) -> Reply
+    pub(crate) fn reply_first(&mut self, alloc: Global, line: &Line<'_>) -> Reply
         requires { self.old.running ≡ None }
         ensures { Replies self.old.limits None line.now (Some result) self.new.limits self.new.running }
     {

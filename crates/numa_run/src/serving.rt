@@ -21,7 +21,7 @@ use std::alloc::Global;
 use std::io::Write;
 
 /// How many bytes a page has.
-const PAGE: u64 = 4096;
+pub(crate) const PAGE: u64 = 4096;
 
 /// What a line comes to where a machine is ready.
 #[derive(Drop)]
@@ -36,7 +36,7 @@ pub(crate) enum Taken {
 
 impl Running {
     /// Compiles a plan, where none is kept.
-    fn prepare(&mut self, alloc: Global) -> Result<(), NoMemory>
+    pub(crate) fn prepare(&mut self, alloc: Global) -> Result<(), NoMemory>
         ensures stands { (state : State) → RunsAs self.old state → RunsAs self.new state }
         ensures ready { OnOk result (IsSome self.new.plan) }
         ensures core { self.new.core ≡ self.old.core }

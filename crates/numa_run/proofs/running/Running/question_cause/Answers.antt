@@ -1,0 +1,50 @@
+use Rattle.std.proofs.Common.{◌∙◌, sym, ap, false, Some, length}
+use Rattle.std.specs.Option.{option_map}
+use Rattle.numa_core.specs.Standing.{CoreState}
+use Rattle.numa_space.specs.declared.event.CoreRefusal.TheVariants.{Unmapped}
+use Rattle.numa_run.specs.Judged.{cause_at, question_cause}
+use Rattle.numa_run.proofs.JudgeLemmas.{plain-cause}
+use Rattle.numa_run.proofs.running.Running.question_cause.Goals as goal
+
+pub returns-in-None : goal.returns-in-None
+returns-in-None c =
+    λ state stands.
+    let ready = c.prepare.ensures.stands state stands in
+    let machine = c.prepare.new.self.core.space.machine in
+    let history = state.world.history in
+    let why = c.plan_refusal.ensures machine history (ready.plan c.in-Some.plan c.in-Some.is) in (
+      false,
+      ready,
+      ap (option_map (cause_at (length history))) (sym c.in-None.is ∙ why) ∙ sym (plain-cause machine history c.args.question)
+          ∙ ap (λ (core : CoreState). question_cause false core.space.machine history c.args.question) c.prepare.ensures.core,
+    )
+
+pub returns-in-Some-BadCpu : goal.returns-in-Some-BadCpu
+returns-in-Some-BadCpu c =
+    λ state stands.
+    let ready = c.prepare.ensures.stands state stands in
+    let machine = c.prepare.new.self.core.space.machine in
+    let history = state.world.history in
+    let why = c.plan_refusal.ensures machine history (ready.plan c.in-Some.plan c.in-Some.is) in
+    let is = c.in-Some-BadCpu.is ∙ ap Some c.in-Some-BadCpu.field-0-is in (
+      false,
+      ready,
+      ap (option_map (cause_at (length history))) (sym is ∙ why) ∙ sym (plain-cause machine history c.args.question)
+          ∙ ap (λ (core : CoreState). question_cause false core.space.machine history c.args.question) c.prepare.ensures.core,
+    )
+
+pub returns-in-Some-Unmapped : goal.returns-in-Some-Unmapped
+returns-in-Some-Unmapped c =
+    λ state stands.
+    let ready = c.prepare.ensures.stands state stands in
+    let machine = c.prepare.new.self.core.space.machine in
+    let history = state.world.history in
+    let plan = ready.plan c.in-Some.plan c.in-Some.is in
+    let why = c.plan_refusal.ensures machine history plan in
+    let is = c.in-Some-Unmapped.is ∙ ap Some c.in-Some-Unmapped.field-0-is in (
+      false,
+      ready,
+      ap (λ v. Some (Unmapped v)) (c.version.ensures ∙ plan.version)
+          ∙ ap (option_map (cause_at (length history))) (sym is ∙ why) ∙ sym (plain-cause machine history c.args.question)
+          ∙ ap (λ (core : CoreState). question_cause false core.space.machine history c.args.question) c.prepare.ensures.core,
+    )

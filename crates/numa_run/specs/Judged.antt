@@ -1,0 +1,100 @@
+-- Which lines are answered by a fault or a refusal. `refused` says whether a growth was refused while the line was served.
+use Rattle.std.specs.Prelude.{ℕ, Bool, true, false, Option, Some, None, List, length, if◌then◌else◌}
+use Rattle.std.specs.Option.{option_map}
+use Rattle.numa_machine.specs.Machine.{Hardware}
+use Rattle.numa_space.specs.History.{page_of}
+use Rattle.numa_space.specs.Standing.{place_refusal_of}
+use Rattle.numa_space.specs.declared.command.Command.{Command}
+use Rattle.numa_space.specs.declared.refusal.PlaceRefusal.{PlaceRefusal}
+use Rattle.numa_space.specs.declared.refusal.PlaceRefusal.TheVariants as place
+use Rattle.numa_space.specs.declared.event.CoreRefusal.{CoreRefusal}
+use Rattle.numa_space.specs.declared.event.CoreRefusal.TheVariants as core
+use Rattle.numa_script.specs.declared.line.Line.{Line}
+use Rattle.numa_script.specs.declared.line.Line.TheVariants as line
+use Rattle.numa_script.specs.declared.line.Question.{Question}
+use Rattle.numa_script.specs.declared.line.Question.TheVariants as question
+use Rattle.numa_run.specs.Answers.{State, reply_of}
+use Rattle.numa_run.specs.Questions.{span_refusal_of}
+use Rattle.numa_run.specs.declared.reply.Reply.{Reply}
+use Rattle.numa_run.specs.declared.reply.Reply.TheVariants as reply
+
+-- the reply tells a fault or a refusal
+abbrev pub is_fault : Reply → Bool
+is_fault reply.Silent = false
+is_fault reply.BadWords = true
+is_fault reply.BadState = true
+is_fault reply.LimitsOk = false
+is_fault reply.BadLimits = true
+is_fault reply.Ready = false
+is_fault (reply.BadMachine fault) = true
+is_fault (reply.BadWord fault) = true
+is_fault (reply.Accepted version) = false
+is_fault (reply.Published version) = false
+is_fault reply.Still = false
+is_fault (reply.Exhausted version) = false
+is_fault (reply.Won win) = false
+is_fault reply.Given = false
+is_fault (reply.Back frame) = false
+is_fault (reply.Refused cause) = true
+
+-- the reply, where it is a fault or a refusal
+abbrev pub fault_in : Reply → Option Reply
+fault_in told = if is_fault told then Some told else None
+
+-- ---- questions
+
+-- the first cause that refuses a question, want of memory apart
+abbrev pub question_refusal : Hardware → List Command → Question → Option PlaceRefusal
+question_refusal machine history (question.Place task address cpu) =
+    place_refusal_of machine history (page_of address) cpu
+question_refusal machine history (question.Span task address pages cpu) =
+    span_refusal_of machine history (page_of address) pages cpu
+question_refusal machine history (question.Counts task address pages cpu) =
+    span_refusal_of machine history (page_of address) pages cpu
+question_refusal machine history question.Ranges = None
+
+-- as a cause of the core, at a version
+abbrev pub cause_at : ℕ → PlaceRefusal → CoreRefusal
+cause_at version place.BadCpu = core.BadCpu
+cause_at version place.Unmapped = core.Unmapped version
+
+abbrev pub unless_wanting_memory : Bool → Option CoreRefusal → Option CoreRefusal
+unless_wanting_memory refused cause = if refused then Some core.NoMemory else cause
+
+-- the first cause of all; only `ranges` wants no memory
+abbrev pub question_cause : Bool → Hardware → List Command → Question → Option CoreRefusal
+question_cause refused machine history (question.Place task address cpu) =
+    unless_wanting_memory refused
+    (option_map (cause_at (length history)) (question_refusal machine history (question.Place task address cpu)))
+question_cause refused machine history (question.Span task address pages cpu) =
+    unless_wanting_memory refused
+    (option_map (cause_at (length history)) (question_refusal machine history (question.Span task address pages cpu)))
+question_cause refused machine history (question.Counts task address pages cpu) =
+    unless_wanting_memory refused
+    (option_map (cause_at (length history)) (question_refusal machine history (question.Counts task address pages cpu)))
+question_cause refused machine history question.Ranges = None
+
+-- ---- lines
+
+abbrev pub asked_by : Option Hardware → Bool → List Command → Question → Option Reply
+asked_by None refused history asked = None
+asked_by (Some machine) refused history asked = option_map reply.Refused (question_cause refused machine history asked)
+
+-- the refusal of a question to a machine that is ready
+abbrev pub asked_fault : Bool → State → Line → Option Reply
+asked_fault refused state (line.Question asked) = asked_by state.machine refused state.world.history asked
+asked_fault refused state line.Silent = None
+asked_fault refused state line.Malformed = None
+asked_fault refused state (line.Limits ranges tasks commands) = None
+asked_fault refused state (line.Machine said) = None
+asked_fault refused state (line.Command said) = None
+asked_fault refused state (line.Maps task) = None
+asked_fault refused state (line.Work said) = None
+
+abbrev pub fault_or : Option Reply → Option Reply → Option Reply
+fault_or (Some told) asked = fault_in told
+fault_or None asked = asked
+
+-- the fault or the refusal that a line is answered; none where its answer is neither
+abbrev pub fault_of : Bool → State → Line → Option Reply
+fault_of refused state said = fault_or (reply_of refused state said) (asked_fault refused state said)
