@@ -1,0 +1,158 @@
+//! What is known of a fault or a refusal beyond its name.
+use crate::finding::Detail;
+use crate::pages::{first_mapped, first_unmapped, first_without_home, is_mapped};
+use numa_core::{Core, CoreRefusal, Event};
+use numa_run::{Reply, Script};
+use numa_script::{Line, Question, Work, why_malformed};
+use numa_space::{Command, Refusal, Space};
+
+/// How many bytes a page has.
+const PAGE: u64 = 4096;
+
+/// A span of pages, the last of them apart.
+#[derive(Clone, Copy, Debug, PartialEq, Eq)]
+struct Pages {
+    first: u64,
+    end: u64,
+}
+
+/// So many pages from that of an address on.
+fn pages_from(address: u64, count: u64) -> Pages {
+    let first = address / PAGE;
+    Pages {
+        first,
+        end: first.saturating_add(count),
+    }
+}
+
+/// How many pages so many bytes need.
+fn page_count(length: u64) -> u64 {
+    if length.is_multiple_of(PAGE) {
+        return length / PAGE;
+    }
+    length / PAGE + 1
+}
+
+/// The span of a command that has one.
+fn span_of(command: &Command) -> Option<Pages> {
+    match *command {
+        Command::Map { start, length, .. }
+        | Command::Unmap { start, length }
+        | Command::Mbind { start, length, .. }
+        | Command::SetHome { start, length, .. } => Some(pages_from(start, page_count(length))),
+        _ => None,
+    }
+}
+
+/// A page, where there is one.
+fn page_detail(page: Option<u64>) -> Detail {
+    match page {
+        Some(page) => Detail::Page(page),
+        None => Detail::None,
+    }
+}
+
+/// The page of a span that makes a command's refusal.
+fn span_detail(space: &Space, pages: Pages, refusal: Refusal) -> Detail {
+    match refusal {
+        Refusal::Unaligned => Detail::Page(pages.first),
+        Refusal::Overlap => page_detail(first_mapped(space, pages.first, pages.end)),
+        Refusal::Hole => page_detail(first_unmapped(space, pages.first, pages.end)),
+        Refusal::NotSupported => page_detail(first_without_home(space, pages.first, pages.end)),
+        _ => Detail::None,
+    }
+}
+
+/// What is known of a command's refusal.
+fn command_detail(space: &Space, command: &Command, refusal: Refusal) -> Detail {
+    match refusal {
+        Refusal::NoSuchNode => return last_node(space),
+        Refusal::CommandsSpent => return Detail::Count(space.version()),
+        Refusal::TooManyTasks => return Detail::Count(space.task_count() as u64),
+        Refusal::TooManyRanges => return Detail::Count(space.ranges() as u64),
+        _ => {}
+    }
+    if let Command::SetMems { .. } = command {
+        return Detail::Mems;
+    }
+    match span_of(command) {
+        Some(pages) => span_detail(space, pages, refusal),
+        None => Detail::None,
+    }
+}
+
+/// The highest node of the machine.
+fn last_node(space: &Space) -> Detail {
+    Detail::LastNode(space.machine().nodes().saturating_sub(1))
+}
+
+/// The pages that a question asks of.
+fn asked_pages(question: &Question) -> Option<Pages> {
+    match *question {
+        Question::Place { address, .. } => Some(pages_from(address, 1)),
+        Question::Span { address, pages, .. } => Some(pages_from(address, u64::from(pages))),
+        Question::Counts { address, pages, .. } => Some(pages_from(address, pages)),
+        Question::Ranges => None,
+    }
+}
+
+/// The page that a worker is to find a frame for.
+fn touched_page(work: &Work) -> Option<u64> {
+    match work {
+        Work::Event(Event::Begin(_, request)) => Some(request.page),
+        Work::Touch(_, request) => Some(request.page),
+        _ => None,
+    }
+}
+
+/// The page that isn't mapped, or isn't yet in what is published.
+fn unmapped_detail(space: &Space, said: &Line<'_>) -> Detail {
+    match said {
+        Line::Question(question) => match asked_pages(question) {
+            Some(pages) => page_detail(first_unmapped(space, pages.first, pages.end)),
+            None => Detail::None,
+        },
+        Line::Work(work) => match touched_page(work) {
+            Some(page) if is_mapped(space, page) => Detail::Unpublished(page),
+            page => page_detail(page),
+        },
+        _ => Detail::None,
+    }
+}
+
+/// What is known of a refusal.
+fn refusal_detail(core: &Core, said: &Line<'_>, cause: CoreRefusal) -> Detail {
+    let space = core.space();
+    match cause {
+        CoreRefusal::Command(refusal) => match said {
+            Line::Command(Ok(command)) => command_detail(space, command, refusal),
+            _ => Detail::None,
+        },
+        CoreRefusal::BadCpu => last_node(space),
+        CoreRefusal::Unmapped(_) => unmapped_detail(space, said),
+        _ => Detail::None,
+    }
+}
+
+/// Whether the line ends with a carriage return.
+fn ends_with_return(line: &[u8]) -> bool {
+    line.last() == Some(&b'\r')
+}
+
+/// What is known of a fault or a refusal of a line, by the script after it.
+pub(crate) fn detail_of(script: &Script, line: &[u8], said: &Line<'_>, fault: Reply) -> Detail {
+    match fault {
+        Reply::BadWords => match why_malformed(line) {
+            Some(malformed) => Detail::Malformed(malformed),
+            None => Detail::None,
+        },
+        Reply::BadState if script.core().is_some() => Detail::MachineReady,
+        Reply::BadState => Detail::NoMachine,
+        Reply::BadWord(_) if ends_with_return(line) => Detail::CarriageReturn,
+        Reply::Refused(cause) => match script.core() {
+            Some(core) => refusal_detail(core, said, cause),
+            None => Detail::None,
+        },
+        _ => Detail::None,
+    }
+}
