@@ -1,7 +1,7 @@
 //! Looks beside a thread that submits.
 ghost use Rattle.std.specs.Prelude.{◌≡◌};
 
-use crate::setting::{Seen, desk_for, look, map_one, prefer, wait_until};
+use crate::setting::{Seen, desk_for, look, map_one, prefer, see, wait_until};
 use numa_publish::{Desk, DeskName, PlanReader, SharedDesk};
 use numa_space::PlaceRefusal;
 use std::marker::Brand;
@@ -74,19 +74,25 @@ struct Tally {
     newest: u64,
 }
 
+/// What is seen of a version: version 0 maps nothing; version 1 and the even ones prefer node 0 or
+/// nothing, the odd ones node 1.
+fn meant(version: u64) -> Result<(u8, u8), PlaceRefusal> {
+    if version == 0 {
+        return Err(PlaceRefusal::Unmapped);
+    }
+    let first = if version == 1 || version % 2 == 0 {
+        0
+    } else {
+        1
+    };
+    Ok((first, 1 - first))
+}
+
 impl Tally {
-    /// Version 0 maps nothing; version 1 and the even ones prefer node 0 or nothing, the odd ones
-    /// node 1.
+    /// Whether a look saw what its version means, and none before what was seen.
     fn is_right(&self, seen: Seen) -> bool {
         let (version, row) = seen;
-        let right = if version == 0 {
-            Err(PlaceRefusal::Unmapped)
-        } else if version == 1 || version % 2 == 0 {
-            Ok((0, 1))
-        } else {
-            Ok((1, 0))
-        };
-        version >= self.newest && row == right
+        version >= self.newest && row == meant(version)
     }
 
     /// With one look more.
@@ -148,10 +154,14 @@ fn run<K: DeskName + Send + Sync>(rt: &(impl Threads + Wait + Abort + Sync), des
         move || look_on(reader, told),
         move || submit_all(rt, lock, told),
     );
-    let (_reader, newest) = look(reader);
+    let _reader = see(rt, reader, Some((SUBMITS, Ok((0, 1)))));
     shared.into_desk().end(rt);
+    judge(rt, last, tally);
+}
+
+/// Looks at how it went.
+fn judge(rt: &impl Abort, last: u64, tally: Tally) {
     assert_eq!(rt; (last, tally.wrong), (SUBMITS, 0));
-    assert_eq!(rt; newest, Some((SUBMITS, Ok((0, 1)))));
     assert!(rt;
         tally.versions >= AWAITED,
         "saw {} versions",

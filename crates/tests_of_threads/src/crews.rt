@@ -1,7 +1,8 @@
 //! Crews of fault workers.
 use crate::crew_setting::{desk, machine, placed, requests, workers};
-use numa_fault::{Crew, CrewRefusal, Gate};
+use numa_fault::{Answer, Crew, CrewRefusal, Gate};
 use numa_pool::Pools;
+use numa_space::Request;
 use std::alloc::Global;
 use std::process::Abort;
 use std::sync::Wait;
@@ -50,22 +51,36 @@ impl Gate for Crossed {
     }
 }
 
+/// So many workers serve the requests, on a machine of two nodes with so many frames each, on which
+/// so many pages are mapped.
+fn run_crew<R: Threads + Wait + Abort + Sync, G: Gate + Sync>(
+    rt: &R,
+    alloc: Global,
+    frames: u32,
+    pages: u64,
+    count: usize,
+    wanted: &[Request],
+    gate: &G,
+) -> Result<Vec<Answer>, CrewRefusal> {
+    let mut desk = desk(rt, alloc, frames, pages);
+    let machine = machine(rt, alloc, frames);
+    let (pools, mut seat) = Pools::open(alloc, &machine).expect(rt, "memory");
+    let mut crew = workers(rt, alloc, &mut desk, &pools, &mut seat, count);
+    let answers = Crew::run(rt, alloc, &mut crew, &pools, wanted, gate);
+    drop(crew);
+    desk.end(rt);
+    answers
+}
+
 #[test]
 fn crew_crossed(rt: HostRuntime) {
-    let mut desk = desk(&rt, rt.alloc(), 1, 3);
-    let machine = machine(&rt, rt.alloc(), 1);
-    let (pools, mut seat) = Pools::open(rt.alloc(), &machine).expect(&rt, "memory");
-    let mut crew = workers(&rt, rt.alloc(), &mut desk, &pools, &mut seat, 2);
     let gate = Crossed {
         before: [AtomicU64::new(0), AtomicU64::new(0)],
         after: [AtomicU64::new(0), AtomicU64::new(0)],
         late: AtomicU64::new(0),
     };
-    let pages = requests(&rt, rt.alloc(), 2);
-    let answers = Crew::run(&rt, rt.alloc(), &mut crew, &pools, &pages, &gate);
-    drop(crew);
-    desk.end(&rt);
-    let answers = answers.expect(&rt, "answers");
+    let wanted = requests(&rt, rt.alloc(), 2);
+    let answers = run_crew(&rt, rt.alloc(), 1, 3, 2, &wanted, &gate).expect(&rt, "answers");
     assert_eq!(rt; answers.len(), 2);
     assert_eq!(rt; placed(answers.get(1)), Some((17, 0)));
     assert_eq!(rt; placed(answers.first()), Some((16, 1)));
@@ -127,15 +142,9 @@ fn in_place<R: Threads + Wait + Abort + Sync>(
     count: usize,
     pages: u64,
 ) -> (usize, usize, bool) {
-    let mut desk = desk(rt, alloc, 256, 300);
-    let (pools, mut seat) = Pools::open(alloc, &machine(rt, alloc, 256)).expect(rt, "memory");
-    let mut crew = workers(rt, alloc, &mut desk, &pools, &mut seat, count);
     let wanted = requests(rt, alloc, pages);
     let gate = Counting::new(rt, alloc, pages);
-    let answers = Crew::run(rt, alloc, &mut crew, &pools, &wanted, &gate);
-    drop(crew);
-    desk.end(rt);
-    let answers = answers.expect(rt, "answers");
+    let answers = run_crew(rt, alloc, 256, 300, count, &wanted, &gate).expect(rt, "answers");
     let right = wanted
         .iter()
         .zip(&answers)
@@ -148,10 +157,11 @@ fn in_place<R: Threads + Wait + Abort + Sync>(
 
 #[test]
 fn answers_in_place(rt: HostRuntime) {
-    assert_eq!(rt; in_place(&rt, rt.alloc(), 3, 5), (5, 5, true));
-    assert_eq!(rt; in_place(&rt, rt.alloc(), 16, 3), (3, 3, true));
-    assert_eq!(rt; in_place(&rt, rt.alloc(), 1, 300), (300, 300, true));
-    assert_eq!(rt; in_place(&rt, rt.alloc(), 1, 0), (0, 0, true));
+    for (count, pages) in [(3, 5u16), (16, 3), (1, 300), (1, 0)] {
+        let all = usize::from(pages);
+        let found = in_place(&rt, rt.alloc(), count, u64::from(pages));
+        assert_eq!(rt; found, (all, all, true), "{count} workers");
+    }
 }
 
 /// What a crew of so many workers is refused with for three requests.
@@ -160,20 +170,15 @@ fn refusal<R: Threads + Wait + Abort + Sync>(
     alloc: Global,
     count: usize,
 ) -> Option<CrewRefusal> {
-    let mut desk = desk(rt, alloc, 2, 3);
-    let (pools, mut seat) = Pools::open(alloc, &machine(rt, alloc, 2)).expect(rt, "memory");
-    let mut crew = workers(rt, alloc, &mut desk, &pools, &mut seat, count);
     let wanted = requests(rt, alloc, 3);
     let gate = Counting::new(rt, alloc, 3);
-    let answers = Crew::run(rt, alloc, &mut crew, &pools, &wanted, &gate);
-    drop(crew);
-    desk.end(rt);
-    answers.err()
+    run_crew(rt, alloc, 2, 3, count, &wanted, &gate).err()
 }
 
 #[test]
 fn too_few_and_too_many(rt: HostRuntime) {
-    assert_eq!(rt; refusal(&rt, rt.alloc(), 0), Some(CrewRefusal::NoWorkers));
-    assert_eq!(rt; refusal(&rt, rt.alloc(), 17), Some(CrewRefusal::NoWorkers));
-    assert_eq!(rt; refusal(&rt, rt.alloc(), 16), None);
+    let none = Some(CrewRefusal::NoWorkers);
+    for (count, want) in [(0, none), (17, none), (16, None)] {
+        assert_eq!(rt; refusal(&rt, rt.alloc(), count), want, "{count} workers");
+    }
 }

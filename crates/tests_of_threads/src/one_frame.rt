@@ -3,7 +3,7 @@
 ghost use Rattle.std.specs.Prelude.{◌≡◌};
 
 use crate::setting::nodes;
-use numa_fault::FaultWorker;
+use numa_fault::{FaultRefusal, FaultWorker};
 use numa_machine::{Frame, Machine};
 use numa_pool::{PoolSeat, Pools};
 use numa_publish::Desk;
@@ -53,6 +53,30 @@ pub fn worker(rt: &impl Abort, desk: &mut Desk, seat: PoolSeat) -> FaultWorker
     ensures { result.seat ≡ seat }
 {
     FaultWorker::new(desk.reader().expect(rt, "a place"), seat)
+}
+
+/// Lets the worker serve a request, which must be answered so.
+pub fn serve(
+    rt: &impl Abort,
+    worker: &mut FaultWorker,
+    pools: &Pools,
+    request: Request,
+    want: Result<Placement, FaultRefusal>,
+)
+    requires { worker.old.seat.table ≡ pools.now.table }
+    ensures { worker.new.seat.table ≡ pools.now.table }
+{
+    assert_eq!(rt; worker.fault(pools, request), want);
+}
+
+/// Closes the pools with the worker's seat: how many frames of the two nodes are taken, and whether
+/// the seat holds them all, must be this.
+pub fn close(rt: &impl Abort, pools: Pools, worker: FaultWorker, want: (u32, u32, bool))
+    requires { worker.seat.table ≡ pools.table }
+{
+    let (_, seat) = worker.into_parts();
+    let closed = pools.close(seat);
+    assert_eq!(rt; (closed.taken[0], closed.taken[1], closed.alone), want);
 }
 
 /// A fault of task 1 on node 0.

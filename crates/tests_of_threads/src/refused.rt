@@ -3,7 +3,7 @@
 //! run by itself, none is refused.
 ghost use Rattle.std.specs.Prelude.{◌≡◌};
 
-use crate::setting::{Seen, desk_for, look, map_one, prefer};
+use crate::setting::{Seen, accept_both, desk_for, look, prefer};
 use numa_publish::{Desk, DeskName, SharedDesk, SubmitRefusal};
 use numa_space::{PlaceRefusal, Refusal};
 use std::alloc::Global;
@@ -22,8 +22,7 @@ pub fn mark(rt: &impl Abort, alloc: Global) {
 /// A desk with two commands pending: a map, and `prefer:1` for task 1.
 fn desk_with_pending(rt: &(impl Wait + Abort), alloc: Global) -> Desk {
     let mut desk = desk_for(rt, alloc, 2);
-    assert_eq!(rt; desk.accept(&map_one()), Ok(1));
-    assert_eq!(rt; desk.accept(&prefer(rt, 1)), Ok(2));
+    accept_both(rt, &mut desk);
     desk
 }
 
@@ -32,28 +31,38 @@ fn seen_on(rt: &impl Abort, desk: &mut Desk) -> Option<Seen> {
     look(desk.reader().expect(rt, "a place")).1
 }
 
+/// What a new reader sees, the published version, and how many commands are pending.
+fn shown_by(rt: &impl Abort, desk: &mut Desk) -> (u64, usize, Option<Seen>) {
+    let seen = seen_on(rt, desk);
+    (desk.published(), desk.pending(), seen)
+}
+
+/// The version of a publish with memory, which ends the desk, and what a new reader sees of it.
+fn last(rt: &(impl Wait + Abort), mut desk: Desk) -> (Option<u64>, Option<Seen>) {
+    let later = desk.publish(rt).ok().map(|receipt| receipt.version());
+    let newest = seen_on(rt, &mut desk);
+    desk.end(rt);
+    (later, newest)
+}
+
+/// What is shown before anything is published.
+const NOTHING: Option<Seen> = Some((0, Err(PlaceRefusal::Unmapped)));
+
 #[test]
 fn publish(rt: HostRuntime) {
     let mut desk = desk_with_pending(&rt, rt.alloc());
     mark(&rt, rt.alloc());
     let answer = desk.publish(&rt).ok().map(|receipt| receipt.version());
     mark(&rt, rt.alloc());
-    let seen = seen_on(&rt, &mut desk);
-    let left = (desk.published(), desk.pending());
-    let later = desk.publish(&rt).ok().map(|receipt| receipt.version());
-    let newest = seen_on(&rt, &mut desk);
-    desk.end(&rt);
+    let left = shown_by(&rt, &mut desk);
+    let end = last(&rt, desk);
     match answer {
         Some(version) => {
-            assert_eq!(rt; (version, left), (2, (2, 0)));
-            assert_eq!(rt; seen, Some((2, Ok((1, 0)))));
+            assert_eq!(rt; (version, left), (2, (2, 0, Some((2, Ok((1, 0)))))));
         }
-        None => {
-            assert_eq!(rt; left, (0, 2));
-            assert_eq!(rt; seen, Some((0, Err(PlaceRefusal::Unmapped))));
-        }
+        None => assert_eq!(rt; left, (0, 2, NOTHING)),
     }
-    assert_eq!(rt; (later, newest), (Some(2), Some((2, Ok((1, 0))))));
+    assert_eq!(rt; end, (Some(2), Some((2, Ok((1, 0))))));
 }
 
 /// Submits `prefer:0` to the desk under a lock: the answer, and the desk.
@@ -79,28 +88,16 @@ fn submitted<K: DeskName>(
 fn submit(rt: HostRuntime) {
     let desk = desk_with_pending(&rt, rt.alloc());
     let (answer, mut desk) = submitted::<Brand>(&rt, rt.alloc(), desk);
-    let seen = seen_on(&rt, &mut desk);
-    let left = (desk.published(), desk.pending());
-    let later = desk.publish(&rt).ok().map(|receipt| receipt.version());
-    let newest = seen_on(&rt, &mut desk);
-    desk.end(&rt);
-    let unpublished = Some((0, Err(PlaceRefusal::Unmapped)));
-    let (all, last) = match answer {
-        Ok(version) => {
-            assert_eq!(rt; (version, left, seen), (3, (3, 0), Some((3, Ok((0, 1))))));
-            (3, (0, 1))
-        }
-        Err(SubmitRefusal::Held(version)) => {
-            assert_eq!(rt; (version, left, seen), (3, (0, 3), unpublished));
-            (3, (0, 1))
-        }
-        Err(SubmitRefusal::Refused(refusal)) => {
-            assert_eq!(rt;
-                (refusal, left, seen),
-                (Refusal::NoMemory, (0, 2), unpublished)
-            );
-            (2, (1, 0))
+    let left = shown_by(&rt, &mut desk);
+    let end = last(&rt, desk);
+    let (wanted, all, row) = match answer {
+        Ok(3) => ((3, 0, Some((3, Ok((0, 1))))), 3, (0, 1)),
+        Err(SubmitRefusal::Held(3)) => ((0, 3, NOTHING), 3, (0, 1)),
+        _ => {
+            assert_eq!(rt; answer, Err(SubmitRefusal::Refused(Refusal::NoMemory)));
+            ((0, 2, NOTHING), 2, (1, 0))
         }
     };
-    assert_eq!(rt; (later, newest), (Some(all), Some((all, Ok(last)))));
+    assert_eq!(rt; left, wanted);
+    assert_eq!(rt; end, (Some(all), Some((all, Ok(row)))));
 }

@@ -5,7 +5,7 @@ use numa_machine::Machine;
 use numa_mask::{NodeId, NodeMask};
 use numa_mode::PolicySpec;
 use numa_plan::Steps;
-use numa_publish::{Desk, PlanReader};
+use numa_publish::{Desk, PlanReader, Receipt};
 use numa_space::{Command, Limits, PlaceRefusal};
 use std::alloc::Global;
 use std::process::Abort;
@@ -59,6 +59,24 @@ pub fn prefer(rt: &impl Abort, number: u8) -> Command {
     }
 }
 
+/// Accepts two commands: a map, and `prefer:1` for task 1.
+pub fn accept_both(rt: &impl Abort, desk: &mut Desk)
+    ensures { desk.new.desk ≡ desk.old.desk }
+{
+    assert_eq!(rt; desk.accept(&map_one()), Ok(1));
+    assert_eq!(rt; desk.accept(&prefer(rt, 1)), Ok(2));
+}
+
+/// Publishes, which must give this version.
+pub fn publish_as(rt: &(impl Wait + Abort), desk: &mut Desk, version: u64) -> Receipt
+    ensures same { desk.new.desk ≡ desk.old.desk }
+    ensures receipt { result.desk ≡ desk.new.desk }
+{
+    let receipt = desk.publish(rt).expect(rt, "memory");
+    assert_eq!(rt; receipt.version(), version);
+    receipt
+}
+
 /// Binds a page that isn't mapped.
 pub fn bind_a_hole(rt: &impl Abort) -> Command {
     Command::Mbind {
@@ -87,6 +105,15 @@ pub fn look(reader: PlanReader) -> (PlanReader, Option<Seen>)
         }
         Err(reader) => (reader, None),
     }
+}
+
+/// Looks once, and must see this.
+pub fn see(rt: &impl Abort, reader: PlanReader, want: Option<Seen>) -> PlanReader
+    ensures { result.desk ≡ reader.desk }
+{
+    let (reader, seen) = look(reader);
+    assert_eq!(rt; seen, want);
+    reader
 }
 
 /// Waits until the number is at least this. Another thread adds to it.

@@ -37,31 +37,25 @@ fn place(
 
 #[test]
 fn from_page_16(rt: HostRuntime) {
-    assert_eq!(rt; place(&rt, rt.alloc(), 0, 16, 2), (Ok(1), 2));
-    assert_eq!(rt;
-        place(&rt, rt.alloc(), 0, 16, 3),
-        (Err(SpanRefusal::Exhausted(1, 2)), 2)
-    );
-    assert_eq!(rt;
-        place(&rt, rt.alloc(), 0, 16, 4),
-        (Err(SpanRefusal::Unmapped(1)), 0)
-    );
-    assert_eq!(rt; place(&rt, rt.alloc(), 0, 16, 1), (Ok(1), 1));
-    assert_eq!(rt; place(&rt, rt.alloc(), 0, 16, 0), (Ok(1), 0));
+    for (pages, want) in [
+        (2, (Ok(1), 2)),
+        (3, (Err(SpanRefusal::Exhausted(1, 2)), 2)),
+        (4, (Err(SpanRefusal::Unmapped(1)), 0)),
+        (1, (Ok(1), 1)),
+        (0, (Ok(1), 0)),
+    ] {
+        assert_eq!(rt; place(&rt, rt.alloc(), 0, 16, pages), want, "{pages} pages");
+    }
 }
 
 #[test]
 fn refused(rt: HostRuntime) {
-    assert_eq!(rt;
-        place(&rt, rt.alloc(), 2, 16, 2),
-        (Err(SpanRefusal::BadCpu), 0)
-    );
-    assert_eq!(rt;
-        place(&rt, rt.alloc(), 2, 16, 0),
-        (Err(SpanRefusal::BadCpu), 0)
-    );
-    assert_eq!(rt;
-        place(&rt, rt.alloc(), 0, u64::MAX, 2),
-        (Err(SpanRefusal::Unmapped(1)), 0)
-    );
+    for (cpu, first, pages, want) in [
+        (2, 16, 2, SpanRefusal::BadCpu),
+        (2, 16, 0, SpanRefusal::BadCpu),
+        (0, u64::MAX, 2, SpanRefusal::Unmapped(1)),
+    ] {
+        let found = place(&rt, rt.alloc(), cpu, first, pages);
+        assert_eq!(rt; found, (Err(want), 0), "{pages} pages from {first} on");
+    }
 }

@@ -1,7 +1,7 @@
 //! Versions on a desk.
 ghost use Rattle.std.specs.Prelude.{◌≡◌};
 
-use crate::setting::{bind_a_hole, desk_for, look, map_one, prefer};
+use crate::setting::{accept_both, bind_a_hole, desk_for, look, map_one, prefer, publish_as, see};
 use numa_publish::{Desk, DeskName, SharedDesk, SubmitRefusal};
 use numa_space::{PlaceRefusal, Refusal};
 use std::marker::Brand;
@@ -13,22 +13,15 @@ use std::thread::join;
 fn on_a_desk(rt: HostRuntime) {
     let mut desk = desk_for(&rt, rt.alloc(), 2);
     let reader = desk.reader().expect(&rt, "a place");
-    assert_eq!(rt; desk.accept(&map_one()), Ok(1));
-    assert_eq!(rt; desk.accept(&prefer(&rt, 1)), Ok(2));
-    let (reader, before) = look(reader);
-    assert_eq!(rt; before, Some((0, Err(PlaceRefusal::Unmapped))));
+    accept_both(&rt, &mut desk);
+    let reader = see(&rt, reader, Some((0, Err(PlaceRefusal::Unmapped))));
     assert_eq!(rt; (desk.pending(), desk.published()), (2, 0));
-    let receipt = desk.publish(&rt).expect(&rt, "memory");
-    let (reader, after) = look(reader.learn(&receipt));
-    assert_eq!(rt; (receipt.version(), after), (2, Some((2, Ok((1, 0))))));
-    let again = desk.publish(&rt).expect(&rt, "memory");
-    assert_eq!(rt;
-        (again.version(), desk.pending(), desk.published()),
-        (2, 0, 2)
-    );
+    let receipt = publish_as(&rt, &mut desk, 2);
+    let reader = see(&rt, reader.learn(&receipt), Some((2, Ok((1, 0)))));
+    let _again = publish_as(&rt, &mut desk, 2);
+    assert_eq!(rt; (desk.pending(), desk.published()), (0, 2));
     desk.end(&rt);
-    let (_reader, gone) = look(reader);
-    assert_eq!(rt; gone, None);
+    let _reader = see(&rt, reader, None);
 }
 
 /// The same desk under a lock, with two commands published.
@@ -52,9 +45,8 @@ fn submits<K: DeskName>(rt: &(impl Wait + Abort), desk: Desk)
 #[test]
 fn through_a_shared_desk(rt: HostRuntime) {
     let mut desk = desk_for(&rt, rt.alloc(), 2);
-    assert_eq!(rt; desk.accept(&map_one()), Ok(1));
-    assert_eq!(rt; desk.accept(&prefer(&rt, 1)), Ok(2));
-    let _receipt = desk.publish(&rt).expect(&rt, "memory");
+    accept_both(&rt, &mut desk);
+    let _receipt = publish_as(&rt, &mut desk, 2);
     submits::<Brand>(&rt, desk);
 }
 

@@ -1,6 +1,6 @@
 //! For which views a publish waits.
-use crate::setting::{desk_for, look, map_one, prefer, wait_until};
-use numa_publish::{Desk, PlanReader};
+use crate::setting::{desk_for, map_one, prefer, publish_as, see, wait_until};
+use numa_publish::{Desk, PlanReader, PlanView};
 use std::process::Abort;
 use std::rt::Clock;
 use std::sync::Wait;
@@ -12,28 +12,31 @@ use std::time::Duration;
 /// A desk with version 1 published.
 fn published_desk(rt: &(impl Wait + Abort), desk: &mut Desk) {
     assert_eq!(rt; desk.accept(&map_one()), Ok(1));
-    assert_eq!(rt; desk.publish(rt).expect(rt, "memory").version(), 1);
+    publish_as(rt, desk, 1);
+}
+
+/// A new reader's view.
+fn view(rt: &impl Abort, desk: &mut Desk) -> PlanView {
+    let reader = desk.reader().expect(rt, "a place");
+    reader.enter().ok().expect(rt, "an entry")
 }
 
 #[test]
 fn two_views_at_once(rt: HostRuntime) {
     let mut desk = desk_for(&rt, rt.alloc(), 3);
     published_desk(&rt, &mut desk);
-    let first = desk.reader().expect(&rt, "a place");
-    let second = desk.reader().expect(&rt, "a place");
+    let first = view(&rt, &mut desk);
+    let second = view(&rt, &mut desk);
     let third = desk.reader().expect(&rt, "a place");
-    let first = first.enter().ok().expect(&rt, "an entry");
-    let second = second.enter().ok().expect(&rt, "an entry");
     assert_eq!(rt; desk.accept(&prefer(&rt, 1)), Ok(2));
     // Both views are of the newest version, so this waits for neither.
-    let receipt = desk.publish(&rt).expect(&rt, "memory");
-    let seen = look(third).1;
+    publish_as(&rt, &mut desk, 2);
+    see(&rt, third, Some((2, Ok((1, 0)))));
     let held = (first.version(), second.version());
     first.leave();
     second.leave();
     desk.end(&rt);
-    assert_eq!(rt; (receipt.version(), held), (2, (1, 1)));
-    assert_eq!(rt; seen, Some((2, Ok((1, 0)))));
+    assert_eq!(rt; held, (1, 1));
 }
 
 /// What the two threads tell each other: that the view is held, that one publish returned beside
