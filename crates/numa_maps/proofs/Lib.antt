@@ -1,6 +1,5 @@
 mod ByPage
 mod Examples
-pub mod Fronts
 mod Hexes
 mod Lines
 mod Listed

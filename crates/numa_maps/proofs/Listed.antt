@@ -1,6 +1,5 @@
 -- The listing, line by line.
-use Rattle.std.proofs.Common.{◌≡◌, ◌↔◌, ℕ, ◌≤◌, ◌^◌, Option, List, ◌∷◌, ◌++◌, Contains, sym, ap, subst, ◌∙◌, append_assoc}
-use Rattle.std.specs.Io.KnownBytes.{Appends}
+use Rattle.std.proofs.Common.{◌≡◌, ◌↔◌, ℕ, ◌≤◌, ◌^◌, Option, List, ◌∷◌, ◌++◌, Contains, true, sym, ap, subst, ◌∙◌, append_assoc}
 use Rattle.numa_mode.specs.Policy.{PolicyRecord}
 use Rattle.numa_ranges.proofs.Apart.{apart-top}
 use Rattle.numa_ranges.specs.Counts.{IsRange}
@@ -13,8 +12,10 @@ use Rattle.numa_space.specs.Standing.{SpaceState, StandsFor, policy_in}
 use Rattle.numa_space.specs.declared.command.Command.{Command}
 use Rattle.numa_maps.specs.Listing.{IsListing, listing, listing_in, range_line}
 use Rattle.numa_maps.specs.Residents.{Kept}
-use Rattle.numa_maps.specs.Written.{AppendsFront}
-use Rattle.numa_maps.proofs.Fronts.{front_after, front_widen}
+use Rattle.line_server.specs.Watching.{has_failed}
+use Rattle.line_server.specs.Written.{Said}
+use Rattle.line_server.specs.declared.watched.Watched.{Watched}
+use Rattle.line_server.proofs.Adding.{said_both, said_lost}
 
 pub apart-next : (from : ℕ) (range : Run (Option PolicyRecord)) (left rest : List (Run (Option PolicyRecord))) → left ≡ range ∷ rest → AreApart from left → AreApart (end_of range) rest × (end_of range ≤ 2 ^ 35)
 apart-next from range left rest e apart =
@@ -28,10 +29,11 @@ line-next policy_of kept all sent line range left rest so_far e text =
     so_far ∙ ap (λ (ranges : List (Run (Option PolicyRecord))). sent ++ listing policy_of kept ranges) e ∙ ap (λ x. sent ++ (x ++ listing policy_of kept rest)) (sym text)
     ∙ sym (append_assoc sent line (listing policy_of kept rest))
 
--- some front of the listing went out, where some front of a line did
-pub front-all : (start before after : Option (List ℕ)) (all sent line more : List ℕ) → Appends start before sent → AppendsFront before after line → all ≡ (sent ++ line) ++ more → AppendsFront start after all
-front-all start before after all sent line more went front e =
-    subst (λ (text : List ℕ). AppendsFront start after text) (sym e) (front_widen start after (sent ++ line) more (front_after start before after sent line went front))
+-- a line was said, after which no other is, since a write has failed
+pub line-lost : {W : Type 0} (contents : W → Option (List ℕ)) (old mid new : Watched W) (all sent line more : List ℕ) → has_failed new ≡ true
+    → Said contents old mid sent → Said contents mid new line → all ≡ (sent ++ line) ++ more → Said contents old new all
+line-lost contents old mid new all sent line more failed before last e =
+    subst (Said contents old new) (sym e) (said_lost contents old new (sent ++ line) more failed (said_both contents old mid new sent line before last))
 
 -- the listing of a space is that of the commands for which it stands
 pub listing-meaning : (space : SpaceState) (history : List Command) (task : ℕ) (kept : Kept) → StandsFor space history → AreApart 0 space.ranges

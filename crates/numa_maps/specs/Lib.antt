@@ -1,4 +1,2 @@
 pub mod Listing
 pub mod Residents
-pub mod Watching
-pub mod Written

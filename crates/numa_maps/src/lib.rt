@@ -7,8 +7,7 @@ pub mod law;
 mod line;
 pub mod listing;
 pub mod resident;
-pub mod watched;
 
-pub use listing::write_maps;
+pub use line_server::watched::{self, CallFailed, Watched};
+pub use listing::{WriteFault, write_maps};
 pub use resident::{RecordRefusal, Resident};
-pub use watched::{CallFailed, Watched, WriteFault};

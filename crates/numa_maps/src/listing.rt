@@ -1,17 +1,20 @@
 //! The listing of a space's ranges.
-ghost use Rattle.std.specs.Prelude.{◌≡◌, OnOk, OnErr, List, true};
-ghost use Rattle.std.specs.Io.KnownBytes.{Appends};
+ghost use Rattle.std.specs.Prelude.{◌≡◌, [], OnOk, OnErr, List, true, false};
+ghost use Rattle.line_server.specs.Watching.{has_failed, held_in};
+ghost use Rattle.line_server.specs.Written.{Said};
 ghost use Rattle.numa_maps.specs.Listing.{IsListing, listing_in};
-ghost use Rattle.numa_maps.specs.Watching.{has_failed};
-ghost use Rattle.numa_maps.specs.Written.{AppendsFront};
 ghost use Rattle.numa_space.specs.Standing.{StandsFor};
 ghost use Rattle.numa_space.specs.declared.command.Command.{Command};
 
 use crate::line::{LineText, write_line};
 use crate::resident::Resident;
-use crate::watched::{Watched, WriteFault};
+use line_server::Watched;
 use numa_space::Space;
 use std::io::Write;
+
+/// A write failed: what was to be written went out in part, or not at all.
+#[derive(Clone, Copy, Debug, PartialEq, Eq)]
+pub struct WriteFault;
 
 /// Writes one line for each range of the space, rising, in the form of numa_maps (numa(7), /proc/PID/numa_maps):
 ///
@@ -24,24 +27,31 @@ use std::io::Write;
 /// - a line feed.
 ///
 /// The choice of these fields, of those that numa_maps has, is this crate's. Takes no memory. Each line is handed to the writer
-/// whole. The time grows with the ranges and the placements, and not with the pages.
+/// whole, after what was said to it before. The time grows with the ranges and the placements, and not with the pages.
 ///
 /// # Errors
-/// `WriteFault` where a write failed; some front of the listing went out.
+/// `WriteFault` where this or an earlier write failed; the first part of the listing went out, or nothing after an earlier fault.
 pub fn write_maps<W: Write>(
     space: &Space,
     task: u32,
     resident: &Resident,
     output: &mut Watched<W>,
 ) -> Result<(), WriteFault>
-    ensures ok { OnOk result (Appends (W.contents output.old.inner) (W.contents output.new.inner) (listing_in space.now task resident.now)) }
-    ensures front { OnErr result (AppendsFront (W.contents output.old.inner) (W.contents output.new.inner) (listing_in space.now task resident.now)) }
-    ensures same { OnOk result (has_failed output.new ≡ has_failed output.old) }
+    ensures says { Said W.contents output.old output.new
+        (listing_in space.now task resident.now) }
+    ensures empty { held_in output.new ≡ [] }
+    ensures ok { OnOk result (has_failed output.new ≡ false) }
     ensures err { OnErr result (has_failed output.new ≡ true) }
-    ensures meaning { (history : List Command) → StandsFor space.now history → IsListing space.now.machine history task resident.now (listing_in space.now task resident.now) }
+    ensures meaning { (history : List Command) → StandsFor space.now history
+        → IsListing space.now.machine history task resident.now
+        (listing_in space.now task resident.now) }
 {
+    let ranges = space.range_iter();
+    let Ok(()) = output.hand_over() else {
+        return Err(WriteFault);
+    };
     let mut line = LineText::new();
-    for range in space.range_iter() {
+    for range in ranges {
         write_line(
             &mut line,
             space.policy_at(task, range.first),

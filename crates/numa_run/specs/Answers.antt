@@ -1,5 +1,6 @@
 -- The bytes and the reply that a line is answered, and the state after it.
 use Rattle.std.specs.Prelude.{ℕ, Bool, List, Option}
+use Rattle.numa_script.specs.Lines.{line_of}
 use Rattle.numa_script.specs.declared.line.Line.{Line}
 use Rattle.numa_run.specs.Replies.{bytes_of, reply_in, served}
 use Rattle.numa_run.specs.declared.reply.Reply.{Reply}
@@ -14,3 +15,10 @@ reply_of refused state said = reply_in (served refused state said).answer
 
 abbrev pub after : Bool → State → Line → State
 after refused state said = (served refused state said).state
+
+-- the same of a line that is given as bytes
+abbrev pub answer_to : Bool → State → List ℕ → List ℕ
+answer_to refused state bytes = answer_of refused state (line_of bytes)
+
+abbrev pub after_bytes : Bool → State → List ℕ → State
+after_bytes refused state bytes = after refused state (line_of bytes)

@@ -3,13 +3,12 @@ ghost use Rattle.std.specs.Prelude.{ℕ, Bool, List, length};
 ghost use Rattle.numa_compile.specs.Standing.{PlanStandsFor};
 ghost use Rattle.numa_machine.specs.Machine.{Hardware};
 ghost use Rattle.numa_space.specs.declared.command.Command.{Command};
-ghost use Rattle.numa_script.specs.Watching.{has_failed};
-ghost use Rattle.numa_script.specs.Written.{Adds};
+ghost use Rattle.line_server.specs.Written.{Said};
 ghost use Rattle.numa_run.specs.Questions.{count_text, place_text, span_text, unless_starved};
 
 use crate::tell::{say_counts, say_nodes, say_place_refusal, say_starved};
+use line_server::Watched;
 use numa_plan::{Plan, Steps};
-use numa_script::{Gathered, Watched};
 use std::alloc::Global;
 use std::io::Write;
 
@@ -19,15 +18,14 @@ pub(crate) fn say_place<W: Write>(
     task: u32,
     page: u64,
     cpu: u32,
-    gathered: &mut Gathered,
     output: &mut Watched<W>,
 )
     ensures { (machine : Hardware) (history : List Command) → PlanStandsFor machine plan.now history
-        → Adds (W.contents output.old.inner) (has_failed output.old) gathered.old (W.contents output.new.inner) (has_failed output.new) gathered.new (place_text machine history task page cpu) }
+        → Said W.contents output.old output.new (place_text machine history task page cpu) }
 {
     match plan.choice(task, page, cpu, &mut Steps::new()) {
-        Ok(nodes) => say_nodes(gathered, output, plan.version(), nodes),
-        Err(refusal) => say_place_refusal(gathered, output, refusal),
+        Ok(nodes) => say_nodes(output, plan.version(), nodes),
+        Err(refusal) => say_place_refusal(output, refusal),
     }
 }
 
@@ -38,15 +36,14 @@ fn say_firsts<W: Write>(
     first: u64,
     cpu: u32,
     nodes: &mut [u8],
-    gathered: &mut Gathered,
     output: &mut Watched<W>,
 )
     ensures { (machine : Hardware) (history : List Command) → PlanStandsFor machine plan.now history
-        → Adds (W.contents output.old.inner) (has_failed output.old) gathered.old (W.contents output.new.inner) (has_failed output.new) gathered.new (span_text machine history task first (length nodes.old) cpu) }
+        → Said W.contents output.old output.new (span_text machine history task first (length nodes.old) cpu) }
 {
     match plan.fill(task, cpu, first, nodes) {
-        Ok(()) => say_nodes(gathered, output, plan.version(), nodes),
-        Err(refusal) => say_place_refusal(gathered, output, refusal),
+        Ok(()) => say_nodes(output, plan.version(), nodes),
+        Err(refusal) => say_place_refusal(output, refusal),
     }
 }
 
@@ -58,26 +55,16 @@ pub(crate) fn say_span<W: Write>(
     first: u64,
     pages: u32,
     cpu: u32,
-    gathered: &mut Gathered,
     output: &mut Watched<W>,
 )
     ensures { (machine : Hardware) (history : List Command) → PlanStandsFor machine plan.now history
-        → (refused : Bool) × Adds (W.contents output.old.inner) (has_failed output.old) gathered.old (W.contents output.new.inner) (has_failed output.new) gathered.new
-        (unless_starved refused (span_text machine history task first pages cpu)) }
+        → (refused : Bool) × Said W.contents output.old output.new (unless_starved refused (span_text machine history task first pages cpu)) }
 {
     let Ok(mut nodes) = vec![in alloc; 0u8; pages as usize] else {
-        say_starved(gathered, output);
+        say_starved(output);
         return;
     };
-    say_firsts(
-        plan,
-        task,
-        first,
-        cpu,
-        nodes.as_mut_slice(),
-        gathered,
-        output,
-    );
+    say_firsts(plan, task, first, cpu, nodes.as_mut_slice(), output);
 }
 
 /// `counts TASK ADDR PAGES CPU`: how many pages each node would get, of so many pages from one on.
@@ -87,14 +74,13 @@ pub(crate) fn say_pages<W: Write>(
     first: u64,
     pages: u64,
     cpu: u32,
-    gathered: &mut Gathered,
     output: &mut Watched<W>,
 )
     ensures { (machine : Hardware) (history : List Command) → PlanStandsFor machine plan.now history
-        → Adds (W.contents output.old.inner) (has_failed output.old) gathered.old (W.contents output.new.inner) (has_failed output.new) gathered.new (count_text machine history task first pages cpu) }
+        → Said W.contents output.old output.new (count_text machine history task first pages cpu) }
 {
     match plan.counts(task, cpu, first, pages) {
-        Ok(counts) => say_counts(gathered, output, plan.version(), &counts),
-        Err(refusal) => say_place_refusal(gathered, output, refusal),
+        Ok(counts) => say_counts(output, plan.version(), &counts),
+        Err(refusal) => say_place_refusal(output, refusal),
     }
 }

@@ -1,6 +1,7 @@
 //! A script that is being answered.
 ghost use Rattle.std.specs.Prelude.{◌≡◌, ℕ, ◌+◌, Bool, List, Option, None, Some, Ok, MatchOption, length};
-ghost use Rattle.numa_run.specs.Answers.{State, start};
+ghost use Rattle.line_server.specs.Written.{Said};
+ghost use Rattle.numa_run.specs.Answers.{State, after, answer_of, start};
 ghost use Rattle.numa_run.specs.Scripts.{IsCoreIn, IsResidentIn, ScriptReplies, ScriptStandsFor};
 ghost use Rattle.numa_run.specs.Standing.{Replies, Stands};
 
@@ -9,10 +10,12 @@ use crate::reply::Reply;
 use crate::running::Running;
 use crate::serving::Taken;
 use crate::tell::tell;
+use line_server::{Serve, Watched};
 use numa_core::Core;
 use numa_machine::MachineFault;
 use numa_maps::Resident;
-use numa_script::{Gathered, Line, MachineLine, Serve, Watched, WordFault};
+use numa_script::line::parse;
+use numa_script::{Line, MachineLine, WordFault};
 use numa_space::Limits;
 use std::alloc::Global;
 use std::io::Write;
@@ -117,6 +120,20 @@ impl Script {
         }
     }
 
+    /// Serves a line, and says its answer.
+    pub fn serve_line<W: Write>(&mut self, alloc: Global, line: &Line<'_>, output: &mut Watched<W>)
+        ensures { (state : State) → ScriptStandsFor self.old state
+            → (refused : Bool) × ScriptStandsFor self.new (after refused state line.now)
+            × Said W.contents output.old output.new (answer_of refused state line.now) }
+    {
+        if let Some(running) = &mut self.running {
+            running.serve(alloc, line, output);
+            return;
+        }
+        let reply = self.reply_first(alloc, line);
+        tell(output, &reply);
+    }
+
     /// Does what a line says where no machine is ready.
     pub(crate) fn reply_first(&mut self, alloc: Global, line: &Line<'_>) -> Reply
         requires { self.old.running ≡ None }
@@ -140,7 +157,7 @@ impl Script {
 }
 
 impl Serve for Script {
-    ghost use Rattle.numa_run.specs.Answers.{State, start, answer_of, after};
+    ghost use Rattle.numa_run.specs.Answers.{State, start, answer_to, after_bytes};
     ghost use Rattle.numa_run.specs.Scripts.{ScriptStandsFor};
 
     ghost State = { State };
@@ -149,22 +166,11 @@ impl Serve for Script {
 
     ghost stands_for = { ScriptStandsFor };
 
-    ghost answer_of = { answer_of };
+    ghost answer_of = { answer_to };
 
-    ghost after = { after };
+    ghost after = { after_bytes };
 
-    fn serve<W: Write>(
-        &mut self,
-        alloc: Global,
-        line: Line<'_>,
-        gathered: &mut Gathered,
-        output: &mut Watched<W>,
-    ) {
-        if let Some(running) = &mut self.running {
-            running.serve(alloc, &line, gathered, output);
-            return;
-        }
-        let reply = self.reply_first(alloc, &line);
-        tell(gathered, output, &reply);
+    fn serve<W: Write>(&mut self, alloc: Global, line: &[u8], output: &mut Watched<W>) {
+        self.serve_line(alloc, &parse(line), output);
     }
 }

@@ -1,7 +1,6 @@
 //! A machine that is running serves lines.
 ghost use Rattle.std.specs.Prelude.{◌≡◌, ℕ, Bool, List, Option, IfErr, OnOk, Ok, IsSome};
-ghost use Rattle.numa_script.specs.Watching.{has_failed};
-ghost use Rattle.numa_script.specs.Written.{Adds};
+ghost use Rattle.line_server.specs.Written.{Said};
 ghost use Rattle.numa_run.specs.Answers.{State, after, answer_of};
 ghost use Rattle.numa_run.specs.Questions.{question_text};
 ghost use Rattle.numa_run.specs.Ranges.{listing_of};
@@ -11,11 +10,12 @@ use crate::ask::{say_pages, say_place, say_span};
 use crate::reply::Reply;
 use crate::running::Running;
 use crate::tell::{say_count, say_starved, tell};
+use line_server::Watched;
 use numa_compile::compile;
 use numa_core::Event;
 use numa_maps::write_maps;
 use numa_plan::NoMemory;
-use numa_script::{Gathered, Line, Question, Watched, WordFault};
+use numa_script::{Line, Question, WordFault};
 use numa_space::Command;
 use std::alloc::Global;
 use std::io::Write;
@@ -52,23 +52,17 @@ impl Running {
     }
 
     /// Answers a question, for which a plan is compiled where none is kept.
-    fn answer<W: Write>(
-        &mut self,
-        alloc: Global,
-        question: Question,
-        gathered: &mut Gathered,
-        output: &mut Watched<W>,
-    )
+    fn answer<W: Write>(&mut self, alloc: Global, question: Question, output: &mut Watched<W>)
         ensures { (state : State) → RunsAs self.old state → (refused : Bool) × RunsAs self.new state
-            × Adds (W.contents output.old.inner) (has_failed output.old) gathered.old (W.contents output.new.inner) (has_failed output.new) gathered.new (question_text refused self.old.core.space.machine state.world.history question) }
+            × Said W.contents output.old output.new (question_text refused self.old.core.space.machine state.world.history question) }
     {
         if let Question::Ranges = question {
             let ranges = self.core.space().ranges() as u64;
-            say_count(gathered, output, b"ranges ", ranges);
+            say_count(output, b"ranges ", ranges);
             return;
         }
         if self.prepare(alloc).is_err() {
-            say_starved(gathered, output);
+            say_starved(output);
             return;
         }
         let Some(plan) = &self.plan else {
@@ -76,41 +70,29 @@ impl Running {
         };
         match question {
             Question::Place { task, address, cpu } => {
-                say_place(plan, task, address / PAGE, cpu, gathered, output)
+                say_place(plan, task, address / PAGE, cpu, output)
             }
             Question::Span {
                 task,
                 address,
                 pages,
                 cpu,
-            } => say_span(
-                alloc,
-                plan,
-                task,
-                address / PAGE,
-                pages,
-                cpu,
-                gathered,
-                output,
-            ),
+            } => say_span(alloc, plan, task, address / PAGE, pages, cpu, output),
             Question::Counts {
                 task,
                 address,
                 pages,
                 cpu,
-            } => say_pages(plan, task, address / PAGE, pages, cpu, gathered, output),
+            } => say_pages(plan, task, address / PAGE, pages, cpu, output),
             Question::Ranges => unreachable!(),
         }
     }
 
     /// Lists the ranges, with their policies for a task and the pages that are placed there.
-    fn list<W: Write>(&self, task: u32, gathered: &mut Gathered, output: &mut Watched<W>)
+    fn list<W: Write>(&self, task: u32, output: &mut Watched<W>)
         ensures { (state : State) → RunsAs self.now state
-            → Adds (W.contents output.old.inner) (has_failed output.old) gathered.old (W.contents output.new.inner) (has_failed output.new) gathered.new (listing_of self.now.core.space.machine state.world.history task state.resident) }
+            → Said W.contents output.old output.new (listing_of self.now.core.space.machine state.world.history task state.resident) }
     {
-        if gathered.hand_over(output).is_err() {
-            return;
-        }
         let space = self.core.space();
         // Tells the proof that the ranges rise and are maximal.
         let _ = space.range_iter();
@@ -144,20 +126,14 @@ impl Running {
     }
 
     /// Serves a line, and says its answer.
-    pub fn serve<W: Write>(
-        &mut self,
-        alloc: Global,
-        line: &Line<'_>,
-        gathered: &mut Gathered,
-        output: &mut Watched<W>,
-    )
+    pub fn serve<W: Write>(&mut self, alloc: Global, line: &Line<'_>, output: &mut Watched<W>)
         ensures { (state : State) → RunsAs self.old state → (refused : Bool) × RunsAs self.new (after refused state line.now)
-            × Adds (W.contents output.old.inner) (has_failed output.old) gathered.old (W.contents output.new.inner) (has_failed output.new) gathered.new (answer_of refused state line.now) }
+            × Said W.contents output.old output.new (answer_of refused state line.now) }
     {
         match self.take(line) {
-            Taken::Reply(reply) => tell(gathered, output, &reply),
-            Taken::Question(question) => self.answer(alloc, question, gathered, output),
-            Taken::Maps(task) => self.list(task, gathered, output),
+            Taken::Reply(reply) => tell(output, &reply),
+            Taken::Question(question) => self.answer(alloc, question, output),
+            Taken::Maps(task) => self.list(task, output),
         }
     }
 }

@@ -1,14 +1,8 @@
-pub mod Adding
-pub mod Answering
 pub mod Columns
 pub mod Eaches
-pub mod Endings
 pub mod Malformations
 pub mod Numerals
-pub mod Saturates
-pub mod Saying
-pub mod Sessions
+pub mod Seeing
 pub mod Splits
-pub mod Splitting
 pub mod Worked
 pub mod WorkedCauses

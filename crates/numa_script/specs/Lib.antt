@@ -2,12 +2,7 @@ pub mod Causes
 pub mod Lines
 pub mod Machines
 pub mod Numbers
-pub mod Output
 pub mod Parts
 pub mod Policies
 pub mod Present
-pub mod Session
-pub mod Split
 pub mod Workers
-pub mod Written
-pub use Rattle.numa_maps.specs.Watching

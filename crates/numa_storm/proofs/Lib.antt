@@ -1,2 +1,1 @@
-pub mod HandedOver
 pub mod Popped

@@ -1,11 +1,11 @@
 //! The storm itself: a desk, a crew and a thread of policies beside it, and what is written of them.
 ghost use Rattle.std.specs.Prelude.{◌≡◌, false, true, IfOk, IfSome, IsErrOf};
-ghost use Rattle.std.specs.Io.KnownBytes.{Appends, Keeps};
+ghost use Rattle.std.specs.Io.KnownBytes.{Keeps};
 ghost use Rattle.std.specs.List.{All};
 ghost use Rattle.numa_fault.specs.Crew.{IsCrew};
 ghost use Rattle.numa_fault.specs.declared.worker.FaultWorker.{FaultWorker};
-ghost use Rattle.numa_script.specs.Watching.{has_failed};
-ghost use Rattle.numa_script.specs.Written.{AppendsFront};
+ghost use Rattle.line_server.specs.Watching.{has_failed};
+ghost use Rattle.line_server.specs.Written.{Wrote, WroteFront};
 ghost use Rattle.numa_storm.specs.Storm.{status_of, text_of};
 ghost use Rattle.numa_storm.specs.declared.report.Report.{Report};
 
@@ -14,10 +14,10 @@ use crate::crew::{joined, serve, workers};
 use crate::gate::Together;
 use crate::report::{Report, say_report};
 use crate::setting::{FIRST_COMMANDS, POLICIES, command, limits, machine, requests};
+use line_server::{RunFault, Watched};
 use numa_fault::{Answer, FaultWorker};
 use numa_pool::{Closed, Pools};
 use numa_publish::{Desk, DeskName, Receipt, SharedDesk};
-use numa_script::{Gathered, RunFault, Watched};
 use numa_space::Request;
 use std::alloc::Global;
 use std::io::Write;
@@ -150,28 +150,27 @@ pub fn storm<R: Threads + Wait + Sync, W: Write>(
     // The five lines were written.
     ensures ok { IfOk result (λ status. (report : Report) × (report.workers ≡ count)
         × (status ≡ status_of report) × (has_failed output.new ≡ false)
-        × Appends (W.contents output.old.inner) (W.contents output.new.inner) (text_of report)) }
+        × Wrote W.contents output.old output.new (text_of report)) }
 
-    // A front of them was written, and nothing more.
+    // The first part of them was written, and nothing more.
     ensures write { IsErrOf result RunFault.Write → (report : Report)
         × (report.workers ≡ count) × (has_failed output.new ≡ true)
-        × AppendsFront (W.contents output.old.inner) (W.contents output.new.inner)
-        (text_of report) }
+        × WroteFront W.contents output.old output.new (text_of report) }
 
     // Nothing was written.
     ensures memory { IsErrOf result RunFault.Memory → (has_failed output.new ≡ false)
         × Keeps (W.contents output.old.inner) (W.contents output.new.inner) }
     ensures read { IsErrOf result RunFault.Read → ⊥ }
 {
-    let Ok(mut gathered) = Gathered::new(alloc) else {
+    let Ok(()) = output.gather(alloc) else {
         return Err(RunFault::Memory);
     };
     let Some(report) = storm_once(rt, alloc, count) else {
         return Err(RunFault::Memory);
     };
-    say_report(&mut gathered, output, &report);
-    if gathered.hand_over(output).is_err() {
+    say_report(output, &report);
+    let Ok(()) = output.hand_over() else {
         return Err(RunFault::Write);
-    }
+    };
     Ok(report.status())
 }

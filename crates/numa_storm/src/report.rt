@@ -1,10 +1,9 @@
 //! What a storm tells.
-ghost use Rattle.std.specs.Prelude.{◌≡◌, ◌≤◌, length};
-ghost use Rattle.numa_script.specs.Watching.{has_failed};
-ghost use Rattle.numa_script.specs.Written.{Adds};
+ghost use Rattle.std.specs.Prelude.{◌≡◌};
+ghost use Rattle.line_server.specs.Written.{Said};
 ghost use Rattle.numa_storm.specs.Storm.{line_of, match_line, status_of, text_of};
 
-use numa_script::{Gathered, Watched};
+use line_server::Watched;
 use std::io::Write;
 
 /// What came of a storm.
@@ -40,23 +39,19 @@ impl Report {
 
 /// Says a name and a number as a line.
 #[tactic(auto, unfolding(crate::specs::Storm::line_of))]
-fn say_line<W: Write>(gathered: &mut Gathered, output: &mut Watched<W>, name: &[u8], number: u64)
-    requires { length name.now ≤ 32 }
-    ensures { Adds (W.contents output.old.inner) (has_failed output.old) gathered.old
-        (W.contents output.new.inner) (has_failed output.new) gathered.new
-        (line_of name.now number) }
+fn say_line<W: Write>(output: &mut Watched<W>, name: &[u8], number: u64)
+    ensures { Said W.contents output.old output.new (line_of name.now number) }
 {
-    gathered.say(output, name);
-    gathered.say(output, b" ");
-    gathered.say_number(output, number);
-    gathered.say(output, b"\n");
+    output.say(name);
+    output.say(b" ");
+    output.say_number(number);
+    output.say(b"\n");
 }
 
 /// The line that says whether each placement is where the space of its version has it.
 #[tactic(auto, unfolding(crate::specs::Storm::match_line))]
 fn match_line(plans_match: bool) -> &'static [u8]
-    ensures text { result.now ≡ match_line plans_match }
-    ensures short { length result.now ≤ 32 }
+    ensures { result.now ≡ match_line plans_match }
 {
     match plans_match {
         true => b"plans match yes\n",
@@ -65,13 +60,12 @@ fn match_line(plans_match: bool) -> &'static [u8]
 }
 
 /// Says the five lines.
-pub fn say_report<W: Write>(gathered: &mut Gathered, output: &mut Watched<W>, report: &Report)
-    ensures { Adds (W.contents output.old.inner) (has_failed output.old) gathered.old
-        (W.contents output.new.inner) (has_failed output.new) gathered.new (text_of report.now) }
+pub fn say_report<W: Write>(output: &mut Watched<W>, report: &Report)
+    ensures { Said W.contents output.old output.new (text_of report.now) }
 {
-    say_line(gathered, output, b"workers", u64::from(report.workers));
-    say_line(gathered, output, b"placed", report.placed as u64);
-    say_line(gathered, output, b"exhausted", report.exhausted as u64);
-    gathered.say(output, match_line(report.plans_match));
-    say_line(gathered, output, b"frames held", report.held);
+    say_line(output, b"workers", u64::from(report.workers));
+    say_line(output, b"placed", report.placed as u64);
+    say_line(output, b"exhausted", report.exhausted as u64);
+    output.say(match_line(report.plans_match));
+    say_line(output, b"frames held", report.held);
 }

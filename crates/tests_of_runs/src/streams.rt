@@ -154,3 +154,64 @@ fn answers_come_before_the_next_read(rt: HostRuntime) {
         [0, 0, 10, 10, 20].as_slice()
     );
 }
+
+/// Fails at its first write, and takes all bytes after that.
+#[derive(Drop)]
+struct FailsOnce<'a> {
+    writes: &'a Cell<usize>,
+    taken: &'a Cell<usize>,
+}
+
+impl Write for FailsOnce<'_> {
+    fn write(&mut self, buf: &[u8]) -> io::Result<usize> {
+        let before = self.writes.get();
+        self.writes.set(before.wrapping_add(1));
+        if before == 0 {
+            return Err(io::Error::other("refused"));
+        }
+        self.taken.set(self.taken.get().wrapping_add(buf.len()));
+        Ok(buf.len())
+    }
+
+    fn flush(&mut self) -> io::Result<()> {
+        Ok(())
+    }
+}
+
+#[test]
+fn nothing_follows_a_failed_write(rt: HostRuntime) {
+    let writes = Cell::new(0usize);
+    let taken = Cell::new(0usize);
+    let mut input = Watched::new(Noting {
+        rest: b"x\ny\n",
+        taken: &taken,
+        before: Vec::new(rt.alloc()),
+    });
+    let mut output = Watched::new(FailsOnce {
+        writes: &writes,
+        taken: &taken,
+    });
+    let result = run(rt.alloc(), &mut input, &mut output);
+    assert_eq!(rt; result, Err(RunFault::Write));
+    // The first line ends with the second byte, and its answer can't be written.
+    assert_eq!(rt; input.inner.before.len(), 2);
+    assert_eq!(rt; writes.get(), 1);
+    assert_eq!(rt; taken.get(), 0);
+}
+
+#[test]
+fn earlier_faults_are_forgotten(rt: HostRuntime) {
+    let writes = Cell::new(0usize);
+    let taken = Cell::new(0usize);
+    let mut output = Watched::new(FailsOnce {
+        writes: &writes,
+        taken: &taken,
+    });
+    assert_eq!(rt; output.put(b"lost"), Err(CallFailed));
+    let mut input = Watched::new(b"x\n".as_slice());
+    let result = run(rt.alloc(), &mut input, &mut output);
+    assert_eq!(rt; result, Ok(()));
+    assert!(rt; !output.failed());
+    // "bad words" and the end of its line.
+    assert_eq!(rt; taken.get(), 10);
+}

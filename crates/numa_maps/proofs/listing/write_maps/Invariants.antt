@@ -1,5 +1,6 @@
-use Rattle.std.proofs.Common.{◌≡◌, ℕ, List, ◌++◌}
-use Rattle.std.specs.Io.KnownBytes.{Appends}
+use Rattle.std.proofs.Common.{◌≡◌, ℕ, List, [], ◌++◌, false}
+use Rattle.line_server.specs.Watching.{has_failed, held_in}
+use Rattle.line_server.specs.Written.{Said}
 use Rattle.numa_ranges.specs.Runs.{AreApart}
 use Rattle.numa_space.specs.Standing.{policy_in}
 use Rattle.numa_maps.specs.Listing.{listing, listing_in}
@@ -7,7 +8,8 @@ use Rattle.numa_maps.proofs.listing.write_maps.Given as goal
 
 abbrev pub invariant-loop-range : goal.invariant-loop-range
 invariant-loop-range g l = record {
-  wrote : (sent : List ℕ) × Appends (g.W.Write.contents l.fn.output.inner) (g.W.Write.contents l.output.inner) sent × (listing_in l.space l.task l.resident ≡ sent ++ listing (policy_in l.space l.task) l.resident l.range-iterator);
+  wrote : (sent : List ℕ) × Said g.W.Write.contents l.fn.output l.output sent × (listing_in l.space l.task l.resident ≡ sent ++ listing (policy_in l.space l.task) l.resident l.range-iterator);
   apart : (from : ℕ) × AreApart from l.range-iterator;
-  same : l.output.failed ≡ l.fn.output.failed;
+  empty : held_in l.output ≡ [];
+  well : has_failed l.output ≡ false;
 }

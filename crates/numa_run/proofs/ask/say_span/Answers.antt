@@ -1,6 +1,5 @@
 use Rattle.std.proofs.Common.{◌∙◌, ap, false, ℕ, length, ◌≡◌}
-use Rattle.numa_script.specs.Watching.{has_failed}
-use Rattle.numa_script.proofs.Adding.{adds_same}
+use Rattle.line_server.proofs.Adding.{said_same}
 use Rattle.numa_run.specs.Questions.{span_text}
 use Rattle.numa_run.proofs.ask.say_span.Goals as goal
 
@@ -8,4 +7,4 @@ pub returns : goal.returns
 returns g c =
     λ machine history stands.
     let all : length c.as_mut_slice.result.now ≡ c.args.pages = c.as_mut_slice.ensures.len ∙ c.in-Ok.ensures.len in
-    (false, adds_same (g.W.Write.contents c.args.output.now.inner) (g.W.Write.contents c.say_firsts.new.output.inner) (has_failed c.args.output.now) (has_failed c.say_firsts.new.output) c.args.gathered.now c.say_firsts.new.gathered _ _ (ap (λ (n : ℕ). span_text machine history c.args.task c.args.first n c.args.cpu) all) (c.say_firsts.ensures machine history stands))
+    (false, said_same g.W.Write.contents c.args.output.now c.say_firsts.new.output _ _ (ap (λ (n : ℕ). span_text machine history c.args.task c.args.first n c.args.cpu) all) (c.say_firsts.ensures machine history stands))

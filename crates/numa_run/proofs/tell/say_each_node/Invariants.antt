@@ -1,8 +1,7 @@
 use Rattle.std.proofs.Common.{take}
-use Rattle.numa_script.specs.Watching.{has_failed}
-use Rattle.numa_script.specs.Written.{Adds}
+use Rattle.line_server.specs.Written.{Said}
 use Rattle.numa_run.specs.Texts.{nodes_text}
 use Rattle.numa_run.proofs.tell.say_each_node.Given as goal
 
 abbrev pub invariant-loop-node : goal.invariant-loop-node
-invariant-loop-node g l = Adds (g.W.Write.contents l.fn.output.inner) (has_failed l.fn.output) l.fn.gathered (g.W.Write.contents l.output.inner) (has_failed l.output) l.gathered (nodes_text (take l.node-index l.nodes))
+invariant-loop-node g l = Said g.W.Write.contents l.fn.output l.output (nodes_text (take l.node-index l.nodes))

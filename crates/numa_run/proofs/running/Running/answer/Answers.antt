@@ -1,6 +1,5 @@
 use Rattle.std.proofs.Common.{◌∙◌, ap, sym, false, ℕ, subst, ◌++◌, codes, decimal, ◌/◌}
-use Rattle.numa_script.specs.Watching.{has_failed}
-use Rattle.numa_script.proofs.Adding.{adds_same}
+use Rattle.line_server.proofs.Adding.{said_same}
 use Rattle.numa_space.specs.Refusals.{range_count_of}
 use Rattle.numa_space.specs.Standing.{SpaceState, StandsFor}
 use Rattle.numa_core.specs.Standing.{CoreState}
@@ -12,7 +11,7 @@ returns-in-Ranges g c =
     λ state stands.
     let there = subst (λ s. StandsFor s state.world.history) (sym c.space.ensures.space) stands.core.world.space in
     let count = c.ranges-ranges.ensures.meaning state.world.history there ∙ ap (λ (s : SpaceState). range_count_of s.machine state.world.history) c.space.ensures.space in
-    rw c.in-Ranges.is (false, stands, adds_same (g.W.Write.contents c.args.output.now.inner) (g.W.Write.contents c.say_count.new.output.inner) (has_failed c.args.output.now) (has_failed c.say_count.new.output) c.args.gathered.now c.say_count.new.gathered _ _ (ap (λ (n : ℕ). codes "ranges " ++ decimal n ++ codes "\n") count) c.say_count.ensures)
+    rw c.in-Ranges.is (false, stands, said_same g.W.Write.contents c.args.output.now c.say_count.new.output _ _ (ap (λ (n : ℕ). codes "ranges " ++ decimal n ++ codes "\n") count) c.say_count.ensures)
 
 pub returns-in-Place : goal.returns-in-Place
 returns-in-Place g c =
@@ -20,7 +19,7 @@ returns-in-Place g c =
     let ready = c.prepare.ensures.stands state stands in
     let plan = ready.plan c.in-Some.plan c.in-Some.is in
     let page = c.in-Place.address / 4096 in
-    rw c.in-Place.is (false, ready, adds_same (g.W.Write.contents c.args.output.now.inner) (g.W.Write.contents c.say_place.new.output.inner) (has_failed c.args.output.now) (has_failed c.say_place.new.output) c.args.gathered.now c.say_place.new.gathered _ _ (ap (λ (core : CoreState). place_text core.space.machine state.world.history c.in-Place.task page c.in-Place.cpu) c.prepare.ensures.core) (c.say_place.ensures c.prepare.new.self.core.space.machine state.world.history plan))
+    rw c.in-Place.is (false, ready, said_same g.W.Write.contents c.args.output.now c.say_place.new.output _ _ (ap (λ (core : CoreState). place_text core.space.machine state.world.history c.in-Place.task page c.in-Place.cpu) c.prepare.ensures.core) (c.say_place.ensures c.prepare.new.self.core.space.machine state.world.history plan))
 
 pub returns-in-Span : goal.returns-in-Span
 returns-in-Span g c =
@@ -29,7 +28,7 @@ returns-in-Span g c =
     let plan = ready.plan c.in-Some.plan c.in-Some.is in
     let page = c.in-Span.address / 4096 in
     let said = c.say_span.ensures c.prepare.new.self.core.space.machine state.world.history plan in
-    rw c.in-Span.is (said.0, ready, adds_same (g.W.Write.contents c.args.output.now.inner) (g.W.Write.contents c.say_span.new.output.inner) (has_failed c.args.output.now) (has_failed c.say_span.new.output) c.args.gathered.now c.say_span.new.gathered _ _ (ap (λ (core : CoreState). unless_starved said.0 (span_text core.space.machine state.world.history c.in-Span.task page c.in-Span.pages c.in-Span.cpu)) c.prepare.ensures.core) said.1)
+    rw c.in-Span.is (said.0, ready, said_same g.W.Write.contents c.args.output.now c.say_span.new.output _ _ (ap (λ (core : CoreState). unless_starved said.0 (span_text core.space.machine state.world.history c.in-Span.task page c.in-Span.pages c.in-Span.cpu)) c.prepare.ensures.core) said.1)
 
 pub returns-in-Counts : goal.returns-in-Counts
 returns-in-Counts g c =
@@ -37,4 +36,4 @@ returns-in-Counts g c =
     let ready = c.prepare.ensures.stands state stands in
     let plan = ready.plan c.in-Some.plan c.in-Some.is in
     let page = c.in-Counts.address / 4096 in
-    rw c.in-Counts.is (false, ready, adds_same (g.W.Write.contents c.args.output.now.inner) (g.W.Write.contents c.say_pages.new.output.inner) (has_failed c.args.output.now) (has_failed c.say_pages.new.output) c.args.gathered.now c.say_pages.new.gathered _ _ (ap (λ (core : CoreState). count_text core.space.machine state.world.history c.in-Counts.task page c.in-Counts.pages c.in-Counts.cpu) c.prepare.ensures.core) (c.say_pages.ensures c.prepare.new.self.core.space.machine state.world.history plan))
+    rw c.in-Counts.is (false, ready, said_same g.W.Write.contents c.args.output.now c.say_pages.new.output _ _ (ap (λ (core : CoreState). count_text core.space.machine state.world.history c.in-Counts.task page c.in-Counts.pages c.in-Counts.cpu) c.prepare.ensures.core) (c.say_pages.ensures c.prepare.new.self.core.space.machine state.world.history plan))

@@ -1,0 +1,28 @@
+-- Where the lines of a script end.
+use Rattle.std.specs.Prelude.{ℕ, ◌==◌, List, [], ◌∷◌, take}
+use Rattle.std.specs.List.{slice_split}
+
+-- the lines of a script: what stands between line feeds, so that the last is empty where the script ends in one
+abbrev pub lines_of : List ℕ → List (List ℕ)
+lines_of script = slice_split (λ b. b == 10) script
+
+abbrev pub all_but_last : List (List ℕ) → List (List ℕ)
+all_but_last [] = []
+all_but_last (line ∷ []) = []
+all_but_last (line ∷ next ∷ lines) = line ∷ all_but_last (next ∷ lines)
+
+abbrev pub last_of : List (List ℕ) → List ℕ
+last_of [] = []
+last_of (line ∷ []) = line
+last_of (line ∷ next ∷ lines) = last_of (next ∷ lines)
+
+-- the lines that a line feed has ended in the bytes, and the line that is open
+unfoldable pub ended : List ℕ → List (List ℕ)
+ended bytes = all_but_last (lines_of bytes)
+
+unfoldable pub open_line : List ℕ → List ℕ
+open_line bytes = last_of (lines_of bytes)
+
+-- as much of a line as a server is given: its first 4,097 bytes
+unfoldable pub seen : List ℕ → List ℕ
+seen line = take 4097 line
