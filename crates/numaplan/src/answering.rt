@@ -1,8 +1,7 @@
 //! A script that is answered line by line, into texts.
 use numa_files::Respond;
 use numa_run::Script;
-use numa_script::line::parse;
-use numa_script::{Gathered, Serve, Watched};
+use numa_script::{Serve, Watched};
 use std::alloc::{AllocError, Global};
 use std::mem;
 
@@ -11,17 +10,15 @@ use std::mem;
 pub struct Answering {
     alloc: Global,
     script: Script,
-    gathered: Gathered,
 }
 
 impl Answering {
     /// Before the first line.
-    pub fn new(alloc: Global) -> Result<Answering, AllocError> {
-        Ok(Answering {
+    pub fn new(alloc: Global) -> Answering {
+        Answering {
             alloc,
             script: Script::new(),
-            gathered: Gathered::new(alloc)?,
-        })
+        }
     }
 }
 
@@ -32,9 +29,8 @@ impl Respond for Answering {
 
     fn respond(&mut self, line: &[u8], answer: &mut Vec<u8>) -> Result<(), AllocError> {
         let mut output = Watched::new(mem::replace(answer, Vec::new(self.alloc)));
-        self.script
-            .serve(self.alloc, parse(line), &mut self.gathered, &mut output);
-        let handed_over = self.gathered.hand_over(&mut output);
+        self.script.serve(self.alloc, line, &mut output);
+        let handed_over = output.hand_over();
         *answer = output.inner;
         match handed_over {
             Ok(()) => Ok(()),

@@ -56,7 +56,7 @@ where
     F: io::Read + Drop,
     I: io::Read + Drop,
 {
-    let answering = Answering::new(rt.alloc())?;
+    let answering = Answering::new(rt.alloc());
     let mut expect = Expect::new(rt.alloc(), answering, io::writer(rt));
     read_all(texts, &mut expect)?;
     expect.tell_counts()?;

@@ -73,7 +73,7 @@ where
     F: Read + Drop,
     I: Read + Drop,
 {
-    let answering = Answering::new(rt.alloc())?;
+    let answering = Answering::new(rt.alloc());
     let echo = Echo::new(rt.alloc(), answering, io::writer(rt));
     read_all(texts, &mut Lines::new(rt.alloc(), echo))
 }
