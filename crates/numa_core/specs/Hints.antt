@@ -6,9 +6,11 @@ use Rattle.numa_core.specs.Standing.{owner_at, place_in}
 -- for each node a number below which all its frames are owned
 pub record AreTaken (frames : List ℕ) (owners : List (Option ℕ)) (taken : List ℕ) : Type 0 where
   pub as_long : length taken ≡ length frames
-  pub owned : (n k : ℕ) → k < slice_index taken n → k < slice_index frames n → is_some (owner_at owners (place_in frames n k)) ≡ true
+  pub owned : (n k : ℕ) → k < slice_index taken n → k < slice_index frames n →
+      is_some (owner_at owners (place_in frames n k)) ≡ true
 
 -- the frame is one of the machine, and each lower one of its node is owned
 pub record IsLow (frames : List ℕ) (owners : List (Option ℕ)) (frame : Frame) : Type 0 where
   pub there : frame.number < slice_index frames frame.node
-  pub below : (k : ℕ) → k < frame.number → is_some (owner_at owners (place_in frames frame.node k)) ≡ true
+  pub below : (k : ℕ) → k < frame.number →
+      is_some (owner_at owners (place_in frames frame.node k)) ≡ true

@@ -11,17 +11,22 @@ use Rattle.numa_core.specs.declared.seat.Seat.{Seat}
 use Rattle.numa_space.specs.Standing.{SpaceState}
 use Rattle.numa_plan.specs.Meaning.{PlanData}
 
--- in each world that the core stands for, the worker's Begin of the request is refused so, or not at all
+-- in each world that the core stands for, the worker's Begin of the request is refused so, or not
+-- at all
 abbrev pub IsJudged : CoreState → ℕ → Request → Option CoreRefusal → Type 0
-IsJudged core w request refusal = (world : World) → CoreStandsFor core world → refusal_of (setup_of core) world (newest_published world) (Begin w request) ≡ refusal
+IsJudged core w request refusal = (world : World) → CoreStandsFor core world →
+    refusal_of (setup_of core) world (newest_published world) (Begin w request) ≡ refusal
 
 -- in each such world these nodes are the list of the newest published version for the request
 abbrev pub IsListed : CoreState → Request → List ℕ → Type 0
-IsListed core request nodes = (world : World) → CoreStandsFor core world → list_at core.space.machine world.history (newest_published world) request ≡ Some nodes
+IsListed core request nodes = (world : World) → CoreStandsFor core world →
+    list_at core.space.machine world.history (newest_published world) request ≡ Some nodes
 
 -- so it is in each core with this plan and these seats
 abbrev pub Judges : PlanData → List Seat → ℕ → Request → Option CoreRefusal → Type 0
-Judges plan seats w request refusal = (space : SpaceState) (owners : List (Option ℕ)) → IsJudged (core_of space plan seats owners) w request refusal
+Judges plan seats w request refusal = (space : SpaceState) (owners : List (Option ℕ)) →
+    IsJudged (core_of space plan seats owners) w request refusal
 
 abbrev pub Lists : PlanData → List Seat → Request → List ℕ → Type 0
-Lists plan seats request nodes = (space : SpaceState) (owners : List (Option ℕ)) → IsListed (core_of space plan seats owners) request nodes
+Lists plan seats request nodes = (space : SpaceState) (owners : List (Option ℕ)) →
+    IsListed (core_of space plan seats owners) request nodes

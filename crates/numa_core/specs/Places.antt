@@ -2,7 +2,8 @@
 use Rattle.std.specs.Prelude.{◌≡◌, ℕ, ◌<◌, ◌≤◌, List, length, slice_index}
 use Rattle.numa_core.specs.Standing.{frames_before}
 
--- for each node how many frames the nodes below it have, and how many all have; no node has more than 4,096, and all together at most 1,048,576
+-- for each node how many frames the nodes below it have, and how many all have; no node has more
+-- than 4,096, and all together at most 1,048,576
 pub record IsTable (frames before : List ℕ) (total : ℕ) : Type 0 where
   pub as_long : length before ≡ length frames
   pub sums : (n : ℕ) → n < length frames → slice_index before n ≡ frames_before frames n

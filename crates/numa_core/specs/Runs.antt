@@ -1,16 +1,21 @@
 -- Runs, the newest moment first, and what holds of each placement in them.
-use Rattle.std.specs.Prelude.{◌≡◌, ℕ, ◌/◌, ◌<◌, ◌==◌, ◌&&◌, ◌||◌, Bool, true, false, Option, Some, None, Result, Ok, Err, is_some, is_ok, List, [], ◌∷◌, length, slice_index, if◌then◌else◌}
+use Rattle.std.specs.Prelude.{◌≡◌, ℕ, ◌/◌, ◌<◌, ◌==◌, ◌&&◌, ◌||◌, Bool, true, false}
+use Rattle.std.specs.Prelude.{Option, Some, None, Result, Ok, Err, is_some, is_ok}
+use Rattle.std.specs.Prelude.{List, [], ◌∷◌, length, slice_index, if◌then◌else◌}
 use Rattle.std.specs.Option.{option_map_or}
 use Rattle.numa_machine.specs.Machine.{frames_of}
 use Rattle.numa_machine.specs.declared.frame.Frame.{Frame}
 use Rattle.numa_space.specs.declared.placement.Placement.{Placement}
 use Rattle.numa_space.specs.declared.request.Request.{Request}
 use Rattle.numa_space.specs.declared.event.Event.{Event}
-use Rattle.numa_space.specs.declared.event.Event.TheVariants.{Accept, Publish, Begin, Look, Try, Give}
+use Rattle.numa_space.specs.declared.event.Event.TheVariants.{Accept, Publish, Begin}
+use Rattle.numa_space.specs.declared.event.Event.TheVariants.{Look, Try, Give}
 use Rattle.numa_space.specs.declared.event.CoreReply.{CoreReply}
-use Rattle.numa_space.specs.declared.event.CoreReply.TheVariants.{Accepted, Published, Still, Exhausted, Won, Given}
+use Rattle.numa_space.specs.declared.event.CoreReply.TheVariants.{Accepted, Published, Still}
+use Rattle.numa_space.specs.declared.event.CoreReply.TheVariants.{Exhausted, Won, Given}
 use Rattle.numa_space.specs.declared.event.CoreRefusal.{CoreRefusal}
-use Rattle.numa_core.specs.World.{Setup, World, opening, is_published, newest_published, hunt_of, owner_of, is_frame, list_at, at_current}
+use Rattle.numa_core.specs.World.{Setup, World, opening, is_published, newest_published}
+use Rattle.numa_core.specs.World.{hunt_of, owner_of, is_frame, list_at, at_current}
 use Rattle.numa_core.specs.Steps.{world_after, answer_of, IsAnswer, MayTake}
 
 -- an event with its answer, and the version that it took if it is a Begin
@@ -52,11 +57,14 @@ module _ (s : Setup) where
   -- each moment is a step of the world that the moments before it left
   abbrev pub IsLegalRun : List Moment → Type 0
   IsLegalRun [] = Unit {0}
-  IsLegalRun (m ∷ run) = IsLegalRun run × MayTake (world_of run) m.version m.event × IsAnswer s (world_of run) m.version m.event m.answer
+  IsLegalRun (m ∷ run) = IsLegalRun run × MayTake (world_of run) m.version m.event
+      × IsAnswer s (world_of run) m.version m.event m.answer
 
-  -- the moment of an event that comes after a run, with ample memory; a Begin takes the newest published version
+  -- the moment of an event that comes after a run, with ample memory; a Begin takes the newest
+  -- published version
   abbrev pub answered : List Moment → Event → Moment
-  answered run event = record { event = event; version = newest_published (world_of run); answer = answer_of s (world_of run) (newest_published (world_of run)) event }
+  answered run event = record { event = event; version = newest_published (world_of run);
+      answer = answer_of s (world_of run) (newest_published (world_of run)) event }
 
 -- ---- the last Begin of a worker
 
@@ -68,7 +76,8 @@ pub record Begun : Type 0 where
 
 -- the Begin of the worker that this event is
 abbrev pub begin_event : ℕ → Event → ℕ → List Moment → Option Begun
-begin_event w (Begin v request) version run = if v == w then Some (record { request = request; version = version; before = run }) else None
+begin_event w (Begin v request) version run = if v == w
+    then Some (record { request = request; version = version; before = run }) else None
 begin_event w (Accept command) version run = None
 begin_event w Publish version run = None
 begin_event w (Look v word) version run = None
@@ -90,9 +99,12 @@ last_begin w (m ∷ run) = or_else (begun_at w m run) (last_begin w run)
 -- ---- right placements
 
 module _ (s : Setup) where
-  -- the event is a Look of the worker at a word of its current node that has the frame, or its Try of the frame
+  -- the event is a Look of the worker at a word of its current node that has the frame, or its Try
+  -- of the frame
   abbrev pub reads : World → ℕ → Event → ℕ → ℕ → Bool
-  reads world w (Look v word) n k = (v == w) && (option_map_or (λ hunt. at_current s hunt (λ m. n == m)) (hunt_of world w) false && (k / 64 == word))
+  reads world w (Look v word) n k = (v == w)
+      && (option_map_or (λ hunt. at_current s hunt (λ m. n == m)) (hunt_of world w) false
+      && (k / 64 == word))
   reads world w (Try v frame) n k = (v == w) && is_frame frame n k
   reads world w (Accept command) n k = false
   reads world w Publish n k = false
@@ -106,15 +118,21 @@ module _ (s : Setup) where
   -- since its last Begin the worker found the frame with an owner
   abbrev pub found_owned : ℕ → List Moment → ℕ → ℕ → Bool
   found_owned w [] n k = false
-  found_owned w (m ∷ run) n k = if is_some (begun_at w m run) then false else (is_ok m.answer && finds (world_of s run) w m.event n k) || found_owned w run n k
+  found_owned w (m ∷ run) n k = if is_some (begun_at w m run) then false
+      else (is_ok m.answer && finds (world_of s run) w m.event n k) || found_owned w run n k
 
-  -- since its last Begin the worker found each frame of each of the first nodes of the list with an owner, as many nodes as the count says
+  -- since its last Begin the worker found each frame of each of the first nodes of the list with an
+  -- owner, as many nodes as the count says
   abbrev pub AllFoundOwned : ℕ → List ℕ → ℕ → List Moment → Type 0
-  AllFoundOwned w nodes count run = (i k : ℕ) → i < count → k < frames_of s.machine (slice_index nodes i) → found_owned w run (slice_index nodes i) k ≡ true
+  AllFoundOwned w nodes count run = (i k : ℕ) → i < count →
+      k < frames_of s.machine (slice_index nodes i) →
+      found_owned w run (slice_index nodes i) k ≡ true
 
-  -- after the run the placement is right for the worker: its version is that of the worker's last Begin, and was published before it; task and
-  -- page are those that were asked for; its node stands at its rank in the node list of the accepted commands up to that version; its frame is
-  -- one of that node and had no owner; and each frame of each node earlier in the list was found with an owner since that Begin
+  -- after the run the placement is right for the worker: its version is that of the worker's last
+  -- Begin, and was published before it; task and page are those that were asked for; its node
+  -- stands at its rank in the node list of the accepted commands up to that version; its frame is
+  -- one of that node and had no owner; and each frame of each node earlier in the list was found
+  -- with an owner since that Begin
   pub record IsRightPlacement (w : ℕ) (placement : Placement) (run : List Moment) : Type 0 where
     pub begun : Begun
     pub nodes : List ℕ
@@ -131,8 +149,9 @@ module _ (s : Setup) where
     pub free : owner_of (world_of s run) placement.frame ≡ None
     pub earlier : AllFoundOwned w nodes placement.rank run
 
-  -- after the run the list of the worker's last Begin is exhausted: that Begin took this version, which was published before it; and each frame
-  -- of each node of the list was found with an owner since
+  -- after the run the list of the worker's last Begin is exhausted: that Begin took this version,
+  -- which was published before it; and each frame of each node of the list was found with an owner
+  -- since
   pub record IsExhausted (w version : ℕ) (run : List Moment) : Type 0 where
     pub begun : Begun
     pub nodes : List ℕ

@@ -1,5 +1,7 @@
 -- What a worker's seat shows, and what its cursor means.
-use Rattle.std.specs.Prelude.{◌≡◌, ℕ, ◌*◌, ◌<◌, ◌≤◌, Bool, true, false, Option, Some, None, Result, Ok, Err, List, length, vec_len, slice_index, MatchOption, MatchBool, map}
+use Rattle.std.specs.Prelude.{◌≡◌, ℕ, ◌*◌, ◌<◌, ◌≤◌, Bool, true, false, Option}
+use Rattle.std.specs.Prelude.{Some, None, Result, Ok, Err, List, length, vec_len}
+use Rattle.std.specs.Prelude.{slice_index, MatchOption, MatchBool, map}
 use Rattle.numa_machine.specs.declared.frame.Frame.{Frame}
 use Rattle.numa_space.specs.declared.request.Request.{Request}
 use Rattle.numa_space.specs.declared.event.CoreReply.{CoreReply}
@@ -16,10 +18,13 @@ use Rattle.numa_core.specs.Standing.{Busy, CoreState, frames_before, met_at, hun
 
 -- ---- the cursor
 
--- the first nodes of the list are met with all their frames, as many nodes as the rank says, and so are the first frames of the next node
+-- the first nodes of the list are met with all their frames, as many nodes as the rank says, and so
+-- are the first frames of the next node
 pub record IsPassed (frames nodes words : List ℕ) (rank next : ℕ) : Type 0 where
-  pub earlier : (i k : ℕ) → i < rank → k < slice_index frames (slice_index nodes i) → met_at frames words (slice_index nodes i) k ≡ true
-  pub lower : (k : ℕ) → k < next → k < slice_index frames (slice_index nodes rank) → met_at frames words (slice_index nodes rank) k ≡ true
+  pub earlier : (i k : ℕ) → i < rank → k < slice_index frames (slice_index nodes i) →
+      met_at frames words (slice_index nodes i) k ≡ true
+  pub lower : (k : ℕ) → k < next → k < slice_index frames (slice_index nodes rank) →
+      met_at frames words (slice_index nodes rank) k ≡ true
 
 -- the cursor stands at the lowest unmet frame of the first listed node with one
 pub record IsCursor (frames nodes words : List ℕ) (rank next : ℕ) : Type 0 where
@@ -30,13 +35,16 @@ pub record IsCursor (frames nodes words : List ℕ) (rank next : ℕ) : Type 0 w
 
 -- each frame of each listed node is met
 abbrev pub IsAllMet : List ℕ → List ℕ → List ℕ → Type 0
-IsAllMet frames nodes words = (i k : ℕ) → i < length nodes → k < slice_index frames (slice_index nodes i) → met_at frames words (slice_index nodes i) k ≡ true
+IsAllMet frames nodes words = (i k : ℕ) → i < length nodes →
+    k < slice_index frames (slice_index nodes i) →
+    met_at frames words (slice_index nodes i) k ≡ true
 
 -- ---- seats
 
 -- what a worker is about that has this job, list and words
 abbrev pub busy_at : Job → List ℕ → List ℕ → Busy
-busy_at job nodes words = record { request = job.request; version = job.version; nodes = nodes; met = words }
+busy_at job nodes words = record { request = job.request; version = job.version;
+    nodes = nodes; met = words }
 
 abbrev pub busy_by : Option Job → List ℕ → List ℕ → Option Busy
 busy_by None nodes words = None
@@ -48,7 +56,8 @@ busy_of seat = busy_by seat.job seat.nodes.items seat.met.items
 
 -- the core with this space, this plan, these seats and these owners
 abbrev pub core_of : SpaceState → PlanData → List Seat → List (Option ℕ) → CoreState
-core_of space plan seats owners = record { space = space; plan = plan; workers = map busy_of seats; owners = owners }
+core_of space plan seats owners = record { space = space; plan = plan; workers = map busy_of seats;
+    owners = owners }
 
 -- the hunt of its worker
 abbrev pub seat_hunt : List ℕ → Seat → Option Hunt
@@ -70,20 +79,27 @@ pub record SeatFits (frames : List ℕ) (seat : Seat) : Type 0 where
 
 -- a hunt with no frame met
 abbrev pub fresh : Request → ℕ → List ℕ → Hunt
-fresh request version nodes = record { request = request; version = version; nodes = nodes; met = λ n k. false }
+fresh request version nodes = record { request = request; version = version; nodes = nodes;
+    met = λ n k. false }
 
 -- what the seat answers to a Look, and its hunt afterwards
-abbrev pub SeatLooks : List ℕ → Setup → World → ℕ → Seat → Result CoreReply CoreRefusal → Seat → Type 0
-SeatLooks frames s world word old result new = MatchOption (seat_hunt frames old) (result ≡ Err Idle) (λ hunt.
+abbrev pub SeatLooks : List ℕ → Setup → World → ℕ → Seat →
+    Result CoreReply CoreRefusal → Seat → Type 0
+SeatLooks frames s world word old result new =
+    MatchOption (seat_hunt frames old) (result ≡ Err Idle) (λ hunt.
     MatchBool (may_look s hunt word)
-    ((result ≡ Ok (goes_on s (looked s world word hunt))) × (seat_hunt frames new ≡ going_on s (looked s world word hunt)))
+    ((result ≡ Ok (goes_on s (looked s world word hunt)))
+    × (seat_hunt frames new ≡ going_on s (looked s world word hunt)))
     (result ≡ Err BadTry))
 
 -- what the seat answers to a Try of a frame that is owned or not, and its hunt afterwards
-abbrev pub SeatTries : List ℕ → Setup → Bool → Frame → Seat → Result CoreReply CoreRefusal → Seat → Type 0
-SeatTries frames s owned frame old result new = MatchOption (seat_hunt frames old) (result ≡ Err Idle) (λ hunt.
+abbrev pub SeatTries : List ℕ → Setup → Bool → Frame → Seat →
+    Result CoreReply CoreRefusal → Seat → Type 0
+SeatTries frames s owned frame old result new =
+    MatchOption (seat_hunt frames old) (result ≡ Err Idle) (λ hunt.
     MatchBool (may_try s hunt frame)
     (MatchBool owned
-    ((result ≡ Ok (goes_on s (missed frame hunt))) × (seat_hunt frames new ≡ going_on s (missed frame hunt)))
+    ((result ≡ Ok (goes_on s (missed frame hunt)))
+    × (seat_hunt frames new ≡ going_on s (missed frame hunt)))
     ((result ≡ Ok (Won (placement_of s hunt frame))) × (seat_hunt frames new ≡ None)))
     (result ≡ Err BadTry))

@@ -1,11 +1,14 @@
 -- What a core shows, and which worlds and runs it stands for.
-use Rattle.std.specs.Prelude.{zero, suc, ◌≡◌, ◌==◌, ◌+◌, ◌/◌, ◌%◌, ℕ, ◌≤◌, Bool, true, false, Option, Some, None, Result, List, length, nat_lt, slice_get, slice_index, option_and_then, if◌then◌else◌}
+use Rattle.std.specs.Prelude.{zero, suc, ◌≡◌, ◌==◌, ◌+◌, ◌/◌, ◌%◌, ℕ, ◌≤◌, Bool, true}
+use Rattle.std.specs.Prelude.{false, Option, Some, None, Result, List, length, nat_lt}
+use Rattle.std.specs.Prelude.{slice_get, slice_index, option_and_then, if◌then◌else◌}
 use Rattle.std.specs.Int.{bit_at}
 use Rattle.numa_machine.specs.Machine.{Hardware}
 use Rattle.numa_space.specs.Standing.{SpaceState, StandsFor}
 use Rattle.numa_plan.specs.Meaning.{PlanData}
 use Rattle.numa_compile.specs.Standing.{PlanStandsFor}
-use Rattle.numa_core.specs.World.{Setup, Hunt, World, newest_published, is_published, first_commands, hunt_of, last_of}
+use Rattle.numa_core.specs.World.{Setup, Hunt, World, newest_published, is_published}
+use Rattle.numa_core.specs.World.{first_commands, hunt_of, last_of}
 use Rattle.numa_core.specs.Runs.{Moment, IsLegalRun, world_of}
 use Rattle.numa_space.specs.declared.request.Request.{Request}
 use Rattle.numa_space.specs.declared.event.Event.{Event}
@@ -14,30 +17,32 @@ use Rattle.numa_space.specs.declared.event.CoreRefusal.{CoreRefusal}
 
 -- ---- frames in a row
 
--- how many frames the first nodes have, this many of them, where each node has as many as the list says
+-- how many frames the first nodes have, this many of them, where each node has as many as the list
+-- says
 abbrev pub frames_before : List ℕ → ℕ → ℕ
 frames_before frames zero = 0
 frames_before frames (suc n) = frames_before frames n + slice_index frames n
 
 -- the place of a frame among all frames, node by node
 abbrev pub place_in : List ℕ → ℕ → ℕ → Option ℕ
-place_in frames n k = if nat_lt k (slice_index frames n) then Some (frames_before frames n + k) else None
+place_in frames n k = if nat_lt k (slice_index frames n)
+    then Some (frames_before frames n + k) else None
 
 abbrev pub place_of : Hardware → ℕ → ℕ → Option ℕ
 place_of machine n k = place_in machine.frames n k
 
 -- ---- what a core shows
 
--- what a busy worker is about: its request, the version and the node list that it took, and the frames that it met, one bit for each
--- frame's place in words of 64
+-- what a busy worker is about: its request, the version and the node list that it took, and the
+-- frames that it met, one bit for each frame's place in words of 64
 pub record Busy : Type 0 where
   pub request : Request
   pub version : ℕ
   pub nodes : List ℕ
   pub met : List ℕ
 
--- a core: what each of its workers is about, the space of all accepted commands, the plan of those that are published, and the owner of
--- the frame at each place
+-- a core: what each of its workers is about, the space of all accepted commands, the plan of those
+-- that are published, and the owner of the frame at each place
 pub record CoreState : Type 0 where
   pub space : SpaceState
   pub plan : PlanData
@@ -55,7 +60,8 @@ met_at frames words n k = is_met words (place_in frames n k)
 
 -- what a busy worker's hunt is, and a worker's
 abbrev pub hunt_in : List ℕ → Busy → Hunt
-hunt_in frames busy = record { request = busy.request; version = busy.version; nodes = busy.nodes; met = λ n k. met_at frames busy.met n k }
+hunt_in frames busy = record { request = busy.request; version = busy.version; nodes = busy.nodes;
+    met = λ n k. met_at frames busy.met n k }
 
 abbrev pub hunt_of_busy : List ℕ → Option Busy → Option Hunt
 hunt_of_busy frames None = None
@@ -65,7 +71,8 @@ abbrev pub hunt_by : Hardware → Option Busy → Option Hunt
 hunt_by machine = hunt_of_busy machine.frames
 
 abbrev pub shown_hunt : CoreState → ℕ → Option Hunt
-shown_hunt core w = hunt_by core.space.machine (option_and_then (λ busy. busy) (slice_get core.workers w))
+shown_hunt core w = hunt_by core.space.machine
+    (option_and_then (λ busy. busy) (slice_get core.workers w))
 
 -- the owner in a table by place
 abbrev pub owner_at : List (Option ℕ) → Option ℕ → Option ℕ
@@ -77,13 +84,16 @@ shown_owner core n k = owner_at core.owners (place_of core.space.machine n k)
 
 -- what never changes in a core
 abbrev pub setup_of : CoreState → Setup
-setup_of core = record { machine = core.space.machine; bounds = core.space.bounds; workers = length core.workers }
+setup_of core = record { machine = core.space.machine; bounds = core.space.bounds;
+    workers = length core.workers }
 
--- the core stands for the world: its space for the accepted commands, its plan for those that are published, and its hunts and owners
--- are the world's; of the published versions the newest has no more commands than were accepted, and no worker has taken a newer one
+-- the core stands for the world: its space for the accepted commands, its plan for those that are
+-- published, and its hunts and owners are the world's; of the published versions the newest has no
+-- more commands than were accepted, and no worker has taken a newer one
 pub record CoreStandsFor (core : CoreState) (world : World) : Type 0 where
   pub space : StandsFor core.space world.history
-  pub plan : PlanStandsFor core.space.machine core.plan (first_commands (newest_published world) world.history)
+  pub plan : PlanStandsFor core.space.machine core.plan
+      (first_commands (newest_published world) world.history)
   pub hunts : (w : ℕ) → shown_hunt core w ≡ hunt_of world w
   pub owners : (n k : ℕ) → shown_owner core n k ≡ world.owner n k
   pub published : is_published world (newest_published world) ≡ true
@@ -93,7 +103,8 @@ pub record CoreStandsFor (core : CoreState) (world : World) : Type 0 where
 -- the core shows the world's space, published plan, hunts and owners
 pub record ShowsWorld (core : CoreState) (world : World) : Type 0 where
   pub space : StandsFor core.space world.history
-  pub plan : PlanStandsFor core.space.machine core.plan (first_commands (newest_published world) world.history)
+  pub plan : PlanStandsFor core.space.machine core.plan
+      (first_commands (newest_published world) world.history)
   pub hunts : (w : ℕ) → shown_hunt core w ≡ hunt_of world w
   pub owners : (n k : ℕ) → shown_owner core n k ≡ world.owner n k
 
@@ -107,6 +118,8 @@ pub record HasRun (core : CoreState) : Type 0 where
   pub run : List Moment
   pub leads : LeadsTo run core
 
--- the moment of an event that comes after a run and was answered so; a Begin takes the newest published version
+-- the moment of an event that comes after a run and was answered so; a Begin takes the newest
+-- published version
 abbrev pub moment_after : Setup → List Moment → Event → Result CoreReply CoreRefusal → Moment
-moment_after s run event answer = record { event = event; version = newest_published (world_of s run); answer = answer }
+moment_after s run event answer =
+    record { event = event; version = newest_published (world_of s run); answer = answer }

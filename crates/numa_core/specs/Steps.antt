@@ -1,5 +1,8 @@
--- The steps of the world: which events are refused and in which order, what the others answer and what they do.
-use Rattle.std.specs.Prelude.{◌≡◌, ℕ, ◌+◌, ◌≤◌, ◌==◌, ◌⊎◌, Bool, true, false, not, Option, Some, None, Result, Ok, Err, is_ok, is_some, is_none, unwrap_or, List, [], ◌∷◌, length, nat_le, if◌then◌else◌}
+-- The steps of the world: which events are refused and in which order, what the others answer and
+-- what they do.
+use Rattle.std.specs.Prelude.{◌≡◌, ℕ, ◌+◌, ◌≤◌, ◌==◌, ◌⊎◌, Bool, true, false, not, Option}
+use Rattle.std.specs.Prelude.{Some, None, Result, Ok, Err, is_ok, is_some, is_none, unwrap_or}
+use Rattle.std.specs.Prelude.{List, [], ◌∷◌, length, nat_le, if◌then◌else◌}
 use Rattle.std.specs.Option.{option_map_or}
 use Rattle.numa_space.specs.Refusals.{refusal_of as command_refusal}
 use Rattle.numa_space.specs.Steps.{MayNeedRoom}
@@ -8,18 +11,27 @@ use Rattle.numa_space.specs.declared.refusal.Refusal.TheVariants.{NoMemory as No
 use Rattle.numa_machine.specs.declared.frame.Frame.{Frame}
 use Rattle.numa_space.specs.declared.placement.Placement.{Placement}
 use Rattle.numa_space.specs.declared.event.Event.{Event}
-use Rattle.numa_space.specs.declared.event.Event.TheVariants.{Accept, Publish, Begin, Look, Try, Give}
+use Rattle.numa_space.specs.declared.event.Event.TheVariants.{Accept, Publish, Begin}
+use Rattle.numa_space.specs.declared.event.Event.TheVariants.{Look, Try, Give}
 use Rattle.numa_space.specs.declared.event.CoreReply.{CoreReply}
-use Rattle.numa_space.specs.declared.event.CoreReply.TheVariants.{Accepted, Published, Still, Exhausted, Won, Given}
+use Rattle.numa_space.specs.declared.event.CoreReply.TheVariants.{Accepted, Published, Still}
+use Rattle.numa_space.specs.declared.event.CoreReply.TheVariants.{Exhausted, Won, Given}
 use Rattle.numa_space.specs.declared.event.CoreRefusal.{CoreRefusal}
-use Rattle.numa_space.specs.declared.event.CoreRefusal.TheVariants.{Command as Because, NoSuchWorker, Busy, Idle, BadTry, NotOwned, BadCpu, Unmapped, NoMemory}
-use Rattle.numa_core.specs.World.{Setup, Hunt, World, is_published, last_of, hunt_of, owner_of, is_frame, list_at, current_rank, may_look, may_try, begun, looked, missed}
+use Rattle.numa_space.specs.declared.event.CoreRefusal.TheVariants.{Command as Because}
+use Rattle.numa_space.specs.declared.event.CoreRefusal.TheVariants.{NoSuchWorker, Busy, Idle}
+use Rattle.numa_space.specs.declared.event.CoreRefusal.TheVariants.{BadTry, NotOwned, BadCpu}
+use Rattle.numa_space.specs.declared.event.CoreRefusal.TheVariants.{Unmapped, NoMemory}
+use Rattle.numa_core.specs.World.{Setup, Hunt, World, is_published, last_of, hunt_of}
+use Rattle.numa_core.specs.World.{owner_of, is_frame, list_at, current_rank, may_look}
+use Rattle.numa_core.specs.World.{may_try, begun, looked, missed}
 
 -- ---- which versions a worker may take
 
--- a Begin takes any published version that isn't below the worker's last one; the other events take none
+-- a Begin takes any published version that isn't below the worker's last one; the other events take
+-- none
 abbrev pub MayTake : World → ℕ → Event → Type 0
-MayTake world version (Begin w request) = (is_published world version ≡ true) × (last_of world w ≤ version)
+MayTake world version (Begin w request) = (is_published world version ≡ true)
+    × (last_of world w ≤ version)
 MayTake world version (Accept command) = Unit {0}
 MayTake world version Publish = Unit {0}
 MayTake world version (Look w word) = Unit {0}
@@ -67,9 +79,11 @@ with_owner world frame o = record {
 }
 
 module _ (s : Setup) where
-  -- why the event is refused, if it is, want of memory apart. The version is the one that a Begin takes
+  -- why the event is refused, if it is, other than for memory. The version is the one that a Begin
+  -- takes
   abbrev pub refusal_of : World → ℕ → Event → Option CoreRefusal
-  refusal_of world version (Accept command) = because (command_refusal s.machine s.bounds world.history command)
+  refusal_of world version (Accept command) =
+      because (command_refusal s.machine s.bounds world.history command)
   refusal_of world version Publish = None
   refusal_of world version (Begin w request) = first_refusal (
       (nat_le s.workers w, NoSuchWorker)
@@ -116,7 +130,8 @@ module _ (s : Setup) where
   reply_of world version (Accept command) = Accepted (length world.history + 1)
   reply_of world version Publish = Published (length world.history)
   reply_of world version (Begin w request) = goes_on (begun s world version request)
-  reply_of world version (Look w word) = option_map_or (λ hunt. goes_on (looked s world word hunt)) (hunt_of world w) Still
+  reply_of world version (Look w word) = option_map_or (λ hunt. goes_on (looked s world word hunt))
+      (hunt_of world w) Still
   reply_of world version (Try w frame) =
       if is_some (owner_of world frame)
       then option_map_or (λ hunt. goes_on (missed frame hunt)) (hunt_of world w) Still
@@ -125,19 +140,28 @@ module _ (s : Setup) where
 
   -- what an event does that isn't refused
   abbrev pub effect_of : World → ℕ → Event → World
-  effect_of world version (Accept command) = record { history = command ∷ world.history; published = world.published; worker = world.worker; owner = world.owner }
-  effect_of world version Publish = record { history = world.history; published = length world.history ∷ world.published; worker = world.worker; owner = world.owner }
-  effect_of world version (Begin w request) = with_worker world w version (going_on (begun s world version request))
-  effect_of world version (Look w word) = with_worker world w (last_of world w) (option_map_or (λ hunt. going_on (looked s world word hunt)) (hunt_of world w) None)
+  effect_of world version (Accept command) =
+      record { history = command ∷ world.history; published = world.published;
+      worker = world.worker; owner = world.owner }
+  effect_of world version Publish =
+      record { history = world.history; published = length world.history ∷ world.published;
+      worker = world.worker; owner = world.owner }
+  effect_of world version (Begin w request) =
+      with_worker world w version (going_on (begun s world version request))
+  effect_of world version (Look w word) =
+      with_worker world w (last_of world w)
+      (option_map_or (λ hunt. going_on (looked s world word hunt)) (hunt_of world w) None)
   effect_of world version (Try w frame) =
       if is_some (owner_of world frame)
-      then with_worker world w (last_of world w) (option_map_or (λ hunt. going_on (missed frame hunt)) (hunt_of world w) None)
+      then with_worker world w (last_of world w)
+          (option_map_or (λ hunt. going_on (missed frame hunt)) (hunt_of world w) None)
       else with_worker (with_owner world frame (Some w)) w (last_of world w) None
   effect_of world version (Give w frame) = with_owner world frame None
 
   -- the world after an event with this answer: a refused event leaves it as it was
   abbrev pub world_after : World → ℕ → Event → Result CoreReply CoreRefusal → World
-  world_after world version event answer = if is_ok answer then effect_of world version event else world
+  world_after world version event answer = if is_ok answer
+      then effect_of world version event else world
 
 -- ---- answers
 
@@ -158,8 +182,11 @@ IsOutOfMemory (Give w frame) answer = ⊥
 module _ (s : Setup) where
   -- what the event answers with ample memory
   abbrev pub answer_of : World → ℕ → Event → Result CoreReply CoreRefusal
-  answer_of world version event = refused_or (refusal_of s world version event) (reply_of s world version event)
+  answer_of world version event =
+      refused_or (refusal_of s world version event) (reply_of s world version event)
 
-  -- the event may have this answer: that with ample memory, or want of memory where nothing else refuses it
+  -- the event may have this answer: that with ample memory, or out of memory where nothing else
+  -- refuses it
   abbrev pub IsAnswer : World → ℕ → Event → Result CoreReply CoreRefusal → Type 0
-  IsAnswer world version event answer = (answer ≡ answer_of world version event) ⊎ ((refusal_of s world version event ≡ None) × IsOutOfMemory event answer)
+  IsAnswer world version event answer = (answer ≡ answer_of world version event)
+      ⊎ ((refusal_of s world version event ≡ None) × IsOutOfMemory event answer)

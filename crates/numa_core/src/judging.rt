@@ -7,8 +7,8 @@ use numa_plan::{Plan, Steps};
 use numa_space::event::CoreRefusal;
 use numa_space::{PlaceRefusal, Request};
 
-/// The list of nodes that the plan of the newest published version has for a worker's request, lent by the plan. Or the refusal
-/// of the worker's Begin.
+/// The list of nodes that the plan of the newest published version has for a worker's request, lent
+/// by the plan. Or the refusal of the worker's Begin.
 pub(crate) fn row_for<'a>(
     plan: &'a Plan,
     seats: &Vec<Seat>,
@@ -19,7 +19,8 @@ pub(crate) fn row_for<'a>(
     ensures listed { IfOk result (λ row. Lists plan.now seats.now.items request row.now) }
     ensures seated { OnOk result (worker < vec_len seats.now) }
     ensures sized { IfOk result (λ row. length row.now ≤ 256) }
-    ensures refused { IfErr result (λ refusal. Judges plan.now seats.now.items worker request (Some refusal)) }
+    ensures refused { IfErr result (λ refusal.
+        Judges plan.now seats.now.items worker request (Some refusal)) }
 {
     if worker as usize >= seats.len() {
         return Err(CoreRefusal::NoSuchWorker);

@@ -1,6 +1,6 @@
-//! The core over events: commands, published versions, and workers that look for frames. It has no thread: an
-//! interleaving is a list of events. The plain types of a fault are passed on: a frame, a request for one, and where a page
-//! was placed.
+//! The core over events: commands, published versions, and workers that look for frames. It has no
+//! thread: an interleaving is a list of events. The plain types of a fault are passed on: a frame,
+//! a request for one, and where a page was placed.
 #![tactic(auto)]
 
 mod judging;

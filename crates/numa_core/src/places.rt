@@ -6,7 +6,8 @@ use numa_machine::Machine;
 use std::alloc::{AllocError, Global};
 use std::marker::Model;
 
-/// How many frames each node has, and how many the nodes below it have, so that a place is found at once.
+/// How many frames each node has, and how many the nodes below it have, so that a place is found at
+/// once.
 #[derive(Drop)]
 pub(crate) struct Places {
     frames: Vec<u32>,
@@ -74,7 +75,8 @@ impl Places {
     pub(crate) fn first(&self, node: u8) -> u32
         requires { node < length self.now }
         ensures first { result ≡ frames_before self.now node }
-        ensures within { result + slice_index self.now node ≤ frames_before self.now (length self.now) }
+        ensures within { result + slice_index self.now node
+            ≤ frames_before self.now (length self.now) }
         ensures at_most { result ≤ 1048576 }
     {
         self.before[node as usize]

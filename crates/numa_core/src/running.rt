@@ -4,7 +4,8 @@ ghost use Rattle.numa_space.specs.Standing.{StandsFor};
 ghost use Rattle.numa_core.specs.World.{World, newest_published};
 ghost use Rattle.numa_core.specs.Steps.{IsAnswer, world_after};
 ghost use Rattle.numa_core.specs.Runs.{Moment};
-ghost use Rattle.numa_core.specs.Standing.{CoreState, CoreStandsFor, HasRun, LeadsTo, moment_after, setup_of};
+ghost use Rattle.numa_core.specs.Standing.{CoreState, CoreStandsFor, HasRun};
+ghost use Rattle.numa_core.specs.Standing.{LeadsTo, moment_after, setup_of};
 
 use crate::state::State;
 use numa_machine::{Machine, NoMemory};
@@ -13,7 +14,8 @@ use numa_space::{Limits, Space};
 use std::alloc::Global;
 use std::marker::Model;
 
-/// Commands, published versions, and workers that look for frames. Nothing in it runs by itself: each event is one call of `step`.
+/// Commands, published versions, and workers that look for frames. Nothing in it runs by itself:
+/// each event is one call of `step`.
 #[derive(Drop)]
 pub struct Core {
     pub(crate) state: State,
@@ -31,11 +33,11 @@ impl Model for Core {
 }
 
 impl Core {
-    /// A core of this machine, with these limits and so many workers, which are numbered from 0. Nothing is accepted, version 0 is
-    /// published, each worker is idle and no frame is owned.
+    /// A core of this machine, with these limits and so many workers, which are numbered from 0.
+    /// Nothing is accepted, version 0 is published, each worker is idle and no frame is owned.
     ///
-    /// All memory is taken here that Begin, Look, Try and Give ever use: for owners two bytes a frame of the machine, and for each
-    /// worker a list of 256 nodes and one bit a frame.
+    /// All memory is taken here that Begin, Look, Try and Give ever use: for owners two bytes a
+    /// frame of the machine, and for each worker a list of 256 nodes and one bit a frame.
     ///
     /// # Errors
     /// `NoMemory` where that memory was not to be had.
@@ -48,24 +50,31 @@ impl Core {
         requires some { 1 ≤ workers }
         requires few { workers ≤ 16 }
         ensures opens { IfOk result (λ core. LeadsTo [] core) }
-        ensures setup { IfOk result (λ core. setup_of core ≡ record { machine = machine; bounds = limits; workers = workers }) }
+        ensures setup { IfOk result (λ core. setup_of core
+            ≡ record { machine = machine; bounds = limits; workers = workers }) }
     {
         let state = State::new(alloc, machine, limits, workers)?;
         Ok(Core { state })
     }
 
-    /// One event, with its answer. A Begin takes the newest published version. A refused event leaves the core as it was.
+    /// One event, with its answer. A Begin takes the newest published version. A refused event
+    /// leaves the core as it was.
     ///
     /// # Errors
     /// - Accept: `Command`, with what refuses the command.
     /// - Publish: `NoMemory`.
-    /// - Begin: `NoSuchWorker`, `Busy`, `BadCpu` where the faulting node is none of the machine, `Unmapped` with the version that has
-    ///   no such page, in this order.
-    /// - Look and Try: `NoSuchWorker`, `Idle`, `BadTry` where the current node lacks the word, or where the frame is none of it or met.
+    /// - Begin: `NoSuchWorker`, `Busy`, `BadCpu` where the faulting node is none of the machine,
+    ///   `Unmapped` with the version that has no such page, in this order.
+    /// - Look and Try: `NoSuchWorker`, `Idle`, `BadTry` where the current node lacks the word, or
+    ///   where the frame is none of it or met.
     /// - Give: `NoSuchWorker`, `Busy`, `NotOwned` where the frame isn't the worker's.
     pub fn step(&mut self, event: Event) -> Result<CoreReply, CoreRefusal>
-        ensures answer { (world : World) → CoreStandsFor self.old world → IsAnswer (setup_of self.old) world (newest_published world) event result × CoreStandsFor self.new (world_after (setup_of self.old) world (newest_published world) event result) }
-        ensures runs { (run : List Moment) → LeadsTo run self.old → LeadsTo (moment_after (setup_of self.old) run event result ∷ run) self.new }
+        ensures answer { (world : World) → CoreStandsFor self.old world →
+            IsAnswer (setup_of self.old) world (newest_published world) event result
+            × CoreStandsFor self.new (world_after (setup_of self.old) world (newest_published world)
+            event result) }
+        ensures runs { (run : List Moment) → LeadsTo run self.old →
+            LeadsTo (moment_after (setup_of self.old) run event result ∷ run) self.new }
         ensures unchanged { OnErr result (self.new ≡ self.old) }
         ensures setup { setup_of self.new ≡ setup_of self.old }
     {
@@ -82,7 +91,8 @@ impl Core {
     /// The space of all accepted commands.
     pub fn space(&self) -> &Space
         ensures space { result.now ≡ self.now.space }
-        ensures meaning { (world : World) → CoreStandsFor self.now world → StandsFor result.now world.history }
+        ensures meaning { (world : World) → CoreStandsFor self.now world →
+            StandsFor result.now world.history }
     {
         &self.state.space
     }
@@ -90,7 +100,8 @@ impl Core {
     /// The newest published version. Some legal run leads to every core.
     pub fn published(&self) -> u64
         ensures published { result ≡ self.now.plan.version }
-        ensures meaning { (world : World) → CoreStandsFor self.now world → result ≡ newest_published world }
+        ensures meaning { (world : World) → CoreStandsFor self.now world →
+            result ≡ newest_published world }
         ensures run { HasRun self.now }
     {
         self.state.plan.version()

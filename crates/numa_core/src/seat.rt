@@ -1,9 +1,11 @@
 //! A worker's seat: what it is about, the list that it took and the frames that it met.
-ghost use Rattle.std.specs.Prelude.{◌≡◌, ℕ, ◌<◌, ◌≤◌, true, false, None, Some, IfOk, IfSome, OnOk, OnErr, MatchOption, is_some, length, vec_len, slice_index};
+ghost use Rattle.std.specs.Prelude.{◌≡◌, ℕ, ◌<◌, ◌≤◌, true, false, None, Some, IfOk, IfSome, OnOk};
+ghost use Rattle.std.specs.Prelude.{OnErr, MatchOption, is_some, length, vec_len, slice_index};
 ghost use Rattle.numa_core.specs.World.{Setup, World};
 ghost use Rattle.numa_core.specs.Steps.{goes_on, going_on};
 ghost use Rattle.numa_core.specs.Standing.{frames_before, owner_at, place_in, met_at, hunt_in};
-ghost use Rattle.numa_core.specs.Seats.{busy_at, busy_of, seat_hunt, fresh, HasRoom, IsPassed, IsCursor, IsAllMet, SeatFits, SeatLooks, SeatTries};
+ghost use Rattle.numa_core.specs.Seats.{busy_at, busy_of, seat_hunt, fresh, HasRoom, IsPassed};
+ghost use Rattle.numa_core.specs.Seats.{IsCursor, IsAllMet, SeatFits, SeatLooks, SeatTries};
 
 use crate::places::Places;
 use crate::tables::{clear, is_met, meet, meet_owned, none_met};
@@ -20,7 +22,8 @@ pub(crate) struct Cursor {
     pub next: u32,
 }
 
-/// What a busy worker asked, the version that it took, and where it is: at the lowest unmet frame of its current node.
+/// What a busy worker asked, the version that it took, and where it is: at the lowest unmet frame
+/// of its current node.
 #[derive(Clone, Copy, Debug, PartialEq, Eq)]
 pub(crate) struct Job {
     pub request: Request,
@@ -39,9 +42,11 @@ pub(crate) struct Seat {
 /// The lowest unmet frame of a node from this number on.
 fn first_unmet(places: &Places, met: &Vec<u64>, node: u8, from: u32) -> Option<u32>
     requires { HasRoom places.now (vec_len met.now) }
-    ensures some { IfSome result (λ next. (from ≤ next) × (next < slice_index places.now node) × (met_at places.now met.now.items node next ≡ false)
+    ensures some { IfSome result (λ next. (from ≤ next) × (next < slice_index places.now node)
+        × (met_at places.now met.now.items node next ≡ false)
         × ((k : ℕ) → from ≤ k → k < next → met_at places.now met.now.items node k ≡ true)) }
-    ensures none { (k : ℕ) → result ≡ None → from ≤ k → k < slice_index places.now node → met_at places.now met.now.items node k ≡ true }
+    ensures none { (k : ℕ) → result ≡ None → from ≤ k → k < slice_index places.now node →
+        met_at places.now met.now.items node k ≡ true }
 {
     let frames = places.frames(node);
     if from >= frames {
@@ -61,7 +66,8 @@ fn first_from(places: &Places, nodes: &[u8], met: &Vec<u64>, from: Cursor) -> Op
     requires room { HasRoom places.now (vec_len met.now) }
     requires few { length nodes.now ≤ 256 }
     requires passed { IsPassed places.now nodes.now met.now.items from.rank from.next }
-    ensures { MatchOption result (IsAllMet places.now nodes.now met.now.items) (λ at. IsCursor places.now nodes.now met.now.items at.rank at.next) }
+    ensures { MatchOption result (IsAllMet places.now nodes.now met.now.items) (λ at.
+        IsCursor places.now nodes.now met.now.items at.rank at.next) }
 {
     let mut next = from.next;
     for rank in from.rank as usize..nodes.len() {
@@ -102,12 +108,18 @@ impl Seat {
         })
     }
 
-    /// Goes on with the job while a listed node has an unmet frame, and else is idle. All before the job's cursor is met.
+    /// Goes on with the job while a listed node has an unmet frame, and else is idle. All before
+    /// the job's cursor is met.
     fn settle(&mut self, places: &Places, job: Job) -> CoreReply
         requires room { HasRoom places.now (vec_len self.old.met) }
-        requires passed { IsPassed places.now self.old.nodes.items self.old.met.items job.at.rank job.at.next }
-        ensures reply { (s : Setup) → places.now ≡ s.machine.frames → result ≡ goes_on s (hunt_in places.now (busy_at job self.old.nodes.items self.old.met.items)) }
-        ensures hunt { (s : Setup) → places.now ≡ s.machine.frames → seat_hunt places.now self.new ≡ going_on s (hunt_in places.now (busy_at job self.old.nodes.items self.old.met.items)) }
+        requires passed { IsPassed places.now self.old.nodes.items self.old.met.items
+            job.at.rank job.at.next }
+        ensures reply { (s : Setup) → places.now ≡ s.machine.frames →
+            result ≡ goes_on s (hunt_in places.now
+            (busy_at job self.old.nodes.items self.old.met.items)) }
+        ensures hunt { (s : Setup) → places.now ≡ s.machine.frames → seat_hunt places.now self.new
+            ≡ going_on s (hunt_in places.now (busy_at job self.old.nodes.items self.old.met.items))
+            }
         ensures fits { SeatFits places.now self.new }
     {
         let Some(at) = first_from(places, self.nodes.as_slice(), &self.met, job.at) else {
@@ -132,8 +144,10 @@ impl Seat {
     ) -> CoreReply
         requires few { length row.now ≤ 256 }
         requires fits { SeatFits places.now self.old }
-        ensures reply { (s : Setup) → places.now ≡ s.machine.frames → result ≡ goes_on s (fresh request version row.now) }
-        ensures hunt { (s : Setup) → places.now ≡ s.machine.frames → seat_hunt places.now self.new ≡ going_on s (fresh request version row.now) }
+        ensures reply { (s : Setup) → places.now ≡ s.machine.frames →
+            result ≡ goes_on s (fresh request version row.now) }
+        ensures hunt { (s : Setup) → places.now ≡ s.machine.frames → seat_hunt places.now self.new
+            ≡ going_on s (fresh request version row.now) }
         ensures fits { SeatFits places.now self.new }
     {
         take_row(&mut self.nodes, row);
@@ -158,7 +172,9 @@ impl Seat {
     ) -> Result<CoreReply, CoreRefusal>
         requires owners { vec_len owners.now ≡ frames_before places.now (length places.now) }
         requires fits { SeatFits places.now self.old }
-        ensures looks { (s : Setup) (world : World) → places.now ≡ s.machine.frames → ((n k : ℕ) → world.owner n k ≡ owner_at owners.now.items (place_in places.now n k)) → SeatLooks places.now s world word self.old result self.new }
+        ensures looks { (s : Setup) (world : World) → places.now ≡ s.machine.frames →
+            ((n k : ℕ) → world.owner n k ≡ owner_at owners.now.items (place_in places.now n k)) →
+            SeatLooks places.now s world word self.old result self.new }
         ensures unchanged { OnErr result (self.new ≡ self.old) }
         ensures fits { SeatFits places.now self.new }
     {
@@ -178,7 +194,8 @@ impl Seat {
 
     /// Why the worker can't try a frame that the machine lacks.
     pub(crate) fn no_try(&self) -> CoreRefusal
-        ensures { MatchOption self.now.job (result ≡ CoreRefusal.Idle) (λ job. result ≡ CoreRefusal.BadTry) }
+        ensures { MatchOption self.now.job (result ≡ CoreRefusal.Idle) (λ job. result
+            ≡ CoreRefusal.BadTry) }
     {
         if self.job.is_none() {
             return CoreRefusal::Idle;
@@ -197,7 +214,8 @@ impl Seat {
         requires place { place_in places.now frame.node frame.number ≡ Some place }
         requires within { place < frames_before places.now (length places.now) }
         requires fits { SeatFits places.now self.old }
-        ensures tries { (s : Setup) → places.now ≡ s.machine.frames → SeatTries places.now s owned frame self.old result self.new }
+        ensures tries { (s : Setup) → places.now ≡ s.machine.frames →
+            SeatTries places.now s owned frame self.old result self.new }
         ensures unchanged { OnErr result (self.new ≡ self.old) }
         ensures fits { SeatFits places.now self.new }
     {

@@ -19,8 +19,8 @@ use numa_space::event::{CoreRefusal, CoreReply};
 use numa_space::{Command, Limits, Request, Space};
 use std::alloc::Global;
 
-/// The space of all accepted commands, the plan of those that are published, the workers' seats, the owner of each frame, and
-/// for each node how many of its lowest frames are known to be owned.
+/// The space of all accepted commands, the plan of those that are published, the workers' seats,
+/// the owner of each frame, and for each node how many of its lowest frames are known to be owned.
 #[derive(Drop)]
 pub(crate) struct State {
     pub alloc: Global,
@@ -35,7 +35,8 @@ pub(crate) struct State {
 /// Idle seats, this many.
 fn idle_seats(alloc: Global, places: &Places, workers: u32) -> Result<Vec<Seat>, NoMemory>
     ensures count { IfOk result (λ seats. vec_len seats ≡ workers) }
-    ensures idle { IfOk result (λ seats. (w : ℕ) (seat : Seat) → slice_get seats.items w ≡ Some seat → (seat.job ≡ None) × SeatFits places.now seat) }
+    ensures idle { IfOk result (λ seats. (w : ℕ) (seat : Seat) → slice_get seats.items w
+        ≡ Some seat → (seat.job ≡ None) × SeatFits places.now seat) }
 {
     let mut seats = Vec::new(alloc);
     for _ in 0..workers {
@@ -46,7 +47,8 @@ fn idle_seats(alloc: Global, places: &Places, workers: u32) -> Result<Vec<Seat>,
 }
 
 impl State {
-    /// A core with nothing mapped, version 0 published, each of the workers idle and no frame owned.
+    /// A core with nothing mapped, version 0 published, each of the workers idle and no frame
+    /// owned.
     pub(crate) fn new(
         alloc: Global,
         machine: Machine,
@@ -56,7 +58,8 @@ impl State {
         requires few { workers ≤ 16 }
         ensures kept { IfOk result IsKept }
         ensures opens { IfOk result (λ state. CoreStandsFor (shown state) opening) }
-        ensures setup { IfOk result (λ state. setup_of (shown state) ≡ record { machine = machine; bounds = limits; workers = workers }) }
+        ensures setup { IfOk result (λ state. setup_of (shown state)
+            ≡ record { machine = machine; bounds = limits; workers = workers }) }
     {
         let places = Places::new(alloc, &machine)?;
         let owners = none_owned(alloc, places.total())?;
@@ -109,7 +112,8 @@ impl State {
     pub(crate) fn begin(&mut self, worker: u32, request: Request) -> Result<CoreReply, CoreRefusal>
         requires kept { IsKept self.old }
         ensures kept { IsKept self.new }
-        ensures follows { Follows (shown self.old) (Event.Begin worker request) result (shown self.new) }
+        ensures follows { Follows (shown self.old) (Event.Begin worker request)
+            result (shown self.new) }
         ensures unchanged { OnErr result (shown self.new ≡ shown self.old) }
         ensures setup { setup_of (shown self.new) ≡ setup_of (shown self.old) }
     {
@@ -122,7 +126,8 @@ impl State {
     pub(crate) fn look(&mut self, worker: u32, word: u32) -> Result<CoreReply, CoreRefusal>
         requires kept { IsKept self.old }
         ensures kept { IsKept self.new }
-        ensures follows { Follows (shown self.old) (Event.Look worker word) result (shown self.new) }
+        ensures follows { Follows (shown self.old) (Event.Look worker word)
+            result (shown self.new) }
         ensures unchanged { OnErr result (shown self.new ≡ shown self.old) }
         ensures setup { setup_of (shown self.new) ≡ setup_of (shown self.old) }
     {
@@ -136,7 +141,8 @@ impl State {
     pub(crate) fn attempt(&mut self, worker: u32, frame: Frame) -> Result<CoreReply, CoreRefusal>
         requires kept { IsKept self.old }
         ensures kept { IsKept self.new }
-        ensures follows { Follows (shown self.old) (Event.Try worker frame) result (shown self.new) }
+        ensures follows { Follows (shown self.old) (Event.Try worker frame)
+            result (shown self.new) }
         ensures unchanged { OnErr result (shown self.new ≡ shown self.old) }
         ensures setup { setup_of (shown self.new) ≡ setup_of (shown self.old) }
     {
@@ -161,7 +167,8 @@ impl State {
     pub(crate) fn give(&mut self, worker: u32, frame: Frame) -> Result<CoreReply, CoreRefusal>
         requires kept { IsKept self.old }
         ensures kept { IsKept self.new }
-        ensures follows { Follows (shown self.old) (Event.Give worker frame) result (shown self.new) }
+        ensures follows { Follows (shown self.old) (Event.Give worker frame)
+            result (shown self.new) }
         ensures unchanged { OnErr result (shown self.new ≡ shown self.old) }
         ensures setup { setup_of (shown self.new) ≡ setup_of (shown self.old) }
     {

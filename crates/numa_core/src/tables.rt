@@ -1,5 +1,6 @@
 //! Tables by place: met frames, one bit each, and owners.
-ghost use Rattle.std.specs.Prelude.{◌≡◌, ℕ, ◌+◌, ◌*◌, ◌<◌, ◌≤◌, ◌==◌, ◌&&◌, ◌||◌, false, None, Some, IfOk, is_some, length, vec_len, nat_le, nat_lt};
+ghost use Rattle.std.specs.Prelude.{◌≡◌, ℕ, ◌+◌, ◌*◌, ◌<◌, ◌≤◌, ◌==◌, ◌&&◌, ◌||◌, false, None};
+ghost use Rattle.std.specs.Prelude.{Some, IfOk, is_some, length, vec_len, nat_le, nat_lt};
 ghost use Rattle.numa_core.specs.Standing.{is_met, owner_at};
 
 use std::alloc::{AllocError, Global};
@@ -15,7 +16,8 @@ pub(crate) fn is_met(met: &Vec<u64>, place: u32) -> bool
 /// The frame at a place becomes met.
 pub(crate) fn meet(met: &mut Vec<u64>, place: u32)
     requires { place < 64 * vec_len met.old }
-    ensures met { (p : ℕ) → is_met met.new.items (Some p) ≡ ((p == place) || is_met met.old.items (Some p)) }
+    ensures met { (p : ℕ) → is_met met.new.items (Some p)
+        ≡ ((p == place) || is_met met.old.items (Some p)) }
     ensures len { vec_len met.new ≡ vec_len met.old }
 {
     met[place as usize / 64] |= 1u64 << (place % 64);
@@ -24,7 +26,8 @@ pub(crate) fn meet(met: &mut Vec<u64>, place: u32)
 /// The frame at a place becomes met where it is owned.
 fn meet_if(met: &mut Vec<u64>, place: u32, owned: bool)
     requires { place < 64 * vec_len met.old }
-    ensures met { (p : ℕ) → is_met met.new.items (Some p) ≡ (((p == place) && owned) || is_met met.old.items (Some p)) }
+    ensures met { (p : ℕ) → is_met met.new.items (Some p)
+        ≡ (((p == place) && owned) || is_met met.old.items (Some p)) }
     ensures len { vec_len met.new ≡ vec_len met.old }
 {
     if owned {
@@ -37,7 +40,9 @@ pub(crate) fn meet_owned(met: &mut Vec<u64>, owners: &Vec<Option<u8>>, start: u3
     requires order { start ≤ end }
     requires room { end ≤ 64 * vec_len met.old }
     requires owners { end ≤ vec_len owners.now }
-    ensures met { (p : ℕ) → is_met met.new.items (Some p) ≡ (((nat_le start p && nat_lt p end) && is_some (owner_at owners.now.items (Some p))) || is_met met.old.items (Some p)) }
+    ensures met { (p : ℕ) → is_met met.new.items (Some p)
+        ≡ (((nat_le start p && nat_lt p end) && is_some (owner_at owners.now.items (Some p)))
+        || is_met met.old.items (Some p)) }
     ensures len { vec_len met.new ≡ vec_len met.old }
 {
     for place in start..end {

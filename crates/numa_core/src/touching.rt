@@ -1,13 +1,17 @@
-//! Touches. The frames that a touch would try in vain are owned, so it is found at once where it ends: at the lowest frame
-//! without an owner of the first listed node that has one, or at the end of the list.
-ghost use Rattle.std.specs.Prelude.{◌≡◌, ℕ, ◌<◌, ◌≤◌, true, Option, Some, None, is_some, List, ◌++◌, IfOk, IfSome, OnErr, length, vec_len, slice_index};
+//! Touches. The frames that a touch would try in vain are owned, so it is found at once where it
+//! ends: at the lowest frame without an owner of the first listed node that has one, or at the end
+//! of the list.
+ghost use Rattle.std.specs.Prelude.{◌≡◌, ℕ, ◌<◌, ◌≤◌, true, Option, Some, None, is_some, List};
+ghost use Rattle.std.specs.Prelude.{◌++◌, IfOk, IfSome, OnErr, length, vec_len, slice_index};
 ghost use Rattle.numa_core.specs.World.{Setup, World};
 ghost use Rattle.numa_core.specs.Steps.{put_frame};
 ghost use Rattle.numa_core.specs.Runs.{Moment};
-ghost use Rattle.numa_core.specs.Standing.{setup_of, frames_before, owner_at, place_in, CoreStandsFor, LeadsTo};
+ghost use Rattle.numa_core.specs.Standing.{setup_of, frames_before, owner_at};
+ghost use Rattle.numa_core.specs.Standing.{place_in, CoreStandsFor, LeadsTo};
 ghost use Rattle.numa_core.specs.Kept.{shown, IsKept};
 ghost use Rattle.numa_core.specs.Hints.{AreTaken, IsLow};
-ghost use Rattle.numa_core.specs.Touching.{lowest_free, first_free, touched, touch_answer, touch_world, IsTouch, Shows};
+ghost use Rattle.numa_core.specs.Touching.{lowest_free, first_free, touched, touch_answer};
+ghost use Rattle.numa_core.specs.Touching.{touch_world, IsTouch, Shows};
 
 use crate::judging::row_for;
 use crate::places::Places;
@@ -27,7 +31,8 @@ pub(crate) struct Spot {
 
 /// Of each node no frame is known to be owned.
 pub(crate) fn none_taken(alloc: Global, places: &Places) -> Result<Vec<u32>, AllocError>
-    ensures { IfOk result (λ taken. (owners : List (Option ℕ)) → AreTaken places.now owners taken.items) }
+    ensures { IfOk result (λ taken. (owners : List (Option ℕ)) →
+        AreTaken places.now owners taken.items) }
 {
     vec![in alloc; 0; places.nodes()]
 }
@@ -42,7 +47,9 @@ fn known(taken: &Vec<u32>, node: u8) -> u32
 /// A frame is given back: of its node no more than the frames below it are known to be owned.
 pub(crate) fn lower(taken: &mut Vec<u32>, frame: Frame)
     requires { frame.node < vec_len taken.old }
-    ensures { (frames : List ℕ) (old new : List (Option ℕ)) → AreTaken frames old taken.old.items → ((n k : ℕ) → owner_at new (place_in frames n k) ≡ put_frame (λ n k. owner_at old (place_in frames n k)) frame None n k)
+    ensures { (frames : List ℕ) (old new : List (Option ℕ)) → AreTaken frames old taken.old.items →
+        ((n k : ℕ) → owner_at new (place_in frames n k)
+        ≡ put_frame (λ n k. owner_at old (place_in frames n k)) frame None n k)
         → AreTaken frames new taken.new.items }
 {
     let node = frame.node as usize;
@@ -52,8 +59,10 @@ pub(crate) fn lower(taken: &mut Vec<u32>, frame: Frame)
 /// The lowest frame of a node that has no owner, where each one below `from` has an owner.
 fn lowest_free(places: &Places, owners: &Vec<Option<u8>>, node: u8, from: u32) -> Option<Frame>
     requires owners { vec_len owners.now ≡ frames_before places.now (length places.now) }
-    requires taken { (k : ℕ) → k < from → k < slice_index places.now node → is_some (owner_at owners.now.items (place_in places.now node k)) ≡ true }
-    ensures lowest { (s : Setup) (world : World) → Shows s places.now owners.now.items world → result ≡ lowest_free s world node }
+    requires taken { (k : ℕ) → k < from → k < slice_index places.now node →
+        is_some (owner_at owners.now.items (place_in places.now node k)) ≡ true }
+    ensures lowest { (s : Setup) (world : World) → Shows s places.now owners.now.items world →
+        result ≡ lowest_free s world node }
     ensures low { IfSome result (IsLow places.now owners.now.items) }
 {
     let frames = places.frames(node);
@@ -82,7 +91,8 @@ fn first_free(
     requires owners { vec_len owners.now ≡ frames_before places.now (length places.now) }
     requires taken { AreTaken places.now owners.now.items taken.now.items }
     requires few { length nodes.now ≤ 256 }
-    ensures first { (s : Setup) (world : World) → Shows s places.now owners.now.items world → result ≡ first_free s world nodes.now }
+    ensures first { (s : Setup) (world : World) → Shows s places.now owners.now.items world →
+        result ≡ first_free s world nodes.now }
     ensures low { IfSome result (λ spot. IsLow places.now owners.now.items spot.frame) }
 {
     for rank in 0..nodes.len() {
@@ -102,8 +112,10 @@ impl State {
     pub(crate) fn touch(&mut self, worker: u32, request: Request) -> Result<CoreReply, CoreRefusal>
         requires kept { IsKept self.old }
         ensures kept { IsKept self.new }
-        ensures touches { (world : World) → CoreStandsFor (shown self.old) world → (result ≡ touch_answer (setup_of (shown self.old)) world worker request)
-            × CoreStandsFor (shown self.new) (touch_world (setup_of (shown self.old)) world worker request) }
+        ensures touches { (world : World) → CoreStandsFor (shown self.old) world →
+            (result ≡ touch_answer (setup_of (shown self.old)) world worker request)
+            × CoreStandsFor (shown self.new) (touch_world (setup_of (shown self.old))
+            world worker request) }
         ensures unchanged { OnErr result (shown self.new ≡ shown self.old) }
         ensures setup { setup_of (shown self.new) ≡ setup_of (shown self.old) }
     {
@@ -131,8 +143,11 @@ impl State {
         requires some { worker < vec_len self.old.seats }
         requires low { IsLow self.old.places self.old.owners.items frame }
         ensures kept { IsKept self.new }
-        ensures owner { (n k : ℕ) → owner_at self.new.owners.items (place_in self.old.places n k) ≡ put_frame (λ n k. owner_at self.old.owners.items (place_in self.old.places n k)) frame (Some worker) n k }
-        ensures others { self.new ≡ record self.old { owners = self.new.owners; taken = self.new.taken } }
+        ensures owner { (n k : ℕ) → owner_at self.new.owners.items (place_in self.old.places n k)
+            ≡ put_frame (λ n k. owner_at self.old.owners.items (place_in self.old.places n k))
+            frame (Some worker) n k }
+        ensures others { self.new
+            ≡ record self.old { owners = self.new.owners; taken = self.new.taken } }
     {
         let Some(place) = self.places.place(frame.node, frame.number) else {
             unreachable!()
@@ -143,15 +158,18 @@ impl State {
 }
 
 impl Core {
-    /// A touch of a page by a worker: a Begin of the request, and then, while the worker is busy, Trys of the lowest frame of its
-    /// current node that it has not met. The answer is that of the last of these events, and the worker is idle.
+    /// A touch of a page by a worker: a Begin of the request, and then, while the worker is busy,
+    /// Trys of the lowest frame of its current node that it has not met. The answer is that of the
+    /// last of these events, and the worker is idle.
     ///
     /// # Errors
     /// As for a Begin: `NoSuchWorker`, `Busy`, `BadCpu` or `Unmapped`, in this order.
     pub fn touch(&mut self, worker: u32, request: Request) -> Result<CoreReply, CoreRefusal>
-        ensures answer { (world : World) → CoreStandsFor self.old world → (result ≡ (touched (setup_of self.old) world worker request).answer)
+        ensures answer { (world : World) → CoreStandsFor self.old world →
+            (result ≡ (touched (setup_of self.old) world worker request).answer)
             × CoreStandsFor self.new (touched (setup_of self.old) world worker request).world }
-        ensures runs { (run : List Moment) → LeadsTo run self.old → (moments : List Moment) × IsTouch worker request result moments × LeadsTo (moments ++ run) self.new }
+        ensures runs { (run : List Moment) → LeadsTo run self.old → (moments : List Moment)
+            × IsTouch worker request result moments × LeadsTo (moments ++ run) self.new }
         ensures unchanged { OnErr result (self.new ≡ self.old) }
         ensures setup { setup_of self.new ≡ setup_of self.old }
     {

@@ -1,9 +1,10 @@
 //! A number that contracts alone read.
 //!
-//! A promise about work, such as how many pages a search compares, is a promise about a number, and a program that carried
-//! the number would pay for it at each step. A [`Count`] carries none: it has no bytes, and code can begin one and count on,
-//! but never read it. A contract sees it as a natural number. So a call that counts takes what holds the count by `&mut`,
-//! and its contract says how much greater the number is afterwards.
+//! A promise about work, such as how many pages a search compares, is a promise about a number, and
+//! a program that carried the number would pay for it at each step. A [`Count`] carries none: it
+//! has no bytes, and code can begin one and count on, but never read it. A contract sees it as a
+//! natural number. So a call that counts takes what holds the count by `&mut`, and its contract
+//! says how much greater the number is afterwards.
 #![tactic(auto)]
 
 ghost use Rattle.std.specs.Prelude.{◌≡◌, ◌+◌};
@@ -40,8 +41,9 @@ impl Opening<Seen<(), u64, Anything>, ()> for Longer {
     ghost log = { λ n s. tt ∷ s.log };
 }
 
-/// A natural number without bytes, which nothing but a contract can read: as great as a list is long that contracts alone
-/// see. It has no upper bound, since nothing stores it, and it can go to another thread.
+/// A natural number without bytes, which nothing but a contract can read: as great as a list is
+/// long that contracts alone see. It has no upper bound, since nothing stores it, and it can go to
+/// another thread.
 #[derive(Drop)]
 pub struct Count {
     list: Seen<(), u64, Anything>,

@@ -4,7 +4,8 @@ use Rattle.numa_space.specs.declared.request.Request.{Request}
 use Rattle.numa_core.specs.World.{Setup, World}
 use Rattle.numa_core.specs.Runs.{world_of}
 use Rattle.numa_space.specs.declared.event.Event.{Event}
-use Rattle.numa_space.specs.declared.event.Event.TheVariants.{Accept, Publish, Begin, Look, Try, Give}
+use Rattle.numa_space.specs.declared.event.Event.TheVariants.{Accept, Publish, Begin}
+use Rattle.numa_space.specs.declared.event.Event.TheVariants.{Look, Try, Give}
 use Rattle.numa_publish.specs.Shown.{DeskState}
 use Rattle.numa_tie.specs.Hunts.{Turn}
 use Rattle.numa_tie.specs.Moves.{PoolState}

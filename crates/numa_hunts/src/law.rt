@@ -1,5 +1,6 @@
 //! Laws of the running threads and the core's world.
-ghost use Rattle.std.specs.Prelude.{◌≡◌, ◌≢◌, ℕ, ◌<◌, ◌≤◌, None, Some, Ok, Err, List, [], ◌∷◌, ◌++◌, length, slice_get, slice_index};
+ghost use Rattle.std.specs.Prelude.{◌≡◌, ◌≢◌, ℕ, ◌<◌, ◌≤◌, None, Some, Ok, Err, List};
+ghost use Rattle.std.specs.Prelude.{[], ◌∷◌, ◌++◌, length, slice_get, slice_index};
 ghost use Rattle.numa_core.specs.Runs.{Moment, IsLegalRun, worker_of, world_of};
 ghost use Rattle.numa_core.specs.Steps.{answer_of};
 ghost use Rattle.numa_core.specs.World.{Setup, World, opening, owner_of};
@@ -35,7 +36,8 @@ pub fn a_desk_is_the_worlds()
         → IsDeskOf s opening desk }
     ensures accepts { (s : Setup) (world : World) (before after : DeskState) (command : Command)
         (version : ℕ) → IsDeskOf s world before → Accepts before command version after
-        → LeadsTo s world (moment_of (Event.Accept command) (Ok (CoreReply.Accepted version))) after }
+        → LeadsTo s world (moment_of (Event.Accept command) (Ok (CoreReply.Accepted version)))
+        after }
     ensures refuses { (s : Setup) (world : World) (desk : DeskState) (command : Command)
         (refusal : Refusal) → IsDeskOf s world desk → Refuses desk command refusal
         → refusal ≢ Refusal.NoMemory

@@ -1,5 +1,6 @@
 -- A span of pages is the list of their nodes: entry k is the node of page k.
-use Rattle.std.specs.Prelude.{◌≡◌, ℕ, ◌+◌, ◌%◌, ◌<◌, ◌≤◌, ◌==◌, List, length, count_by, slice_index, EachIndex}
+use Rattle.std.specs.Prelude.{◌≡◌, ℕ, ◌+◌, ◌%◌, ◌<◌, ◌≤◌, ◌==◌, List, length}
+use Rattle.std.specs.Prelude.{count_by, slice_index, EachIndex}
 use Rattle.numa_mask.specs.NodeSet.{has}
 
 -- each page is on the node
@@ -8,7 +9,8 @@ filled node span = EachIndex span (λ k. slice_index span k ≡ node)
 
 -- page k is on the node whose turn is start + k, in a cycle that begins again after its last entry
 abbrev pub cycled : List ℕ → ℕ → List ℕ → Type 0
-cycled cycle start span = EachIndex span (λ k. slice_index span k ≡ slice_index cycle ((start + k) % length cycle))
+cycled cycle start span =
+    EachIndex span (λ k. slice_index span k ≡ slice_index cycle ((start + k) % length cycle))
 
 -- how many pages are on the node
 abbrev pub counted : ℕ → List ℕ → ℕ
@@ -20,8 +22,10 @@ counted_in set span = count_by (has set) span
 
 -- each page is on one of the nodes from the least to the greatest
 abbrev pub between : ℕ → ℕ → List ℕ → Type 0
-between least greatest span = EachIndex span (λ k. (least ≤ slice_index span k) × (slice_index span k ≤ greatest))
+between least greatest span = EachIndex span (λ k. (least ≤ slice_index span k)
+    × (slice_index span k ≤ greatest))
 
 -- the new count of each node is the old one with the pages of the span that are on it
 abbrev pub Adds : List ℕ → List ℕ → List ℕ → Type 0
-Adds span old new = (node : ℕ) → node < 256 → slice_index new node ≡ slice_index old node + counted node span
+Adds span old new = (node : ℕ) → node < 256 → slice_index new node
+    ≡ slice_index old node + counted node span

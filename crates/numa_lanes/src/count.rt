@@ -5,8 +5,9 @@ ghost use Rattle.numa_lanes.specs.Spans.{counted};
 use crate::lanes::{LANES, ROUNDS, add_lanes, hits, sum_of_lanes};
 use std::simd::prelude::*;
 
-/// How many pages of a block are on the node. A block is a whole number of vectors of 32 pages, and at most 255 of them:
-/// a lane counts one page a vector in a byte, so after 255 vectors it may be full.
+/// How many pages of a block are on the node. A block is a whole number of vectors of 32 pages, and
+/// at most 255 of them: a lane counts one page a vector in a byte, so after 255 vectors it may be
+/// full.
 pub fn count_block(block: &[u8], rounds: usize, node: u8) -> u64
     requires whole { length block.now ≡ 32 * rounds }
     requires rounds_fit { rounds ≤ 255 }

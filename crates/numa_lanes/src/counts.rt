@@ -8,7 +8,8 @@ use crate::lanes::{LANES, ROUNDS, WORTH};
 
 /// Adds to each node's count the pages of a span that are on it, one page after another.
 fn tally(span: &[u8], counts: &mut [u64; 256])
-    requires { (node : ℕ) → node < 256 → slice_index counts.old node + counted node span.now < 2 ^ 64 }
+    requires { (node : ℕ) → node < 256 →
+        slice_index counts.old node + counted node span.now < 2 ^ 64 }
     ensures { Adds span.now counts.old counts.new }
 {
     for entry in span {
@@ -16,13 +17,14 @@ fn tally(span: &[u8], counts: &mut [u64; 256])
     }
 }
 
-/// Adds to each node's count the pages of a block that are on it, where they are all on nodes from `least` to `greatest`:
-/// a pass over the block for each of these.
+/// Adds to each node's count the pages of a block that are on it, where they are all on nodes from
+/// `least` to `greatest`: a pass over the block for each of these.
 fn add_between(block: &[u8], rounds: usize, least: u8, greatest: u8, counts: &mut [u64; 256])
     requires whole { length block.now ≡ 32 * rounds }
     requires rounds_fit { rounds ≤ 255 }
     requires ends { between least greatest block.now }
-    requires room { (node : ℕ) → node < 256 → slice_index counts.old node + counted node block.now < 2 ^ 64 }
+    requires room { (node : ℕ) → node < 256 →
+        slice_index counts.old node + counted node block.now < 2 ^ 64 }
     ensures { Adds block.now counts.old counts.new }
 {
     for node in usize::from(least)..usize::from(greatest) + 1 {
@@ -35,7 +37,8 @@ fn add_block(block: &[u8], rounds: usize, counts: &mut [u64; 256])
     requires whole { length block.now ≡ 32 * rounds }
     requires some { 8 ≤ rounds }
     requires rounds_fit { rounds ≤ 255 }
-    requires room { (node : ℕ) → node < 256 → slice_index counts.old node + counted node block.now < 2 ^ 64 }
+    requires room { (node : ℕ) → node < 256 →
+        slice_index counts.old node + counted node block.now < 2 ^ 64 }
     ensures { Adds block.now counts.old counts.new }
 {
     match near_ends(block, rounds) {

@@ -1,11 +1,13 @@
 //! Between which nodes the pages of a block are.
-ghost use Rattle.std.specs.Prelude.{◌≡◌, ℕ, ◌+◌, ◌*◌, ◌<◌, ◌≤◌, length, slice_index, EachIndex, IfSome};
+ghost use Rattle.std.specs.Prelude.{◌≡◌, ℕ, ◌+◌, ◌*◌, ◌<◌, ◌≤◌, length};
+ghost use Rattle.std.specs.Prelude.{slice_index, EachIndex, IfSome};
 ghost use Rattle.numa_lanes.specs.Spans.{between};
 
 use crate::lanes::LANES;
 use std::simd::prelude::*;
 
-/// How many neighbouring nodes a block may hold at most, so that a pass of lanes for each is faster than a tally.
+/// How many neighbouring nodes a block may hold at most, so that a pass of lanes for each is faster
+/// than a tally.
 const NEAR: u8 = 12;
 
 /// How many vectors of a block are looked at before the rest.
@@ -96,8 +98,9 @@ fn begins_wide(block: &[u8]) -> bool
     is_wide(least, greatest)
 }
 
-/// Two nodes between which the pages of a block of whole vectors are, where they are so near that a pass of lanes for
-/// each node between them is faster than a tally. Where it gives none is a matter of speed, and no clause says it.
+/// Two nodes between which the pages of a block of whole vectors are, where they are so near that a
+/// pass of lanes for each node between them is faster than a tally. Where it gives none is a matter
+/// of speed, and no clause says it.
 pub(crate) fn near_ends(block: &[u8], rounds: usize) -> Option<(u8, u8)>
     requires whole { length block.now ≡ 32 * rounds }
     requires some { 8 ≤ rounds }

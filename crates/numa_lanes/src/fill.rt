@@ -5,11 +5,13 @@ ghost use Rattle.numa_lanes.specs.Spans.{filled};
 use crate::lanes::LANES;
 use std::simd::prelude::*;
 
-/// How many vectors are stored at most before the rest of a span goes to a plain loop. The back end makes that loop one call
-/// of the C library's memset, which fills a long span faster than vectors of this size, and a short one slower.
+/// How many vectors are stored at most before the rest of a span goes to a plain loop. The back end
+/// makes that loop one call of the C library's memset, which fills a long span faster than vectors
+/// of this size, and a short one slower.
 const FEW: usize = 8;
 
-/// Places the pages of the first whole vectors of a span on the node. Answers how many pages these are.
+/// Places the pages of the first whole vectors of a span on the node. Answers how many pages these
+/// are.
 fn fill_vectors(node: u8, out: &mut [u8]) -> usize
     ensures within { result ≤ length out.new }
     ensures filled { (k : ℕ) → k < result → slice_index out.new k ≡ node }

@@ -1,5 +1,6 @@
 //! A span whose pages take the nodes of a cycle in turn.
-ghost use Rattle.std.specs.Prelude.{◌≡◌, ℕ, ◌+◌, ◌*◌, ◌%◌, ◌^◌, ◌<◌, ◌≤◌, length, slice_index, IfOk};
+ghost use Rattle.std.specs.Prelude.{◌≡◌, ℕ, ◌+◌, ◌*◌, ◌%◌, ◌^◌, ◌<◌};
+ghost use Rattle.std.specs.Prelude.{◌≤◌, length, slice_index, IfOk};
 ghost use Rattle.numa_lanes.specs.Spans.{cycled};
 ghost use Rattle.numa_lanes.specs.Turns.{IsTable};
 
@@ -7,13 +8,15 @@ use std::alloc::{AllocError, Global};
 use std::marker::Model;
 use std::simd::prelude::*;
 
-/// How many pages a vector of the fill places: more than one of a count, since the next waits for the turn that this comes to.
+/// How many pages a vector of the fill places: more than one of a count, since the next waits for
+/// the turn that this comes to.
 const WIDE: usize = 64;
 
-/// The nodes that pages take in turn: a list with at least one entry, which begins again after its last.
+/// The nodes that pages take in turn: a list with at least one entry, which begins again after its
+/// last.
 ///
-/// The entries are kept with a vector's length more of the turns that follow them, so that a vector can be read from each
-/// place of the list.
+/// The entries are kept with a vector's length more of the turns that follow them, so that a vector
+/// can be read from each place of the list.
 #[derive(Drop)]
 pub struct Cycle {
     len: usize,
@@ -62,12 +65,13 @@ fn advance(turn: usize, step: usize, len: usize) -> usize
     if next >= len { next - len } else { next }
 }
 
-/// Places the pages of as many whole vectors as the span has on the nodes of a table in turn. Answers how many pages
-/// these are.
+/// Places the pages of as many whole vectors as the span has on the nodes of a table in turn.
+/// Answers how many pages these are.
 fn fill_vectors(table: &[u8], len: usize, start: usize, out: &mut [u8]) -> usize
     requires { IsTable len table.now }
     ensures within { result ≤ length out.new }
-    ensures cycled { (k : ℕ) → k < result → slice_index out.new k ≡ slice_index table.now ((start + k) % len) }
+    ensures cycled { (k : ℕ) → k < result → slice_index out.new k
+        ≡ slice_index table.now ((start + k) % len) }
 {
     let step = WIDE % len;
     let whole = out.len() / WIDE;
@@ -79,8 +83,8 @@ fn fill_vectors(table: &[u8], len: usize, start: usize, out: &mut [u8]) -> usize
     whole * WIDE
 }
 
-/// Places the pages of the span on the nodes of the cycle in turn, the first on that of turn `start`, which is below 2^36.
-/// Turn t is that of entry t modulo the cycle's length.
+/// Places the pages of the span on the nodes of the cycle in turn, the first on that of turn
+/// `start`, which is below 2^36. Turn t is that of entry t modulo the cycle's length.
 pub fn fill_cycle(cycle: &Cycle, start: u64, out: &mut [u8])
     requires { start < 2 ^ 36 }
     ensures { cycled cycle.now start out.new }

@@ -30,8 +30,8 @@ fn count_pages_in(span: &[u8], set: &NodeMask) -> u64
     total
 }
 
-/// The count in a set, where the pages of a block are all on nodes from `least` to `greatest`: a pass over the block for
-/// each of these that is in the set.
+/// The count in a set, where the pages of a block are all on nodes from `least` to `greatest`: a
+/// pass over the block for each of these that is in the set.
 fn count_between_in(block: &[u8], rounds: usize, least: u8, greatest: u8, set: &NodeMask) -> u64
     requires whole { length block.now ≡ 32 * rounds }
     requires rounds_fit { rounds ≤ 255 }

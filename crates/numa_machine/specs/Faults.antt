@@ -1,19 +1,23 @@
 -- What is wrong with the description of a machine.
-use Rattle.std.specs.Prelude.{ℕ, ◌*◌, ◌&&◌, ◌||◌, not, Bool, List, length, nat_lt, nat_le, ◌==◌, if◌then◌else◌, slice_index, sum, Option, Some, None}
+use Rattle.std.specs.Prelude.{ℕ, ◌*◌, ◌&&◌, ◌||◌, not, Bool, List, length, nat_lt, nat_le}
+use Rattle.std.specs.Prelude.{◌==◌, if◌then◌else◌, slice_index, sum, Option, Some, None}
 use Rattle.std.specs.List.{range_with_len, list_any}
 use Rattle.numa_mask.specs.NodeSet.{has, members}
 use Rattle.numa_machine.specs.Machine.{Hardware, table_entry}
 use Rattle.numa_machine.specs.declared.fault.MachineFault.{MachineFault}
-use Rattle.numa_machine.specs.declared.fault.MachineFault.TheVariants.{NodeCount, NoMemoryNode, BadDistance, TooManyFrames}
+use Rattle.numa_machine.specs.declared.fault.MachineFault.TheVariants.{NodeCount, NoMemoryNode}
+use Rattle.numa_machine.specs.declared.fault.MachineFault.TheVariants.{BadDistance, TooManyFrames}
 
 -- whether a node below the number passes the test
 abbrev pub some_node : ℕ → (ℕ → Bool) → Bool
 some_node nodes test = list_any test (range_with_len 0 nodes)
 
--- the number of nodes is none of 1 to 256, or does not fit the table of distances or the list of frames
+-- the number of nodes is none of 1 to 256, or does not fit the table of distances or the list of
+-- frames
 abbrev pub has_bad_count : ℕ → List ℕ → List ℕ → Bool
 has_bad_count nodes distances frames =
-    nodes == 0 || nat_lt 256 nodes || not (length distances == nodes * nodes) || not (length frames == nodes)
+    nodes == 0 || nat_lt 256 nodes || not (length distances == nodes * nodes)
+        || not (length frames == nodes)
 
 -- no node has memory, or one that is said to have some is none of the machine's
 unfoldable pub has_bad_memory : ℕ → ℕ → Bool
@@ -25,7 +29,8 @@ is_bad_distance from to far = if from == to then not (far == 10) else nat_le far
 
 unfoldable pub has_bad_distance : ℕ → List ℕ → Bool
 has_bad_distance nodes distances =
-    some_node nodes (λ from. some_node nodes (λ to. is_bad_distance from to (table_entry nodes distances from to)))
+    some_node nodes (λ from.
+        some_node nodes (λ to. is_bad_distance from to (table_entry nodes distances from to)))
 
 -- a node has at most 4,096 frames, and one without memory has none
 abbrev pub are_bad_frames : ℕ → ℕ → ℕ → Bool
@@ -34,7 +39,8 @@ are_bad_frames memory node count = nat_lt 4096 count || (not (has memory node) &
 -- some node has too many frames, or all together have more than 65,536
 unfoldable pub has_bad_frames : ℕ → ℕ → List ℕ → Bool
 has_bad_frames nodes memory frames =
-    some_node nodes (λ node. are_bad_frames memory node (slice_index frames node)) || nat_lt 65536 (sum frames)
+    some_node nodes (λ node. are_bad_frames memory node (slice_index frames node))
+        || nat_lt 65536 (sum frames)
 
 -- the first fault of the description of a machine, want of memory apart
 unfoldable pub machine_fault : ℕ → ℕ → List ℕ → List ℕ → Option MachineFault
@@ -47,4 +53,5 @@ machine_fault nodes memory distances frames =
 
 -- the first fault of a machine as it was described
 abbrev pub hardware_fault : Hardware → Option MachineFault
-hardware_fault hardware = machine_fault hardware.nodes hardware.memory hardware.distances hardware.frames
+hardware_fault hardware =
+    machine_fault hardware.nodes hardware.memory hardware.distances hardware.frames

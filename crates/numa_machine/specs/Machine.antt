@@ -1,9 +1,13 @@
--- The hardware: its nodes, those with memory, the distances between nodes and the frames of each node.
-use Rattle.std.specs.Prelude.{ℕ, ◌+◌, ◌*◌, ◌≢◌, ◌↔◌, ◌&&◌, ◌||◌, Bool, IsTrue, List, [], ◌∷◌, fold, nat_lt, ◌==◌, if◌then◌else◌, slice_index, Contains, AllPairs, flat_map}
+-- The hardware: its nodes, those with memory, the distances between nodes and the frames of each
+-- node.
+use Rattle.std.specs.Prelude.{ℕ, ◌+◌, ◌*◌, ◌≢◌, ◌↔◌, ◌&&◌, ◌||◌, Bool, IsTrue}
+use Rattle.std.specs.Prelude.{List, [], ◌∷◌, fold, nat_lt, ◌==◌, if◌then◌else◌}
+use Rattle.std.specs.Prelude.{slice_index, Contains, AllPairs, flat_map}
 use Rattle.std.specs.List.{range_with_len}
 use Rattle.numa_mask.specs.NodeSet.{members}
 
--- a machine as it was described: how many nodes, the set of those with memory, the distances row by row, the frames of each node
+-- a machine as it was described: how many nodes, the set of those with memory, the distances row by
+-- row, the frames of each node
 pub record Hardware : Type 0 where
   pub nodes : ℕ
   pub memory : ℕ
@@ -22,14 +26,16 @@ distance hardware from to = table_entry hardware.nodes hardware.distances from t
 abbrev pub frames_of : Hardware → ℕ → ℕ
 frames_of hardware node = slice_index hardware.frames node
 
--- whether node a is nearer than node b, by how far each is: the smaller distance and, at one distance, the lower number
+-- whether node a is nearer than node b, by how far each is: the smaller distance and, at one
+-- distance, the lower number
 abbrev pub nearer_by : (ℕ → ℕ) → ℕ → ℕ → Bool
 nearer_by far a b = nat_lt (far a) (far b) || (far a == far b && nat_lt a b)
 
 abbrev pub nearer : Hardware → ℕ → ℕ → ℕ → Bool
 nearer hardware from = nearer_by (distance hardware from)
 
--- the list has each node with memory and no other node, each once, and of each two the earlier is nearer
+-- the list has each node with memory and no other node, each once, and of each two the earlier is
+-- nearer
 pub record IsDistanceOrder (hardware : Hardware) (from : ℕ) (order : List ℕ) : Type 0 where
   pub nodes_with_memory : (node : ℕ) → Contains order node ↔ Contains (members hardware.memory) node
   pub without_repeats : AllPairs (λ earlier later. earlier ≢ later) order

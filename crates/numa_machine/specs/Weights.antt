@@ -1,5 +1,7 @@
 -- The weight of each node, and the node that an index chooses.
-use Rattle.std.specs.Prelude.{◌≡◌, ℕ, ◌+◌, ◌-◌, ◌%◌, ◌<◌, ◌≤◌, ◌||◌, List, [], ◌∷◌, nat_lt, nat_le, ◌==◌, if◌then◌else◌, slice_index, slice_index_or, sum_by, filter, flat_map, replicate, length, All, Contains, Option, Some, None}
+use Rattle.std.specs.Prelude.{◌≡◌, ℕ, ◌+◌, ◌-◌, ◌%◌, ◌<◌, ◌≤◌, ◌||◌, List, [], ◌∷◌, nat_lt, nat_le}
+use Rattle.std.specs.Prelude.{◌==◌, if◌then◌else◌, slice_index, slice_index_or, sum_by, filter}
+use Rattle.std.specs.Prelude.{flat_map, replicate, length, All, Contains, Option, Some, None}
 use Rattle.numa_mask.specs.NodeSet.{members, weight_of, ordinal_of}
 use Rattle.numa_machine.specs.declared.fault.WeightFault.{WeightFault}
 use Rattle.numa_machine.specs.declared.fault.WeightFault.TheVariants.{NoSuchNode, BadWeight}
@@ -30,15 +32,18 @@ weight_fault nodes node weight =
 unfoldable pub interleave_node : ℕ → ℕ → ℕ
 interleave_node set index = slice_index (members set) (index % weight_of set)
 
--- interleave in words: the member that as many members are below as the index is modulo their number
+-- interleave in words: the member that as many members are below as the index is modulo their
+-- number
 pub record IsInterleaveNode (set index node : ℕ) : Type 0 where
   pub member : Contains (members set) node
   pub ordinal : ordinal_of set node ≡ index % weight_of set
 
--- the nodes lie one after the other in blocks, each as long as its weight: the node in whose block the place is
+-- the nodes lie one after the other in blocks, each as long as its weight: the node in whose block
+-- the place is
 abbrev pub node_at : (ℕ → ℕ) → List ℕ → ℕ → ℕ
 node_at weight [] place = 0
-node_at weight (node ∷ nodes) place = if nat_lt place (weight node) then node else node_at weight nodes (place - weight node)
+node_at weight (node ∷ nodes) place = if nat_lt place (weight node) then node
+    else node_at weight nodes (place - weight node)
 
 -- the weights of all members together
 unfoldable pub total_weight : (ℕ → ℕ) → ℕ → ℕ
@@ -52,7 +57,8 @@ weighted_node weight set index = node_at weight (members set) (index % total_wei
 unfoldable pub weight_below : (ℕ → ℕ) → ℕ → ℕ → ℕ
 weight_below weight set node = sum_by weight (filter (λ m. nat_lt m node) (members set))
 
--- weighted interleave in words: the member whose block, after those of the smaller members, has the index modulo the total weight
+-- weighted interleave in words: the member whose block, after those of the smaller members, has the
+-- index modulo the total weight
 pub record IsWeightedNode (weight : ℕ → ℕ) (set index node : ℕ) : Type 0 where
   pub member : Contains (members set) node
   pub from_its_block : weight_below weight set node ≤ index % total_weight weight set

@@ -2,7 +2,9 @@
 ghost use Rattle.std.specs.Prelude.{◌≡◌, ◌+◌, ◌*◌, ◌≤◌, ◌<◌, ℕ, length, sum, slice_index, nat_le};
 ghost use Rattle.std.specs.List.{list_any};
 ghost use Rattle.numa_mask.specs.NodeSet.{has, members};
-ghost use Rattle.numa_machine.specs.Faults.{some_node, has_bad_count, has_bad_memory, is_bad_distance, has_bad_distance, are_bad_frames, has_bad_frames, machine_fault};
+ghost use Rattle.numa_machine.specs.Faults.{some_node, has_bad_count, has_bad_memory};
+ghost use Rattle.numa_machine.specs.Faults.{is_bad_distance, has_bad_distance, are_bad_frames};
+ghost use Rattle.numa_machine.specs.Faults.{has_bad_frames, machine_fault};
 ghost use Rattle.numa_machine.specs.Machine.{table_entry};
 
 use crate::fault::MachineFault;
@@ -21,7 +23,8 @@ const MOST_FRAMES: u32 = 4096;
 /// The most frames of all nodes together.
 const MOST_FRAMES_IN_ALL: u64 = 65536;
 
-/// Whether a number of nodes is none of 1 to 256, or does not fit the table of distances or the list of frames.
+/// Whether a number of nodes is none of 1 to 256, or does not fit the table of distances or the
+/// list of frames.
 fn has_bad_count(nodes: u32, distances: &[u8], frames: &[u32]) -> bool
     ensures { result ≡ has_bad_count nodes distances.now frames.now }
 {
@@ -62,7 +65,8 @@ fn is_bad_distance(from: usize, to: usize, far: u8) -> bool
 fn has_bad_row(nodes: usize, distances: &[u8], from: usize) -> bool
     requires nodes { nodes ≤ 256 }
     requires from { from < nodes }
-    ensures { result ≡ some_node nodes (λ to. is_bad_distance from to (table_entry nodes distances.now from to)) }
+    ensures { result ≡ some_node nodes (λ to.
+        is_bad_distance from to (table_entry nodes distances.now from to)) }
 {
     for to in 0..nodes {
         if is_bad_distance(from, to, entry(distances, from * nodes + to)) {
@@ -103,7 +107,8 @@ fn are_bad_frames(memory: &NodeMask, node: u8, count: u32) -> bool
 /// Whether some node has too many frames.
 fn has_bad_node(memory: &NodeMask, frames: &[u32]) -> bool
     requires { length frames.now ≤ 256 }
-    ensures { result ≡ some_node (length frames.now) (λ node. are_bad_frames memory.now node (slice_index frames.now node)) }
+    ensures { result ≡ some_node (length frames.now) (λ node.
+        are_bad_frames memory.now node (slice_index frames.now node)) }
 {
     for (node, count) in frames.iter().enumerate() {
         if are_bad_frames(memory, node as u8, *count) {

@@ -1,35 +1,41 @@
-//! Laws about the definitions that the contracts of this crate cite. Each function does nothing: what it ensures is the
-//! law.
+//! Laws about the definitions that the contracts of this crate cite. Each function does nothing:
+//! what it ensures is the law.
 ghost use Rattle.std.specs.Prelude.{◌≡◌, ℕ, ◌%◌, ◌<◌, List, length, slice_index};
 ghost use Rattle.numa_mask.specs.NodeSet.{weight_of};
 ghost use Rattle.numa_machine.specs.Machine.{Hardware, IsDistanceOrder, distance_order};
-ghost use Rattle.numa_machine.specs.Weights.{interleave_node, IsInterleaveNode, total_weight, weighted_node, IsWeightedNode, cycle};
+ghost use Rattle.numa_machine.specs.Weights.{interleave_node, IsInterleaveNode, total_weight};
+ghost use Rattle.numa_machine.specs.Weights.{weighted_node, IsWeightedNode, cycle};
 
-/// The distance order of a node has each node with memory once, of each two the nearer one earlier, and it is the only
-/// list that does.
+/// The distance order of a node has each node with memory once, of each two the nearer one earlier,
+/// and it is the only list that does.
 pub fn distance_orders()
-    ensures is_one { (hardware : Hardware) (from : ℕ) → IsDistanceOrder hardware from (distance_order hardware from) }
+    ensures is_one { (hardware : Hardware) (from : ℕ) →
+        IsDistanceOrder hardware from (distance_order hardware from) }
     ensures is_the_only_one { (hardware : Hardware) (from : ℕ) (order : List ℕ)
         → IsDistanceOrder hardware from order → order ≡ distance_order hardware from }
 {}
 
-/// The node that interleave chooses from a set that is not empty is the member with as many smaller members as the index
-/// is modulo their number, and no other node is.
+/// The node that interleave chooses from a set that is not empty is the member with as many smaller
+/// members as the index is modulo their number, and no other node is.
 pub fn interleave_nodes()
-    ensures is_one { (set index : ℕ) → 0 < weight_of set → IsInterleaveNode set index (interleave_node set index) }
+    ensures is_one { (set index : ℕ) → 0 < weight_of set →
+        IsInterleaveNode set index (interleave_node set index) }
     ensures is_the_only_one { (set index node : ℕ)
         → IsInterleaveNode set index node → node ≡ interleave_node set index }
 {}
 
-/// The node that weighted interleave chooses, where the weights are not all 0, is the member whose block has the index
-/// modulo the total weight, and no other node is. The blocks written out are as long as the total weight and have it at
-/// that place.
+/// The node that weighted interleave chooses, where the weights are not all 0, is the member whose
+/// block has the index modulo the total weight, and no other node is. The blocks written out are as
+/// long as the total weight and have it at that place.
 pub fn weighted_nodes()
     ensures is_one { (weight : ℕ → ℕ) (set index : ℕ)
-        → 0 < total_weight weight set → IsWeightedNode weight set index (weighted_node weight set index) }
+        → 0 < total_weight weight set →
+        IsWeightedNode weight set index (weighted_node weight set index) }
     ensures is_the_only_one { (weight : ℕ → ℕ) (set index node : ℕ)
         → IsWeightedNode weight set index node → node ≡ weighted_node weight set index }
-    ensures cycle_length { (weight : ℕ → ℕ) (set : ℕ) → length (cycle weight set) ≡ total_weight weight set }
+    ensures cycle_length { (weight : ℕ → ℕ) (set : ℕ) → length (cycle weight set)
+        ≡ total_weight weight set }
     ensures cycle_places { (weight : ℕ → ℕ) (set index : ℕ)
-        → slice_index (cycle weight set) (index % total_weight weight set) ≡ weighted_node weight set index }
+        → slice_index (cycle weight set) (index % total_weight weight set)
+        ≡ weighted_node weight set index }
 {}

@@ -1,5 +1,6 @@
-//! The machine on which memory is placed: its nodes, the distances between them, their frames, and the weights by
-//! which nodes take turns. Want of memory, as the crates above answer it, stands here too.
+//! The machine on which memory is placed: its nodes, the distances between them, their frames, and
+//! the weights by which nodes take turns. Want of memory, as the crates above answer it, stands
+//! here too.
 #![tactic(auto)]
 
 mod description;

@@ -1,5 +1,6 @@
 //! A machine: its nodes, those with memory, the distances between them and their frames.
-ghost use Rattle.std.specs.Prelude.{◌≡◌, ◌≢◌, ◌<◌, ◌≤◌, ℕ, All, IfErr, IfOk, MatchOption, None, false, length};
+ghost use Rattle.std.specs.Prelude.{◌≡◌, ◌≢◌, ◌<◌, ◌≤◌, ℕ, All, IfErr, IfOk};
+ghost use Rattle.std.specs.Prelude.{MatchOption, None, false, length};
 ghost use Rattle.numa_mask.specs.NodeSet.{has, members};
 ghost use Rattle.numa_machine.specs.Machine.{distance, frames_of, distance_order, IsDistanceOrder};
 ghost use Rattle.numa_machine.specs.Faults.{machine_fault, hardware_fault};
@@ -11,16 +12,17 @@ use numa_mask::NodeMask;
 use std::alloc::Global;
 use std::marker::Model;
 
-/// A machine of 1 to 256 nodes, some of which have memory. The distances between nodes are those of ACPI's System Locality
-/// Information Table, which `numactl --hardware` prints: 10 from a node to itself and more to another, not always the same
-/// both ways. 255 is a distance like the others.
+/// A machine of 1 to 256 nodes, some of which have memory. The distances between nodes are those of
+/// ACPI's System Locality Information Table, which `numactl --hardware` prints: 10 from a node to
+/// itself and more to another, not always the same both ways. 255 is a distance like the others.
 #[derive(Debug, Drop)]
 pub struct Machine {
     nodes: u32,
     memory: NodeMask,
     distances: Vec<u8>,
     frames: Vec<u32>,
-    /// The orders of nodes 0, 1, .., one after the other, each as long as there are nodes with memory.
+    /// The orders of nodes 0, 1, .., one after the other, each as long as there are nodes with
+    /// memory.
     orders: Vec<u8>,
 }
 
@@ -30,15 +32,19 @@ impl Model for Machine {
 
     ghost Value = { Hardware };
 
-    ghost view = { λ m. record { nodes = m.nodes; memory = m.memory; distances = m.distances.items; frames = m.frames.items } };
+    ghost view = { λ m. record { nodes = m.nodes; memory = m.memory; distances = m.distances.items;
+        frames = m.frames.items } };
 
-    ghost invariant = { λ m. IsSound (record { nodes = m.nodes; memory = m.memory; distances = m.distances.items; frames = m.frames.items }) m.orders.items };
+    ghost invariant = { λ m.
+        IsSound (record { nodes = m.nodes; memory = m.memory; distances = m.distances.items;
+        frames = m.frames.items }) m.orders.items };
 }
 
 impl Machine {
-    /// The machine with this many nodes, these of them with memory, these distances between them (row by row, the row of
-    /// a node before that of the next) and this many frames of 4,096 bytes for each node. Refusals, the first that
-    /// applies: `NodeCount`, `NoMemoryNode`, `BadDistance`, `TooManyFrames`, `NoMemory`.
+    /// The machine with this many nodes, these of them with memory, these distances between them
+    /// (row by row, the row of a node before that of the next) and this many frames of 4,096 bytes
+    /// for each node. Refusals, the first that applies: `NodeCount`, `NoMemoryNode`, `BadDistance`,
+    /// `TooManyFrames`, `NoMemory`.
     pub fn new(
         alloc: Global,
         nodes: u32,
@@ -46,9 +52,12 @@ impl Machine {
         distances: &[u8],
         frames: &[u32],
     ) -> Result<Machine, MachineFault>
-        ensures ok { IfOk result (λ machine. (machine_fault nodes memory distances.now frames.now ≡ None)
-            × (machine ≡ record { nodes = nodes; memory = memory; distances = distances.now; frames = frames.now })) }
-        ensures err { IfErr result (λ fault. MatchOption (machine_fault nodes memory distances.now frames.now)
+        ensures ok { IfOk result (λ machine.
+            (machine_fault nodes memory distances.now frames.now ≡ None)
+            × (machine ≡ record { nodes = nodes; memory = memory; distances = distances.now;
+            frames = frames.now })) }
+        ensures err { IfErr result (λ fault.
+            MatchOption (machine_fault nodes memory distances.now frames.now)
             (fault ≡ MachineFault.NoMemory) (λ first. fault ≡ first)) }
     {
         if let Some(fault) = fault_of(nodes, &memory, distances, frames) {
@@ -97,7 +106,8 @@ impl Machine {
         )
     }
 
-    /// How many frames of 4,096 bytes a node has: none where it has no memory, none past the last node.
+    /// How many frames of 4,096 bytes a node has: none where it has no memory, none past the last
+    /// node.
     pub fn frames(&self, node: u32) -> u32
         ensures frames { result ≡ frames_of self.now node }
         ensures at_most { result ≤ 4096 }
@@ -106,8 +116,9 @@ impl Machine {
         self.frames.get(node as usize).copied().unwrap_or(0)
     }
 
-    /// All nodes with memory, the nearest to a node first, equally distant ones by their number. In this order an allocation
-    /// falls back: "NUMA Memory Policy" has the kernel search other nodes in order of increasing distance.
+    /// All nodes with memory, the nearest to a node first, equally distant ones by their number. In
+    /// this order an allocation falls back: "NUMA Memory Policy" has the kernel search other nodes
+    /// in order of increasing distance.
     pub fn order(&self, node: u32) -> &[u8]
         requires { node < self.now.nodes }
         ensures order { result.now ≡ distance_order self.now node }

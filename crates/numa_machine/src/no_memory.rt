@@ -1,7 +1,8 @@
 //! Want of memory.
 use std::alloc::{AllocError, AllocFailed};
 
-/// A growth was refused: there was no memory for it. Each call that answers this says what it wanted memory for.
+/// A growth was refused: there was no memory for it. Each call that answers this says what it
+/// wanted memory for.
 #[derive(Clone, Copy, PartialEq, Eq, Debug, Drop)]
 pub struct NoMemory;
 

@@ -1,5 +1,6 @@
 //! The weights by which nodes take turns.
-ghost use Rattle.std.specs.Prelude.{◌≡◌, ◌≢◌, ◌==◌, ◌<◌, ◌≤◌, ◌%◌, ◌++◌, ℕ, IfOk, OnOk, OnErr, if◌then◌else◌, min, replicate, slice_index, vec_len};
+ghost use Rattle.std.specs.Prelude.{◌≡◌, ◌≢◌, ◌==◌, ◌<◌, ◌≤◌, ◌%◌, ◌++◌, ℕ, IfOk, OnOk, OnErr};
+ghost use Rattle.std.specs.Prelude.{if◌then◌else◌, min, replicate, slice_index, vec_len};
 ghost use Rattle.std.specs.Result.{result_err};
 
 use crate::fault::WeightFault;
@@ -13,8 +14,9 @@ const NODES: usize = 256;
 /// The greatest weight of a node.
 const GREATEST_WEIGHT: u32 = 255;
 
-/// The weight of each node, from 1 to 255. A node of weight 3 takes three turns where one of weight 1 takes one, as in
-/// the weighted interleave of set_mempolicy(2) and the kernel's `/sys/kernel/mm/mempolicy/weighted_interleave`.
+/// The weight of each node, from 1 to 255. A node of weight 3 takes three turns where one of weight
+/// 1 takes one, as in the weighted interleave of set_mempolicy(2) and the kernel's
+/// `/sys/kernel/mm/mempolicy/weighted_interleave`.
 #[derive(Clone, Copy, Debug)]
 pub struct Weights {
     nodes: u32,
@@ -42,9 +44,11 @@ fn push_turns(cycle: &mut Vec<u8>, node: u8, weight: u8) -> Result<(), AllocErro
 }
 
 impl Weights {
-    ghost use Rattle.numa_machine.specs.Weights.{weight_at, weight_fault, total_weight, weighted_node, cycle};
+    ghost use Rattle.numa_machine.specs.Weights.{weight_at, weight_fault, total_weight};
+    ghost use Rattle.numa_machine.specs.Weights.{weighted_node, cycle};
 
-    /// Weight 1 for each node of a machine. A machine has at most 256 nodes: of a greater number 256 count.
+    /// Weight 1 for each node of a machine. A machine has at most 256 nodes: of a greater number
+    /// 256 count.
     pub fn new(nodes: u32) -> Weights
         ensures nodes { result.nodes ≡ min nodes 256 }
         ensures weights { (node : ℕ) → weight_at result node ≡ 1 }
@@ -55,12 +59,13 @@ impl Weights {
         }
     }
 
-    /// Sets the weight of a node. Refusals, the first that applies: `NoSuchNode` for a node that the machine lacks,
-    /// `BadWeight` for a weight of 0 or above 255. A refusal changes nothing.
+    /// Sets the weight of a node. Refusals, the first that applies: `NoSuchNode` for a node that
+    /// the machine lacks, `BadWeight` for a weight of 0 or above 255. A refusal changes nothing.
     pub fn set(&mut self, node: u32, weight: u32) -> Result<(), WeightFault>
         ensures fault { result_err result ≡ weight_fault self.old.nodes node weight }
         ensures nodes { self.new.nodes ≡ self.old.nodes }
-        ensures weights { OnOk result ((other : ℕ) → weight_at self.new other ≡ (if other == node then weight else weight_at self.old other)) }
+        ensures weights { OnOk result ((other : ℕ) → weight_at self.new other
+            ≡ (if other == node then weight else weight_at self.old other)) }
         ensures unchanged { OnErr result (self.new ≡ self.old) }
     {
         if node >= self.nodes {
@@ -83,12 +88,15 @@ impl Weights {
         u32::from(self.weights[node as usize])
     }
 
-    /// The members of a set in rising order, each as often as its weight: the turns of weighted interleave written out.
+    /// The members of a set in rising order, each as often as its weight: the turns of weighted
+    /// interleave written out.
     pub fn cycle_of(&self, alloc: Global, set: &NodeMask) -> Result<Vec<u8>, AllocError>
         ensures cycle { IfOk result (λ turns. turns.items ≡ cycle (weight_at self.now) set.now) }
-        ensures length { IfOk result (λ turns. vec_len turns ≡ total_weight (weight_at self.now) set.now) }
+        ensures length { IfOk result (λ turns. vec_len turns
+            ≡ total_weight (weight_at self.now) set.now) }
         ensures places { IfOk result (λ turns. (index : ℕ)
-            → slice_index turns.items (index % total_weight (weight_at self.now) set.now) ≡ weighted_node (weight_at self.now) set.now index) }
+            → slice_index turns.items (index % total_weight (weight_at self.now) set.now)
+            ≡ weighted_node (weight_at self.now) set.now index) }
         ensures some { set.now ≢ 0 → IfOk result (λ turns. 0 < vec_len turns) }
     {
         let mut cycle = Vec::with_capacity(alloc, set.weight() as usize)?;

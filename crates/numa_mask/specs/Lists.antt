@@ -1,11 +1,15 @@
 -- Lists of nodes as text, as in `0,2-3,5`.
-use Rattle.std.specs.Prelude.{ℕ, ◌+◌, ◌-◌, ◌==◌, ◌++◌, ◌&&◌, ◌||◌, not, Bool, List, [], length, map, filter, codes, decimal, nat_le, nat_lt, if◌then◌else◌, Option, Some, None, Result, Ok, Err, slice_get, take, drop, position}
+use Rattle.std.specs.Prelude.{ℕ, ◌+◌, ◌-◌, ◌==◌, ◌++◌, ◌&&◌, ◌||◌, not, Bool, List, [], length}
+use Rattle.std.specs.Prelude.{map, filter, codes, decimal, nat_le, nat_lt, if◌then◌else◌, Option}
+use Rattle.std.specs.Prelude.{Some, None, Result, Ok, Err, slice_get, take, drop, position}
 use Rattle.std.specs.Char.{is_digit, digit_value}
-use Rattle.std.specs.List.{list_all, slice_split, filter_map, flat_map, range_with_len, prefix_len, join_with_byte}
+use Rattle.std.specs.List.{list_all, slice_split, filter_map, flat_map}
+use Rattle.std.specs.List.{range_with_len, prefix_len, join_with_byte}
 use Rattle.std.specs.Result.{result_err}
 use Rattle.std.specs.Str.Parse.{digits_value}
 use Rattle.numa_mask.specs.declared.list.ListFault.{ListFault}
-use Rattle.numa_mask.specs.declared.list.ListFault.TheVariants.{Empty, BadDigit, BackRange, NodeTooHigh}
+use Rattle.numa_mask.specs.declared.list.ListFault.TheVariants.{Empty, BadDigit, BackRange}
+use Rattle.numa_mask.specs.declared.list.ListFault.TheVariants.{NodeTooHigh}
 use Rattle.numa_mask.specs.NodeSet.{has, members, set_of}
 
 -- ---- reading
@@ -20,7 +24,8 @@ digit_of c = if is_digit c 10 then Some (digit_value c) else None
 
 -- the number that 1 to 4 decimal digits write; other texts write none
 unfoldable pub numeral_of : List ℕ → Option ℕ
-numeral_of digits = if nat_le 1 (length digits) && nat_le (length digits) 4 && list_all (λ c. is_digit c 10) digits then Some (digits_value 10 digits) else None
+numeral_of digits = if nat_le 1 (length digits) && nat_le (length digits) 4
+    && list_all (λ c. is_digit c 10) digits then Some (digits_value 10 digits) else None
 
 -- both of two numbers, where there are two
 abbrev pub both_of : Option ℕ → Option ℕ → Option (ℕ × ℕ)
@@ -28,7 +33,8 @@ both_of None last = None
 both_of (Some first) None = None
 both_of (Some first) (Some last) = Some (first, last)
 
--- the ends of an item `a-b`, which is two numerals around its first dash, or of an item `a`, whose both ends are a
+-- the ends of an item `a-b`, which is two numerals around its first dash, or of an item `a`, whose
+-- both ends are a
 abbrev pub ends_at : List ℕ → Option ℕ → Option (ℕ × ℕ)
 ends_at item None = both_of (numeral_of item) (numeral_of item)
 ends_at item (Some dash) = both_of (numeral_of (take dash item)) (numeral_of (drop (dash + 1) item))
@@ -39,7 +45,8 @@ ends_of item = ends_at item (position (λ b. b == 45) item)
 -- the ends of a range, judged: the first may not be above the last, and both are nodes
 abbrev pub judged : Option (ℕ × ℕ) → Result (ℕ × ℕ) ListFault
 judged None = Err BadDigit
-judged (Some (first, last)) = if nat_lt last first then Err BackRange else if nat_le 256 first || nat_le 256 last then Err NodeTooHigh else Ok (first, last)
+judged (Some (first, last)) = if nat_lt last first then Err BackRange else if nat_le 256 first
+    || nat_le 256 last then Err NodeTooHigh else Ok (first, last)
 
 -- what an item is: the first and the last of its nodes, or its first fault
 unfoldable pub item_of : List ℕ → Result (ℕ × ℕ) ListFault
@@ -77,7 +84,8 @@ list_of text = unless (slice_get (faults_of (items_of text)) 0) (set_of_items (i
 abbrev pub starts_run : ℕ → ℕ → Bool
 starts_run set node = node == 0 || not (has set (node - 1))
 
--- the last node of the run that starts at this one: the run goes on as long as the next node is a member
+-- the last node of the run that starts at this one: the run goes on as long as the next node is a
+-- member
 abbrev pub run_end : ℕ → ℕ → ℕ
 run_end set first = first + prefix_len (has set) (range_with_len (first + 1) (255 - first))
 
@@ -87,7 +95,8 @@ run_starts set = filter (starts_run set) (members set)
 
 -- a run of one node is written as `a`, a longer one as `a-b`
 abbrev pub run_text : ℕ → ℕ → List ℕ
-run_text first last = if first == last then decimal first else decimal first ++ codes "-" ++ decimal last
+run_text first last = if first == last then decimal first else decimal first ++ codes "-"
+    ++ decimal last
 
 -- a text with one more part: after a comma, unless it is the first
 abbrev pub with_part : List ℕ → List ℕ → List ℕ

@@ -1,6 +1,9 @@
--- A set of nodes is a number: node n is a member where bit n is 1. The nodes of a machine are below 256.
--- The operations are those of the Linux kernel's bitmaps; what stands in quotes is from the comments in its lib/bitmap.c.
-use Rattle.std.specs.Prelude.{ℕ, ◌%◌, ◌^◌, ◌&&◌, not, Bool, Option, List, length, map, filter, fold, count_by, nat_lt, ◌==◌, if◌then◌else◌, bit_and, bit_or, slice_get, slice_index}
+-- A set of nodes is a number: node n is a member where bit n is 1. The nodes of a machine are below
+-- 256. The operations are those of the Linux kernel's bitmaps; what stands in quotes is from the
+-- comments in its lib/bitmap.c.
+use Rattle.std.specs.Prelude.{ℕ, ◌%◌, ◌^◌, ◌&&◌, not, Bool, Option, List, length}
+use Rattle.std.specs.Prelude.{map, filter, fold, count_by, nat_lt, ◌==◌, if◌then◌else◌}
+use Rattle.std.specs.Prelude.{bit_and, bit_or, slice_get, slice_index}
 use Rattle.std.specs.Int.{bit_at}
 use Rattle.std.specs.List.{filter_map, range_with_len}
 
@@ -40,15 +43,18 @@ both = bit_and
 abbrev pub fold_set : ℕ → ℕ → ℕ
 fold_set set size = set_of (map (λ m. m % size) (members set))
 
--- bitmap_onto: "Set the n-th bit of @dst iff there exists some m such that the n-th bit of @relmap is set, the m-th bit of @orig is set, and
--- the n-th bit of @relmap is also the m-th _set_ bit of @relmap." So member m gives the m-th member of the other set, where there is one.
+-- bitmap_onto: "Set the n-th bit of @dst iff there exists some m such that the n-th bit of @relmap
+-- is set, the m-th bit of @orig is set, and the n-th bit of @relmap is also the m-th _set_ bit of
+-- @relmap." So member m gives the m-th member of the other set, where there is one.
 abbrev pub onto_set : ℕ → ℕ → ℕ
 onto_set set other = set_of (filter_map (nth_member other) (members set))
 
--- bitmap_remap, for one node: "map the position of the n-th set bit in @old to the position of the m-th set bit in @new, where m == n % w",
--- w being the weight of new; "the positions of unset bits in @old are mapped to themselves", and so are all where new is empty
+-- bitmap_remap, for one node: "map the position of the n-th set bit in @old to the position of the
+-- m-th set bit in @new, where m == n % w", w being the weight of new; "the positions of unset bits
+-- in @old are mapped to themselves", and so are all where new is empty
 abbrev pub moved : ℕ → ℕ → ℕ → ℕ
-moved old new node = if has old node && not (new == 0) then slice_index (members new) (ordinal_of old node % weight_of new) else node
+moved old new node = if has old node && not (new == 0)
+    then slice_index (members new) (ordinal_of old node % weight_of new) else node
 
 -- bitmap_remap: each member, moved
 abbrev pub remap_set : ℕ → ℕ → ℕ → ℕ

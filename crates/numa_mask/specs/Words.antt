@@ -1,5 +1,6 @@
 -- Four words of 64 bits as one number: bit n of the number is bit n % 64 of word n / 64.
-use Rattle.std.specs.Prelude.{refl, slice_index, ◌≡◌, ℕ, ◌+◌, ◌*◌, ◌/◌, ◌%◌, ◌^◌, ◌<◌, List, [], ◌∷◌, length}
+use Rattle.std.specs.Prelude.{refl, slice_index, ◌≡◌, ℕ, ◌+◌, ◌*◌, ◌/◌}
+use Rattle.std.specs.Prelude.{◌%◌, ◌^◌, ◌<◌, List, [], ◌∷◌, length}
 use Rattle.std.proofs.Common.{arith}
 
 unfoldable pub number_of : List ℕ → ℕ
@@ -8,7 +9,8 @@ number_of (word ∷ words) = number_of words * 2 ^ 64 + word
 
 -- the four words of a number below 2 ^ 256
 abbrev pub words_of : ℕ → List ℕ
-words_of n = n % 2 ^ 64 ∷ n / 2 ^ 64 % 2 ^ 64 ∷ n / 2 ^ 64 / 2 ^ 64 % 2 ^ 64 ∷ n / 2 ^ 64 / 2 ^ 64 / 2 ^ 64 ∷ []
+words_of n = n % 2 ^ 64 ∷ n / 2 ^ 64 % 2 ^ 64 ∷ n / 2 ^ 64 / 2 ^ 64 % 2 ^ 64
+    ∷ n / 2 ^ 64 / 2 ^ 64 / 2 ^ 64 ∷ []
 
 pub record AreFour (words : List ℕ) : Type 0 where
   pub four : length words ≡ 4

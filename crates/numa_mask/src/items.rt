@@ -15,7 +15,8 @@ pub(crate) fn first_place(text: &[u8], byte: u8) -> Option<usize>
 #[tactic(auto, using(crate::proofs::Reading::cut_at, crate::proofs::Reading::cut_nowhere))]
 /// What stands before the first comma, and what stands after it.
 fn cut(text: &[u8]) -> Option<(&[u8], &[u8])>
-    ensures { MatchOption result (items_of text.now ≡ text.now ∷ []) (λ parts. items_of text.now ≡ parts.0.now ∷ items_of parts.1.now) }
+    ensures { MatchOption result (items_of text.now ≡ text.now ∷ []) (λ parts. items_of text.now
+        ≡ parts.0.now ∷ items_of parts.1.now) }
 {
     let comma = first_place(text, b',')?;
     Some((&text[..comma], &text[comma + 1..]))

@@ -1,9 +1,11 @@
-//! Lists of nodes as text, as in `0,2-3,5`: the form that the kernel's bitmap_parselist reads, without its strides, and
-//! that `/sys/devices/system/node/online` shows.
-ghost use Rattle.std.specs.Prelude.{◌≡◌, ◌≢◌, ℕ, ◌+◌, ◌-◌, ◌*◌, ◌<◌, ◌≤◌, ◌++◌, List, length, Ok, Err, Some, None};
+//! Lists of nodes as text, as in `0,2-3,5`: the form that the kernel's bitmap_parselist reads,
+//! without its strides, and that `/sys/devices/system/node/online` shows.
+ghost use Rattle.std.specs.Prelude.{◌≡◌, ◌≢◌, ℕ, ◌+◌, ◌-◌, ◌*◌, ◌<◌, ◌≤◌, ◌++◌};
+ghost use Rattle.std.specs.Prelude.{List, length, Ok, Err, Some, None};
 ghost use Rattle.numa_mask.specs.NodeSet.{has, with_node};
 ghost use Rattle.std.specs.List.{fold};
-ghost use Rattle.numa_mask.specs.Lists.{list_of, item_of, ends_of, digit_of, numeral_of, nodes_between, starts_run, run_end, run_text, text_of};
+ghost use Rattle.numa_mask.specs.Lists.{list_of, item_of, ends_of, digit_of, numeral_of};
+ghost use Rattle.numa_mask.specs.Lists.{nodes_between, starts_run, run_end, run_text, text_of};
 
 use crate::items::{Items, first_place};
 use crate::mask::NodeMask;
@@ -89,11 +91,11 @@ fn insert_between(set: &mut NodeMask, first: u8, last: u8)
     }
 }
 
-/// Reads a list of nodes: items separated by commas, each of them `a` or `a-b`, where a and b are numbers of 1 to 4
-/// decimal digits. Items may overlap and come in any order.
+/// Reads a list of nodes: items separated by commas, each of them `a` or `a-b`, where a and b are
+/// numbers of 1 to 4 decimal digits. Items may overlap and come in any order.
 ///
-/// Items are judged from the left, and the first faulty one decides. Inside an item the faults come in this order:
-/// `Empty`, `BadDigit`, `BackRange`, `NodeTooHigh`.
+/// Items are judged from the left, and the first faulty one decides. Inside an item the faults come
+/// in this order: `Empty`, `BadDigit`, `BackRange`, `NodeTooHigh`.
 pub fn read_list(text: &[u8]) -> Result<NodeMask, ListFault>
     ensures { result ≡ list_of text.now }
 {

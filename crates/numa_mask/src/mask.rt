@@ -1,27 +1,34 @@
-//! Sets of nodes, with the operations of the Linux kernel's bitmaps (lib/bitmap.c) that its memory policies are made of.
+//! Sets of nodes, with the operations of the Linux kernel's bitmaps (lib/bitmap.c) that its memory
+//! policies are made of.
 //!
-//! A set has up to 256 members, the nodes 0 to 255. A contract sees it as one number whose bit n is 1 where node n is
-//! a member; the code keeps that number as four words of 64 bits, the lowest first. The n-th member of a set is the one
-//! with exactly n smaller members, counted from 0; its ordinal is n. The weight is the number of members.
+//! A set has up to 256 members, the nodes 0 to 255. A contract sees it as one number whose bit n is
+//! 1 where node n is a member; the code keeps that number as four words of 64 bits, the lowest
+//! first. The n-th member of a set is the one with exactly n smaller members, counted from 0; its
+//! ordinal is n. The weight is the number of members.
 //!
 //! Three operations map the members of a set, one by one, and give the set of all images:
 //!
-//! - `fold` by a size: "for each bit oldbit in @orig, set bit oldbit mod @sz in @dst" (comment on bitmap_fold). It
-//!   makes a mask of any width fit the first `size` nodes.
-//! - `onto` another set: member n goes to the n-th member of the other set, and nowhere where the other set has no n-th
-//!   member (comment on bitmap_onto). It reads a mask as one relative to another set.
-//! - `remap` from an old set to a new one: the n-th member of the old set goes to the member of the new set with
-//!   ordinal n modulo the new weight; "the positions of unset bits in @old are mapped to themselves", and all are
-//!   where the new set is empty (comment on bitmap_remap). It carries a policy over to another set of allowed nodes.
+//! - `fold` by a size: "for each bit oldbit in @orig, set bit oldbit mod @sz in @dst" (comment on
+//!   bitmap_fold). It makes a mask of any width fit the first `size` nodes.
+//! - `onto` another set: member n goes to the n-th member of the other set, and nowhere where the
+//!   other set has no n-th member (comment on bitmap_onto). It reads a mask as one relative to
+//!   another set.
+//! - `remap` from an old set to a new one: the n-th member of the old set goes to the member of the
+//!   new set with ordinal n modulo the new weight; "the positions of unset bits in @old are mapped
+//!   to themselves", and all are where the new set is empty (comment on bitmap_remap). It carries a
+//!   policy over to another set of allowed nodes.
 //!
 //! No call takes memory.
-ghost use Rattle.std.specs.Prelude.{count_ones, ◌≡◌, ◌≢◌, ◌==◌, ◌+◌, ◌-◌, ◌<◌, ◌≤◌, ◌%◌, ◌^◌, ◌↔◌, ℕ, true, false, IsTrue, IsSome, IfSome, List, [], length, nat_lt, Some, None, if◌then◌else◌};
+ghost use Rattle.std.specs.Prelude.{count_ones, ◌≡◌, ◌≢◌, ◌==◌, ◌+◌, ◌-◌, ◌<◌, ◌≤◌, ◌%◌};
+ghost use Rattle.std.specs.Prelude.{◌^◌, ◌↔◌, ℕ, true, false, IsTrue, IsSome, IfSome, List};
+ghost use Rattle.std.specs.Prelude.{[], length, nat_lt, Some, None, if◌then◌else◌};
 ghost use Rattle.std.specs.List.{sum_by};
 ghost use Rattle.std.specs.Cmp.Rules.{comparing, hashing};
 ghost use Rattle.std.specs.Hash as fed;
 ghost use Rattle.std.proofs.Common.{rules};
 ghost use Rattle.numa_mask.specs.Words.{words_of};
-ghost use Rattle.numa_mask.specs.NodeSet.{has, members, weight_of, nth_member, ordinal_of, with_node, both, fold_set, onto_set, moved, remap_set};
+ghost use Rattle.numa_mask.specs.NodeSet.{has, members, weight_of, nth_member, ordinal_of};
+ghost use Rattle.numa_mask.specs.NodeSet.{with_node, both, fold_set, onto_set, moved, remap_set};
 
 use crate::node::NodeId;
 use crate::nodes::Nodes;
@@ -153,7 +160,8 @@ impl NodeMask {
         ensures first { result ≡ nth_member self.now 0 }
         ensures some { IsSome result ↔ (self.now ≢ 0) }
         ensures member { IfSome result (λ node. has self.now node ≡ true) }
-        ensures lowest { IfSome result (λ node. (other : ℕ) → other < node → has self.now other ≡ false) }
+        ensures lowest { IfSome result (λ node. (other : ℕ) → other < node →
+            has self.now other ≡ false) }
     {
         for (place, word) in self.words.iter().enumerate() {
             if *word != 0 {
@@ -163,7 +171,8 @@ impl NodeMask {
         None
     }
 
-    /// The k-th member, counted from 0: the one with exactly k smaller members. `None` where there are at most k.
+    /// The k-th member, counted from 0: the one with exactly k smaller members. `None` where there
+    /// are at most k.
     pub fn nth(&self, k: u32) -> Option<NodeId>
         ensures nth { result ≡ nth_member self.now k }
         ensures some { IsSome result ↔ (k < weight_of self.now) }
@@ -175,7 +184,8 @@ impl NodeMask {
 
     /// How many members are smaller than this node, where it is a member itself; else `None`.
     pub fn ordinal(&self, node: NodeId) -> Option<u32>
-        ensures ordinal { result ≡ if has self.now node then Some (ordinal_of self.now node) else None }
+        ensures ordinal { result ≡ if has self.now node
+            then Some (ordinal_of self.now node) else None }
         ensures within { IfSome result (λ k. k < weight_of self.now) }
         ensures nth { IfSome result (λ k. nth_member self.now k ≡ Some node) }
     {
@@ -209,8 +219,9 @@ impl NodeMask {
         set
     }
 
-    /// The set of the n-th member of the other set for each member n (the kernel's bitmap_onto, with the other set as
-    /// its @relmap). A member at or above the other set's weight has no image.
+    /// The set of the n-th member of the other set for each member n (the kernel's bitmap_onto,
+    /// with the other set as its @relmap). A member at or above the other set's weight has no
+    /// image.
     pub fn onto(&self, other: &NodeMask) -> NodeMask
         ensures { result ≡ onto_set self.now other.now }
     {
@@ -225,8 +236,9 @@ impl NodeMask {
         set
     }
 
-    /// The set in which each member that is the n-th of `old` has become the member of `new` with ordinal n modulo the
-    /// weight of `new` (the kernel's bitmap_remap). A member outside `old` stays, and so does each where `new` is empty.
+    /// The set in which each member that is the n-th of `old` has become the member of `new` with
+    /// ordinal n modulo the weight of `new` (the kernel's bitmap_remap). A member outside `old`
+    /// stays, and so does each where `new` is empty.
     pub fn remap(&self, old: &NodeMask, new: &NodeMask) -> NodeMask
         ensures { result ≡ remap_set self.now old.now new.now }
     {

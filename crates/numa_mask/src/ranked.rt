@@ -7,7 +7,8 @@ use crate::node::NodeId;
 use arrayvec::ArrayVec;
 use std::marker::Model;
 
-/// A set with the numbers of its members in a row, rising, so that `nth` needs no walk. Seen as the set, as a `NodeMask` is.
+/// A set with the numbers of its members in a row, rising, so that `nth` needs no walk. Seen as the
+/// set, as a `NodeMask` is.
 #[derive(Drop)]
 pub(crate) struct Ranked {
     nodes: ArrayVec<u8, 256>,

@@ -1,42 +1,59 @@
 -- What a policy is, and which nodes it has.
 --
--- A policy is asked for by a mode, at most one flag, and a set of nodes, the mask. That is its specification. The nodes that count are
--- those of its effective set, which follows from the mask and from the nodes that the task is allowed, when the policy is set and at each
--- change of the allowed nodes. A policy with its effective set is a record; a range's record may also have a home node.
+-- A policy is asked for by a mode, at most one flag, and a set of nodes, the mask. That is its
+-- specification. The nodes that count are those of its effective set, which follows from the mask
+-- and from the nodes that the task is allowed, when the policy is set and at each change of the
+-- allowed nodes. A policy with its effective set is a record; a range's record may also have a home
+-- node.
 --
--- DEFAULT (0) asks for no policy: it removes the one that stands there, so no record has it. It takes no nodes; one flag is taken and
--- forgotten.
+-- DEFAULT (0) asks for no policy: it removes the one that stands there, so no record has it. It
+-- takes no nodes; one flag is taken and forgotten.
 --
--- PREFERRED (1) has at most one node in its effective set, the lowest of those that its flag gives. Without nodes it is LOCAL, and then
--- takes no flag.
+-- PREFERRED (1) has at most one node in its effective set, the lowest of those that its flag gives.
+-- Without nodes it is LOCAL, and then takes no flag.
 --
--- BIND (2) has the nodes that its flag gives, and no page may come from another. It needs nodes. Its record may have a home node.
+-- BIND (2) has the nodes that its flag gives, and no page may come from another. It needs nodes.
+-- Its record may have a home node.
 --
--- INTERLEAVE (3) spreads pages over the nodes that its flag gives, one page each in turn. It needs nodes.
+-- INTERLEAVE (3) spreads pages over the nodes that its flag gives, one page each in turn. It needs
+-- nodes.
 --
--- LOCAL (4) has an empty effective set, and is live all the same. It takes neither nodes nor a flag.
+-- LOCAL (4) has an empty effective set, and is live all the same. It takes neither nodes nor a
+-- flag.
 --
--- PREFERRED_MANY (5) has the nodes that its flag gives before all others. It needs nodes. Its record may have a home node.
+-- PREFERRED_MANY (5) has the nodes that its flag gives before all others. It needs nodes. Its
+-- record may have a home node.
 --
--- WEIGHTED_INTERLEAVE (6) is INTERLEAVE with as many pages in turn as a node's weight. It needs nodes.
+-- WEIGHTED_INTERLEAVE (6) is INTERLEAVE with as many pages in turn as a node's weight. It needs
+-- nodes.
 --
--- Which nodes a flag gives: with STATIC_NODES those of the mask that are allowed, now and after each change. With RELATIVE_NODES the
--- mask's numbers are places among the allowed nodes, folded where they pass the last place, and read again from the mask at each
--- change. With neither, those of the mask that are allowed when the policy is set; at each change the nodes that then stand move to the
--- nodes of the same places in the new set, so that a smaller set between two larger ones isn't undone.
+-- Which nodes a flag gives: with STATIC_NODES those of the mask that are allowed, now and after
+-- each change. With RELATIVE_NODES the mask's numbers are places among the allowed nodes, folded
+-- where they pass the last place, and read again from the mask at each change. With neither, those
+-- of the mask that are allowed when the policy is set; at each change the nodes that then stand
+-- move to the nodes of the same places in the new set, so that a smaller set between two larger
+-- ones isn't undone.
 --
--- Sources: set_mempolicy(2), mbind(2), "NUMA Memory Policy" of the kernel's administration guide, and the kernel's mm/mempolicy.c.
-use Rattle.std.specs.Prelude.{◌≡◌, ℕ, ◌+◌, Bool, true, false, not, ◌&&◌, ◌||◌, ◌==◌, if◌then◌else◌, Option, Some, None, is_some, Result, Ok, Err, List, [], ◌∷◌, ◌++◌, codes, take, slice_get, bit_and}
+-- Sources: set_mempolicy(2), mbind(2), "NUMA Memory Policy" of the kernel's administration guide,
+-- and the kernel's mm/mempolicy.c.
+use Rattle.std.specs.Prelude.{◌≡◌, ℕ, ◌+◌, Bool, true, false, not, ◌&&◌, ◌||◌, ◌==◌, if◌then◌else◌}
+use Rattle.std.specs.Prelude.{Option, Some, None, is_some, Result, Ok, Err, List, [], ◌∷◌}
+use Rattle.std.specs.Prelude.{◌++◌, codes, take, slice_get, bit_and}
 use Rattle.std.specs.Int.{bit_at, bit_not, w32}
 use Rattle.numa_mask.specs.NodeSet.{members, weight_of, set_of, both, fold_set, onto_set, remap_set}
 use Rattle.numa_mask.specs.Lists.{text_of}
 use Rattle.numa_mode.specs.Within.{IsAtMostOne}
 use Rattle.numa_mode.specs.declared.modes.Mode.{Mode}
-use Rattle.numa_mode.specs.declared.modes.Mode.TheVariants.{Default, Preferred, Bind, Interleave, Local, PreferredMany, WeightedInterleave}
+use Rattle.numa_mode.specs.declared.modes.Mode.TheVariants.{Default, Preferred, Bind, Interleave}
+use Rattle.numa_mode.specs.declared.modes.Mode.TheVariants.{Local, PreferredMany}
+use Rattle.numa_mode.specs.declared.modes.Mode.TheVariants.{WeightedInterleave}
 use Rattle.numa_mode.specs.declared.modes.NodeFlag.{NodeFlag}
 use Rattle.numa_mode.specs.declared.modes.NodeFlag.TheVariants.{Plain, Static, Relative}
 use Rattle.numa_mode.specs.declared.specification.SpecFault.{SpecFault}
-use Rattle.numa_mode.specs.declared.specification.SpecFault.TheVariants.{UnknownMode, BothFlags, NodesForbidden, FlagsForbidden, NodesMissing}
+use Rattle.numa_mode.specs.declared.specification.SpecFault.TheVariants.{UnknownMode, BothFlags}
+use Rattle.numa_mode.specs.declared.specification.SpecFault.TheVariants.{NodesForbidden}
+use Rattle.numa_mode.specs.declared.specification.SpecFault.TheVariants.{FlagsForbidden}
+use Rattle.numa_mode.specs.declared.specification.SpecFault.TheVariants.{NodesMissing}
 
 -- a policy as it is asked for
 pub record Specification : Type 0 where
@@ -99,7 +116,8 @@ flag_of static relative = if static then Static else if relative then Relative e
 -- what a mode, a flag and a mask without fault ask for
 abbrev pub asked_for : Mode → NodeFlag → ℕ → Specification
 asked_for Default flag mask = record { mode = Default; flag = Plain; mask = mask }
-asked_for Preferred flag mask = record { mode = if mask == 0 then Local else Preferred; flag = flag; mask = mask }
+asked_for Preferred flag mask = record { mode = if mask == 0 then Local else Preferred;
+    flag = flag; mask = mask }
 asked_for mode flag mask = record { mode = mode; flag = flag; mask = mask }
 
 abbrev pub unless_fault : Option SpecFault → Specification → Result Specification SpecFault
@@ -108,11 +126,14 @@ unless_fault (Some fault) spec = Err fault
 
 -- the answer to a mode, whether STATIC_NODES and RELATIVE_NODES are given, and a mask
 abbrev pub specification_of : Mode → Bool → Bool → ℕ → Result Specification SpecFault
-specification_of mode static relative mask = unless_fault (fault_of mode static relative mask) (asked_for mode (flag_of static relative) mask)
+specification_of mode static relative mask =
+    unless_fault (fault_of mode static relative mask)
+    (asked_for mode (flag_of static relative) mask)
 
 -- a specification that asked for again gives itself
 abbrev pub IsAccepted : Specification → Type 0
-IsAccepted spec = specification_of spec.mode (is_static spec.flag) (is_relative spec.flag) spec.mask ≡ Ok spec
+IsAccepted spec = specification_of spec.mode (is_static spec.flag) (is_relative spec.flag)
+    spec.mask ≡ Ok spec
 
 -- a mode's number
 abbrev pub number_of : Mode → ℕ
@@ -126,11 +147,13 @@ number_of WeightedInterleave = 6
 
 -- the mode of a number
 abbrev pub mode_numbered : ℕ → Option Mode
-mode_numbered = slice_get (Default ∷ Preferred ∷ Bind ∷ Interleave ∷ Local ∷ PreferredMany ∷ WeightedInterleave ∷ [])
+mode_numbered = slice_get (Default ∷ Preferred ∷ Bind ∷ Interleave ∷ Local ∷ PreferredMany
+    ∷ WeightedInterleave ∷ [])
 
 -- the mode word of a mode and its two flags
 abbrev pub word_of : Mode → Bool → Bool → ℕ
-word_of mode static relative = number_of mode + (if static then 0x8000 else 0) + (if relative then 0x4000 else 0)
+word_of mode static relative = number_of mode + (if static then 0x8000 else 0) + (if relative
+    then 0x4000 else 0)
 
 -- a mode word without its bits 14 and 15
 abbrev pub without_flags : ℕ → ℕ
@@ -142,7 +165,8 @@ specification_if (Some mode) static relative mask = specification_of mode static
 
 -- the answer to a mode word, with STATIC_NODES at bit 15 and RELATIVE_NODES at bit 14, and a mask
 abbrev pub raw_specification : ℕ → ℕ → Result Specification SpecFault
-raw_specification word mask = specification_if (mode_numbered (without_flags word)) (bit_at word 15 == 1) (bit_at word 14 == 1) mask
+raw_specification word mask = specification_if (mode_numbered (without_flags word))
+    (bit_at word 15 == 1) (bit_at word 14 == 1) mask
 
 abbrev pub is_default_mode : Mode → Bool
 is_default_mode Default = true
@@ -200,7 +224,8 @@ effect_after spec effective old new = effect_by_flag spec.flag spec effective ol
 -- ---- records
 
 abbrev pub record_when_set : Specification → ℕ → PolicyRecord
-record_when_set spec allowed = record { spec = spec; effective = effect_when_set spec allowed; home = None }
+record_when_set spec allowed =
+    record { spec = spec; effective = effect_when_set spec allowed; home = None }
 
 abbrev pub record_after : PolicyRecord → ℕ → ℕ → PolicyRecord
 record_after r old new = record r { effective = effect_after r.spec r.effective old new }
@@ -221,8 +246,8 @@ takes_home r = mode_takes_home r.spec.mode
 abbrev pub with_home : PolicyRecord → ℕ → PolicyRecord
 with_home r node = record r { home = Some node }
 
--- what is true of each record: its policy isn't DEFAULT, PREFERRED has at most one node, LOCAL has none, and a home is only where one
--- can be given
+-- what is true of each record: its policy isn't DEFAULT, PREFERRED has at most one node, LOCAL has
+-- none, and a home is only where one can be given
 pub record IsStanding (r : PolicyRecord) : Type 0 where
   pub policy : is_default r.spec ≡ false
   pub preferred : is_preferred r.spec ≡ true → IsAtMostOne r.effective
@@ -248,6 +273,7 @@ flag_text Relative = codes "=relative"
 abbrev pub nodes_text : ℕ → List ℕ
 nodes_text set = if set == 0 then [] else codes ":" ++ text_of set
 
--- a policy as numa_maps shows it: its mode, its flag, and after a colon the nodes that stand, where there are any
+-- a policy as numa_maps shows it: its mode, its flag, and after a colon the nodes that stand, where
+-- there are any
 abbrev pub policy_text : PolicyRecord → List ℕ
 policy_text r = mode_text r.spec.mode ++ flag_text r.spec.flag ++ nodes_text r.effective

@@ -8,7 +8,8 @@ use crate::modes::{Mode, NodeFlag};
 use crate::specification::PolicySpec;
 use numa_mask::NodeMask;
 
-/// The nodes that a policy has once it is set where these nodes are allowed, of which there are `size`.
+/// The nodes that a policy has once it is set where these nodes are allowed, of which there are
+/// `size`.
 pub(crate) fn effect(spec: &PolicySpec, allowed: &NodeMask, size: u32) -> NodeMask
     requires size { size ≡ weight_of allowed.now }
     requires some { 0 < size }

@@ -1,12 +1,13 @@
 //! The modes, and what a flag says of the mask.
 ghost use Rattle.std.specs.Prelude.{◌≡◌, ◌≤◌, ℕ, length};
 ghost use Rattle.numa_mode.specs.Flags.{has_static, has_relative};
-ghost use Rattle.numa_mode.specs.Policy.{mode_numbered, mode_text, flag_text, word_of, raw_specification, specification_of};
+ghost use Rattle.numa_mode.specs.Policy.{mode_numbered, mode_text, flag_text, word_of};
+ghost use Rattle.numa_mode.specs.Policy.{raw_specification, specification_of};
 
 use crate::flags::PolicyFlags;
 
-/// A mode of set_mempolicy(2), in the order of its number there: `Default` is `MPOL_DEFAULT`, 0, and `WeightedInterleave`
-/// is `MPOL_WEIGHTED_INTERLEAVE`, 6.
+/// A mode of set_mempolicy(2), in the order of its number there: `Default` is `MPOL_DEFAULT`, 0,
+/// and `WeightedInterleave` is `MPOL_WEIGHTED_INTERLEAVE`, 6.
 #[derive(Clone, Copy, Debug, PartialEq, Eq, Hash)]
 pub enum Mode {
     /// No policy of its own.
@@ -58,13 +59,14 @@ impl Mode {
         }
     }
 
-    /// The mode word that asks for this mode with these flags, as set_mempolicy(2) takes it. Bits of `flags` other than the
-    /// two are left out.
+    /// The mode word that asks for this mode with these flags, as set_mempolicy(2) takes it. Bits
+    /// of `flags` other than the two are left out.
     pub fn word(self, flags: PolicyFlags) -> u32
         ensures word { result ≡ word_of self (has_static flags) (has_relative flags) }
 
         // Its answer, with any mask, is that of the mode and the flags.
-        ensures agrees { (mask : ℕ) → raw_specification result mask ≡ specification_of self (has_static flags) (has_relative flags) mask }
+        ensures agrees { (mask : ℕ) → raw_specification result mask
+            ≡ specification_of self (has_static flags) (has_relative flags) mask }
     {
         let static_bit = if flags.is_static() { 0x8000 } else { 0 };
         let relative_bit = if flags.is_relative() { 0x4000 } else { 0 };

@@ -1,6 +1,8 @@
 //! A policy as it stands.
-ghost use Rattle.std.specs.Prelude.{◌≡◌, ◌≢◌, true, false, is_ok, is_some, IfOk, IfSome, IsTrue, ◌↔◌};
-ghost use Rattle.numa_mode.specs.Policy.{is_default, is_preferred, is_local, is_live, record_when_set, record_after, takes_home, with_home};
+ghost use Rattle.std.specs.Prelude.{◌≡◌, ◌≢◌, true, false, is_ok, is_some};
+ghost use Rattle.std.specs.Prelude.{IfOk, IfSome, IsTrue, ◌↔◌};
+ghost use Rattle.numa_mode.specs.Policy.{is_default, is_preferred, is_local, is_live};
+ghost use Rattle.numa_mode.specs.Policy.{record_when_set, record_after, takes_home, with_home};
 ghost use Rattle.numa_mode.specs.Within.{IsWithin, IsAtMostOne};
 
 use crate::effects::effect;
@@ -13,7 +15,8 @@ use std::marker::Model;
 #[derive(Clone, Copy, Debug, PartialEq, Eq)]
 pub struct NodesNotAllowed;
 
-/// A policy as it stands: its specification, its effective set, and the home node that its range was given.
+/// A policy as it stands: its specification, its effective set, and the home node that its range
+/// was given.
 ///
 /// Two records are equal where all three are; the nodes that were asked for count, allowed or not.
 #[derive(Clone, Copy, Debug, PartialEq, Eq, Hash)]
@@ -30,16 +33,18 @@ impl Model for Record {
 
     ghost view = { λ a. record { spec = a.spec; effective = a.effective; home = a.home } };
 
-    ghost invariant = { λ a. IsStanding (record { spec = a.spec; effective = a.effective; home = a.home }) };
+    ghost invariant = { λ a.
+        IsStanding (record { spec = a.spec; effective = a.effective; home = a.home }) };
 
     ghost inverse = { λ s. record { spec = s.spec; effective = s.effective; home = s.home } };
 }
 
 impl Record {
-    /// The record of a policy that is set where these nodes are allowed, without a home node. `NodesNotAllowed` where it
-    /// would have no node and isn't `Local`.
+    /// The record of a policy that is set where these nodes are allowed, without a home node.
+    /// `NodesNotAllowed` where it would have no node and isn't `Local`.
     ///
-    /// The policy isn't `Default`, which removes a record in place of making one, and a node is allowed.
+    /// The policy isn't `Default`, which removes a record in place of making one, and a node is
+    /// allowed.
     pub fn set(spec: PolicySpec, allowed: &NodeMask) -> Result<Record, NodesNotAllowed>
         requires policy { is_default spec ≡ false }
         requires some { allowed.now ≢ 0 }
@@ -59,9 +64,10 @@ impl Record {
         }
     }
 
-    /// The record once the allowed nodes have changed from `old` to `new`: with a flag the effective set is read again from
-    /// the nodes that were asked for, and without one the nodes that stand move, as the kernel's bitmap_remap moves bits. The
-    /// home node stays, allowed or not.
+    /// The record once the allowed nodes have changed from `old` to `new`: with a flag the
+    /// effective set is read again from the nodes that were asked for, and without one the nodes
+    /// that stand move, as the kernel's bitmap_remap moves bits. The home node stays, allowed or
+    /// not.
     ///
     /// A node of `new` is allowed.
     pub fn rebind(&self, old: &NodeMask, new: &NodeMask) -> Record
@@ -82,16 +88,17 @@ impl Record {
         }
     }
 
-    /// Whether the policy counts: it has a node, or is `Local`, which needs none. Where it doesn't, the next scope's policy
-    /// is looked at.
+    /// Whether the policy counts: it has a node, or is `Local`, which needs none. Where it doesn't,
+    /// the next scope's policy is looked at.
     pub fn is_live(&self) -> bool
         ensures { result ≡ is_live self.now }
     {
         !self.effective.is_empty() || self.spec.mode() == Mode::Local
     }
 
-    /// The record with a home node, as set_mempolicy_home_node(2) gives one, in place of another that it had. `None` where
-    /// the mode takes none: all but `Bind` and `PreferredMany`. The node may be one that isn't allowed.
+    /// The record with a home node, as set_mempolicy_home_node(2) gives one, in place of another
+    /// that it had. `None` where the mode takes none: all but `Bind` and `PreferredMany`. The node
+    /// may be one that isn't allowed.
     pub fn with_home(self, node: u8) -> Option<Record>
         ensures takes { is_some result ≡ takes_home self }
         ensures home { IfSome result (λ r. r ≡ with_home self node) }
@@ -106,14 +113,16 @@ impl Record {
         }
     }
 
-    /// Whether both are one record: the same specification, effective set and home node. This is what `==` answers.
+    /// Whether both are one record: the same specification, effective set and home node. This is
+    /// what `==` answers.
     pub fn is_same(&self, other: &Record) -> bool
         ensures { IsTrue result ↔ (self.now ≡ other.now) }
     {
         *self == *other
     }
 
-    /// The home node, where one was given; always `None` for modes other than `Bind` and `PreferredMany`.
+    /// The home node, where one was given; always `None` for modes other than `Bind` and
+    /// `PreferredMany`.
     pub fn home(&self) -> Option<u8>
         ensures home { result ≡ self.now.home }
         ensures takes { is_some result ≡ true → takes_home self.now ≡ true }

@@ -1,7 +1,8 @@
 //! A policy as it is asked for.
 ghost use Rattle.std.specs.Prelude.{◌≡◌};
 ghost use Rattle.numa_mode.specs.Flags.{bits_of, has_static, has_relative};
-ghost use Rattle.numa_mode.specs.Policy.{flag_bits, is_default, is_static, is_relative, raw_specification, specification_of};
+ghost use Rattle.numa_mode.specs.Policy.{flag_bits, is_default, is_static, is_relative};
+ghost use Rattle.numa_mode.specs.Policy.{raw_specification, specification_of};
 
 use crate::flags::{MODE_FLAGS, PolicyFlags};
 use crate::modes::{Mode, NodeFlag};
@@ -9,8 +10,8 @@ use bitflags::Flags;
 use numa_mask::NodeMask;
 use std::marker::Model;
 
-/// Why a mode, flags and nodes are no specification; set_mempolicy(2) answers `EINVAL` to each. Where several hold, the
-/// first of this order is the answer.
+/// Why a mode, flags and nodes are no specification; set_mempolicy(2) answers `EINVAL` to each.
+/// Where several hold, the first of this order is the answer.
 #[derive(Clone, Copy, Debug, PartialEq, Eq)]
 pub enum SpecFault {
     /// No mode has the number that is left of a mode word without the two flags.
@@ -46,9 +47,10 @@ impl Model for PolicySpec {
 }
 
 impl PolicySpec {
-    /// The policy that a mode, flags and nodes ask for, by the rules of set_mempolicy(2), or the first [`SpecFault`] of
-    /// them; never `UnknownMode`. `Default` drops a flag, `Preferred` without nodes becomes `Local`, and bits of `flags`
-    /// other than the two are left out. Nodes may be named that a machine lacks.
+    /// The policy that a mode, flags and nodes ask for, by the rules of set_mempolicy(2), or the
+    /// first [`SpecFault`] of them; never `UnknownMode`. `Default` drops a flag, `Preferred`
+    /// without nodes becomes `Local`, and bits of `flags` other than the two are left out. Nodes
+    /// may be named that a machine lacks.
     pub fn new(mode: Mode, flags: PolicyFlags, mask: NodeMask) -> Result<PolicySpec, SpecFault>
         ensures { result ≡ specification_of mode (has_static flags) (has_relative flags) mask }
     {
@@ -87,9 +89,9 @@ impl PolicySpec {
         }
     }
 
-    /// The policy that a mode word of set_mempolicy(2) and nodes ask for: `STATIC_NODES` is bit 15 of the word,
-    /// `RELATIVE_NODES` bit 14, and the rest is the mode's number. `UnknownMode` where that is above 6, and else the answer
-    /// of [`PolicySpec::new`].
+    /// The policy that a mode word of set_mempolicy(2) and nodes ask for: `STATIC_NODES` is bit 15
+    /// of the word, `RELATIVE_NODES` bit 14, and the rest is the mode's number. `UnknownMode` where
+    /// that is above 6, and else the answer of [`PolicySpec::new`].
     pub fn from_raw(word: u32, mask: NodeMask) -> Result<PolicySpec, SpecFault>
         ensures { result ≡ raw_specification word mask }
     {
@@ -114,7 +116,8 @@ impl PolicySpec {
         matches!(self.mode, Mode::Default)
     }
 
-    /// What the flag says of the nodes: `Plain` where there is no flag, as always at `Default` and `Local`.
+    /// What the flag says of the nodes: `Plain` where there is no flag, as always at `Default` and
+    /// `Local`.
     pub fn flag(&self) -> NodeFlag
         ensures { result ≡ self.now.flag }
     {
@@ -126,7 +129,8 @@ impl PolicySpec {
         ensures flags { bits_of result ≡ flag_bits self.now.flag }
 
         // Asked for again, by its mode, flags and nodes, it gives itself.
-        ensures accepted { specification_of self.now.mode (has_static result) (has_relative result) self.now.mask ≡ Ok self.now }
+        ensures accepted { specification_of self.now.mode (has_static result) (has_relative result)
+            self.now.mask ≡ Ok self.now }
     {
         match self.flag {
             NodeFlag::Plain => PolicyFlags::empty(),

@@ -7,8 +7,9 @@ use arrayvec::ArrayString;
 use numa_mask::list_text;
 
 impl Record {
-    /// The policy as numa_maps shows it, `interleave=static:0,2-3`: the mode's name, the flag, and after a colon the
-    /// nodes that the policy has at present, where it has any. The nodes that were asked for and the home node aren't shown.
+    /// The policy as numa_maps shows it, `interleave=static:0,2-3`: the mode's name, the flag, and
+    /// after a colon the nodes that the policy has at present, where it has any. The nodes that
+    /// were asked for and the home node aren't shown.
     pub fn policy_text(&self) -> ArrayString<1024>
         ensures { result.bytes ≡ policy_text self.now }
     {

@@ -1,7 +1,8 @@
 -- Steps that contracts count.
 use Rattle.std.specs.Prelude.{◌≡◌, ℕ, ◌+◌, ◌-◌, ◌*◌, ◌^◌, ◌≤◌}
 
--- comparisons of a page with the first page of a run, runs that were written, and rules that were written
+-- comparisons of a page with the first page of a run, runs that were written, and rules that were
+-- written
 pub record Counted : Type 0 where
   pub comparisons : ℕ
   pub runs : ℕ
@@ -19,8 +20,8 @@ one_run steps = record steps { runs = steps.runs + 1 }
 abbrev pub one_rule : Counted → Counted
 one_rule steps = record steps { rules = steps.rules + 1 }
 
--- at most as many comparisons more as the number of runs has binary digits, which is the logarithm of (runs + 1) to the
--- base 2, rounded up; and nothing else
+-- at most as many comparisons more as the number of runs has binary digits, which is the logarithm
+-- of (runs + 1) to the base 2, rounded up; and nothing else
 pub record FindsQuickly (old new : Counted) (runs : ℕ) : Type 0 where
   pub compares : old.comparisons ≤ new.comparisons
   pub few : 2 ^ (new.comparisons - old.comparisons) ≤ 2 * runs + 1

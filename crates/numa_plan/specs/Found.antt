@@ -1,5 +1,6 @@
 -- What a search for a page finds.
-use Rattle.std.specs.Prelude.{◌≡◌, ℕ, ◌+◌, ◌^◌, ◌<◌, ◌≤◌, Option, Some, None, IsSome, List, MatchOption}
+use Rattle.std.specs.Prelude.{◌≡◌, ℕ, ◌+◌, ◌^◌, ◌<◌, ◌≤◌, Option, Some}
+use Rattle.std.specs.Prelude.{None, IsSome, List, MatchOption}
 use Rattle.numa_ranges.specs.Runs.{page_at}
 use Rattle.numa_ranges.specs.declared.run.Run.{Run}
 use Rattle.numa_plan.specs.declared.runs.Found.{Found}
@@ -11,7 +12,8 @@ pub record IsPartOf (run : Run (Option ℕ)) (far : ℕ) (found : Found) : Type 
   pub left : found.left + far ≡ run.pages
   pub some : 0 < found.left
 
--- the pages from this one on, as far as the run reaches, have the indexes from this one on and the run's rule
+-- the pages from this one on, as far as the run reaches, have the indexes from this one on and the
+-- run's rule
 pub record IsAt (runs : List (Run (Option ℕ))) (page : ℕ) (found : Found) : Type 0 where
   pub some : 0 < found.left
   pub few : found.index + found.left ≤ 2 ^ 36
@@ -19,12 +21,15 @@ pub record IsAt (runs : List (Run (Option ℕ))) (page : ℕ) (found : Found) : 
   pub each : (q : ℕ) → q < found.left → page_at runs (page + q) ≡ Some (found.index + q, found.rule)
 
 abbrev pub IsFound : List (Run (Option ℕ)) → ℕ → Option Found → Type 0
-IsFound runs page result = MatchOption result (page_at runs page ≡ None) (λ found. IsAt runs page found)
+IsFound runs page result = MatchOption result (page_at runs page ≡ None) (λ found.
+    IsAt runs page found)
 
 -- each page of the span has a run
 abbrev pub IsMapped : List (Run (Option ℕ)) → ℕ → ℕ → Type 0
-IsMapped runs first pages = (page : ℕ) → first ≤ page → page < first + pages → IsSome (page_at runs page)
+IsMapped runs first pages = (page : ℕ) → first ≤ page → page < first + pages →
+    IsSome (page_at runs page)
 
 -- a page of the span has no run
 abbrev pub HasHole : List (Run (Option ℕ)) → ℕ → ℕ → Type 0
-HasHole runs first pages = (page : ℕ) × (first ≤ page) × (page < first + pages) × (page_at runs page ≡ None)
+HasHole runs first pages = (page : ℕ) × (first ≤ page) × (page < first + pages)
+    × (page_at runs page ≡ None)

@@ -1,5 +1,6 @@
 -- What the data of a plan mean.
-use Rattle.std.specs.Prelude.{◌≡◌, ℕ, ◌<◌, ◌≤◌, ◌==◌, Bool, false, Option, Some, None, is_some, List, slice_index, unwrap_or, option_and_then, nat_le, if◌then◌else◌}
+use Rattle.std.specs.Prelude.{◌≡◌, ℕ, ◌<◌, ◌≤◌, ◌==◌, Bool, false, Option, Some, None, is_some}
+use Rattle.std.specs.Prelude.{List, slice_index, unwrap_or, option_and_then, nat_le, if◌then◌else◌}
 use Rattle.std.specs.Ordering.{nat_cmp}
 use Rattle.std.specs.BTreeMap.{is_at}
 use Rattle.std.specs.Map.{lookup}
@@ -14,8 +15,8 @@ use Rattle.numa_plan.specs.Rows.{RuleData, row_of}
 use Rattle.numa_plan.specs.Slots.{rule_in}
 use Rattle.numa_plan.specs.declared.slots.Slot.{Slot}
 
--- the number of nodes; runs in rising order, each with the number of its rule or none; rules in slots; the number of the rule of
--- some tasks; the local rule
+-- the number of nodes; runs in rising order, each with the number of its rule or none; rules in
+-- slots; the number of the rule of some tasks; the local rule
 pub record PlanData : Type 0 where
   pub version : ℕ
   pub nodes : ℕ
@@ -35,15 +36,18 @@ number_for tasks task None = number_of tasks task
 
 -- the rule that serves: the run's, without one the task's, without one the local rule
 abbrev pub rule_for : PlanData → ℕ → Option ℕ → RuleData
-rule_for plan task number = unwrap_or (option_and_then (rule_in plan.slots) (number_for plan.tasks task number)) plan.local
+rule_for plan task number =
+    unwrap_or (option_and_then (rule_in plan.slots) (number_for plan.tasks task number)) plan.local
 
 -- the list of nodes for a task, a page and a faulting node, where a run has the page
 abbrev pub planned_list : PlanData → ℕ → ℕ → ℕ → Option (List ℕ)
-planned_list plan task page cpu = option_map (λ at. row_of (rule_for plan task at.1) cpu at.0) (page_at plan.runs page)
+planned_list plan task page cpu = option_map (λ at. row_of (rule_for plan task at.1) cpu at.0)
+    (page_at plan.runs page)
 
 -- the first node of that list
 abbrev pub planned_first : PlanData → ℕ → ℕ → ℕ → Option ℕ
-planned_first plan task page cpu = option_map (λ nodes. slice_index nodes 0) (planned_list plan task page cpu)
+planned_first plan task page cpu =
+    option_map (λ nodes. slice_index nodes 0) (planned_list plan task page cpu)
 
 -- whether a number is this one
 abbrev pub is_number : ℕ → Option ℕ → Bool
@@ -52,17 +56,21 @@ is_number number (Some other) = other == number
 
 -- how many pages of a span have this node as the first of their list
 abbrev pub planned_count : PlanData → ℕ → ℕ → ℕ → ℕ → ℕ → ℕ
-planned_count plan task cpu first pages node = count_pages (λ page. is_number node (planned_first plan task page cpu)) first pages
+planned_count plan task cpu first pages node =
+    count_pages (λ page. is_number node (planned_first plan task page cpu)) first pages
 
 -- the count of each node is that of the pages of a span which have it as the first of their list
 abbrev pub CountsFirsts : PlanData → ℕ → ℕ → ℕ → ℕ → List ℕ → Type 0
-CountsFirsts plan task cpu first pages counts = (node : ℕ) → node < 256 → slice_index counts node ≡ planned_count plan task cpu first pages node
+CountsFirsts plan task cpu first pages counts = (node : ℕ) → node < 256 → slice_index counts node
+    ≡ planned_count plan task cpu first pages node
 
 -- the first cause that refuses a page
 abbrev pub place_refusal : PlanData → ℕ → ℕ → Option PlaceRefusal
-place_refusal plan page cpu = if nat_le plan.nodes cpu then Some BadCpu else if is_some (page_at plan.runs page) then None else Some Unmapped
+place_refusal plan page cpu = if nat_le plan.nodes cpu then Some BadCpu
+    else if is_some (page_at plan.runs page) then None else Some Unmapped
 
--- a refusal of the pages from `first` on: the faulting node is none of the plan's, or else a page isn't mapped
+-- a refusal of the pages from `first` on: the faulting node is none of the plan's, or else a page
+-- isn't mapped
 abbrev pub RefusesSpan : PlanData → ℕ → ℕ → ℕ → PlaceRefusal → Type 0
 RefusesSpan plan first pages cpu BadCpu = plan.nodes ≤ cpu
 RefusesSpan plan first pages cpu Unmapped = (cpu < plan.nodes) × HasHole plan.runs first pages

@@ -1,8 +1,8 @@
 -- A rule: rows of nodes, and which of them serves a page.
 use Rattle.std.specs.Prelude.{ℕ, ◌+◌, ◌*◌, ◌%◌, ◌<◌, ◌≤◌, List, length, slice_index, slice_range}
 
--- which row serves: that of the faulting node, the only one, or the one whose number stands in the cycle at the page's index
--- modulo the cycle's length
+-- which row serves: that of the faulting node, the only one, or the one whose number stands in the
+-- cycle at the page's index modulo the cycle's length
 pub data Key : Type 0 where
   Faulting : Key
   Fixed : Key

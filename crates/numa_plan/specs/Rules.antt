@@ -9,7 +9,8 @@ use Rattle.numa_plan.specs.declared.rule.Body.TheVariants as kept
 abbrev pub data_of : Body → RuleData
 data_of (kept.Faulting width rows) = record { key = Faulting; width = width; rows = rows.items }
 data_of (kept.Fixed rows) = record { key = Fixed; width = length rows.items; rows = rows.items }
-data_of (kept.Turns width rows cycle firsts) = record { key = InTurns cycle.items; width = width; rows = rows.items }
+data_of (kept.Turns width rows cycle firsts) =
+    record { key = InTurns cycle.items; width = width; rows = rows.items }
 
 -- the first node of each row, in the order of the cycle
 abbrev pub first_nodes : List ℕ → ℕ → List ℕ → List ℕ
@@ -19,8 +20,11 @@ first_nodes rows width cycle = map (λ number. slice_index rows (number * width)
 abbrev pub IsRule : Body → Type 0
 IsRule (kept.Faulting width rows) = Unit {0}
 IsRule (kept.Fixed rows) = Unit {0}
-IsRule (kept.Turns width rows cycle firsts) = (0 < length cycle.items) × (firsts ≡ first_nodes rows.items width cycle.items)
+IsRule (kept.Turns width rows cycle firsts) = (0 < length cycle.items)
+    × (firsts ≡ first_nodes rows.items width cycle.items)
 
 -- how many of so many turns, from one on, have a row that begins with the node
 abbrev pub turns_on : List ℕ → ℕ → List ℕ → ℕ → ℕ → ℕ → ℕ
-turns_on rows width cycle start turns node = count_pages (λ turn. slice_index (first_nodes rows width cycle) (turn % length cycle) == node) start turns
+turns_on rows width cycle start turns node =
+    count_pages (λ turn. slice_index (first_nodes rows width cycle) (turn % length cycle) == node)
+    start turns

@@ -1,5 +1,6 @@
 -- Rules in numbered slots, which count the runs and tasks that use them.
-use Rattle.std.specs.Prelude.{◌≡◌, ℕ, ◌+◌, ◌-◌, ◌<◌, ◌≤◌, Option, Some, None, IsSome, List, [], ◌∷◌, ◌++◌, length, slice_set, slice_index_or, nat_lt, if◌then◌else◌}
+use Rattle.std.specs.Prelude.{◌≡◌, ℕ, ◌+◌, ◌-◌, ◌<◌, ◌≤◌, Option, Some, None, IsSome, List, [], ◌∷◌}
+use Rattle.std.specs.Prelude.{◌++◌, length, slice_set, slice_index_or, nat_lt, if◌then◌else◌}
 use Rattle.numa_plan.specs.Rows.{RuleData}
 use Rattle.numa_plan.specs.declared.slots.Slot.{Slot}
 use Rattle.numa_plan.specs.declared.slots.Slot.TheVariants.{Free, Taken}
@@ -38,7 +39,8 @@ pub record IsLowestFree (slots : List Slot) (number : ℕ) : Type 0 where
 
 -- a slot written, at a number that is there or behind the last
 abbrev pub put_slot : List Slot → ℕ → Slot → List Slot
-put_slot slots number slot = if nat_lt number (length slots) then slice_set slots number slot else slots ++ slot ∷ []
+put_slot slots number slot = if nat_lt number (length slots) then slice_set slots number slot
+    else slots ++ slot ∷ []
 
 abbrev pub one_use_more : Slot → Slot
 one_use_more Free = Free

@@ -1,14 +1,16 @@
 //! A plan: what readers hold to place pages.
 //!
-//! A [`Plan`] answers the list of nodes of any page, for any task and any faulting node, without the space that it was made
-//! of. It keeps runs of pages, each with the number of its rule or none, rules in numbered slots, the number of a rule for
-//! some tasks, and one local rule. A [`Rule`] has rows of nodes, and a key that says which row serves.
+//! A [`Plan`] answers the list of nodes of any page, for any task and any faulting node, without
+//! the space that it was made of. It keeps runs of pages, each with the number of its rule or none,
+//! rules in numbered slots, the number of a rule for some tasks, and one local rule. A [`Rule`] has
+//! rows of nodes, and a key that says which row serves.
 //!
-//! [`Plan::choice`] lends the list of a page. [`Plan::fill`] and [`Plan::counts`] answer for a whole span, run by run: the
-//! first node of each page's list, and how many pages have each node there. None of the three takes memory.
+//! [`Plan::choice`] lends the list of a page. [`Plan::fill`] and [`Plan::counts`] answer for a
+//! whole span, run by run: the first node of each page's list, and how many pages have each node
+//! there. None of the three takes memory.
 //!
-//! What the data of a plan mean is told in `specs/Meaning.antt`, what a rule's rows are in `specs/Rows.antt`, and what the
-//! building calls make of the data in `specs/Building.antt`.
+//! What the data of a plan mean is told in `specs/Meaning.antt`, what a rule's rows are in
+//! `specs/Rows.antt`, and what the building calls make of the data in `specs/Building.antt`.
 #![tactic(auto)]
 
 mod plan;

@@ -1,11 +1,13 @@
 //! A plan, and what readers ask of it.
-ghost use Rattle.std.specs.Prelude.{◌≡◌, ℕ, ◌+◌, ◌<◌, ◌≤◌, length, Some, None, IfOk, IfErr, OnOk, OnErr, IfSome, MatchOption, EachIndex, slice_index};
+ghost use Rattle.std.specs.Prelude.{◌≡◌, ℕ, ◌+◌, ◌<◌, ◌≤◌, length, Some, None, IfOk, IfErr, OnOk};
+ghost use Rattle.std.specs.Prelude.{OnErr, IfSome, MatchOption, EachIndex, slice_index};
 ghost use Rattle.numa_plan.specs.Counted.{FindsQuickly};
 ghost use Rattle.numa_ranges.specs.Runs.{AreApart};
 ghost use Rattle.numa_plan.specs.Found.{IsMapped};
 ghost use Rattle.numa_plan.specs.Rows.{HasRows};
 ghost use Rattle.numa_plan.specs.Slots.{rule_in};
-ghost use Rattle.numa_plan.specs.Meaning.{PlanData, planned_list, place_refusal, rule_for, number_for, planned_first, CountsFirsts, RefusesSpan};
+ghost use Rattle.numa_plan.specs.Meaning.{PlanData, planned_list, place_refusal, rule_for};
+ghost use Rattle.numa_plan.specs.Meaning.{number_for, planned_first, CountsFirsts, RefusesSpan};
 
 mod build;
 
@@ -17,12 +19,13 @@ use numa_space::PlaceRefusal;
 use std::collections::BTreeMap;
 use std::marker::Model;
 
-/// The lists of nodes of a space's pages: runs of pages, each with the number of its rule or none, rules in numbered slots,
-/// the number of a rule for some tasks, and a local rule.
+/// The lists of nodes of a space's pages: runs of pages, each with the number of its rule or none,
+/// rules in numbered slots, the number of a rule for some tasks, and a local rule.
 ///
-/// The list of a page, for a task and a faulting node, is the row that the key of a rule picks by the node and the page's
-/// index: of the rule of the run that has the page; where the run has none, of the task's rule; where the task has none, of
-/// the local rule. A page that no run has has no list.
+/// The list of a page, for a task and a faulting node, is the row that the key of a rule picks by
+/// the node and the page's index: of the rule of the run that has the page; where the run has none,
+/// of the task's rule; where the task has none, of the local rule. A page that no run has has no
+/// list.
 #[derive(Drop)]
 pub struct Plan {
     version: u64,
@@ -39,15 +42,18 @@ impl Model for Plan {
 
     ghost Value = { PlanData };
 
-    ghost view = { λ a. record { version = a.version; nodes = a.nodes; runs = a.runs; slots = a.slots.items; tasks = a.tasks.entries; local = a.local } };
+    ghost view = { λ a. record { version = a.version; nodes = a.nodes; runs = a.runs;
+        slots = a.slots.items; tasks = a.tasks.entries; local = a.local } };
 
     ghost use Rattle.numa_plan.specs.Sound.{IsPlan};
 
-    ghost invariant = { λ a. IsPlan a.nodes a.runs a.slots.items a.lowest_free a.tasks.entries a.local };
+    ghost invariant = { λ a.
+        IsPlan a.nodes a.runs a.slots.items a.lowest_free a.tasks.entries a.local };
 }
 
 impl Plan {
-    /// The version of the space that the plan was made of: how many commands the space had accepted.
+    /// The version of the space that the plan was made of: how many commands the space had
+    /// accepted.
     pub fn version(&self) -> u64
         ensures { result ≡ self.now.version }
     {
@@ -62,11 +68,11 @@ impl Plan {
         self.runs.len()
     }
 
-    /// The list of nodes of a page, for a task and a fault on the node `cpu`, lent by the plan: from 1 to 256 nodes, in the
-    /// order in which memory is looked for on them.
+    /// The list of nodes of a page, for a task and a fault on the node `cpu`, lent by the plan:
+    /// from 1 to 256 nodes, in the order in which memory is looked for on them.
     ///
-    /// The page is compared with the first pages of at most as many runs as the number of runs has binary digits. `steps`
-    /// counts these comparisons, for contracts alone.
+    /// The page is compared with the first pages of at most as many runs as the number of runs has
+    /// binary digits. `steps` counts these comparisons, for contracts alone.
     ///
     /// # Errors
     /// `BadCpu` where `cpu` is none of the plan's nodes; else `Unmapped` where no run has the page.
@@ -92,15 +98,19 @@ impl Plan {
         Ok(self.rule_for(task, found.rule).row(cpu, found.index))
     }
 
-    /// Writes the first node of each page's list, for the pages of a span from `first` on, as many as `out` has places.
+    /// Writes the first node of each page's list, for the pages of a span from `first` on, as many
+    /// as `out` has places.
     ///
     /// # Errors
-    /// `BadCpu` where `cpu` is none of the plan's nodes, also for a span of no pages; else `Unmapped` where some page of the
-    /// span has no run. The span is judged in full before the first byte is written, so that a refusal leaves `out` as it was.
+    /// `BadCpu` where `cpu` is none of the plan's nodes, also for a span of no pages; else
+    /// `Unmapped` where some page of the span has no run. The span is judged in full before the
+    /// first byte is written, so that a refusal leaves `out` as it was.
     pub fn fill(&self, task: u32, cpu: u32, first: u64, out: &mut [u8]) -> Result<(), PlaceRefusal>
         ensures ok { OnOk result ((cpu < self.now.nodes)
-            × EachIndex out.new (λ k. planned_first self.now task (first + k) cpu ≡ Some (slice_index out.new k))) }
-        ensures err { IfErr result (λ refusal. RefusesSpan self.now first (length out.old) cpu refusal) }
+            × EachIndex out.new (λ k. planned_first self.now task (first + k) cpu
+            ≡ Some (slice_index out.new k))) }
+        ensures err { IfErr result (λ refusal.
+            RefusesSpan self.now first (length out.old) cpu refusal) }
         ensures unchanged { OnErr result (out.new ≡ out.old) }
     {
         if cpu >= self.nodes {
@@ -125,12 +135,13 @@ impl Plan {
         Ok(())
     }
 
-    /// How many pages of a span have each node as the first of their list, for `pages` pages from `first` on. The time grows
-    /// with the runs of the span and the cycles of their rules, and not with its pages.
+    /// How many pages of a span have each node as the first of their list, for `pages` pages from
+    /// `first` on. The time grows with the runs of the span and the cycles of their rules, and not
+    /// with its pages.
     ///
     /// # Errors
-    /// `BadCpu` where `cpu` is none of the plan's nodes, also for a span of no pages; else `Unmapped` where some page of the
-    /// span has no run.
+    /// `BadCpu` where `cpu` is none of the plan's nodes, also for a span of no pages; else
+    /// `Unmapped` where some page of the span has no run.
     pub fn counts(
         &self,
         task: u32,
@@ -138,7 +149,8 @@ impl Plan {
         first: u64,
         pages: u64,
     ) -> Result<[u64; 256], PlaceRefusal>
-        ensures ok { IfOk result (λ counts. (cpu < self.now.nodes) × IsMapped self.now.runs first pages
+        ensures ok { IfOk result (λ counts. (cpu < self.now.nodes)
+            × IsMapped self.now.runs first pages
             × CountsFirsts self.now task cpu first pages counts) }
         ensures err { IfErr result (λ refusal. RefusesSpan self.now first pages cpu refusal) }
     {

@@ -1,5 +1,6 @@
 //! Rows of nodes, one behind another.
-ghost use Rattle.std.specs.Prelude.{◌≡◌, ◌+◌, ◌*◌, ◌<◌, ◌≤◌, length, slice_index, slice_range, IfOk};
+ghost use Rattle.std.specs.Prelude.{◌≡◌, ◌+◌, ◌*◌, ◌<◌, ◌≤◌, length};
+ghost use Rattle.std.specs.Prelude.{slice_index, slice_range, IfOk};
 ghost use Rattle.numa_plan.specs.Rules.{first_nodes};
 
 use numa_lanes::Cycle;

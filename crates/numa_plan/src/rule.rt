@@ -1,8 +1,10 @@
 //! Rules: rows of nodes, and which of them serves a page.
-ghost use Rattle.std.specs.Prelude.{◌≡◌, ℕ, ◌+◌, ◌*◌, ◌<◌, ◌^◌, ◌==◌, length, ◌≤◌, slice_index, EachIndex, IfOk};
+ghost use Rattle.std.specs.Prelude.{◌≡◌, ℕ, ◌+◌, ◌*◌, ◌<◌, ◌^◌, ◌==◌, length};
+ghost use Rattle.std.specs.Prelude.{◌≤◌, slice_index, EachIndex, IfOk};
 ghost use Rattle.numa_ranges.specs.Counts.{count_pages};
 ghost use Rattle.numa_plan.specs.Tally.{Adds, HasRoom};
-ghost use Rattle.numa_plan.specs.Rows.{row_number, row_of, first_of, HasRow, Faulting, Fixed, InTurns};
+ghost use Rattle.numa_plan.specs.Rows.{row_number, row_of, first_of, HasRow};
+ghost use Rattle.numa_plan.specs.Rows.{Faulting, Fixed, InTurns};
 
 use crate::rows::{first_cycle, row_at};
 use crate::tally::add_turns;
@@ -23,8 +25,8 @@ enum Body {
     Fixed {
         rows: Vec<u8>,
     },
-    /// The row whose number stands in the cycle at the page's index modulo the cycle's length. `firsts` has the first node
-    /// of the row at each of the cycle's places.
+    /// The row whose number stands in the cycle at the page's index modulo the cycle's length.
+    /// `firsts` has the first node of the row at each of the cycle's places.
     Turns {
         width: u32,
         rows: Vec<u8>,
@@ -52,7 +54,8 @@ impl Model for Rule {
 }
 
 impl Rule {
-    /// A rule with a row for each faulting node, from node 0 on: `rows` has them one behind another, `width` nodes each.
+    /// A rule with a row for each faulting node, from node 0 on: `rows` has them one behind
+    /// another, `width` nodes each.
     pub fn faulting(width: u32, rows: Vec<u8>) -> Rule
         ensures { result ≡ record { key = Faulting; width = width; rows = rows.items } }
     {
@@ -70,14 +73,16 @@ impl Rule {
         }
     }
 
-    /// A rule whose rows serve in turns: a page of index i gets the row whose number is entry i modulo the length of
-    /// `cycle`. `rows` has the rows one behind another, `width` nodes each.
+    /// A rule whose rows serve in turns: a page of index i gets the row whose number is entry i
+    /// modulo the length of `cycle`. `rows` has the rows one behind another, `width` nodes each.
     ///
     /// # Errors
-    /// `NoMemory` where there is none for the first nodes of the rows, which are kept in the order of the cycle.
+    /// `NoMemory` where there is none for the first nodes of the rows, which are kept in the order
+    /// of the cycle.
     pub fn turns(alloc: Global, width: u32, rows: Vec<u8>, cycle: Vec<u8>) -> Result<Rule, NoMemory>
         requires { 0 < length cycle.items }
-        ensures { IfOk result (λ rule. rule ≡ record { key = InTurns cycle.items; width = width; rows = rows.items }) }
+        ensures { IfOk result (λ rule. rule
+            ≡ record { key = InTurns cycle.items; width = width; rows = rows.items }) }
     {
         let firsts = first_cycle(alloc, width, &rows, &cycle)?;
         Ok(Rule {
@@ -115,7 +120,8 @@ impl Rule {
     pub(crate) fn fill(&self, cpu: u32, index: u64, out: &mut [u8])
         requires rows { (k : ℕ) → HasRow self.now (row_number self.now cpu k) }
         requires index { index < 2 ^ 36 }
-        ensures { EachIndex out.new (λ k. slice_index out.new k ≡ first_of self.now cpu (index + k)) }
+        ensures { EachIndex out.new (λ k. slice_index out.new k ≡ first_of self.now cpu (index + k))
+            }
     {
         match &self.body {
             Body::Turns { firsts, .. } => fill_cycle(firsts, index, out),
@@ -124,11 +130,13 @@ impl Rule {
         }
     }
 
-    /// Adds to each node's count the pages whose row begins with the node, for so many pages with the indexes from this one on.
+    /// Adds to each node's count the pages whose row begins with the node, for so many pages with
+    /// the indexes from this one on.
     pub(crate) fn count(&self, cpu: u32, index: u64, pages: u64, counts: &mut [u64; 256])
         requires rows { (k : ℕ) → HasRow self.now (row_number self.now cpu k) }
         requires room { HasRoom counts.old (λ _. pages) }
-        ensures { Adds counts.old counts.new (λ node. count_pages (λ k. first_of self.now cpu k == node) index pages) }
+        ensures { Adds counts.old counts.new (λ node.
+            count_pages (λ k. first_of self.now cpu k == node) index pages) }
     {
         match &self.body {
             Body::Turns {

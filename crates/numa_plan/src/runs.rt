@@ -1,5 +1,7 @@
 //! The runs of a plan, in rising order.
-ghost use Rattle.std.specs.Prelude.{◌≡◌, ℕ, ◌+◌, ◌-◌, ◌<◌, ◌≤◌, ◌^◌, List, [], ◌∷◌, ◌++◌, length, slice_index_or, MatchOption, Option, OnOk, OnErr, Some, None, IsSome};
+ghost use Rattle.std.specs.Prelude.{◌≡◌, ℕ, ◌+◌, ◌-◌, ◌<◌, ◌≤◌, ◌^◌, List, [], ◌∷◌};
+ghost use Rattle.std.specs.Prelude.{◌++◌, length, slice_index_or, MatchOption, Option};
+ghost use Rattle.std.specs.Prelude.{OnOk, OnErr, Some, None, IsSome};
 ghost use Rattle.std.specs.Bool.{OnTrue, OnFalse};
 ghost use Rattle.numa_ranges.specs.Runs.{AreApart, end_of, page_at};
 ghost use Rattle.numa_ranges.specs.declared.run.Run.{Run};
@@ -12,8 +14,8 @@ use numa_ranges::Run;
 use std::alloc::Global;
 use std::marker::Model;
 
-/// What a run says of a page: its index, the number of its rule (none: the task's rule), and how many pages the run has from
-/// it on.
+/// What a run says of a page: its index, the number of its rule (none: the task's rule), and how
+/// many pages the run has from it on.
 #[derive(Clone, Copy, Debug, PartialEq, Eq)]
 pub(crate) struct Found {
     pub(crate) index: u64,
@@ -57,11 +59,13 @@ impl Runs {
         self.items.len()
     }
 
-    /// How far a page lies behind the first page of a run; none where it lies before it. Nothing else reads a run's first page.
+    /// How far a page lies behind the first page of a run; none where it lies before it. Nothing
+    /// else reads a run's first page.
     fn behind_first(&self, place: usize, page: u64, steps: &mut Steps) -> Option<u64>
         requires { place < length self.now }
         ensures counted { steps.new ≡ one_comparison steps.old }
-        ensures far { (d : Run (Option ℕ)) → MatchOption result (page < (slice_index_or self.now place d).first)
+        ensures far { (d : Run (Option ℕ)) →
+            MatchOption result (page < (slice_index_or self.now place d).first)
             (λ far. (slice_index_or self.now place d).first + far ≡ page) }
     {
         steps.compared();
@@ -73,10 +77,12 @@ impl Runs {
         }
     }
 
-    /// What a run says of the page that lies so far behind its first page; none where the run is shorter.
+    /// What a run says of the page that lies so far behind its first page; none where the run is
+    /// shorter.
     fn found_at(&self, place: usize, far: u64) -> Option<Found>
         requires { place < length self.now }
-        ensures { (d : Run (Option ℕ)) → MatchOption result ((slice_index_or self.now place d).pages ≤ far)
+        ensures { (d : Run (Option ℕ)) →
+            MatchOption result ((slice_index_or self.now place d).pages ≤ far)
             (λ found. IsPartOf (slice_index_or self.now place d) far found) }
     {
         let run = &self.items[place];
@@ -138,7 +144,8 @@ impl Runs {
     /// Adds a run behind the others.
     pub(crate) fn push(&mut self, run: Run<Option<u32>>, steps: &mut Steps) -> Result<(), NoMemory>
         requires { AreApart 0 (self.old ++ run ∷ []) }
-        ensures ok { OnOk result ((self.new ≡ self.old ++ run ∷ []) × (steps.new ≡ one_run steps.old)) }
+        ensures ok { OnOk result ((self.new ≡ self.old ++ run ∷ [])
+            × (steps.new ≡ one_run steps.old)) }
         ensures err { OnErr result ((self.new ≡ self.old) × (steps.new ≡ steps.old)) }
     {
         let Run {

@@ -1,6 +1,9 @@
-//! Rules in numbered slots, which count the runs and tasks that use them. A free slot is used again.
-ghost use Rattle.std.specs.Prelude.{◌≡◌, ◌+◌, ◌-◌, ◌<◌, ◌≤◌, ◌^◌, length, Some, IsSome, OnOk, OnErr};
-ghost use Rattle.numa_plan.specs.Slots.{rule_in, uses_in, AreTaken, IsLowestFree, put_slot, used, unused};
+//! Rules in numbered slots, which count the runs and tasks that use them. A free slot is used
+//! again.
+ghost use Rattle.std.specs.Prelude.{◌≡◌, ◌+◌, ◌-◌, ◌<◌, ◌≤◌, ◌^◌, length};
+ghost use Rattle.std.specs.Prelude.{Some, IsSome, OnOk, OnErr};
+ghost use Rattle.numa_plan.specs.Slots.{rule_in, uses_in, AreTaken, IsLowestFree};
+ghost use Rattle.numa_plan.specs.Slots.{put_slot, used, unused};
 ghost use Rattle.numa_plan.specs.declared.slots.Slot.TheVariants.{Taken};
 
 use crate::rule::Rule;

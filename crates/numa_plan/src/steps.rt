@@ -5,8 +5,8 @@ ghost use Rattle.numa_plan.specs.Counted.{no_steps, one_comparison, one_run, one
 use numa_count::Count;
 use std::marker::Model;
 
-/// A counter of steps: comparisons of a page with the first page of a run, runs that were written, and rules that were
-/// written. It has no bytes, and nothing but a contract can read it.
+/// A counter of steps: comparisons of a page with the first page of a run, runs that were written,
+/// and rules that were written. It has no bytes, and nothing but a contract can read it.
 #[derive(Drop)]
 pub struct Steps {
     comparisons: Count,

@@ -6,8 +6,9 @@ ghost use Rattle.numa_plan.specs.Tally.{Adds, HasRoom};
 
 use crate::rows::first_at;
 
-/// Adds to each node's count the pages whose row begins with the node, where so many pages from an index on take the rows of
-/// a cycle in turn: whole rounds of the cycle by multiplication, and the rest place by place.
+/// Adds to each node's count the pages whose row begins with the node, where so many pages from an
+/// index on take the rows of a cycle in turn: whole rounds of the cycle by multiplication, and the
+/// rest place by place.
 pub(crate) fn add_turns(
     rows: &[u8],
     width: u32,
@@ -27,8 +28,8 @@ pub(crate) fn add_turns(
     add_rest(rows, width, cycle, start, rest, counts);
 }
 
-/// Adds to each node's count the pages whose row begins with the node, where fewer pages than a round take the rows of a
-/// cycle in turn, from this place of the cycle on.
+/// Adds to each node's count the pages whose row begins with the node, where fewer pages than a
+/// round take the rows of a cycle in turn, from this place of the cycle on.
 fn add_rest(
     rows: &[u8],
     width: u32,
@@ -54,8 +55,10 @@ fn add_rest(
 
 /// Adds so many pages for each of these rows to the count of the row's first node.
 fn add_places(rows: &[u8], width: u32, numbers: &[u8], pages: u64, counts: &mut [u64; 256])
-    requires { HasRoom counts.old (λ node. pages * counted node (first_nodes rows.now width numbers.now)) }
-    ensures { Adds counts.old counts.new (λ node. pages * counted node (first_nodes rows.now width numbers.now)) }
+    requires { HasRoom counts.old (λ node.
+        pages * counted node (first_nodes rows.now width numbers.now)) }
+    ensures { Adds counts.old counts.new (λ node.
+        pages * counted node (first_nodes rows.now width numbers.now)) }
 {
     if pages == 0 {
         return;

@@ -1,6 +1,7 @@
 -- Frames, lists of them, and the bits that stand for them.
 -- Each node has 64 words. Frame k of node n is bit k % 64 of word 64 * n + k / 64.
-use Rattle.std.specs.Prelude.{ℕ, zero, suc, ◌+◌, ◌*◌, ◌/◌, ◌%◌, ◌<◌, ◌==◌, ◌&&◌, Bool, cond, List, [], ◌∷◌, slice_index, Option, Some, None}
+use Rattle.std.specs.Prelude.{ℕ, zero, suc, ◌+◌, ◌*◌, ◌/◌, ◌%◌, ◌<◌, ◌==◌, ◌&&◌, Bool}
+use Rattle.std.specs.Prelude.{cond, List, [], ◌∷◌, slice_index, Option, Some, None}
 use Rattle.std.specs.Int.{bit_at}
 use Rattle.numa_machine.specs.declared.frame.Frame.{Frame}
 

@@ -9,12 +9,14 @@ use Rattle.numa_pool.specs.Frames.{times, bit_in}
 abbrev pub IsHeld : List View → ℕ → ℕ → Type 0
 IsHeld views n k = (id : ℕ) × (v : View) × (get_elem? views id ≡ some v) × (0 < times n k v.held)
 
--- A bit is set exactly where a seat holds its frame. No two seats hold one frame, and no seat holds one twice. A
--- frame that is held is one of its node's, and the bits past these are clear. A seat that was joined into another shows no frame, so it counts no more
+-- A bit is set exactly where a seat holds its frame. No two seats hold one frame, and no seat holds
+-- one twice. A frame that is held is one of its node's, and the bits past these are clear. A seat
+-- that was joined into another shows no frame, so it counts no more
 pub record PoolRule (frames words : List ℕ) (views : List View) : Type 0 where
   pub set_where_held : (n k : ℕ) → k < 4096 → bit_in words n k ≡ 1 ↔ IsHeld views n k
   pub one_holder : (n k i j : ℕ) (v w : View)
-      → get_elem? views i ≡ some v → get_elem? views j ≡ some w → 0 < times n k v.held → 0 < times n k w.held → i ≡ j
+      → get_elem? views i ≡ some v → get_elem? views j ≡ some w → 0 < times n k v.held →
+      0 < times n k w.held → i ≡ j
   pub held_once : (n k i : ℕ) (v : View) → get_elem? views i ≡ some v → times n k v.held ≤ 1
   pub held_in_range : (n k : ℕ) → IsHeld views n k → k < slice_index frames n
   pub clear_past : (n k : ℕ) → slice_index frames n ≤ k → k < 4096 → bit_in words n k ≡ 0
@@ -28,8 +30,8 @@ total h (v ∷ vs) = h v + total h vs
 abbrev pub holdings : ℕ → ℕ → List View → ℕ
 holdings n k views = total (λ v. times n k v.held) views
 
--- The same rule as counts, which steps keep one by one: a bit is how often the seats hold its frame, and what is past a
--- node's frames is held by none
+-- The same rule as counts, which steps keep one by one: a bit is how often the seats hold its
+-- frame, and what is past a node's frames is held by none
 pub record Counted (frames words : List ℕ) (views : List View) : Type 0 where
   pub wide : length words ≡ 64 * length frames
   pub exact : (n k : ℕ) → k < 4096 → bit_in words n k ≡ holdings n k views

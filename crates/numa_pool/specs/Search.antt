@@ -1,5 +1,6 @@
 -- How far the search of one node has come.
-use Rattle.std.specs.Prelude.{◌≡◌, ℕ, ◌+◌, ◌*◌, ◌%◌, ◌<◌, ◌≤◌, ◌==◌, true, false, List, [], ◌∷◌, ◌++◌, slice_index, Option, Some, None}
+use Rattle.std.specs.Prelude.{◌≡◌, ℕ, ◌+◌, ◌*◌, ◌%◌, ◌<◌, ◌≤◌, ◌==◌, true, false, List}
+use Rattle.std.specs.Prelude.{[], ◌∷◌, ◌++◌, slice_index, Option, Some, None}
 use Rattle.std.specs.Int.{bit_at}
 use Rattle.numa_machine.specs.declared.frame.Frame.{Frame}
 use Rattle.numa_pool.specs.declared.view.Entry.{Entry}
@@ -7,7 +8,8 @@ use Rattle.numa_pool.specs.Frames.{frame_of}
 use Rattle.numa_pool.specs.Walk.{met, Searches, Wins, loads_of, LoadsOnce}
 
 module _ (frames : List ℕ) where
-  -- the frames of the first words of the node are met in the steps since `base`, and no later frame is
+  -- the frames of the first words of the node are met in the steps since `base`, and no later frame
+  -- is
   abbrev pub Reached : ℕ → ℕ → List Entry → List Entry → Type 0
   Reached n word base log = (es : List Entry) × (log ≡ es ++ base) × Searches frames (n ∷ []) es
       × ((k : ℕ) → k < 64 * word → k < slice_index frames n → met es n k ≡ true)
@@ -16,7 +18,8 @@ module _ (frames : List ℕ) where
 
   -- the same inside a word that was loaded: of its frames those are met whose bit is set in `taken`
   abbrev pub Within : ℕ → ℕ → ℕ → List Entry → List Entry → Type 0
-  Within n word taken base log = (es : List Entry) × (log ≡ es ++ base) × Searches frames (n ∷ []) es
+  Within n word taken base log = (es : List Entry) × (log ≡ es ++ base)
+      × Searches frames (n ∷ []) es
       × ((k : ℕ) → k < 64 * word → k < slice_index frames n → met es n k ≡ true)
       × ((k : ℕ) → 64 * word ≤ k → k < 64 * word + 64 → met es n k ≡ (bit_at taken (k % 64) == 1))
       × ((k : ℕ) → 64 * word + 64 ≤ k → met es n k ≡ false)
@@ -24,7 +27,8 @@ module _ (frames : List ℕ) where
 
   -- the steps since `base` are a walk of the node that won the frame
   abbrev pub WonSince : ℕ → Frame → List Entry → List Entry → Type 0
-  WonSince n f base log = (es : List Entry) × (log ≡ es ++ base) × Wins frames (n ∷ []) f es × LoadsOnce es
+  WonSince n f base log = (es : List Entry) × (log ≡ es ++ base)
+      × Wins frames (n ∷ []) f es × LoadsOnce es
 
   -- after the search of a word: its frames are met too, or the frame of a bit was won
   abbrev pub SearchedWord : ℕ → ℕ → Option ℕ → List Entry → List Entry → Type 0

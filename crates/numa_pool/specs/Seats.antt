@@ -1,5 +1,6 @@
 -- What contracts see of pools and seats, and what the end of the pools tells.
-use Rattle.std.specs.Prelude.{◌≡◌, ℕ, ◌*◌, ◌<◌, ◌≤◌, min, Bool, List, length, slice_index, IsTrue, ◌↔◌}
+use Rattle.std.specs.Prelude.{◌≡◌, ℕ, ◌*◌, ◌<◌, ◌≤◌, min, Bool, List}
+use Rattle.std.specs.Prelude.{length, slice_index, IsTrue, ◌↔◌}
 use mathlib.Core.Option.{some}
 use lib.ListN.{get_elem?}
 use Rattle.atomic_table.specs.Seated.{TableId}
@@ -52,8 +53,8 @@ abbrev pub IsAllOf : List ℕ → List ℕ → List Frame → Type 0
 IsAllOf frames words held =
     (n k : ℕ) → k < slice_index frames n → bit_in words n k ≡ 1 → 0 < times n k held
 
--- The end, of the last words: the bits of the seat's frames are set, how many bits of each node are set, and whether
--- each set bit is that of a frame of the seat
+-- The end, of the last words: the bits of the seat's frames are set, how many bits of each node are
+-- set, and whether each set bit is that of a frame of the seat
 abbrev pub Closes : List ℕ → List Frame → List ℕ → Bool → Type 0
 Closes frames held taken alone =
     (words : List ℕ) × IsLast frames held words

@@ -1,5 +1,7 @@
--- What each kind of step does to what a seat shows: the frames that it holds, and its own steps, newest first.
-use Rattle.std.specs.Prelude.{◌≡◌, ℕ, ◌+◌, ◌*◌, ◌/◌, ◌%◌, ◌^◌, ◌<◌, ◌==◌, Bool, true, false, [], ◌∷◌, ◌++◌}
+-- What each kind of step does to what a seat shows: the frames that it holds, and its own steps,
+-- newest first.
+use Rattle.std.specs.Prelude.{◌≡◌, ℕ, ◌+◌, ◌*◌, ◌/◌, ◌%◌, ◌^◌, ◌<◌, ◌==◌}
+use Rattle.std.specs.Prelude.{Bool, true, false, [], ◌∷◌, ◌++◌}
 use Rattle.std.specs.Int.{bit_at, bit_not}
 use mir.Syntax.{w64}
 use Rattle.atomic_table.specs.Table.{Me, Step}
@@ -43,12 +45,14 @@ module _ {S : Type 0} where
   looked step before found after =
       after ≡ (logged before.0 (Load (step.word / 64) (step.word % 64) found), before.1)
 
-  -- an or of one bit: won where the bit was clear, and then the seat did not hold the frame; lost where it was set
+  -- an or of one bit: won where the bit was clear, and then the seat did not hold the frame; lost
+  -- where it was set
   abbrev pub attempted : Step S → Me S View → ℕ → Me S View → Type 0
   attempted step before found after =
       (bit : ℕ) → bit < 64 → step.first ≡ 2 ^ bit
       → (after ≡ (tried before.0 (frame_at step.word bit) (bit_at found bit == 0), before.1))
-      × (bit_at found bit ≡ 0 → times (step.word / 64) (64 * (step.word % 64) + bit) before.0.held ≡ 0)
+      × (bit_at found bit ≡ 0 →
+      times (step.word / 64) (64 * (step.word % 64) + bit) before.0.held ≡ 0)
 
   -- an and of all bits but one: the seat gives up the frame
   abbrev pub returned : Step S → Me S View → ℕ → Me S View → Type 0

@@ -1,5 +1,7 @@
 -- Walks: what the steps of a search for a free frame show, the newest step first.
-use Rattle.std.specs.Prelude.{◌≡◌, ℕ, ◌+◌, ◌*◌, ◌/◌, ◌%◌, ◌<◌, ◌≤◌, ◌≢◌, ◌==◌, ◌&&◌, ◌||◌, ◌⊎◌, Bool, true, false, List, [], ◌∷◌, ◌++◌, AllPairs, slice_index, Option, Some, None, IsSome}
+use Rattle.std.specs.Prelude.{◌≡◌, ℕ, ◌+◌, ◌*◌, ◌/◌, ◌%◌, ◌<◌, ◌≤◌, ◌≢◌, ◌==◌, ◌&&◌}
+use Rattle.std.specs.Prelude.{◌||◌, ◌⊎◌, Bool, true, false, List, [], ◌∷◌, ◌++◌, AllPairs}
+use Rattle.std.specs.Prelude.{slice_index, Option, Some, None, IsSome}
 use Rattle.std.specs.Int.{bit_at}
 use Rattle.numa_machine.specs.declared.frame.Frame.{Frame}
 use Rattle.numa_pool.specs.declared.view.Entry.{Entry}
@@ -75,12 +77,14 @@ module _ (frames : List ℕ) where
 
   -- an unmet frame of the current node
   abbrev pub IsNext : List Entry → List ℕ → Frame → Type 0
-  IsNext es ns f = IsCurrent es ns f.node × (f.number < slice_index frames f.node) × (met es f.node f.number ≡ false)
+  IsNext es ns f = IsCurrent es ns f.node × (f.number < slice_index frames f.node)
+      × (met es f.node f.number ≡ false)
 
   -- loads of words of the current node, and losses of unmet frames of it
   abbrev pub Searches : List ℕ → List Entry → Type 0
   Searches ns [] = Unit {0}
-  Searches ns (Load n w x ∷ es) = Searches ns es × IsCurrent es ns n × (64 * w < slice_index frames n)
+  Searches ns (Load n w x ∷ es) = Searches ns es × IsCurrent es ns n
+      × (64 * w < slice_index frames n)
   Searches ns (Lost f ∷ es) = Searches ns es × IsNext es ns f
   Searches ns (Won f ∷ es) = ⊥
   Searches ns (Gave f ∷ es) = ⊥
@@ -94,25 +98,28 @@ module _ (frames : List ℕ) where
   Wins ns f [] = ⊥
   Wins ns f (e ∷ es) = (e ≡ Won f) × Searches ns es × IsNext es ns f
 
-  -- a walk of the listed nodes: it ends with the frame that it won, or no current node is left at its end
+  -- a walk of the listed nodes: it ends with the frame that it won, or no current node is left at
+  -- its end
   abbrev pub IsWalk : List ℕ → Option Frame → List Entry → Type 0
   IsWalk ns None es = Exhausts ns es
   IsWalk ns (Some f) es = Wins ns f es
 
-  -- walks of the nodes one by one, in order, up to the first that won a frame; none of them loads a word twice
+  -- walks of the nodes one by one, in order, up to the first that won a frame; none of them loads a
+  -- word twice
   abbrev pub WalksInOrder : List ℕ → Option Frame → List Entry → Type 0
   WalksInOrder [] found es = (found ≡ None) × (es ≡ [])
   WalksInOrder (n ∷ ns) found es = (IsSome found × IsWalk (n ∷ []) found es × LoadsOnce es)
       ⊎ ((first : List Entry) × (later : List Entry) × (es ≡ later ++ first)
       × IsWalk (n ∷ []) None first × LoadsOnce first × WalksInOrder ns found later)
 
-  -- walks one after the other, each of a list of nodes of its own and with what it found; none of them loads a word
-  -- twice
+  -- walks one after the other, each of a list of nodes of its own and with what it found; none of
+  -- them loads a word twice
   abbrev pub WalksEach : List (List ℕ) → List (Option Frame) → List Entry → Type 0
   WalksEach [] [] es = es ≡ []
   WalksEach [] (found ∷ more) es = ⊥
   WalksEach (ns ∷ rows) [] es = ⊥
-  WalksEach (ns ∷ rows) (found ∷ more) es = (first : List Entry) × (later : List Entry) × (es ≡ later ++ first)
+  WalksEach (ns ∷ rows) (found ∷ more) es = (first : List Entry) × (later : List Entry)
+      × (es ≡ later ++ first)
       × IsWalk ns found first × LoadsOnce first × WalksEach rows more later
 
 -- no node stands twice

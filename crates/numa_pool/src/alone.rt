@@ -6,6 +6,7 @@ ghost use Rattle.numa_pool.specs.Seats.{Closes};
 
 /// A closing seat is alone exactly where as many frames of each node are taken as it holds itself.
 pub fn alone_by_counts()
-    ensures { (frames : List ℕ) (held : List Frame) (taken : List ℕ) (alone : Bool) → Closes frames held taken alone
+    ensures { (frames : List ℕ) (held : List Frame) (taken : List ℕ) (alone : Bool) →
+        Closes frames held taken alone
         → IsTrue alone ↔ ((n : ℕ) → slice_index taken n ≡ held_on n held) }
 {}

@@ -1,5 +1,6 @@
 //! Counting the frames that are taken at the end.
-ghost use Rattle.std.specs.Prelude.{◌≡◌, ℕ, ◌+◌, ◌*◌, ◌<◌, ◌≤◌, List, length, slice_index, IsTrue, ◌↔◌};
+ghost use Rattle.std.specs.Prelude.{◌≡◌, ℕ, ◌+◌, ◌*◌, ◌<◌, ◌≤◌, List};
+ghost use Rattle.std.specs.Prelude.{length, slice_index, IsTrue, ◌↔◌};
 ghost use Rattle.std.specs.Int.{bit_at};
 ghost use Rattle.std.specs.Mem.Slots.{slots_items, slots_len, IsFull};
 ghost use Rattle.numa_pool.specs.Frames.{bit_in, set_below};
@@ -77,7 +78,8 @@ fn count_all(rest: &Rest, frames: &[u32]) -> [u32; 256]
     requires { IsFull rest.now.words × (slots_len rest.now.words ≡ 64 * length frames.now)
         × (length frames.now ≤ 256) × ((n : ℕ) → slice_index frames.now n ≤ 4096) }
     ensures { (n : ℕ)
-        → slice_index result n ≡ set_below (slots_items rest.now.words) n (slice_index frames.now n) }
+        → slice_index result n ≡ set_below (slots_items rest.now.words)
+        n (slice_index frames.now n) }
 {
     let mut taken = [0; 256];
     for node in 0..frames.len() {

@@ -1,14 +1,16 @@
 //! Laws of the definitions that contracts cite.
-ghost use Rattle.std.specs.Prelude.{◌≡◌, ℕ, ◌<◌, ◌≤◌, true, false, List, [], ◌∷◌, ◌++◌, length, slice_index, slice_get, Option, Some, None};
+ghost use Rattle.std.specs.Prelude.{◌≡◌, ℕ, ◌<◌, ◌≤◌, true, false, List, [], ◌∷◌, ◌++◌};
+ghost use Rattle.std.specs.Prelude.{length, slice_index, slice_get, Option, Some, None};
 ghost use Rattle.numa_pool.specs.Frames.{gained, gained_each};
 ghost use Rattle.numa_pool.specs.Rule.{PoolRule, Counted};
-ghost use Rattle.numa_pool.specs.Walk.{met, won_in, IsWalk, WalksInOrder, WalksEach, IsDistinct, LoadsOnce, TriesOnce};
+ghost use Rattle.numa_pool.specs.Walk.{met, won_in, IsWalk, WalksInOrder, WalksEach};
+ghost use Rattle.numa_pool.specs.Walk.{IsDistinct, LoadsOnce, TriesOnce};
 ghost use Rattle.numa_pool.specs.declared.view.Entry.{Entry};
 ghost use Rattle.numa_pool.specs.declared.view.View.{View};
 ghost use Rattle.numa_machine.specs.declared.frame.Frame.{Frame};
 
-/// The counts that each step keeps say the rule of the pools: a bit is set exactly where one seat holds its frame, no
-/// two seats hold one frame, and the bits past a node's frames are clear.
+/// The counts that each step keeps say the rule of the pools: a bit is set exactly where one seat
+/// holds its frame, no two seats hold one frame, and the bits past a node's frames are clear.
 pub fn counts_keep_the_rule()
     ensures { (frames words : List ℕ) (views : List View)
         → ((n : ℕ) → slice_index frames n ≤ 4096) → Counted frames words views
@@ -21,8 +23,8 @@ pub fn walk_is_sparing()
         → IsWalk frames nodes found es → TriesOnce es }
 {}
 
-/// Walks of the nodes of a list in its order, up to the first that won a frame, are a walk of the list, where no node
-/// stands twice in it; and no word is loaded twice in them all.
+/// Walks of the nodes of a list in its order, up to the first that won a frame, are a walk of the
+/// list, where no node stands twice in it; and no word is loaded twice in them all.
 pub fn walks_compose()
     ensures { (frames nodes : List ℕ) (found : Option Frame) (es : List Entry)
         → IsDistinct nodes → WalksInOrder frames nodes found es
@@ -35,8 +37,9 @@ pub fn walk_wins_what_it_found()
         → IsWalk frames nodes found es → won_in es ≡ gained found [] }
 {}
 
-/// A walk that won a frame found each frame of each node before the frame's own taken, at one of its steps: a load that
-/// found the bit set, or a try that was lost. The frame itself is one of its node's, and was not found taken before.
+/// A walk that won a frame found each frame of each node before the frame's own taken, at one of
+/// its steps: a load that found the bit set, or a try that was lost. The frame itself is one of its
+/// node's, and was not found taken before.
 pub fn win_means()
     ensures listed { (frames nodes : List ℕ) (frame : Frame) (es : List Entry)
         → IsWalk frames nodes (Some frame) es
@@ -50,7 +53,8 @@ pub fn win_means()
         → met es (slice_index nodes i) k ≡ true }
     ensures frame { (frames nodes : List ℕ) (frame : Frame) (es : List Entry)
         → IsWalk frames nodes (Some frame) es
-        → (frame.number < slice_index frames frame.node) × (met es frame.node frame.number ≡ false) }
+        → (frame.number < slice_index frames frame.node)
+        × (met es frame.node frame.number ≡ false) }
 {}
 
 /// A walk that won no frame found each frame of each listed node taken, at one of its steps.
@@ -60,13 +64,14 @@ pub fn exhaustion_means()
         → met es (slice_index nodes i) k ≡ true }
 {}
 
-/// Walks one after the other: one walk is such a row of walks, two such rows after each other are one, and what they won
-/// is what each of them found.
+/// Walks one after the other: one walk is such a row of walks, two such rows after each other are
+/// one, and what they won is what each of them found.
 pub fn walks_follow()
     ensures one { (frames nodes : List ℕ) (found : Option Frame) (es : List Entry)
         → IsWalk frames nodes found es → LoadsOnce es
         → WalksEach frames (nodes ∷ []) (found ∷ []) es }
-    ensures more { (frames : List ℕ) (rows others : List (List ℕ)) (found more : List (Option Frame))
+    ensures more { (frames : List ℕ) (rows others : List (List ℕ))
+        (found more : List (Option Frame))
         (es later : List Entry)
         → WalksEach frames rows found es → WalksEach frames others more later
         → WalksEach frames (rows ++ others) (found ++ more) (later ++ es) }

@@ -1,5 +1,6 @@
 //! A bit for each frame, in a seat's own memory.
-ghost use Rattle.std.specs.Prelude.{ℕ, ◌+◌, ◌-◌, ◌*◌, ◌/◌, ◌<◌, ◌≤◌, min, max, length, IsTrue, ◌↔◌, ◌≡◌, IfOk, slice_index};
+ghost use Rattle.std.specs.Prelude.{ℕ, ◌+◌, ◌-◌, ◌*◌, ◌/◌, ◌<◌, ◌≤◌, min, max, length};
+ghost use Rattle.std.specs.Prelude.{IsTrue, ◌↔◌, ◌≡◌, IfOk, slice_index};
 ghost use Rattle.numa_pool.specs.Frames.{bit_in, one_if, is_frame};
 
 use numa_machine::Frame;
@@ -18,7 +19,8 @@ pub(crate) fn mark(bits: &mut Vec<u64>, frame: Frame)
     requires { (64 * frame.node + 64 ≤ length bits.old.items) × (frame.number < 4096) }
     ensures same_length { length bits.new.items ≡ length bits.old.items }
     ensures bits { (n k : ℕ) → k < 4096
-        → bit_in bits.new.items n k ≡ max (bit_in bits.old.items n k) (one_if (is_frame frame n k)) }
+        → bit_in bits.new.items n k
+        ≡ max (bit_in bits.old.items n k) (one_if (is_frame frame n k)) }
 {
     bits[64 * frame.node as usize + frame.number as usize / 64] |= 1u64 << (frame.number % 64);
 }
@@ -28,7 +30,8 @@ pub(crate) fn unmark(bits: &mut Vec<u64>, frame: Frame)
     requires { (64 * frame.node + 64 ≤ length bits.old.items) × (frame.number < 4096) }
     ensures same_length { length bits.new.items ≡ length bits.old.items }
     ensures bits { (n k : ℕ) → k < 4096
-        → bit_in bits.new.items n k ≡ min (bit_in bits.old.items n k) (1 - one_if (is_frame frame n k)) }
+        → bit_in bits.new.items n k
+        ≡ min (bit_in bits.old.items n k) (1 - one_if (is_frame frame n k)) }
 {
     bits[64 * frame.node as usize + frame.number as usize / 64] &= !(1u64 << (frame.number % 64));
 }

@@ -1,5 +1,7 @@
 //! The pools of a machine's frames.
-ghost use Rattle.std.specs.Prelude.{◌≡◌, ℕ, ◌+◌, ◌*◌, ◌<◌, ◌≤◌, ◌∷◌, ◌++◌, [], List, length, slice_index, IfOk, MatchResult, IfSome, IsTrue, MatchOption, ◌↔◌};
+ghost use Rattle.std.specs.Prelude.{◌≡◌, ℕ, ◌+◌, ◌*◌, ◌<◌, ◌≤◌, ◌∷◌, ◌++◌, []};
+ghost use Rattle.std.specs.Prelude.{List, length, slice_index, IfOk, MatchResult};
+ghost use Rattle.std.specs.Prelude.{IfSome, IsTrue, MatchOption, ◌↔◌};
 ghost use Rattle.numa_pool.specs.Frames.{times, without, gained, Holds};
 ghost use Rattle.numa_pool.specs.Seats.{Closes};
 ghost use Rattle.numa_pool.specs.Walk.{IsWalk, LoadsOnce, TriesOnce};
@@ -16,9 +18,10 @@ use numa_machine::{Frame, Machine, NoMemory};
 use std::alloc::{AllocError, Global};
 use std::marker::Model;
 
-/// The frames of a machine's nodes, which any number of threads take and give up through seats of their own, by single
-/// atomic steps. No call waits. At run time the pools are 64 words of 64 bits for each node of the machine; frame f of
-/// a node is bit f mod 64 of the node's word f / 64, and a bit is set while the frame is taken.
+/// The frames of a machine's nodes, which any number of threads take and give up through seats of
+/// their own, by single atomic steps. No call waits. At run time the pools are 64 words of 64 bits
+/// for each node of the machine; frame f of a node is bit f mod 64 of the node's word f / 64, and a
+/// bit is set while the frame is taken.
 #[derive(Drop)]
 pub struct Pools {
     words: Words,
@@ -33,12 +36,14 @@ impl Model for Pools {
 
     ghost view = { λ p. p.words };
 
-    ghost invariant = { λ p. IsShaped p.words.table p.words.frames × (p.words.frames ≡ p.frames.items) };
+    ghost invariant = { λ p. IsShaped p.words.table p.words.frames
+        × (p.words.frames ≡ p.frames.items) };
 }
 
 /// How many frames each node has.
 fn frame_counts(alloc: Global, machine: &Machine) -> Result<Vec<u32>, AllocError>
-    ensures { IfOk result (λ counts. (counts.items ≡ machine.now.frames) × (0 < length counts.items) × (length counts.items ≤ 256)
+    ensures { IfOk result (λ counts. (counts.items ≡ machine.now.frames) × (0 < length counts.items)
+        × (length counts.items ≤ 256)
         × ((n : ℕ) → slice_index counts.items n ≤ 4096)) }
 {
     let nodes = machine.nodes();
@@ -50,8 +55,8 @@ fn frame_counts(alloc: Global, machine: &Machine) -> Result<Vec<u32>, AllocError
 }
 
 impl Pools {
-    /// The pools of the machine, in which each frame is free, and a first seat, which holds nothing. `NoMemory` where
-    /// there was no memory for the words or for the seat.
+    /// The pools of the machine, in which each frame is free, and a first seat, which holds
+    /// nothing. `NoMemory` where there was no memory for the words or for the seat.
     pub fn open(alloc: Global, machine: &Machine) -> Result<(Pools, PoolSeat), NoMemory>
         ensures frames { IfOk result (λ opened. opened.0.frames ≡ machine.now.frames) }
         ensures seat { IfOk result (λ opened. (opened.1.table ≡ opened.0.table)
@@ -74,7 +79,8 @@ impl Pools {
         }
     }
 
-    /// A new seat of these pools, which holds nothing, for another thread. `NoMemory` where there was no memory for it.
+    /// A new seat of these pools, which holds nothing, for another thread. `NoMemory` where there
+    /// was no memory for it.
     pub fn split(&self, alloc: Global, seat: &mut PoolSeat) -> Result<PoolSeat, NoMemory>
         requires { seat.old.table ≡ self.now.table }
         ensures same { (seat.new.table ≡ seat.old.table) × (seat.new.held ≡ seat.old.held)
@@ -101,9 +107,10 @@ impl Pools {
         add_marks(&mut seat.bits, bits.as_slice());
     }
 
-    /// Takes a free frame of the node, the first that it finds. `None` only where each frame of the node was found
-    /// taken at a step of this call, so also for a node without frames and for one that is not of the machine. Each
-    /// word of the node is loaded at most once, and each frame tried at most once; no other step is made. Takes no memory.
+    /// Takes a free frame of the node, the first that it finds. `None` only where each frame of the
+    /// node was found taken at a step of this call, so also for a node without frames and for one
+    /// that is not of the machine. Each word of the node is loaded at most once, and each frame
+    /// tried at most once; no other step is made. Takes no memory.
     pub fn take(&self, seat: &mut PoolSeat, node: u8) -> Option<Frame>
         requires { seat.old.table ≡ self.now.table }
         ensures same { seat.new.table ≡ seat.old.table }
@@ -145,8 +152,8 @@ impl Pools {
         unmark(&mut seat.bits, frame);
     }
 
-    /// The end of the pools: how many frames of each node are taken, and whether the seat holds them all. It uses up
-    /// the pools, so no other thread steps on them any more. Takes no memory.
+    /// The end of the pools: how many frames of each node are taken, and whether the seat holds
+    /// them all. It uses up the pools, so no other thread steps on them any more. Takes no memory.
     pub fn close(self, seat: PoolSeat) -> Closed
         requires { seat.table ≡ self.table }
         ensures { Closes self.frames seat.held result.taken result.alone }

@@ -1,5 +1,6 @@
 //! The search for a free frame of a node.
-ghost use Rattle.std.specs.Prelude.{◌≡◌, ℕ, ◌+◌, ◌*◌, ◌<◌, ◌≤◌, ◌∷◌, [], List, length, slice_index, MatchOption, IfSome, ◌++◌, ◌⊎◌};
+ghost use Rattle.std.specs.Prelude.{◌≡◌, ℕ, ◌+◌, ◌*◌, ◌<◌, ◌≤◌, ◌∷◌, [], List, length};
+ghost use Rattle.std.specs.Prelude.{slice_index, MatchOption, IfSome, ◌++◌, ◌⊎◌};
 ghost use Rattle.numa_pool.specs.Frames.{frame_of, times, gained};
 ghost use Rattle.numa_pool.specs.Seats.{IsShaped};
 ghost use Rattle.numa_pool.specs.Walk.{IsWalk, LoadsOnce, TriesOnce};

@@ -7,10 +7,11 @@ use crate::steps::Token;
 use numa_machine::Frame;
 use std::marker::Model;
 
-/// The frames that one thread holds of some pools, and the right to take more and to give them up. A contract sees the
-/// pools that the seat belongs to, the frames that it holds, and its own steps: a load, a try and a return stand in its
-/// log, and splits and joins are counted. At run time a seat is one bit for each frame that its nodes may have, 64
-/// words for each node of the machine. A seat that is dropped keeps its frames taken.
+/// The frames that one thread holds of some pools, and the right to take more and to give them up.
+/// A contract sees the pools that the seat belongs to, the frames that it holds, and its own steps:
+/// a load, a try and a return stand in its log, and splits and joins are counted. At run time a
+/// seat is one bit for each frame that its nodes may have, 64 words for each node of the machine. A
+/// seat that is dropped keeps its frames taken.
 #[derive(Drop)]
 pub struct PoolSeat {
     pub(crate) token: Token,
@@ -22,7 +23,8 @@ impl Model for PoolSeat {
 
     ghost Value = { SeatView };
 
-    ghost view = { λ s. record { table = s.token.table; held = s.token.view.held; log = s.token.view.log; unlogged = s.token.view.unlogged } };
+    ghost view = { λ s. record { table = s.token.table; held = s.token.view.held;
+        log = s.token.view.log; unlogged = s.token.view.unlogged } };
 
     ghost invariant = { λ s. Marks s.token.table.words s.bits.items s.token.view.held };
 }

@@ -1,12 +1,15 @@
 //! The frame words of the pools, and every step on them.
 //!
-//! There are seven kinds of step and no other: the opening, a split and a join of seats (each a load), a load of a
-//! frame word, a fetch_or of one bit that finds it clear or finds it set, and a fetch_and of all bits but one.
+//! There are seven kinds of step and no other: the opening, a split and a join of seats (each a
+//! load), a load of a frame word, a fetch_or of one bit that finds it clear or finds it set, and a
+//! fetch_and of all bits but one.
 //!
-//! The words and the right to step on them lie in two types whose fields have no name outside this file. So the
-//! functions below are all that the rest of the crate, or a crate above it, can do to them. Each makes one atomic step
-//! and shows it: a load, a try and a return in the log of the seat, a split and a join in its count of the others.
-ghost use Rattle.std.specs.Prelude.{◌≡◌, ℕ, ◌+◌, ◌*◌, ◌<◌, ◌≤◌, [], true, length, slice_index, IfOk};
+//! The words and the right to step on them lie in two types whose fields have no name outside this
+//! file. So the functions below are all that the rest of the crate, or a crate above it, can do to
+//! them. Each makes one atomic step and shows it: a load, a try and a return in the log of the
+//! seat, a split and a join in its count of the others.
+ghost use Rattle.std.specs.Prelude.{◌≡◌, ℕ, ◌+◌, ◌*◌, ◌<◌, ◌≤◌, [], true};
+ghost use Rattle.std.specs.Prelude.{length, slice_index, IfOk};
 ghost use Rattle.std.specs.Mem.Slots.{slots_items, slots_len, IsFull};
 ghost use Rattle.numa_pool.specs.Frames.{frame_of, times, bit_in};
 ghost use Rattle.numa_pool.specs.Seats.{IsShaped, IsLast};
@@ -90,7 +93,8 @@ impl Model for Words {
 
     ghost Value = { PoolsView };
 
-    ghost view = { λ w. record { table = w.table.shared.table_id; frames = w.table.shared.key.items } };
+    ghost view = { λ w. record { table = w.table.shared.table_id;
+        frames = w.table.shared.key.items } };
 
     ghost invariant = { λ w. IsShaped w.table.shared.table_id w.table.shared.key.items };
 }

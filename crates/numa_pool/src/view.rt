@@ -14,8 +14,8 @@ pub enum Entry {
     Gave(Frame),
 }
 
-/// The frames that a seat holds, its steps, the newest first, and how many steps it made that its log leaves out: splits
-/// and joins. It stands in contracts alone: no value of it is made.
+/// The frames that a seat holds, its steps, the newest first, and how many steps it made that its
+/// log leaves out: splits and joins. It stands in contracts alone: no value of it is made.
 pub struct View {
     pub held: LinkedList<Frame>,
     pub log: LinkedList<Entry>,

@@ -1,5 +1,6 @@
 -- Moments of the core's world, and what a seat's steps are there.
-use Rattle.std.specs.Prelude.{◌≡◌, ℕ, ◌*◌, ◌<◌, ◌≤◌, ◌==◌, true, List, slice_index, Option, Some, None, Ok, if◌then◌else◌}
+use Rattle.std.specs.Prelude.{◌≡◌, ℕ, ◌*◌, ◌<◌, ◌≤◌, ◌==◌, true, List, slice_index}
+use Rattle.std.specs.Prelude.{Option, Some, None, Ok, if◌then◌else◌}
 use Rattle.numa_core.specs.World.{Setup, World, Hunt, hunt_of, is_published, last_of, list_at}
 use Rattle.numa_core.specs.Runs.{Moment}
 use Rattle.numa_core.specs.Steps.{MayTake, answer_of}

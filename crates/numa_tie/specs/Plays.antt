@@ -4,7 +4,8 @@ use Rattle.numa_core.specs.World.{Setup, World, Hunt, hunt_of}
 use Rattle.numa_core.specs.Steps.{answer_of, put}
 use Rattle.numa_core.specs.Runs.{Moment, world_of}
 use Rattle.numa_space.specs.declared.event.Event.{Event}
-use Rattle.numa_space.specs.declared.event.Event.TheVariants.{Accept, Publish, Begin, Look, Try, Give}
+use Rattle.numa_space.specs.declared.event.Event.TheVariants.{Accept, Publish, Begin}
+use Rattle.numa_space.specs.declared.event.Event.TheVariants.{Look, Try, Give}
 use Rattle.numa_space.specs.declared.event.CoreReply.{CoreReply}
 use Rattle.numa_pool.specs.declared.view.Entry.{Entry}
 use Rattle.numa_pool.specs.declared.view.Entry.TheVariants.{Load, Won, Lost, Gave}

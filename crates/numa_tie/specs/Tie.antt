@@ -1,5 +1,6 @@
 -- What seats and their steps are to the core: worker w of its world stands for seat w of the pools.
-use Rattle.std.specs.Prelude.{◌≡◌, ℕ, ◌<◌, ◌≤◌, List, ◌∷◌, length, slice_index, Some, slice_get, ◌↔◌}
+use Rattle.std.specs.Prelude.{◌≡◌, ℕ, ◌<◌, ◌≤◌, List, ◌∷◌, length}
+use Rattle.std.specs.Prelude.{slice_index, Some, slice_get, ◌↔◌}
 use mathlib.Core.Option.{some}
 use lib.ListN.{get_elem?}
 use Rattle.numa_core.specs.World.{Setup, World, Hunt, current_rank, hunt_of}

@@ -1,10 +1,13 @@
 //! What holds between the pools' walks and the core's hunts.
-ghost use Rattle.std.specs.Prelude.{◌≡◌, ℕ, ◌+◌, ◌*◌, ◌<◌, ◌≤◌, true, List, [], ◌∷◌, length, slice_index, slice_set, Option, Some, None};
+ghost use Rattle.std.specs.Prelude.{◌≡◌, ℕ, ◌+◌, ◌*◌, ◌<◌, ◌≤◌, true, List, [], ◌∷◌, length};
+ghost use Rattle.std.specs.Prelude.{slice_index, slice_set, Option, Some, None};
 ghost use mathlib.Core.Option.{some};
 ghost use lib.ListN.{get_elem?};
 ghost use Rattle.numa_core.specs.Runs.{Moment, IsExhausted, IsLegalRun, IsRightPlacement, world_of};
-ghost use Rattle.numa_core.specs.Steps.{effect_of, goes_on, going_on, placement_of, put, with_owner};
-ghost use Rattle.numa_core.specs.World.{Setup, World, Hunt, opening, hunt_of, looked, may_look, may_try, missed, owner_of};
+ghost use Rattle.numa_core.specs.Steps.{effect_of, goes_on, going_on, placement_of};
+ghost use Rattle.numa_core.specs.Steps.{put, with_owner};
+ghost use Rattle.numa_core.specs.World.{Setup, World, Hunt, opening, hunt_of, looked};
+ghost use Rattle.numa_core.specs.World.{may_look, may_try, missed, owner_of};
 ghost use Rattle.numa_space.specs.declared.event.Event.{Event};
 ghost use Rattle.numa_space.specs.declared.event.CoreReply.{CoreReply};
 ghost use Rattle.numa_machine.specs.declared.frame.Frame.{Frame};
@@ -20,7 +23,8 @@ ghost use Rattle.numa_core.specs.Seats.{fresh};
 ghost use Rattle.numa_tie.specs.Hunts.{IsHunt, TakesTurns, Tells, Turn, steps_of, world_left};
 ghost use Rattle.numa_tie.specs.Moments.{IsMoment, MayBegin, WalksOn, event_of, handed, told};
 ghost use Rattle.numa_tie.specs.Moves.{PoolState, IsOpening, Joins, Makes, SeatHolds, Splits};
-ghost use Rattle.numa_tie.specs.Plays.{Done, IsPlay, NoneRefused, by_seat, pools_of, run_of, since_of};
+ghost use Rattle.numa_tie.specs.Plays.{Done, IsPlay, NoneRefused, by_seat};
+ghost use Rattle.numa_tie.specs.Plays.{pools_of, run_of, since_of};
 ghost use Rattle.numa_tie.specs.Tie.{HasMet, HaveMet, IsAt, IsTied, OwnsWhatIsHeld, noted};
 
 /// Where a hunt has met what a walk's steps found taken, the walk's current node is the hunt's, and

@@ -1,5 +1,6 @@
 //! How a plan is built, by its compiler.
-ghost use Rattle.std.specs.Prelude.{◌≡◌, ◌≢◌, ℕ, ◌+◌, ◌<◌, ◌≤◌, ◌^◌, ◌-◌, length, None, Some, IsSome, IfOk, OnOk, OnErr, [], ◌∷◌, ◌++◌};
+ghost use Rattle.std.specs.Prelude.{◌≡◌, ◌≢◌, ℕ, ◌+◌, ◌<◌, ◌≤◌, ◌^◌, ◌-◌, length, None};
+ghost use Rattle.std.specs.Prelude.{Some, IsSome, IfOk, OnOk, OnErr, [], ◌∷◌, ◌++◌};
 ghost use Rattle.std.specs.Option.{ForSome};
 ghost use Rattle.numa_ranges.specs.Runs.{AreApart};
 ghost use Rattle.numa_plan.specs.Counted.{one_rule, one_run};
@@ -19,8 +20,8 @@ use std::alloc::Global;
 use std::collections::BTreeMap;
 
 impl Plan {
-    /// A plan for a machine of this many nodes, of version 0, without runs, rules in slots and tasks. The local rule has a
-    /// row for each of the nodes. Takes no memory.
+    /// A plan for a machine of this many nodes, of version 0, without runs, rules in slots and
+    /// tasks. The local rule has a row for each of the nodes. Takes no memory.
     pub fn new(alloc: Global, nodes: u32, local: Rule) -> Plan
         requires { HasRows nodes local }
         ensures { result ≡ empty_plan nodes local }
@@ -36,8 +37,9 @@ impl Plan {
         }
     }
 
-    /// Writes a rule, with a row for each of the plan's nodes at each index, into the lowest free slot, or behind the others
-    /// where none is free. Answers the slot's number. No run and no task uses the rule yet, so that no list changes.
+    /// Writes a rule, with a row for each of the plan's nodes at each index, into the lowest free
+    /// slot, or behind the others where none is free. Answers the slot's number. No run and no task
+    /// uses the rule yet, so that no list changes.
     ///
     /// # Errors
     /// `NoMemory` where there is none for a slot more; the plan is as it was.
@@ -58,8 +60,8 @@ impl Plan {
         Ok(place as u32)
     }
 
-    /// Adds a run behind the others. It begins where they end or later, has a page, ends below page 2^35 and has indexes below
-    /// 2^36, and its rule, if it names one, is there.
+    /// Adds a run behind the others. It begins where they end or later, has a page, ends below page
+    /// 2^35 and has indexes below 2^36, and its rule, if it names one, is there.
     ///
     /// # Errors
     /// `NoMemory` where there is none for a run more; the plan is as it was.
@@ -67,7 +69,8 @@ impl Plan {
         requires apart { AreApart 0 (self.old.runs ++ run ∷ []) }
         requires named { ForSome run.value (λ number. IsSome (rule_in self.old.slots number)) }
         requires few { length self.old.runs + length self.old.tasks < 2 ^ 32 - 1 }
-        ensures ok { OnOk result ((self.new ≡ with_run self.old run) × (steps.new ≡ one_run steps.old)) }
+        ensures ok { OnOk result ((self.new ≡ with_run self.old run)
+            × (steps.new ≡ one_run steps.old)) }
         ensures err { OnErr result ((self.new ≡ self.old) × (steps.new ≡ steps.old)) }
     {
         let named = run.value;
@@ -78,8 +81,8 @@ impl Plan {
         Ok(())
     }
 
-    /// Gives a task the rule of this number, which is there, in place of the one that it had; with None the task has no rule
-    /// of its own any more. Writes no run and no rule.
+    /// Gives a task the rule of this number, which is there, in place of the one that it had; with
+    /// None the task has no rule of its own any more. Writes no run and no rule.
     ///
     /// # Errors
     /// `NoMemory` where there is none for a task more, never with None; the plan is as it was.
