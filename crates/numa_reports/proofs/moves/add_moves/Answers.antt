@@ -1,0 +1,38 @@
+use Rattle.std.proofs.Common.{◌≡◌, ℕ, ◌-◌, ◌&&◌, Bool, arith, ap}
+use Rattle.numa_ranges.specs.Counts.{count_pages}
+use Rattle.numa_plan.specs.Meaning.{is_number, planned_first}
+use Rattle.numa_plan.proofs.CountLemmas.{count-most}
+use Rattle.numa_reports.proofs.Moving.{count-more, none-moved, moves-meant}
+use Rattle.numa_reports.proofs.moves.add_moves.Goals as goal
+
+pub loop-page-init : goal.loop-page-init
+loop-page-init c = record {
+  low = omega arith;
+  high = omega arith;
+  counted = λ from to f t. omega (arith, none-moved (λ page. is_number from (planned_first c.args.before.now c.args.task page c.args.cpu) && is_number to (planned_first c.args.after.now c.args.task page c.args.cpu)) c.args.first);
+  entries = c.requires.room.entries;
+}
+
+pub add_block-requires-clause-room : goal.add_block-requires-clause-room
+add_block-requires-clause-room c = record {
+  entries = c.loop-page.invariant.entries;
+  room = λ from to f t.
+      let test : ℕ → Bool = λ page. is_number from (planned_first c.args.before.now c.args.task page c.args.cpu) && is_number to (planned_first c.args.after.now c.args.task page c.args.cpu) in
+      omega (arith, c.loop-page.invariant.counted from to f t, count-most test c.args.first (c.loop-page.page - c.args.first), c.requires.room.room from to f t, c.min-part.ensures);
+}
+
+pub loop-page-preserved : goal.loop-page-preserved
+loop-page-preserved c = record {
+  low = omega (arith, c.loop-page.invariant.low);
+  high = omega (arith, c.min-part.ensures);
+  counted = λ from to f t.
+      let test : ℕ → Bool = λ page. is_number from (planned_first c.args.before.now c.args.task page c.args.cpu) && is_number to (planned_first c.args.after.now c.args.task page c.args.cpu) in
+      omega (arith, c.loop-page.invariant.counted from to f t, c.in_ok-add_block.ensures.ok from to f t, count-more test c.args.first c.loop-page.page c.min-part.result c.loop-page.invariant.low);
+  entries = c.add_block.ensures.entries;
+}
+
+pub returns-clause-ok : goal.returns-clause-ok
+returns-clause-ok c machine old new was is lt from to f t =
+    let test : ℕ → Bool = λ page. is_number from (planned_first c.args.before.now c.args.task page c.args.cpu) && is_number to (planned_first c.args.after.now c.args.task page c.args.cpu) in
+    let all : c.loop-page.page - c.args.first ≡ c.args.pages = omega (arith, c.loop-page.invariant.low, c.loop-page.invariant.high) in
+    omega (arith, c.loop-page.invariant.counted from to f t, ap (λ (n : ℕ). count_pages test c.args.first n) all, moves-meant machine c.args.before.now c.args.after.now old new c.args.task c.args.cpu c.args.first c.args.pages from to was is lt)

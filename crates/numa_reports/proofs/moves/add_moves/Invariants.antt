@@ -1,0 +1,14 @@
+use Rattle.std.proofs.Common.{◌≡◌, ◌-◌, ◌≤◌, length}
+use Rattle.numa_reports.specs.Moved.{AddsMoves, planned_moves}
+use Rattle.numa_reports.proofs.moves.add_moves.Given as goal
+
+abbrev pub invariant-loop-page : goal.invariant-loop-page
+invariant-loop-page l = record {
+  low : l.first ≤ l.page;
+  high : l.page ≤ l.end;
+  counted : AddsMoves l.fn.table.items l.table.items (planned_moves l.before l.after l.task l.cpu l.first (l.page - l.first));
+  entries : length l.table.items ≡ 65536;
+}
+
+abbrev pub decreases-loop-page : goal.decreases-loop-page
+decreases-loop-page l = l.end - l.page

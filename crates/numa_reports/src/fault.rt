@@ -1,0 +1,33 @@
+//! Why a report ended early.
+use numa_plan::NoMemory;
+use numa_space::PlaceRefusal;
+use std::alloc::AllocError;
+
+/// Why a report ended early.
+#[derive(Clone, Copy, Debug, PartialEq, Eq)]
+pub enum ReportFault {
+    /// The question was refused: the machine has no such node.
+    Refused(PlaceRefusal),
+    /// A write failed.
+    Write,
+    /// There was no memory for the report.
+    Memory,
+}
+
+impl From<AllocError> for ReportFault {
+    fn from(_error: AllocError) -> ReportFault {
+        ReportFault::Memory
+    }
+}
+
+impl From<PlaceRefusal> for ReportFault {
+    fn from(refusal: PlaceRefusal) -> ReportFault {
+        ReportFault::Refused(refusal)
+    }
+}
+
+impl From<NoMemory> for ReportFault {
+    fn from(_error: NoMemory) -> ReportFault {
+        ReportFault::Memory
+    }
+}

@@ -1,0 +1,149 @@
+//! Which pages go to another node.
+ghost use Rattle.std.specs.Prelude.{◌≡◌, ◌≤◌, ◌<◌, ◌==◌, ◌&&◌, ℕ, List, length, slice_index, IfOk, OnOk, if◌then◌else◌};
+ghost use Rattle.numa_compile.specs.Standing.{PlanStandsFor};
+ghost use Rattle.numa_machine.specs.Machine.{Hardware};
+ghost use Rattle.numa_space.specs.declared.command.Command.{Command};
+ghost use Rattle.numa_reports.specs.Moved.{AddsMoves, AreMoves, HasRoomFor, meant_moves, pairs, planned_moves};
+
+use crate::fault::ReportFault;
+use numa_plan::Plan;
+use numa_space::PlaceRefusal;
+use std::alloc::{AllocError, Global};
+
+/// How many pages are looked at together.
+const BLOCK: usize = 4096;
+
+/// How many entries a table has.
+pub(crate) const ENTRIES: usize = 65_536;
+
+/// Adds one page from a node to another.
+fn add_pair(table: &mut Vec<u64>, from: u8, to: u8)
+    requires { HasRoomFor table.old.items 1 }
+    ensures entries { length table.new.items ≡ 65536 }
+    ensures pair { AddsMoves table.old.items table.new.items (λ a b. if (from == a) && (to == b) then 1 else 0) }
+{
+    table[usize::from(from) * 256 + usize::from(to)] += 1;
+}
+
+/// Adds a page for each place: from the node there in the first list to that in the second.
+fn add_pairs(table: &mut Vec<u64>, before: &[u8], after: &[u8])
+    requires same { length after.now ≡ length before.now }
+    requires room { HasRoomFor table.old.items (length before.now) }
+    ensures entries { length table.new.items ≡ 65536 }
+    ensures pairs { AddsMoves table.old.items table.new.items (pairs before.now after.now) }
+{
+    for k in 0..before.len() {
+        add_pair(table, before[k], after[k]);
+    }
+}
+
+/// Adds the pages of a span, as many as both lists have places, from their node by the one plan to that by the other.
+fn add_filled(
+    before: &Plan,
+    after: &Plan,
+    task: u32,
+    cpu: u32,
+    first: u64,
+    old: &mut [u8],
+    new: &mut [u8],
+    table: &mut Vec<u64>,
+) -> Result<(), PlaceRefusal>
+    requires same { length new.old ≡ length old.old }
+    requires room { HasRoomFor table.old.items (length old.old) }
+    ensures ok { OnOk result (AddsMoves table.old.items table.new.items (planned_moves before.now after.now task cpu first (length old.old))) }
+    ensures entries { length table.new.items ≡ 65536 }
+{
+    before.fill(task, cpu, first, old)?;
+    after.fill(task, cpu, first, new)?;
+    add_pairs(table, old, new);
+    Ok(())
+}
+
+/// Adds the pages of a block.
+fn add_block(
+    before: &Plan,
+    after: &Plan,
+    task: u32,
+    cpu: u32,
+    first: u64,
+    pages: usize,
+    table: &mut Vec<u64>,
+) -> Result<(), PlaceRefusal>
+    requires few { pages ≤ 4096 }
+    requires room { HasRoomFor table.old.items pages }
+    ensures ok { OnOk result (AddsMoves table.old.items table.new.items (planned_moves before.now after.now task cpu first pages)) }
+    ensures entries { length table.new.items ≡ 65536 }
+{
+    let mut old = [0u8; BLOCK];
+    let mut new = [0u8; BLOCK];
+    add_filled(
+        before,
+        after,
+        task,
+        cpu,
+        first,
+        &mut old[..pages],
+        &mut new[..pages],
+        table,
+    )
+}
+
+/// Adds the pages of a span, block by block.
+fn add_moves(
+    before: &Plan,
+    after: &Plan,
+    task: u32,
+    cpu: u32,
+    first: u64,
+    pages: u64,
+    table: &mut Vec<u64>,
+) -> Result<(), PlaceRefusal>
+    requires room { HasRoomFor table.old.items pages }
+    ensures ok { (machine : Hardware) (old new : List Command) → PlanStandsFor machine before.now old → PlanStandsFor machine after.now new
+        → cpu < machine.nodes → OnOk result (AddsMoves table.old.items table.new.items (meant_moves machine old new task cpu first pages)) }
+    ensures entries { length table.new.items ≡ 65536 }
+{
+    let Some(end) = first.checked_add(pages) else {
+        return Err(PlaceRefusal::Unmapped);
+    };
+    let mut page = first;
+    while page < end {
+        let part = (end - page).min(BLOCK as u64);
+        add_block(before, after, task, cpu, page, part as usize, table)?;
+        page += part;
+    }
+    Ok(())
+}
+
+/// A table without pages.
+pub(crate) fn empty_table(alloc: Global, entries: usize) -> Result<Vec<u64>, AllocError>
+    ensures entries { IfOk result (λ table. length table.items ≡ entries) }
+    ensures empty { IfOk result (λ table. (k : ℕ) → k < entries → slice_index table.items k ≡ 0) }
+{
+    let table = vec![in alloc; 0; entries]?;
+    Ok(table)
+}
+
+/// How many pages of a span go from one node to another, for each two nodes: to the first by the plan `before`, and to the
+/// second by the plan `after`, if the task touched each of them on a CPU of node `cpu`. Entry `256 * from + to` of the table
+/// has them; pages that stay stand on its diagonal. The time grows with the pages.
+///
+/// # Errors
+/// `Refused` where a plan has no node `cpu` or lacks a page of the span; `Memory` where there was none for the table.
+pub fn span_moves(
+    alloc: Global,
+    before: &Plan,
+    after: &Plan,
+    task: u32,
+    cpu: u32,
+    first: u64,
+    pages: u64,
+) -> Result<Vec<u64>, ReportFault>
+    ensures ok { (machine : Hardware) (old new : List Command) → PlanStandsFor machine before.now old → PlanStandsFor machine after.now new
+        → cpu < machine.nodes → IfOk result (λ table. AreMoves machine old new task cpu first pages table.items) }
+    ensures entries { IfOk result (λ table. length table.items ≡ 65536) }
+{
+    let mut table = empty_table(alloc, ENTRIES)?;
+    add_moves(before, after, task, cpu, first, pages, &mut table)?;
+    Ok(table)
+}

@@ -1,0 +1,91 @@
+//! What stands at one moment: a plan, and which pages are mapped.
+ghost use Rattle.std.specs.Prelude.{List, IfOk};
+ghost use Rattle.numa_compile.specs.Standing.{PlanStandsFor};
+ghost use Rattle.numa_space.specs.Standing.{StandsFor};
+ghost use Rattle.numa_space.specs.declared.command.Command.{Command};
+
+use crate::fault::ReportFault;
+use numa_compile::compile;
+use numa_plan::Plan;
+use numa_space::Space;
+use std::alloc::{AllocError, Global};
+
+/// Pages one behind another: the first, and how many.
+#[derive(Clone, Copy, Debug, PartialEq, Eq)]
+pub struct Span {
+    pub first: u64,
+    pub pages: u64,
+}
+
+/// What stands at one moment: the plan of the commands so far, and the pages of each range, rising.
+#[derive(Drop)]
+pub struct Outlook {
+    pub plan: Plan,
+    pub spans: Vec<Span>,
+}
+
+/// The pages of each range of a space, rising.
+fn spans_of(alloc: Global, space: &Space) -> Result<Vec<Span>, AllocError> {
+    let mut spans = Vec::new(alloc);
+    for range in space.range_iter() {
+        spans.push(Span {
+            first: range.first,
+            pages: range.pages,
+        })?;
+    }
+    Ok(spans)
+}
+
+/// What stands in a space now.
+///
+/// # Errors
+/// `Memory` where there was none for it.
+pub fn outlook_of(alloc: Global, space: &Space) -> Result<Outlook, ReportFault>
+    ensures plan { (history : List Command) → StandsFor space.now history
+        → IfOk result (λ outlook. PlanStandsFor space.now.machine outlook.plan history) }
+{
+    let plan = compile(alloc, space)?;
+    let spans = spans_of(alloc, space)?;
+    Ok(Outlook { plan, spans })
+}
+
+/// The page behind the last.
+fn end_of(span: Span) -> u64 {
+    span.first.saturating_add(span.pages)
+}
+
+/// The pages that both spans have.
+fn common(one: Span, other: Span) -> Option<Span> {
+    let first = one.first.max(other.first);
+    let end = end_of(one).min(end_of(other));
+    if first < end {
+        Some(Span {
+            first,
+            pages: end - first,
+        })
+    } else {
+        None
+    }
+}
+
+/// The spans that two rising lists of spans have in common, each inside one span of either.
+pub fn common_spans(
+    alloc: Global,
+    ones: &[Span],
+    others: &[Span],
+) -> Result<Vec<Span>, AllocError> {
+    let mut found = Vec::new(alloc);
+    let mut i = 0;
+    let mut j = 0;
+    while i < ones.len() && j < others.len() {
+        if let Some(span) = common(ones[i], others[j]) {
+            found.push(span)?;
+        }
+        if end_of(ones[i]) <= end_of(others[j]) {
+            i += 1;
+        } else {
+            j += 1;
+        }
+    }
+    Ok(found)
+}

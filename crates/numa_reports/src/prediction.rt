@@ -1,0 +1,74 @@
+//! Where all mapped pages would go.
+ghost use Rattle.std.specs.Prelude.{◌≡◌, ◌≤◌, ◌^◌, List, IfOk, IfErr};
+ghost use Rattle.numa_compile.specs.Spans.{SpanIsRefused};
+ghost use Rattle.numa_compile.specs.Standing.{PlanStandsFor};
+ghost use Rattle.numa_space.specs.Standing.{StandsFor};
+ghost use Rattle.numa_space.specs.declared.command.Command.{Command};
+ghost use Rattle.numa_reports.specs.Predicted.{AreFirsts, IsPrediction};
+
+use crate::tally::add_counts;
+use numa_mode::Record;
+use numa_plan::Plan;
+use numa_space::{PlaceRefusal, RangeRecord, Run, Space};
+
+/// Where the pages of a range would go, if a task touched each of them now.
+#[derive(Clone, Copy, Debug)]
+pub struct RangePrediction {
+    /// The policy that serves the task there: the range's where that is live, else the task's where that is live. None is
+    /// local allocation.
+    pub policy: Option<Record>,
+    /// How many pages of the range have each node as the first on which memory is looked for.
+    pub counts: [u64; 256],
+}
+
+/// Where the pages of a range would go, if the task touched each of them now on a CPU of node `cpu`. The plan is one of the
+/// space. The time grows with the cycle of the range's policy, and not with its pages.
+///
+/// # Errors
+/// `BadCpu` where the machine has no node `cpu`; else `Unmapped` where a page of the range isn't mapped.
+pub fn predict_range(
+    space: &Space,
+    plan: &Plan,
+    task: u32,
+    cpu: u32,
+    range: &Run<RangeRecord>,
+) -> Result<RangePrediction, PlaceRefusal>
+    ensures ok { (history : List Command) → StandsFor space.now history → PlanStandsFor space.now.machine plan.now history
+        → IfOk result (IsPrediction space.now.machine history task cpu range.now) }
+    ensures err { (history : List Command) → PlanStandsFor space.now.machine plan.now history
+        → IfErr result (SpanIsRefused space.now.machine history range.now.first range.now.pages cpu) }
+{
+    let counts = match plan.counts(task, cpu, range.first, range.pages) {
+        Ok(counts) => counts,
+        Err(refusal) => return Err(refusal),
+    };
+    Ok(RangePrediction {
+        policy: space.policy_at(task, range.first),
+        counts,
+    })
+}
+
+/// How many of all mapped pages would go to each node, if the task touched each of them now on a CPU of node `cpu`. The
+/// plan is one of the space.
+///
+/// # Errors
+/// `BadCpu` where the machine has no node `cpu`. `Unmapped` where the plan isn't one of the space.
+pub fn predict_all(
+    space: &Space,
+    plan: &Plan,
+    task: u32,
+    cpu: u32,
+) -> Result<[u64; 256], PlaceRefusal>
+    ensures ok { (history : List Command) → StandsFor space.now history → PlanStandsFor space.now.machine plan.now history
+        → IfOk result (AreFirsts space.now.machine history task cpu 0 (2 ^ 35)) }
+{
+    if cpu >= space.machine().nodes() {
+        return Err(PlaceRefusal::BadCpu);
+    }
+    let mut counts = [0u64; 256];
+    for range in space.range_iter() {
+        let more = plan.counts(task, cpu, range.first, range.pages)?;
+        add_counts(&mut counts, &more);
+    }
+    Ok(counts)
+}

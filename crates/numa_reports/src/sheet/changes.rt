@@ -1,0 +1,134 @@
+//! Differences as text.
+
+use crate::fault::ReportFault;
+use crate::moves::{ENTRIES, empty_table, span_moves};
+use crate::outlook::{Outlook, Span, common_spans};
+use crate::sheet::Sheet;
+use crate::sheet::fields::address;
+use numa_space::PlaceRefusal;
+use std::alloc::{AllocError, Global};
+use std::fmt::Write as _;
+use std::io::Write;
+
+/// How many pages go from a node to another.
+fn entry(table: &[u64], from: u32, to: u32) -> u64 {
+    table
+        .get(from as usize * 256 + to as usize)
+        .copied()
+        .unwrap_or(0)
+}
+
+/// How many pages go from a node to another one, for each such two nodes between which some go.
+fn push_from(text: &mut String, table: &[u64], nodes: u32, from: u32) -> Result<(), AllocError> {
+    for to in 0..nodes {
+        let pages = entry(table, from, to);
+        if from != to && pages > 0 {
+            write!(text, " N{}->N{}={}", from, to, pages)?;
+        }
+    }
+    Ok(())
+}
+
+/// How many pages go from each node to each other, where some go.
+fn push_moves(text: &mut String, table: &[u64], nodes: u32) -> Result<(), AllocError> {
+    for from in 0..nodes {
+        push_from(text, table, nodes, from)?;
+    }
+    Ok(())
+}
+
+/// How many pages go from a node to another one.
+fn moved_from(table: &[u64], nodes: u32, from: u32) -> u64 {
+    let mut sum = 0u64;
+    for to in 0..nodes {
+        if from != to {
+            sum = sum.saturating_add(entry(table, from, to));
+        }
+    }
+    sum
+}
+
+/// How many pages go to another node.
+fn moved(table: &[u64], nodes: u32) -> u64 {
+    let mut sum = 0u64;
+    for from in 0..nodes {
+        sum = sum.saturating_add(moved_from(table, nodes, from));
+    }
+    sum
+}
+
+/// The line of a span; nothing where none of its pages goes to another node.
+fn span_line(alloc: Global, span: Span, table: &[u64], nodes: u32) -> Result<String, AllocError> {
+    let mut text = String::new(alloc);
+    let moved = moved(table, nodes);
+    if moved == 0 {
+        return Ok(text);
+    }
+    let end = span.first.saturating_add(span.pages);
+    write!(
+        text,
+        "{:08x}-{:08x} moved={}",
+        address(span.first),
+        address(end),
+        moved
+    )?;
+    push_moves(&mut text, table, nodes)?;
+    text.push_str("\n")?;
+    Ok(text)
+}
+
+/// The last line: what goes in all.
+fn total_line(alloc: Global, table: &[u64], nodes: u32) -> Result<String, AllocError> {
+    let mut text = String::new(alloc);
+    write!(text, "total moved={}", moved(table, nodes))?;
+    push_moves(&mut text, table, nodes)?;
+    text.push_str("\n")?;
+    Ok(text)
+}
+
+/// Adds a table to another of the same size.
+fn add_table(total: &mut Vec<u64>, table: &[u64]) {
+    for k in 0..total.len() {
+        let more = table.get(k).copied().unwrap_or(0);
+        total[k] = total[k].saturating_add(more);
+    }
+}
+
+/// Writes which pages go to another node, if the task touched each of them on a CPU of node `cpu` after and not before: a
+/// line for each span of pages of which some do, with how many go from which node to which, and a last line with all.
+///
+/// # Errors
+/// `Refused` where the machine has no node `cpu`; `Write` where a write failed; `Memory` where there was none.
+pub fn write_difference<W: Write>(
+    alloc: Global,
+    before: &Outlook,
+    after: &Outlook,
+    nodes: u32,
+    task: u32,
+    cpu: u32,
+    output: &mut W,
+) -> Result<(), ReportFault> {
+    if cpu >= nodes {
+        return Err(ReportFault::Refused(PlaceRefusal::BadCpu));
+    }
+    let spans = common_spans(alloc, before.spans.as_slice(), after.spans.as_slice())?;
+    let mut total = empty_table(alloc, ENTRIES)?;
+    let mut sheet = Sheet::new(alloc, output);
+    for span in &spans {
+        let table = span_moves(
+            alloc,
+            &before.plan,
+            &after.plan,
+            task,
+            cpu,
+            span.first,
+            span.pages,
+        )?;
+        let line = span_line(alloc, *span, table.as_slice(), nodes)?;
+        sheet.say(line.as_bytes())?;
+        add_table(&mut total, table.as_slice());
+    }
+    let line = total_line(alloc, total.as_slice(), nodes)?;
+    sheet.say(line.as_bytes())?;
+    sheet.hand_over()
+}
