@@ -3,7 +3,7 @@ ghost use Rattle.std.specs.Prelude.{IfOk};
 ghost use Rattle.numaplan.specs.Jobs.{CanBeDone};
 
 use crate::jobs::{Job, JobFault};
-use crate::words::{expect, run, storm};
+use crate::words::{check, expect, run, storm};
 use clap::error::ErrorKind;
 use clap::{ArgMatches, Command, Error};
 use std::alloc::{AllocError, Global};
@@ -34,6 +34,7 @@ fn command<'a>(alloc: Global) -> Result<Command<'a>, AllocError> {
         .subcommand_required(true)
         .arg_required_else_help(true)
         .subcommand(run::command(alloc)?)?
+        .subcommand(check::command(alloc)?)?
         .subcommand(expect::command(alloc)?)?
         .subcommand(storm::command(alloc)?)
 }
@@ -57,6 +58,7 @@ fn known_job(alloc: Global, matches: &ArgMatches<'_>) -> Result<Job, JobFault>
 {
     match matches.subcommand() {
         Some(("run", words)) => run::job(alloc, words),
+        Some(("check", words)) => check::job(alloc, words),
         Some(("expect", words)) => expect::job(alloc, words),
         Some(("storm", words)) => storm::job(alloc, words),
         _ => Err(JobFault::Usage(String::from_str(alloc, NO_COMMAND)?)),

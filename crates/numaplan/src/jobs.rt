@@ -9,6 +9,8 @@ pub enum Job {
     Run { files: Vec<String>, echo: bool },
     /// To compare these worked scripts with what their lines are answered.
     Expect(Vec<String>),
+    /// To tell what is wrong with the scripts of these files.
+    Check(Vec<String>),
     /// To let so many workers place pages while policies change.
     Storm(u32),
 }

@@ -18,7 +18,7 @@ use jobs::{Job, JobFault};
 use std::env::Env;
 use std::process::ExitCode;
 use std::{env, io};
-use words::{expect, run, storm};
+use words::{check, expect, run, storm};
 
 /// What is told of an argument that isn't UTF-8.
 const NOT_UTF_8: &str = "error: an argument isn't UTF-8\n\nFor more information, try '--help'.\n";
@@ -43,6 +43,7 @@ fn asked_job<R: Env + AllocGlobal>(rt: &R) -> Result<Job, JobFault>
 fn main(rt: HostRuntime) -> ExitCode {
     match asked_job(&rt) {
         Ok(Job::Run { files, echo }) => run::answer(&rt, &files, echo),
+        Ok(Job::Check(files)) => check::check(&rt, &files),
         Ok(Job::Expect(files)) => expect::check(&rt, &files),
         Ok(Job::Storm(workers)) => storm::show(&rt, workers),
         Err(fault) => tell_fault(&rt, fault),
