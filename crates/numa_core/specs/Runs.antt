@@ -63,8 +63,11 @@ module _ (s : Setup) where
   -- the moment of an event that comes after a run, with ample memory; a Begin takes the newest
   -- published version
   abbrev pub answered : List Moment → Event → Moment
-  answered run event = record { event = event; version = newest_published (world_of run);
-      answer = answer_of s (world_of run) (newest_published (world_of run)) event }
+  answered run event = record {
+    event = event;
+    version = newest_published (world_of run);
+    answer = answer_of s (world_of run) (newest_published (world_of run)) event;
+  }
 
 -- ---- the last Begin of a worker
 

@@ -43,8 +43,12 @@ IsAllMet frames nodes words = (i k : ℕ) → i < length nodes →
 
 -- what a worker is about that has this job, list and words
 abbrev pub busy_at : Job → List ℕ → List ℕ → Busy
-busy_at job nodes words = record { request = job.request; version = job.version;
-    nodes = nodes; met = words }
+busy_at job nodes words = record {
+  request = job.request;
+  version = job.version;
+  nodes = nodes;
+  met = words;
+}
 
 abbrev pub busy_by : Option Job → List ℕ → List ℕ → Option Busy
 busy_by None nodes words = None
@@ -56,8 +60,12 @@ busy_of seat = busy_by seat.job seat.nodes.items seat.met.items
 
 -- the core with this space, this plan, these seats and these owners
 abbrev pub core_of : SpaceState → PlanData → List Seat → List (Option ℕ) → CoreState
-core_of space plan seats owners = record { space = space; plan = plan; workers = map busy_of seats;
-    owners = owners }
+core_of space plan seats owners = record {
+  space = space;
+  plan = plan;
+  workers = map busy_of seats;
+  owners = owners;
+}
 
 -- the hunt of its worker
 abbrev pub seat_hunt : List ℕ → Seat → Option Hunt
@@ -79,8 +87,12 @@ pub record SeatFits (frames : List ℕ) (seat : Seat) : Type 0 where
 
 -- a hunt with no frame met
 abbrev pub fresh : Request → ℕ → List ℕ → Hunt
-fresh request version nodes = record { request = request; version = version; nodes = nodes;
-    met = λ n k. false }
+fresh request version nodes = record {
+  request = request;
+  version = version;
+  nodes = nodes;
+  met = λ n k. false;
+}
 
 -- what the seat answers to a Look, and its hunt afterwards
 abbrev pub SeatLooks : List ℕ → Setup → World → ℕ → Seat →

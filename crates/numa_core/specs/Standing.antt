@@ -60,8 +60,12 @@ met_at frames words n k = is_met words (place_in frames n k)
 
 -- what a busy worker's hunt is, and a worker's
 abbrev pub hunt_in : List ℕ → Busy → Hunt
-hunt_in frames busy = record { request = busy.request; version = busy.version; nodes = busy.nodes;
-    met = λ n k. met_at frames busy.met n k }
+hunt_in frames busy = record {
+  request = busy.request;
+  version = busy.version;
+  nodes = busy.nodes;
+  met = λ n k. met_at frames busy.met n k;
+}
 
 abbrev pub hunt_of_busy : List ℕ → Option Busy → Option Hunt
 hunt_of_busy frames None = None
@@ -84,8 +88,11 @@ shown_owner core n k = owner_at core.owners (place_of core.space.machine n k)
 
 -- what never changes in a core
 abbrev pub setup_of : CoreState → Setup
-setup_of core = record { machine = core.space.machine; bounds = core.space.bounds;
-    workers = length core.workers }
+setup_of core = record {
+  machine = core.space.machine;
+  bounds = core.space.bounds;
+  workers = length core.workers;
+}
 
 -- the core stands for the world: its space for the accepted commands, its plan for those that are
 -- published, and its hunts and owners are the world's; of the published versions the newest has no

@@ -141,11 +141,19 @@ module _ (s : Setup) where
   -- what an event does that isn't refused
   abbrev pub effect_of : World → ℕ → Event → World
   effect_of world version (Accept command) =
-      record { history = command ∷ world.history; published = world.published;
-      worker = world.worker; owner = world.owner }
+      record {
+        history = command ∷ world.history;
+        published = world.published;
+        worker = world.worker;
+        owner = world.owner;
+      }
   effect_of world version Publish =
-      record { history = world.history; published = length world.history ∷ world.published;
-      worker = world.worker; owner = world.owner }
+      record {
+        history = world.history;
+        published = length world.history ∷ world.published;
+        worker = world.worker;
+        owner = world.owner;
+      }
   effect_of world version (Begin w request) =
       with_worker world w version (going_on (begun s world version request))
   effect_of world version (Look w word) =
@@ -154,7 +162,7 @@ module _ (s : Setup) where
   effect_of world version (Try w frame) =
       if is_some (owner_of world frame)
       then with_worker world w (last_of world w)
-          (option_map_or (λ hunt. going_on (missed frame hunt)) (hunt_of world w) None)
+      (option_map_or (λ hunt. going_on (missed frame hunt)) (hunt_of world w) None)
       else with_worker (with_owner world frame (Some w)) w (last_of world w) None
   effect_of world version (Give w frame) = with_owner world frame None
 

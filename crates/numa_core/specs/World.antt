@@ -42,8 +42,12 @@ pub record World : Type 0 where
 
 -- at first nothing is accepted, version 0 is published, each worker is idle and no frame is owned
 abbrev pub opening : World
-opening = record { history = []; published = 0 ∷ []; worker = λ w. record { last = 0; hunt = None };
-    owner = λ n k. None }
+opening = record {
+  history = [];
+  published = 0 ∷ [];
+  worker = λ w. record { last = 0; hunt = None };
+  owner = λ n k. None;
+}
 
 abbrev pub is_published : World → ℕ → Bool
 is_published world version = list_any (λ v. v == version) world.published
@@ -76,7 +80,7 @@ unfoldable pub list_at : Hardware → List Command → ℕ → Request → Optio
 list_at machine history version request =
     if is_mapped (first_commands version history) request.page
     then Some (node_list machine (first_commands version history)
-        request.task request.page request.cpu)
+    request.task request.page request.cpu)
     else None
 
 -- ---- the current node
@@ -122,8 +126,12 @@ module _ (s : Setup) where
   -- a hunt that begins: it has the list of its version, and has met no frame
   abbrev pub begun : World → ℕ → Request → Hunt
   begun world version request =
-      record { request = request; version = version;
-      nodes = unwrap_or (list_at s.machine world.history version request) []; met = λ n k. false }
+      record {
+        request = request;
+        version = version;
+        nodes = unwrap_or (list_at s.machine world.history version request) [];
+        met = λ n k. false;
+      }
 
   -- a look at this word of the hunt's current node finds the frame owned
   abbrev pub look_finds : World → ℕ → Hunt → ℕ → ℕ → Bool

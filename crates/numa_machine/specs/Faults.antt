@@ -17,7 +17,7 @@ some_node nodes test = list_any test (range_with_len 0 nodes)
 abbrev pub has_bad_count : ℕ → List ℕ → List ℕ → Bool
 has_bad_count nodes distances frames =
     nodes == 0 || nat_lt 256 nodes || not (length distances == nodes * nodes)
-        || not (length frames == nodes)
+    || not (length frames == nodes)
 
 -- no node has memory, or one that is said to have some is none of the machine's
 unfoldable pub has_bad_memory : ℕ → ℕ → Bool
@@ -30,7 +30,7 @@ is_bad_distance from to far = if from == to then not (far == 10) else nat_le far
 unfoldable pub has_bad_distance : ℕ → List ℕ → Bool
 has_bad_distance nodes distances =
     some_node nodes (λ from.
-        some_node nodes (λ to. is_bad_distance from to (table_entry nodes distances from to)))
+    some_node nodes (λ to. is_bad_distance from to (table_entry nodes distances from to)))
 
 -- a node has at most 4,096 frames, and one without memory has none
 abbrev pub are_bad_frames : ℕ → ℕ → ℕ → Bool
@@ -40,7 +40,7 @@ are_bad_frames memory node count = nat_lt 4096 count || (not (has memory node) &
 unfoldable pub has_bad_frames : ℕ → ℕ → List ℕ → Bool
 has_bad_frames nodes memory frames =
     some_node nodes (λ node. are_bad_frames memory node (slice_index frames node))
-        || nat_lt 65536 (sum frames)
+    || nat_lt 65536 (sum frames)
 
 -- the first fault of the description of a machine, want of memory apart
 unfoldable pub machine_fault : ℕ → ℕ → List ℕ → List ℕ → Option MachineFault

@@ -32,12 +32,20 @@ impl Model for Machine {
 
     ghost Value = { Hardware };
 
-    ghost view = { λ m. record { nodes = m.nodes; memory = m.memory; distances = m.distances.items;
-        frames = m.frames.items } };
+    ghost view = { λ m. record {
+      nodes = m.nodes;
+      memory = m.memory;
+      distances = m.distances.items;
+      frames = m.frames.items;
+    } };
 
     ghost invariant = { λ m.
-        IsSound (record { nodes = m.nodes; memory = m.memory; distances = m.distances.items;
-        frames = m.frames.items }) m.orders.items };
+        IsSound (record {
+          nodes = m.nodes;
+          memory = m.memory;
+          distances = m.distances.items;
+          frames = m.frames.items;
+        }) m.orders.items };
 }
 
 impl Machine {
@@ -54,8 +62,12 @@ impl Machine {
     ) -> Result<Machine, MachineFault>
         ensures ok { IfOk result (λ machine.
             (machine_fault nodes memory distances.now frames.now ≡ None)
-            × (machine ≡ record { nodes = nodes; memory = memory; distances = distances.now;
-            frames = frames.now })) }
+            × (machine ≡ record {
+              nodes = nodes;
+              memory = memory;
+              distances = distances.now;
+              frames = frames.now;
+            })) }
         ensures err { IfErr result (λ fault.
             MatchOption (machine_fault nodes memory distances.now frames.now)
             (fault ≡ MachineFault.NoMemory) (λ first. fault ≡ first)) }

@@ -116,8 +116,11 @@ flag_of static relative = if static then Static else if relative then Relative e
 -- what a mode, a flag and a mask without fault ask for
 abbrev pub asked_for : Mode → NodeFlag → ℕ → Specification
 asked_for Default flag mask = record { mode = Default; flag = Plain; mask = mask }
-asked_for Preferred flag mask = record { mode = if mask == 0 then Local else Preferred;
-    flag = flag; mask = mask }
+asked_for Preferred flag mask = record {
+  mode = if mask == 0 then Local else Preferred;
+  flag = flag;
+  mask = mask;
+}
 asked_for mode flag mask = record { mode = mode; flag = flag; mask = mask }
 
 abbrev pub unless_fault : Option SpecFault → Specification → Result Specification SpecFault

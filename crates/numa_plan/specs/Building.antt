@@ -11,8 +11,14 @@ use Rattle.numa_plan.specs.declared.slots.Slot.TheVariants.{Taken}
 
 -- a plan of version 0 without runs, rules and tasks
 abbrev pub empty_plan : ℕ → RuleData → PlanData
-empty_plan nodes local = record { version = 0; nodes = nodes; runs = []; slots = []; tasks = [];
-    local = local }
+empty_plan nodes local = record {
+  version = 0;
+  nodes = nodes;
+  runs = [];
+  slots = [];
+  tasks = [];
+  local = local;
+}
 
 -- the plan with a rule in a slot, which nothing uses yet
 abbrev pub with_rule : PlanData → ℕ → RuleData → PlanData
@@ -29,5 +35,7 @@ set_number tasks task (Some number) = insert_entry nat_cmp tasks task number
 
 -- the plan with another rule for a task, or without one
 abbrev pub with_task : PlanData → ℕ → Option ℕ → PlanData
-with_task plan task number = record plan { tasks = set_number plan.tasks task number;
-    slots = unused (used plan.slots number) (number_of plan.tasks task) }
+with_task plan task number = record plan {
+  tasks = set_number plan.tasks task number;
+  slots = unused (used plan.slots number) (number_of plan.tasks task);
+}

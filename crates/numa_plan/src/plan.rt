@@ -42,8 +42,14 @@ impl Model for Plan {
 
     ghost Value = { PlanData };
 
-    ghost view = { λ a. record { version = a.version; nodes = a.nodes; runs = a.runs;
-        slots = a.slots.items; tasks = a.tasks.entries; local = a.local } };
+    ghost view = { λ a. record {
+      version = a.version;
+      nodes = a.nodes;
+      runs = a.runs;
+      slots = a.slots.items;
+      tasks = a.tasks.entries;
+      local = a.local;
+    } };
 
     ghost use Rattle.numa_plan.specs.Sound.{IsPlan};
 

@@ -23,8 +23,12 @@ impl Model for PoolSeat {
 
     ghost Value = { SeatView };
 
-    ghost view = { λ s. record { table = s.token.table; held = s.token.view.held;
-        log = s.token.view.log; unlogged = s.token.view.unlogged } };
+    ghost view = { λ s. record {
+      table = s.token.table;
+      held = s.token.view.held;
+      log = s.token.view.log;
+      unlogged = s.token.view.unlogged;
+    } };
 
     ghost invariant = { λ s. Marks s.token.table.words s.bits.items s.token.view.held };
 }

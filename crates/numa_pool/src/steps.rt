@@ -93,8 +93,10 @@ impl Model for Words {
 
     ghost Value = { PoolsView };
 
-    ghost view = { λ w. record { table = w.table.shared.table_id;
-        frames = w.table.shared.key.items } };
+    ghost view = { λ w. record {
+      table = w.table.shared.table_id;
+      frames = w.table.shared.key.items;
+    } };
 
     ghost invariant = { λ w. IsShaped w.table.shared.table_id w.table.shared.key.items };
 }
