@@ -1,5 +1,5 @@
 //! What a storm tells.
-ghost use Rattle.std.specs.Prelude.{◌≡◌};
+ghost use Rattle.std.specs.Prelude.{◌≡◌, ◌++◌, codes};
 ghost use Rattle.line_server.specs.Written.{Said};
 ghost use Rattle.numa_storm.specs.Storm.{line_of, match_line, status_of, text_of};
 
@@ -59,13 +59,22 @@ fn match_line(plans_match: bool) -> &'static [u8]
     }
 }
 
-/// Says the five lines.
-pub fn say_report<W: Write>(output: &mut Watched<W>, report: &Report)
-    ensures { Said W.contents output.old output.new (text_of report.now) }
+/// Says how many workers there were, and how their requests were answered.
+fn say_answers<W: Write>(output: &mut Watched<W>, report: &Report)
+    ensures { Said W.contents output.old output.new (line_of (codes "workers") report.now.workers
+        ++ line_of (codes "placed") report.now.placed
+        ++ line_of (codes "exhausted") report.now.exhausted) }
 {
     say_line(output, b"workers", u64::from(report.workers));
     say_line(output, b"placed", report.placed as u64);
     say_line(output, b"exhausted", report.exhausted as u64);
+}
+
+/// Says the five lines.
+pub fn say_report<W: Write>(output: &mut Watched<W>, report: &Report)
+    ensures { Said W.contents output.old output.new (text_of report.now) }
+{
+    say_answers(output, report);
     output.say(match_line(report.plans_match));
     say_line(output, b"frames held", report.held);
 }
