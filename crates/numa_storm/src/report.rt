@@ -48,14 +48,14 @@ fn say_line<W: Write>(output: &mut Watched<W>, name: &[u8], number: u64)
     output.say(b"\n");
 }
 
-/// The line that says whether each placement is where the space of its version has it.
+/// Says whether each placement is where the space of its version has it.
 #[tactic(auto, unfolding(crate::specs::Storm::match_line))]
-fn match_line(plans_match: bool) -> &'static [u8]
-    ensures { result.now ≡ match_line plans_match }
+fn say_match<W: Write>(output: &mut Watched<W>, plans_match: bool)
+    ensures { Said W.contents output.old output.new (match_line plans_match) }
 {
     match plans_match {
-        true => b"plans match yes\n",
-        false => b"plans match no\n",
+        true => output.say(b"plans match yes\n"),
+        false => output.say(b"plans match no\n"),
     }
 }
 
@@ -75,6 +75,6 @@ pub fn say_report<W: Write>(output: &mut Watched<W>, report: &Report)
     ensures { Said W.contents output.old output.new (text_of report.now) }
 {
     say_answers(output, report);
-    output.say(match_line(report.plans_match));
+    say_match(output, report.plans_match);
     say_line(output, b"frames held", report.held);
 }
