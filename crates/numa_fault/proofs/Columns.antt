@@ -140,3 +140,12 @@ module _ (count turn n : ℕ) (inside : turn < count) (ahead : Ahead count turn 
       by : Dec (w ≡ turn) → wait count w (n + 1) + (turn + 1) ≡ w + count
       by (yes e) = let z = wait-then count w n (ap (λ i. wait count i n) e ∙ here) in omega arith
       by (no d) = let low : w < turn = omega (arith, d) in let b = behind w low in let z = wait-down count w n (w + count - turn - 1) (omega arith) in omega arith
+
+-- all places fall to one alone
+pub column-whole : {X : Type 0} (xs : List X) → column 1 0 xs ≡ xs
+column-whole [] = refl
+column-whole (x ∷ xs) = ap (λ l. x ∷ l) (column-whole xs)
+
+pub share-whole : (n : ℕ) → share 1 0 n ≡ n
+share-whole zero = refl
+share-whole (suc n) = ap suc (share-whole n)

@@ -27,8 +27,8 @@ pub(crate) fn make_room(
     Ok(())
 }
 
-/// Puts the workers' answers into the order of the requests.
-pub(crate) fn gather(workers: &mut [FaultWorker], count: usize, answers: &mut Vec<Answer>)
+/// Deals the workers' answers out in turn, into the order of the requests.
+fn deal(workers: &mut [FaultWorker], count: usize, answers: &mut Vec<Answer>)
     requires workers { 0 < length workers.old }
     requires room { (answers.old.items ≡ []) × (count ≤ vec_capacity answers.old) }
     requires kept { (w : ℕ) (d : FaultWorker) → w < length workers.old
@@ -51,6 +51,26 @@ pub(crate) fn gather(workers: &mut [FaultWorker], count: usize, answers: &mut Ve
         if turn == workers.len() {
             turn = 0;
         }
+    }
+}
+
+/// Puts the workers' answers into the order of the requests. One worker has them so, and they
+/// aren't copied.
+pub(crate) fn gather(workers: &mut [FaultWorker], count: usize, answers: &mut Vec<Answer>)
+    requires workers { 0 < length workers.old }
+    requires room { (answers.old.items ≡ []) × (count ≤ vec_capacity answers.old) }
+    requires kept { (w : ℕ) (d : FaultWorker) → w < length workers.old
+        → length (slice_index_or workers.old w d).kept ≡ share (length workers.old) w count }
+    ensures same { SameParts workers.old workers.new }
+    ensures all { length answers.new.items ≡ count }
+    ensures each { (w : ℕ) (d : FaultWorker) → w < length workers.old
+        → column (length workers.old) w answers.new.items
+        ≡ reverse (slice_index_or workers.old w d).kept }
+{
+    if workers.len() == 1 {
+        workers[0].hand_over(answers);
+    } else {
+        deal(workers, count, answers);
     }
 }
 

@@ -15,6 +15,7 @@ use numa_publish::PlanReader;
 use numa_space::{Placement, Request};
 use std::alloc::Global;
 use std::marker::Model;
+use std::mem;
 
 /// What one thread serves page faults with: a reader of published plans, and a seat at the pools. A
 /// contract sees both, so also how often the reader entered, and each step of the seat.
@@ -198,6 +199,18 @@ impl FaultWorker {
         match &mut self.kept {
             Some(answers) => answers.pop(),
             None => None,
+        }
+    }
+
+    /// Hands all answers over in place of an empty list, the one that was handed out last first.
+    pub(crate) fn hand_over(&mut self, answers: &mut Vec<Answer>)
+        requires { answers.old.items ≡ [] }
+        ensures same { parts_of self.new ≡ parts_of self.old }
+        ensures all { answers.new.items ≡ reverse self.old.kept }
+    {
+        if let Some(kept) = &mut self.kept {
+            kept.reverse();
+            mem::swap(kept, answers);
         }
     }
 
