@@ -13,6 +13,15 @@ use std::rt::Clock;
 use std::sync::Wait;
 use std::thread::Threads;
 
+/// Longer lists: workers, and requests. The nodes of a worker have 16,384 frames together.
+const LONGER: [(u32, u32); 5] = [
+    (1, 16_384),
+    (2, 16_384),
+    (4, 16_384),
+    (2, 32_768),
+    (4, 65_536),
+];
+
 /// So many requests for so many workers in turn: each on nodes of its own, or all on one node.
 fn requests_of(alloc: Global, workers: u32, count: u32, apart: bool) -> Option<Vec<Request>> {
     let mut requests = Vec::with_capacity(alloc, count as usize).ok()?;
@@ -98,7 +107,10 @@ fn measure_all<R: Print + Clock + Threads + Sync>(
     )?;
     measure_crews(rt, alloc, desk, 4_096, true)?;
     measure_crews(rt, alloc, desk, 4_096, false)?;
-    measure_crews(rt, alloc, desk, 16_384, true)
+    for (workers, count) in LONGER {
+        measure_crew(rt, alloc, desk, workers, count, true)?;
+    }
+    Ok(())
 }
 
 /// Prints the ratios.
