@@ -1,5 +1,6 @@
 -- What a fault does: it enters once, and a seat walks the page's node list for a frame.
-use Rattle.std.specs.Prelude.{◌≡◌, ℕ, ◌+◌, ◌++◌, List, length, Option, Some, None, Result, Ok, Err, slice_get}
+use Rattle.std.specs.Prelude.{◌≡◌, ℕ, ◌+◌, ◌++◌, List, length, Option, Some, None, Result, Ok, Err}
+use Rattle.std.specs.Prelude.{slice_get}
 use Rattle.numa_machine.specs.declared.frame.Frame.{Frame}
 use Rattle.numa_space.specs.declared.placement.Placement.{Placement}
 use Rattle.numa_space.specs.declared.request.Request.{Request}
@@ -14,10 +15,12 @@ use Rattle.numa_space.specs.Lists.{node_list}
 use Rattle.numa_space.specs.Standing.{place_refusal_of}
 use Rattle.numa_space.specs.declared.command.Command.{Command}
 use Rattle.numa_space.specs.declared.refusal.PlaceRefusal.{PlaceRefusal}
-use Rattle.numa_space.specs.declared.refusal.PlaceRefusal.TheVariants.{BadCpu as cpu_is_bad, Unmapped as is_unmapped}
+use Rattle.numa_space.specs.declared.refusal.PlaceRefusal.TheVariants.{BadCpu as cpu_is_bad}
+use Rattle.numa_space.specs.declared.refusal.PlaceRefusal.TheVariants.{Unmapped as is_unmapped}
 use Rattle.numa_fault.specs.Worker.{Parts}
 use Rattle.numa_fault.specs.declared.refusal.FaultRefusal.{FaultRefusal}
-use Rattle.numa_fault.specs.declared.refusal.FaultRefusal.TheVariants.{NoView, BadCpu, Unmapped, Exhausted}
+use Rattle.numa_fault.specs.declared.refusal.FaultRefusal.TheVariants.{NoView, BadCpu, Unmapped}
+use Rattle.numa_fault.specs.declared.refusal.FaultRefusal.TheVariants.{Exhausted}
 
 -- ---- the reader
 
@@ -37,7 +40,8 @@ refused_once r = record r { enters = r.enters + 1; refused = r.refused + 1 }
 -- The steps that the seat gained are a walk of these nodes, of which none stands twice, and it made
 -- no other. No word is loaded twice in it and no frame is tried twice. The frames held gain exactly
 -- the one that was won, if one was
-pub record Walks (frames nodes : List ℕ) (won : Option Frame) (before after : SeatView) : Type 0 where
+pub record Walks
+    (frames nodes : List ℕ) (won : Option Frame) (before after : SeatView) : Type 0 where
   pub table : after.table ≡ before.table
   pub distinct : IsDistinct nodes
   pub steps : (es : List Entry) × (after.log ≡ es ++ before.log)

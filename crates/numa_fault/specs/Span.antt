@@ -8,11 +8,13 @@ use Rattle.numa_pool.specs.Seats.{SeatView}
 use Rattle.numa_publish.specs.Spans.{SpanStands}
 use Rattle.numa_space.specs.declared.command.Command.{Command}
 use Rattle.numa_space.specs.declared.refusal.PlaceRefusal.{PlaceRefusal}
-use Rattle.numa_space.specs.declared.refusal.PlaceRefusal.TheVariants.{BadCpu as cpu_is_bad, Unmapped as is_unmapped}
+use Rattle.numa_space.specs.declared.refusal.PlaceRefusal.TheVariants.{BadCpu as cpu_is_bad}
+use Rattle.numa_space.specs.declared.refusal.PlaceRefusal.TheVariants.{Unmapped as is_unmapped}
 use Rattle.numa_fault.specs.Fault.{FindsNone, LetsIn, Places, refused_once}
 use Rattle.numa_fault.specs.Worker.{Parts}
 use Rattle.numa_fault.specs.declared.refusal.SpanRefusal.{SpanRefusal}
-use Rattle.numa_fault.specs.declared.refusal.SpanRefusal.TheVariants.{NoView, BadCpu, Unmapped, Exhausted, NoMemory}
+use Rattle.numa_fault.specs.declared.refusal.SpanRefusal.TheVariants.{NoView, BadCpu, Unmapped}
+use Rattle.numa_fault.specs.declared.refusal.SpanRefusal.TheVariants.{Exhausted, NoMemory}
 use Rattle.numa_fault.specs.declared.span.Span.{Span}
 
 -- the request for the page that comes k pages behind the first

@@ -1,18 +1,25 @@
 -- What answers tell, and what a walk shows: the words of the laws.
-use Rattle.std.specs.Prelude.{◌≡◌, ℕ, ◌<◌, ◌++◌, true, List, Option, Some, None, Result, Ok, Err, slice_get, slice_index}
+use Rattle.std.specs.Prelude.{◌≡◌, ℕ, ◌<◌, ◌++◌, true, List, Option, Some, None, Result, Ok, Err}
+use Rattle.std.specs.Prelude.{slice_get, slice_index}
 use Rattle.std.specs.Option.{option_and_then}
 use Rattle.numa_space.specs.declared.placement.Placement.{Placement}
 use Rattle.numa_pool.specs.Seats.{SeatView}
 use Rattle.numa_pool.specs.Walk.{met}
 use Rattle.numa_pool.specs.declared.view.Entry.{Entry}
 use Rattle.numa_space.specs.declared.refusal.PlaceRefusal.{PlaceRefusal}
-use Rattle.numa_space.specs.declared.refusal.PlaceRefusal.TheVariants.{BadCpu as cpu_is_bad, Unmapped as is_unmapped}
+use Rattle.numa_space.specs.declared.refusal.PlaceRefusal.TheVariants.{BadCpu as cpu_is_bad}
+use Rattle.numa_space.specs.declared.refusal.PlaceRefusal.TheVariants.{Unmapped as is_unmapped}
 use Rattle.numa_fault.specs.Crew.{result_of}
 use Rattle.numa_fault.specs.declared.answer.Answer.{Answer}
 use Rattle.numa_fault.specs.declared.refusal.FaultRefusal.{FaultRefusal}
-use Rattle.numa_fault.specs.declared.refusal.FaultRefusal.TheVariants.{NoView, BadCpu, Unmapped, Exhausted}
+use Rattle.numa_fault.specs.declared.refusal.FaultRefusal.TheVariants.{NoView, BadCpu, Unmapped}
+use Rattle.numa_fault.specs.declared.refusal.FaultRefusal.TheVariants.{Exhausted}
 use Rattle.numa_fault.specs.declared.refusal.SpanRefusal.{SpanRefusal}
-use Rattle.numa_fault.specs.declared.refusal.SpanRefusal.TheVariants.{NoView as no_span_view, BadCpu as bad_span_cpu, Unmapped as span_unmapped, Exhausted as span_exhausted, NoMemory as no_span_memory}
+use Rattle.numa_fault.specs.declared.refusal.SpanRefusal.TheVariants.{NoView as no_span_view}
+use Rattle.numa_fault.specs.declared.refusal.SpanRefusal.TheVariants.{BadCpu as bad_span_cpu}
+use Rattle.numa_fault.specs.declared.refusal.SpanRefusal.TheVariants.{Unmapped as span_unmapped}
+use Rattle.numa_fault.specs.declared.refusal.SpanRefusal.TheVariants.{Exhausted as span_exhausted}
+use Rattle.numa_fault.specs.declared.refusal.SpanRefusal.TheVariants.{NoMemory as no_span_memory}
 
 -- the refusal of the page that an answer tells, if it tells one
 abbrev pub refusal_told : Result Placement FaultRefusal → Option PlaceRefusal

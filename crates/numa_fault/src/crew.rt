@@ -1,5 +1,6 @@
 //! Crews: several workers at once, each in a thread of its own.
-ghost use Rattle.std.specs.Prelude.{◌≡◌, ℕ, ◌+◌, ◌/◌, ◌<◌, ◌≤◌, [], length, reverse, slice_index_or, IfOk, IfErr, OnOk, OnErr};
+ghost use Rattle.std.specs.Prelude.{◌≡◌, ℕ, ◌+◌, ◌/◌, ◌<◌, ◌≤◌, [], length, reverse};
+ghost use Rattle.std.specs.Prelude.{slice_index_or, IfOk, IfErr, OnOk, OnErr};
 ghost use Rattle.std.specs.List.{All};
 ghost use Rattle.numa_fault.specs.Crew.{column, CrewRefuses, IsCrew, SameParts, Serves, ServesEach};
 ghost use Rattle.numa_fault.specs.Worker.{parts_of, KeepsNothing};

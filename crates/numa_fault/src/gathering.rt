@@ -1,5 +1,6 @@
 //! Room for a crew's answers, and how they come together.
-ghost use Rattle.std.specs.Prelude.{◌≡◌, ℕ, ◌<◌, ◌≤◌, [], length, reverse, slice_index_or, OnOk, vec_capacity};
+ghost use Rattle.std.specs.Prelude.{◌≡◌, ℕ, ◌<◌, ◌≤◌, [], length, reverse, slice_index_or, OnOk};
+ghost use Rattle.std.specs.Prelude.{vec_capacity};
 ghost use Rattle.std.specs.List.{All};
 ghost use Rattle.numa_fault.specs.Crew.{column, SameParts};
 ghost use Rattle.numa_fault.specs.Turns.{share};

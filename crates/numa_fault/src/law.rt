@@ -1,5 +1,6 @@
 //! Laws of the definitions that contracts cite.
-ghost use Rattle.std.specs.Prelude.{◌≡◌, ◌≢◌, ℕ, ◌+◌, ◌*◌, ◌<◌, ◌≤◌, List, length, Option, Some, Result, Ok, Err, slice_get, slice_index_or, ◌↔◌};
+ghost use Rattle.std.specs.Prelude.{◌≡◌, ◌≢◌, ℕ, ◌+◌, ◌*◌, ◌<◌, ◌≤◌, List, length, Option, Some};
+ghost use Rattle.std.specs.Prelude.{Result, Ok, Err, slice_get, slice_index_or, ◌↔◌};
 ghost use Rattle.std.specs.Option.{ForSome};
 ghost use Rattle.numa_space.specs.declared.placement.Placement.{Placement};
 ghost use Rattle.numa_space.specs.declared.request.Request.{Request};
@@ -11,7 +12,8 @@ ghost use Rattle.numa_space.specs.declared.refusal.PlaceRefusal.{PlaceRefusal};
 ghost use Rattle.numa_fault.specs.Crew.{column, HaveSeats, IsCrew, Serves, ServesEach};
 ghost use Rattle.numa_fault.specs.Fault.{Faults, FindsNone, Places, list_of, refusal_of};
 ghost use Rattle.numa_fault.specs.Span.{FaultsOnSpan, IsRefused};
-ghost use Rattle.numa_fault.specs.Told.{FoundTaken, refusal_told, span_refusal_told, version_told, version_at};
+ghost use Rattle.numa_fault.specs.Told.{FoundTaken, refusal_told, span_refusal_told, version_told};
+ghost use Rattle.numa_fault.specs.Told.{version_at};
 ghost use Rattle.numa_fault.specs.Worker.{Parts, WorkerState};
 ghost use Rattle.numa_fault.specs.declared.answer.Answer.{Answer};
 ghost use Rattle.numa_fault.specs.declared.refusal.FaultRefusal.{FaultRefusal};

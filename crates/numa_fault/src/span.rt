@@ -1,11 +1,13 @@
 //! Spans of pages, by the one plan that is published now.
-ghost use Rattle.std.specs.Prelude.{◌≡◌, ℕ, ◌+◌, ◌<◌, ◌≤◌, ◌++◌, List, length, slice_index, vec_len, vec_capacity};
+ghost use Rattle.std.specs.Prelude.{◌≡◌, ℕ, ◌+◌, ◌<◌, ◌≤◌, ◌++◌, List, length, slice_index};
+ghost use Rattle.std.specs.Prelude.{vec_len, vec_capacity};
 ghost use Rattle.numa_space.specs.declared.placement.Placement.{Placement};
 ghost use Rattle.numa_pool.specs.Seats.{SeatView};
 ghost use Rattle.numa_space.specs.Policies.{allowed_nodes};
 ghost use Rattle.numa_space.specs.Standing.{IsNodeList};
 ghost use Rattle.numa_fault.specs.Fault.{list_of};
-ghost use Rattle.numa_fault.specs.Span.{request_at, FaultsOnSpan, PlacesEach, SpanIsServed, Stands, StopsAt};
+ghost use Rattle.numa_fault.specs.Span.{request_at, FaultsOnSpan, PlacesEach, SpanIsServed, Stands};
+ghost use Rattle.numa_fault.specs.Span.{StopsAt};
 
 use crate::page::place_page;
 use crate::refusal::SpanRefusal;

@@ -1,5 +1,6 @@
 //! Fault workers.
-ghost use Rattle.std.specs.Prelude.{◌≡◌, [], ◌∷◌, ◌++◌, ◌<◌, ◌≤◌, length, reverse, IsTrue, MatchOption, vec_capacity, ◌↔◌};
+ghost use Rattle.std.specs.Prelude.{◌≡◌, [], ◌∷◌, ◌++◌, ◌<◌, ◌≤◌, length, reverse, IsTrue};
+ghost use Rattle.std.specs.Prelude.{MatchOption, vec_capacity, ◌↔◌};
 ghost use Rattle.numa_fault.specs.Fault.{Faults};
 ghost use Rattle.numa_fault.specs.Span.{FaultsOnSpan};
 ghost use Rattle.numa_fault.specs.Worker.{parts_of, KeepsNothing};

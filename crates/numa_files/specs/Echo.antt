@@ -1,5 +1,6 @@
 -- Script lines, each with what it was answered, as worked scripts hold them.
-use Rattle.std.specs.Prelude.{ℕ, ◌+◌, ◌==◌, Bool, true, false, List, [], ◌∷◌, ◌++◌, length, position, codes, if◌then◌else◌, Option, Some, None}
+use Rattle.std.specs.Prelude.{ℕ, ◌+◌, ◌==◌, Bool, true, false, List, [], ◌∷◌, ◌++◌, length}
+use Rattle.std.specs.Prelude.{position, codes, if◌then◌else◌, Option, Some, None}
 
 -- its first line feed stands there
 abbrev pub ends_at : Option ℕ → List ℕ → Bool

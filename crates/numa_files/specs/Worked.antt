@@ -1,5 +1,6 @@
 -- Worked scripts: what a line of one holds.
-use Rattle.std.specs.Prelude.{ℕ, ◌+◌, ◌≤◌, ◌==◌, ⊤, Bool, true, false, List, [], ◌∷◌, take, length, codes, if◌then◌else◌, Option, Some, None}
+use Rattle.std.specs.Prelude.{ℕ, ◌+◌, ◌≤◌, ◌==◌, ⊤, Bool, true, false, List, [], ◌∷◌, take, length}
+use Rattle.std.specs.Prelude.{codes, if◌then◌else◌, Option, Some, None}
 use Rattle.std.specs.List.{starts_with}
 use Rattle.numa_files.specs.declared.worked.LineForm.{LineForm}
 use Rattle.numa_files.specs.declared.worked.LineForm.TheVariants.{Script, Answered, Answer}

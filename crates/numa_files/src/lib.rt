@@ -1,4 +1,5 @@
-//! Scripts in files: worked scripts, which hold their own answers, and several files read as one script.
+//! Scripts in files: worked scripts, which hold their own answers, and several files read as one
+//! script.
 #![tactic(auto)]
 
 pub mod echo;

@@ -11,7 +11,8 @@
 ghost use Rattle.std.specs.Prelude.{◌≡◌, ◌+◌, ◌≤◌, length, take, IfSome};
 ghost use Rattle.numa_files.specs.Worked.{last_mark, form_of, IsWithin};
 
-/// How many bytes of a line are looked at: those that show that a script line is too long, and ` => `.
+/// How many bytes of a line are looked at: those that show that a script line is too long, and
+/// ` => `.
 pub const HEAD: usize = 4101;
 
 /// What stands between a script line and its answer on the same line.

@@ -58,7 +58,8 @@ pub fn publish<R: Wait>(desk: &mut Desk, rt: &R) -> Result<Receipt, NoMemory>
     ensures ok { OnOk result ((s : Setup) (world : World) → IsDeskOf s world desk.old
         → desk.old.pending ≢ []
         → LeadsTo s world
-        (moment_of Event.Publish (Ok (CoreReply.Published (length (accepted desk.old))))) desk.new) }
+        (moment_of Event.Publish (Ok (CoreReply.Published (length (accepted desk.old)))))
+        desk.new) }
     ensures idle { OnOk result (desk.old.pending ≡ [] → desk.new ≡ desk.old) }
     ensures err { OnErr result ((s : Setup) (world : World) → IsDeskOf s world desk.old
         → LeadsTo s world (moment_of Event.Publish (Err CoreRefusal.NoMemory)) desk.new) }

@@ -1,5 +1,6 @@
 //! The desk, which accepts commands and publishes plans.
-ghost use Rattle.std.specs.Prelude.{◌≡◌, ◌+◌, ◌≤◌, ◌∷◌, ◌++◌, [], length, reverse, slice_index, None, IfOk, IfErr, OnOk, OnErr};
+ghost use Rattle.std.specs.Prelude.{◌≡◌, ◌+◌, ◌≤◌, ◌∷◌, ◌++◌, [], length, reverse, slice_index};
+ghost use Rattle.std.specs.Prelude.{None, IfOk, IfErr, OnOk, OnErr};
 ghost use Rattle.std.specs.Arc.{arc_value};
 ghost use Rattle.left_right.specs.Sides.{view as place_view};
 ghost use Rattle.numa_space.specs.Refusals.{refusal_of};

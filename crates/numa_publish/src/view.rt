@@ -1,5 +1,6 @@
 //! Readers that are looking at a plan.
-ghost use Rattle.std.specs.Prelude.{◌≡◌, ◌+◌, ◌<◌, ◌≤◌, ℕ, true, length, slice_index, Some, IfOk, IfErr, OnOk, OnErr, EachIndex};
+ghost use Rattle.std.specs.Prelude.{◌≡◌, ◌+◌, ◌<◌, ◌≤◌, ℕ, true, length, slice_index, Some, IfOk};
+ghost use Rattle.std.specs.Prelude.{IfErr, OnOk, OnErr, EachIndex};
 ghost use Rattle.std.specs.Arc.{arc_value};
 ghost use Rattle.left_right.specs.Sides.{view as place_view};
 ghost use Rattle.numa_plan.specs.Counted.{FindsQuickly};

@@ -1,4 +1,5 @@
-//! The storm itself: a desk, a crew and a thread of policies beside it, and what is written of them.
+//! The storm itself: a desk, a crew and a thread of policies beside it, and what is written of
+//! them.
 ghost use Rattle.std.specs.Prelude.{◌≡◌, false, true, IfOk, IfSome, IsErrOf};
 ghost use Rattle.std.specs.Io.KnownBytes.{Keeps};
 ghost use Rattle.std.specs.List.{All};
@@ -70,7 +71,8 @@ fn play<K: DeskName + Send + Sync, R: Threads + Wait + Sync>(
         move || change_policies(rt, desk, gate),
         move || -> (Vec<FaultWorker>, Option<Vec<Answer>>)
             requires { All (λ (w : FaultWorker). w.seat.table ≡ lent.now.table) crew.items }
-            ensures { All (λ (w : FaultWorker). w.seat.table ≡ lent.entry.now.table) result.0.items }
+            ensures { All (λ (w : FaultWorker). w.seat.table ≡ lent.entry.now.table)
+                result.0.items }
         { serve(rt, alloc, crew, lent, requests, gate) },
     );
     if !all_published {

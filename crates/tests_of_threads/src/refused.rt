@@ -1,6 +1,6 @@
-//! Calls of which one growth is refused. The program `tests/refused-growths/run-built` plays each of
-//! these tests once for every growth between its two marks, under a library that refuses that one;
-//! run by itself, none is refused.
+//! Calls of which one growth is refused. The program `tests/refused-growths/run-built` plays each
+//! of these tests once for every growth between its two marks, under a library that refuses that
+//! one; run by itself, none is refused.
 ghost use Rattle.std.specs.Prelude.{◌≡◌};
 
 use crate::setting::{Seen, accept_both, desk_for, look, prefer};
