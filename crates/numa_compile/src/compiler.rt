@@ -9,7 +9,8 @@ ghost use Rattle.numa_compile.specs.Copies.{AreCopies, HasTasks, IsUnderWay, Sha
 ghost use Rattle.numa_compile.specs.Rules.{IsReady};
 ghost use Rattle.numa_compile.specs.Standing.{IsPlanOf, PlanStandsFor};
 
-use crate::numbers::number_for;
+use crate::guesses::Guesses;
+use crate::numbers::{number_for, number_for_range};
 use crate::rules::local_rule;
 use indexmap::IndexSet;
 use numa_machine::Machine;
@@ -52,8 +53,9 @@ fn add_runs(
     ensures tasks { OnOk result (plan.new.tasks ≡ []) }
     ensures room { OnOk result (length records.new.keys ≤ length space.now.ranges) }
 {
+    let mut guesses = Guesses::new();
     for range in space.range_iter() {
-        let value = number_for(alloc, space, range.value.policy(), plan, records)?;
+        let value = number_for_range(alloc, space, &range.value, plan, records, &mut guesses)?;
         let run = Run {
             first: range.first,
             pages: range.pages,

@@ -2,6 +2,7 @@
 #![tactic(auto)]
 
 mod compiler;
+mod guesses;
 mod law;
 mod numbers;
 mod reach;

@@ -1,5 +1,5 @@
 //! The numbers of rules.
-ghost use Rattle.std.specs.Prelude.{◌≡◌, ◌^◌, ◌<◌, Some, IfOk, OnOk, length, slice_get, true};
+ghost use Rattle.std.specs.Prelude.{◌≡◌, ◌^◌, ◌<◌, Some, IfOk, OnOk, OnSome, length, slice_get, true};
 ghost use Rattle.std.specs.Option.{ForSome};
 ghost use Rattle.numa_mode.specs.Policy.{is_live};
 ghost use Rattle.numa_space.specs.Policies.{where_live};
@@ -7,11 +7,12 @@ ghost use Rattle.numa_space.specs.Standing.{setting_in, IsInForce};
 ghost use Rattle.numa_compile.specs.Copies.{Grows, IsNumber, Serves};
 ghost use Rattle.numa_compile.specs.Rules.{IsReady};
 
+use crate::guesses::Guesses;
 use crate::rules::rule_of;
 use indexmap::IndexSet;
 use numa_mode::Record;
 use numa_plan::{NoMemory, Plan, Steps};
-use numa_space::Space;
+use numa_space::{RangeRecord, Space};
 use std::alloc::Global;
 
 /// The number of the rule of a live policy: its place among the records. The rule is written where the record is new.
@@ -70,4 +71,49 @@ pub(crate) fn number_for(
     }
     let number = number_of(alloc, space, policy, plan, records)?;
     Ok(Some(number))
+}
+
+/// The number that is guessed, where its record is that of a range's live policy.
+#[inline]
+fn guessed(records: &IndexSet<Record>, guesses: &Guesses, value: &RangeRecord) -> Option<u32>
+    ensures { OnSome result (IsNumber records.now.keys (where_live value.now) result) }
+{
+    let number = guesses.next();
+    let record: &Record = records.get_index(number as usize)?;
+    let policy = value.policy()?;
+    if record.is_live() && record.is_same(&policy) {
+        Some(number)
+    } else {
+        None
+    }
+}
+
+/// The number of the rule of a range's policy, and none for one that isn't live or isn't there. A
+/// policy that is guessed isn't looked up.
+pub(crate) fn number_for_range(
+    alloc: Global,
+    space: &Space,
+    value: &RangeRecord,
+    plan: &mut Plan,
+    records: &mut IndexSet<Record>,
+    guesses: &mut Guesses,
+) -> Result<Option<u32>, NoMemory>
+    requires ready { IsReady space.now }
+    requires in_force { ForSome value.now (IsInForce space.now.machine space.now.allowed) }
+    requires nodes { plan.old.nodes ≡ space.now.machine.nodes }
+    requires serves { Serves (setting_in space.now) plan.old records.old.keys }
+    requires room { length records.old.keys < 2 ^ 32 }
+    ensures number { IfOk result (λ number.
+        IsNumber records.new.keys (where_live value.now) number) }
+    ensures serves { OnOk result (Serves (setting_in space.now) plan.new records.new.keys) }
+    ensures grows { OnOk result (Grows records.old.keys value.now records.new.keys) }
+    ensures rest { OnOk result (plan.new ≡ record plan.old { slots = plan.new.slots }) }
+{
+    if let Some(number) = guessed(records, guesses, value) {
+        guesses.came(number);
+        return Ok(Some(number));
+    }
+    let number = number_for(alloc, space, value.policy(), plan, records)?;
+    guesses.came(number.unwrap_or(0));
+    Ok(number)
 }
