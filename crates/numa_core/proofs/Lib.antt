@@ -10,6 +10,7 @@ pub mod Rows
 pub mod InARow
 pub mod Cursors
 pub mod Seating
+pub mod Copied
 pub mod CoreSteps
 pub mod TouchRows
 pub mod TouchLowest

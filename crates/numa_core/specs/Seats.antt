@@ -85,6 +85,11 @@ pub record SeatFits (frames : List ℕ) (seat : Seat) : Type 0 where
   pub room : HasRoom frames (vec_len seat.met)
   pub cursor : JobStands frames seat.job seat.nodes.items seat.met.items
 
+-- another seat whose worker is about the same, and that fits where the seat does
+pub record IsSeatCopy (seat copy : Seat) : Type 0 where
+  pub busy : busy_of copy ≡ busy_of seat
+  pub fits : (frames : List ℕ) → SeatFits frames seat → SeatFits frames copy
+
 -- a hunt with no frame met
 abbrev pub fresh : Request → ℕ → List ℕ → Hunt
 fresh request version nodes = record {

@@ -57,6 +57,24 @@ impl Core {
         Ok(Core { state })
     }
 
+    /// The same core once more: the copy stands for each world for which this one does, and each
+    /// legal run that leads to this one leads to the copy. An event at one of the two leaves the
+    /// other as it is, so that a caller can try what events come to.
+    ///
+    /// # Errors
+    /// `NoMemory` where there is none for the space, the published plan, the workers and the
+    /// owners.
+    pub fn copy(&self) -> Result<Core, NoMemory>
+        ensures same { IfOk result (λ copy. copy ≡ self.now) }
+        ensures stands { (world : World) → CoreStandsFor self.now world →
+            IfOk result (λ copy. CoreStandsFor copy world) }
+        ensures runs { (run : List Moment) → LeadsTo run self.now →
+            IfOk result (λ copy. LeadsTo run copy) }
+    {
+        let state = self.state.copy()?;
+        Ok(Core { state })
+    }
+
     /// One event, with its answer. A Begin takes the newest published version. A refused event
     /// leaves the core as it was.
     ///

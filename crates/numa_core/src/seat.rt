@@ -5,7 +5,8 @@ ghost use Rattle.numa_core.specs.World.{Setup, World};
 ghost use Rattle.numa_core.specs.Steps.{goes_on, going_on};
 ghost use Rattle.numa_core.specs.Standing.{frames_before, owner_at, place_in, met_at, hunt_in};
 ghost use Rattle.numa_core.specs.Seats.{busy_at, busy_of, seat_hunt, fresh, HasRoom, IsPassed};
-ghost use Rattle.numa_core.specs.Seats.{IsCursor, IsAllMet, SeatFits, SeatLooks, SeatTries};
+ghost use Rattle.numa_core.specs.Seats.{IsCursor, IsAllMet, IsSeatCopy};
+ghost use Rattle.numa_core.specs.Seats.{SeatFits, SeatLooks, SeatTries};
 
 use crate::places::Places;
 use crate::tables::{clear, is_met, meet, meet_owned, none_met};
@@ -104,6 +105,20 @@ impl Seat {
         Ok(Seat {
             job: None,
             nodes: ArrayVec::new(),
+            met,
+        })
+    }
+
+    /// The same seat once more, with room for as many frames.
+    pub(crate) fn copy(&self, alloc: Global) -> Result<Seat, AllocError>
+        ensures { IfOk result (IsSeatCopy self.now) }
+    {
+        let mut nodes = ArrayVec::new();
+        take_row(&mut nodes, self.nodes.as_slice());
+        let met = Vec::from_slice(alloc, &self.met)?;
+        Ok(Seat {
+            job: self.job,
+            nodes,
             met,
         })
     }

@@ -1,9 +1,10 @@
 //! What a core keeps, and its steps.
 ghost use Rattle.std.specs.Prelude.{◌≡◌, ℕ, ◌≤◌, IfOk, OnErr, None, Some, slice_get, vec_len};
+ghost use Rattle.std.specs.List.{AllZip};
 ghost use Rattle.numa_core.specs.World.{opening};
 ghost use Rattle.numa_core.specs.Standing.{CoreStandsFor, setup_of};
 ghost use Rattle.numa_core.specs.Kept.{shown, IsKept, Follows};
-ghost use Rattle.numa_core.specs.Seats.{SeatFits};
+ghost use Rattle.numa_core.specs.Seats.{SeatFits, IsSeatCopy};
 ghost use Rattle.numa_core.specs.declared.seat.Seat.{Seat};
 ghost use Rattle.numa_space.specs.declared.event.Event.{Event};
 
@@ -46,6 +47,17 @@ fn idle_seats(alloc: Global, places: &Places, workers: u32) -> Result<Vec<Seat>,
     Ok(seats)
 }
 
+/// These seats once more.
+fn seat_copies(alloc: Global, seats: &[Seat]) -> Result<Vec<Seat>, NoMemory>
+    ensures { IfOk result (λ others. AllZip IsSeatCopy seats.now others.items) }
+{
+    let mut others = Vec::with_capacity(alloc, seats.len())?;
+    for seat in seats {
+        others.push(seat.copy(alloc)?)?;
+    }
+    Ok(others)
+}
+
 impl State {
     /// A core with nothing mapped, version 0 published, each of the workers idle and no frame
     /// owned.
@@ -69,6 +81,29 @@ impl State {
         let plan = compile(alloc, &space)?;
         Ok(State {
             alloc,
+            space,
+            plan,
+            places,
+            seats,
+            owners,
+            taken,
+        })
+    }
+
+    /// The same core once more.
+    pub(crate) fn copy(&self) -> Result<State, NoMemory>
+        requires kept { IsKept self.now }
+        ensures kept { IfOk result IsKept }
+        ensures shown { IfOk result (λ copy. shown copy ≡ shown self.now) }
+    {
+        let space = self.space.copy(self.alloc)?;
+        let plan = self.plan.copy(self.alloc)?;
+        let places = Places::new(self.alloc, space.machine())?;
+        let seats = seat_copies(self.alloc, &self.seats)?;
+        let owners = Vec::from_slice(self.alloc, &self.owners)?;
+        let taken = Vec::from_slice(self.alloc, &self.taken)?;
+        Ok(State {
+            alloc: self.alloc,
             space,
             plan,
             places,

@@ -7,6 +7,7 @@ ghost use Rattle.numa_machine.specs.Faults.{machine_fault, hardware_fault};
 
 use crate::description::fault_of;
 use crate::fault::MachineFault;
+use crate::no_memory::NoMemory;
 use crate::orders::{entry, orders_of};
 use numa_mask::NodeMask;
 use std::alloc::Global;
@@ -81,6 +82,25 @@ impl Machine {
         Ok(Machine {
             nodes,
             memory,
+            distances,
+            frames,
+            orders,
+        })
+    }
+
+    /// The same machine once more.
+    ///
+    /// # Errors
+    /// `NoMemory` where there is none for its distances, its frames and its orders.
+    pub fn copy(&self, alloc: Global) -> Result<Machine, NoMemory>
+        ensures { IfOk result (λ copy. copy ≡ self.now) }
+    {
+        let distances = Vec::from_slice(alloc, &self.distances)?;
+        let frames = Vec::from_slice(alloc, &self.frames)?;
+        let orders = Vec::from_slice(alloc, &self.orders)?;
+        Ok(Machine {
+            nodes: self.nodes,
+            memory: self.memory,
             distances,
             frames,
             orders,

@@ -13,9 +13,11 @@ mod build;
 
 use crate::rule::Rule;
 use crate::runs::Runs;
-use crate::slots::Slot;
+use crate::slots::{Slot, copies};
 use crate::steps::Steps;
+use numa_machine::NoMemory;
 use numa_space::PlaceRefusal;
+use std::alloc::Global;
 use std::collections::BTreeMap;
 use std::marker::Model;
 
@@ -58,6 +60,28 @@ impl Model for Plan {
 }
 
 impl Plan {
+    /// The same plan once more, with its version, runs, rules and tasks.
+    ///
+    /// # Errors
+    /// `NoMemory` where there is none for the runs, the rules and the tasks.
+    pub fn copy(&self, alloc: Global) -> Result<Plan, NoMemory>
+        ensures { IfOk result (λ copy. copy ≡ self.now) }
+    {
+        let runs = self.runs.copy(alloc)?;
+        let slots = copies(alloc, &self.slots)?;
+        let tasks = self.tasks.clone()?;
+        let local = self.local.copy(alloc)?;
+        Ok(Plan {
+            version: self.version,
+            nodes: self.nodes,
+            runs,
+            slots,
+            lowest_free: self.lowest_free,
+            tasks,
+            local,
+        })
+    }
+
     /// The version of the space that the plan was made of: how many commands the space had
     /// accepted.
     pub fn version(&self) -> u64

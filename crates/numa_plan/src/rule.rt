@@ -95,6 +95,32 @@ impl Rule {
         })
     }
 
+    /// The same rule once more.
+    pub(crate) fn copy(&self, alloc: Global) -> Result<Rule, NoMemory>
+        ensures { IfOk result (λ copy. copy ≡ self.now) }
+    {
+        match &self.body {
+            Body::Faulting { width, rows } => {
+                let rows = Vec::from_slice(alloc, rows)?;
+                Ok(Rule::faulting(*width, rows))
+            }
+            Body::Fixed { rows } => {
+                let rows = Vec::from_slice(alloc, rows)?;
+                Ok(Rule::fixed(rows))
+            }
+            Body::Turns {
+                width,
+                rows,
+                cycle,
+                ..
+            } => {
+                let rows = Vec::from_slice(alloc, rows)?;
+                let cycle = Vec::from_slice(alloc, cycle)?;
+                Rule::turns(alloc, *width, rows, cycle)
+            }
+        }
+    }
+
     /// The row that serves a page of this index, for a fault on this node.
     pub(crate) fn row(&self, cpu: u32, index: u64) -> &[u8]
         requires { HasRow self.now (row_number self.now cpu index) }

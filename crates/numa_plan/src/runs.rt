@@ -1,7 +1,7 @@
 //! The runs of a plan, in rising order.
 ghost use Rattle.std.specs.Prelude.{◌≡◌, ℕ, ◌+◌, ◌-◌, ◌<◌, ◌≤◌, ◌^◌, List, [], ◌∷◌};
 ghost use Rattle.std.specs.Prelude.{◌++◌, length, slice_index_or, MatchOption, Option};
-ghost use Rattle.std.specs.Prelude.{OnOk, OnErr, Some, None, IsSome};
+ghost use Rattle.std.specs.Prelude.{IfOk, OnOk, OnErr, Some, None, IsSome};
 ghost use Rattle.std.specs.Bool.{OnTrue, OnFalse};
 ghost use Rattle.numa_ranges.specs.Runs.{AreApart, end_of, page_at};
 ghost use Rattle.numa_ranges.specs.declared.run.Run.{Run};
@@ -11,7 +11,7 @@ ghost use Rattle.numa_plan.specs.Found.{IsFound, IsPartOf, IsMapped, HasHole};
 use crate::steps::Steps;
 use numa_machine::NoMemory;
 use numa_ranges::Run;
-use std::alloc::Global;
+use std::alloc::{AllocError, Global};
 use std::marker::Model;
 
 /// What a run says of a page: its index, the number of its rule (none: the task's rule), and how
@@ -49,6 +49,14 @@ impl Runs {
         Runs {
             items: Vec::new(alloc),
         }
+    }
+
+    /// The same runs once more.
+    pub(crate) fn copy(&self, alloc: Global) -> Result<Runs, AllocError>
+        ensures { IfOk result (λ copy. copy ≡ self.now) }
+    {
+        let items = Vec::from_slice(alloc, &self.items)?;
+        Ok(Runs { items })
     }
 
     /// How many runs there are.

@@ -1,13 +1,14 @@
 //! Rules in numbered slots, which count the runs and tasks that use them. A free slot is used
 //! again.
 ghost use Rattle.std.specs.Prelude.{◌≡◌, ◌+◌, ◌-◌, ◌<◌, ◌≤◌, ◌^◌, length};
-ghost use Rattle.std.specs.Prelude.{Some, IsSome, OnOk, OnErr};
+ghost use Rattle.std.specs.Prelude.{Some, IsSome, IfOk, OnOk, OnErr};
 ghost use Rattle.numa_plan.specs.Slots.{rule_in, uses_in, AreTaken, IsLowestFree};
 ghost use Rattle.numa_plan.specs.Slots.{put_slot, used, unused};
 ghost use Rattle.numa_plan.specs.declared.slots.Slot.TheVariants.{Taken};
 
 use crate::rule::Rule;
 use numa_machine::NoMemory;
+use std::alloc::Global;
 
 /// A place for a rule.
 #[derive(Drop)]
@@ -16,6 +17,30 @@ pub(crate) enum Slot {
     Free,
     /// A rule, and how many runs and tasks use it.
     Taken { uses: u32, rule: Rule },
+}
+
+/// The same slot once more.
+fn slot_copy(alloc: Global, slot: &Slot) -> Result<Slot, NoMemory>
+    ensures { IfOk result (λ copy. copy ≡ slot.now) }
+{
+    match slot {
+        Slot::Free => Ok(Slot::Free),
+        Slot::Taken { uses, rule } => {
+            let rule = rule.copy(alloc)?;
+            Ok(Slot::Taken { uses: *uses, rule })
+        }
+    }
+}
+
+/// The same slots once more.
+pub(crate) fn copies(alloc: Global, slots: &[Slot]) -> Result<Vec<Slot>, NoMemory>
+    ensures { IfOk result (λ others. others.items ≡ slots.now) }
+{
+    let mut others = Vec::with_capacity(alloc, slots.len())?;
+    for slot in slots {
+        others.push(slot_copy(alloc, slot)?)?;
+    }
+    Ok(others)
 }
 
 /// The number of the lowest free slot, or of the one behind the last; below `from` none is free.

@@ -1,5 +1,5 @@
 //! The map from pages to an index and a value.
-ghost use Rattle.std.specs.Prelude.{true, ◌↔◌, Contains, OnOk, OnErr, IfErr, MatchOption, ◌≡◌, ◌+◌, ◌-◌, ◌<◌, ◌≤◌, ◌^◌, ℕ, Option, List, length, [], not, is_some, IsSomeAnd, IfNone, IfSome, OnSome, false};
+ghost use Rattle.std.specs.Prelude.{true, ◌↔◌, Contains, IfOk, OnOk, OnErr, IfErr, MatchOption, ◌≡◌, ◌+◌, ◌-◌, ◌<◌, ◌≤◌, ◌^◌, ℕ, Option, List, length, [], not, is_some, IsSomeAnd, IfNone, IfSome, OnSome, false};
 ghost use Rattle.std.specs.List.{splice, slice_range};
 ghost use Rattle.std.specs.Fn.{FnReturnsAt};
 ghost use Rattle.numa_ranges.specs.Runs.{end_of, page_at, AreApart, AreMaximal};
@@ -16,7 +16,7 @@ use crate::pieces::Pieces;
 use crate::run::Run;
 use crate::walk::{lacks_page, starts_on};
 use numa_rows::{Iter, Owned, Rows};
-use std::alloc::Global;
+use std::alloc::{AllocError, Global};
 use std::marker::Model;
 
 /// A finite map from pages to an index and a value, kept as its ranges.
@@ -58,6 +58,21 @@ impl<T: Exact> RangeMap<T> {
             alloc,
             max_ranges,
         }
+    }
+
+    /// The same map once more. What is done to one of the two afterwards leaves the other as it is.
+    ///
+    /// # Errors
+    /// `AllocError` where there is no memory for its ranges.
+    pub fn copy(&self) -> Result<RangeMap<T>, AllocError>
+        ensures { IfOk result (λ copy. copy ≡ self.now) }
+    {
+        let runs = self.runs.copy()?;
+        Ok(RangeMap {
+            runs,
+            alloc: self.alloc,
+            max_ranges: self.max_ranges,
+        })
     }
 
     /// How many ranges there are: as many as mapped pages whose predecessor is unmapped, has another value or an

@@ -1,5 +1,5 @@
 //! The pages of a space: a map that splits and joins, with refusals as a space gives them.
-ghost use Rattle.std.specs.Prelude.{◌≡◌, ◌≢◌, ◌+◌, ◌<◌, ◌≤◌, ◌^◌, ℕ, Some, None, Option, Ok, Err, MatchResult, is_some, not, [], length, Contains, ◌↔◌};
+ghost use Rattle.std.specs.Prelude.{◌≡◌, ◌≢◌, ◌+◌, ◌<◌, ◌≤◌, ◌^◌, ℕ, Some, None, Option, Ok, Err, IfOk, MatchResult, is_some, not, [], length, Contains, ◌↔◌};
 ghost use Rattle.numa_mode.specs.Policy.{PolicyRecord};
 ghost use Rattle.numa_ranges.specs.Runs.{AreApart, AreMaximal, page_at};
 ghost use Rattle.numa_ranges.specs.declared.run.Run.{Run};
@@ -18,7 +18,7 @@ use numa_mask::NodeMask;
 use numa_mode::Record;
 use numa_ranges::{RangeFault, RangeMap, Run};
 use numa_rows::{Iter, Owned};
-use std::alloc::Global;
+use std::alloc::{AllocError, Global};
 use std::marker::Model;
 
 /// The mapped pages, each with its index and the policy of its range.
@@ -43,6 +43,14 @@ impl Pages {
         Pages {
             map: RangeMap::new(alloc, max_ranges),
         }
+    }
+
+    /// The same pages once more.
+    pub(crate) fn copy(&self) -> Result<Pages, AllocError>
+        ensures { IfOk result (λ copy. copy ≡ self.now) }
+    {
+        let map = self.map.copy()?;
+        Ok(Pages { map })
     }
 
     /// How many ranges there are.

@@ -1,5 +1,5 @@
 //! A space of pages and its policies.
-ghost use Rattle.std.specs.Prelude.{◌≡◌, ◌≢◌, ◌≤◌, ◌<◌, ℕ, OnOk, OnErr, IfErr, IfSome, None, Option, Some, List, [], ◌∷◌, length, MatchOption, slice_get, take, AllPairs, Contains, ◌↔◌};
+ghost use Rattle.std.specs.Prelude.{◌≡◌, ◌≢◌, ◌≤◌, ◌<◌, ℕ, IfOk, OnOk, OnErr, IfErr, IfSome, None, Option, Some, List, [], ◌∷◌, length, MatchOption, slice_get, take, AllPairs, Contains, ◌↔◌};
 ghost use Rattle.numa_machine.specs.Machine.{Hardware};
 ghost use Rattle.numa_machine.specs.Weights.{weight_at};
 ghost use Rattle.numa_mode.specs.Policy.{PolicyRecord};
@@ -20,7 +20,7 @@ use crate::page_ranges::Pages;
 use crate::range_record::RangeRecord;
 use crate::refusal::Refusal;
 use crate::task_policies::Tasks;
-use numa_machine::{Machine, Weights};
+use numa_machine::{Machine, NoMemory, Weights};
 use numa_mask::NodeMask;
 use numa_mode::Record;
 use numa_ranges::Run;
@@ -76,6 +76,31 @@ impl Space {
             tasks: Tasks::new(alloc),
             weights,
         }
+    }
+
+    /// The same space once more: the copy stands for each history for which this one does. A
+    /// command to one of the two leaves the other as it is, so that a caller can try what commands
+    /// come to.
+    ///
+    /// # Errors
+    /// `NoMemory` where there is none for the machine, the ranges and the tasks' policies.
+    pub fn copy(&self, alloc: Global) -> Result<Space, NoMemory>
+        ensures same { IfOk result (λ copy. copy ≡ self.now) }
+        ensures stands { (history : List Command) → StandsFor self.now history
+            → IfOk result (λ copy. StandsFor copy history) }
+    {
+        let machine = self.machine.copy(alloc)?;
+        let pages = self.pages.copy()?;
+        let tasks = self.tasks.copy()?;
+        Ok(Space {
+            machine,
+            limits: self.limits,
+            version: self.version,
+            allowed: self.allowed,
+            pages,
+            tasks,
+            weights: self.weights,
+        })
     }
 
     /// Carries out a command, or refuses it by the first cause that applies; want of memory is the last. A refusal leaves

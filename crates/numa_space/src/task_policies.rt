@@ -1,5 +1,5 @@
 //! The policies of tasks.
-ghost use Rattle.std.specs.Prelude.{◌≡◌, ◌≢◌, ◌+◌, ◌==◌, ◌<◌, ℕ, Some, None, OnOk, OnErr, IsOk, [], length, is_some, slice_get, if◌then◌else◌, AllPairs, IfSome};
+ghost use Rattle.std.specs.Prelude.{◌≡◌, ◌≢◌, ◌+◌, ◌==◌, ◌<◌, ℕ, Some, None, IfOk, OnOk, OnErr, IsOk, [], length, is_some, slice_get, if◌then◌else◌, AllPairs, IfSome};
 ghost use Rattle.numa_space.specs.Standing.{record_of};
 ghost use Rattle.numa_space.specs.Steps.{rebound};
 
@@ -32,6 +32,14 @@ impl Tasks {
         Tasks {
             records: IndexMap::new(alloc),
         }
+    }
+
+    /// The same policies once more, of the same tasks.
+    pub(crate) fn copy(&self) -> Result<Tasks, AllocError>
+        ensures { IfOk result (λ copy. copy ≡ self.now) }
+    {
+        let records = self.records.clone()?;
+        Ok(Tasks { records })
     }
 
     /// How many tasks have a policy.

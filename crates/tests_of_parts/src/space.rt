@@ -357,6 +357,46 @@ fn ranges_one_by_one(rt: HostRuntime) {
 }
 
 #[test]
+fn a_copy_and_its_original_go_different_ways(rt: HostRuntime) {
+    let mut space = flat_space(rt.alloc(), 2).expect(&rt, "a space");
+    let before = [
+        Does(Map(0x10000, 0x3000, 0)),
+        Does(Task(1, 2, &[1])),
+        Does(Mbind(0x11000, 0x1000, 2, &[0])),
+    ];
+    play(&rt, rt.alloc(), &mut space, &before);
+    let mut copy = space.copy(rt.alloc()).expect(&rt, "a copy");
+    let here = [
+        Does(Unmap(0x10000, 0x1000)),
+        Does(Task(1, 0, &[])),
+        Does(Weight(1, 7)),
+        NoList(1, 16, 0, PlaceRefusal::Unmapped),
+        List(1, 18, 0, &[0, 1]),
+        Ranges(2),
+        Version(6),
+    ];
+    play(&rt, rt.alloc(), &mut space, &here);
+    let there = [
+        Version(3),
+        Ranges(3),
+        List(1, 16, 0, &[1]),
+        List(1, 17, 0, &[0]),
+        Does(Mbind(0x11000, 0x1000, 0, &[])),
+        List(1, 17, 0, &[1]),
+        Ranges(1),
+        Version(4),
+    ];
+    play(&rt, rt.alloc(), &mut copy, &there);
+    play_again(&rt, rt.alloc(), &mut space);
+}
+
+/// What the original still answers once its copy has changed.
+fn play_again(rt: &impl Abort, alloc: Global, space: &mut Space) {
+    let steps = [List(1, 17, 0, &[0]), Ranges(2), Version(6)];
+    play(rt, alloc, space, &steps);
+}
+
+#[test]
 fn error_numbers(rt: HostRuntime) {
     let table = [
         (Refusal::CommandsSpent, Errno::ENoSpc),

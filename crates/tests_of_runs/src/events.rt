@@ -135,6 +135,47 @@ fn touches(rt: HostRuntime) {
     play(&rt, &mut core, &steps);
 }
 
+/// A core whose first worker owns a frame, and whose second looks for one with that frame met.
+fn begun_core(rt: &impl Abort, alloc: Global) -> Core {
+    let mut core = core_of(rt, alloc, &[2, 1], 2);
+    let steps = [
+        (Does(Map(0x10000, 0x2000, 0)), Accepted(1)),
+        (Publish, Published(1)),
+        (Does(Task(1, 2, &[1])), Accepted(2)),
+        (Touch(0, 1, 16, 0), Won(1, 0, 0, 0)),
+        (Begin(1, 1, 17, 0), Still),
+        (Look(1, 0), Still),
+    ];
+    play(rt, &mut core, &steps);
+    core
+}
+
+#[test]
+fn a_copy_and_its_original_go_different_ways(rt: HostRuntime) {
+    let mut core = begun_core(&rt, rt.alloc());
+    let mut copy = core.copy().expect(&rt, "a copy");
+    let there = [
+        (Try(1, 0, 0), Refused(CoreRefusal::BadTry)),
+        (Try(1, 0, 1), Won(1, 0, 1, 0)),
+        (Publish, Published(2)),
+        (Touch(1, 1, 17, 0), Won(2, 1, 0, 0)),
+        (Touch(1, 1, 17, 0), Exhausted(2)),
+        (Give(0, 0, 0), Given),
+    ];
+    play(&rt, &mut copy, &there);
+    let here = [
+        (Begin(1, 1, 17, 0), Refused(CoreRefusal::Busy)),
+        (Touch(0, 1, 16, 0), Won(1, 0, 1, 0)),
+        (Try(1, 0, 1), Still),
+        (Try(1, 1, 0), Won(1, 1, 0, 1)),
+        (Does(Map(0x20000, 0x1000, 0)), Accepted(3)),
+        (Touch(0, 1, 32, 0), Refused(CoreRefusal::Unmapped(1))),
+    ];
+    play(&rt, &mut core, &here);
+    assert_eq!(&rt; copy.published(), 2);
+    assert_eq!(&rt; core.published(), 1);
+}
+
 #[test]
 fn exhausted(rt: HostRuntime) {
     let mut core = core_of(&rt, rt.alloc(), &[1, 1], 1);
