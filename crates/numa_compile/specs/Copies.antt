@@ -1,5 +1,6 @@
 -- How the runs and tasks of a space become those of a plan.
-use Rattle.std.specs.Prelude.{◌≡◌, ◌≢◌, ◌↔◌, AllPairs, ℕ, ◌⊎◌, Option, Some, None, List, [], ◌∷◌, ◌++◌, length, Contains, slice_get}
+use Rattle.std.specs.Prelude.{◌≡◌, ◌≢◌, ◌↔◌, AllPairs, ℕ, ◌⊎◌, Option, Some, None, List, [], ◌∷◌}
+use Rattle.std.specs.Prelude.{◌++◌, length, Contains, slice_get}
 use Rattle.numa_mode.specs.Policy.{PolicyRecord}
 use Rattle.numa_ranges.specs.declared.run.Run.{Run}
 use Rattle.numa_space.specs.Lists.{Setting}
@@ -9,56 +10,67 @@ use Rattle.numa_plan.specs.Meaning.{PlanData, number_of}
 use Rattle.numa_compile.specs.Rules.{IsRuleOf}
 use Rattle.numa_compile.specs.Sharing.{IsServed, IsUsed}
 
--- the number of a rule for a policy: the place of its record among the records; none without a policy
+-- the number of a rule for a policy: the place of its record among the records; none without a
+-- policy
 abbrev pub IsNumber : List PolicyRecord → Option PolicyRecord → Option ℕ → Type 0
 IsNumber records None number = number ≡ None
-IsNumber records (Some r) number = (place : ℕ) × (number ≡ Some place) × (slice_get records place ≡ Some r)
+IsNumber records (Some r) number = (place : ℕ) × (number ≡ Some place)
+    × (slice_get records place ≡ Some r)
 
 -- the run has the pages and indexes of the range, and the rule of its policy, where that is live
-pub record IsCopy (records : List PolicyRecord) (range : Run (Option PolicyRecord)) (run : Run (Option ℕ)) : Type 0 where
+pub record IsCopy (records : List PolicyRecord) (range : Run (Option PolicyRecord))
+    (run : Run (Option ℕ)) : Type 0 where
   pub first : run.first ≡ range.first
   pub pages : run.pages ≡ range.pages
   pub index : run.index ≡ range.index
   pub value : IsNumber records (where_live range.value) run.value
 
 -- one run for each range
-abbrev pub AreCopies : List PolicyRecord → List (Run (Option PolicyRecord)) → List (Run (Option ℕ)) → Type 0
+abbrev pub AreCopies : List PolicyRecord → List (Run (Option PolicyRecord)) → List (Run (Option ℕ))
+    → Type 0
 AreCopies records [] [] = Unit {0}
 AreCopies records [] (run ∷ runs) = ⊥
 AreCopies records (range ∷ ranges) [] = ⊥
-AreCopies records (range ∷ ranges) (run ∷ runs) = IsCopy records range run × AreCopies records ranges runs
+AreCopies records (range ∷ ranges) (run ∷ runs) =
+    IsCopy records range run × AreCopies records ranges runs
 
 -- each task has the rule of its policy, where that is live
 abbrev pub HasTasks : List PolicyRecord → List (ℕ × PolicyRecord) → PlanData → Type 0
-HasTasks records tasks plan = (task : ℕ) → IsNumber records (where_live (record_of tasks task)) (number_of plan.tasks task)
+HasTasks records tasks plan = (task : ℕ) → IsNumber records (where_live (record_of tasks task))
+    (number_of plan.tasks task)
 
 -- there are as many slots as records, and the slot of each record's place serves it
 pub record Serves (setting : Setting) (plan : PlanData) (records : List PolicyRecord) : Type 0 where
   pub as_many : length plan.slots ≡ length records
-  pub served : (number : ℕ) (r : PolicyRecord) → slice_get records number ≡ Some r → IsServed setting plan number r
+  pub served : (number : ℕ) (r : PolicyRecord) → slice_get records number ≡ Some r
+      → IsServed setting plan number r
 
 -- the records once one more policy was looked up: the same, or with its record behind them
 abbrev pub Grows : List PolicyRecord → Option PolicyRecord → List PolicyRecord → Type 0
-Grows old policy new = (new ≡ old) ⊎ ((r : PolicyRecord) × (where_live policy ≡ Some r) × (new ≡ old ++ r ∷ []))
+Grows old policy new = (new ≡ old) ⊎ ((r : PolicyRecord) × (where_live policy ≡ Some r)
+    × (new ≡ old ++ r ∷ []))
 
 -- each record is that of a range or of a task
 abbrev pub AreUsed : SpaceState → List PolicyRecord → Type 0
 AreUsed space records = (r : PolicyRecord) → Contains records r → IsUsed space r
 
 -- what holds of a plan and its records while a space is copied into it
-pub record IsUnderWay (space : SpaceState) (plan : PlanData) (records : List PolicyRecord) : Type 0 where
+pub record IsUnderWay (space : SpaceState) (plan : PlanData)
+    (records : List PolicyRecord) : Type 0 where
   pub nodes : plan.nodes ≡ space.machine.nodes
   pub local : IsRuleOf (setting_in space) plan.local None
   pub serves : Serves (setting_in space) plan records
   pub used : AreUsed space records
 
--- the plan's rules are one for each distinct live record of ranges and tasks, and no more: the slots serve these records one by one. Its
--- runs are the ranges, one by one, each with the rule of its record, and its tasks are the space's
+-- the plan's rules are one for each distinct live record of ranges and tasks, and no more: the
+-- slots serve these records one by one. Its runs are the ranges, one by one, each with the rule of
+-- its record, and its tasks are the space's
 pub record SharesRules (space : SpaceState) (plan : PlanData) : Type 0 where
   pub records : List PolicyRecord
   pub each_once : AllPairs (λ earlier later. earlier ≢ later) records
   pub exactly : (r : PolicyRecord) → Contains records r ↔ IsUsed space r
   pub as_many : length plan.slots ≡ length records
-  pub served : (number : ℕ) (r : PolicyRecord) → slice_get records number ≡ Some r → IsServed (setting_in space) plan number r
+  pub served : (number : ℕ) (r : PolicyRecord) → slice_get records number ≡ Some r
+      → IsServed (setting_in space) plan number r
   pub copies : AreCopies records space.ranges plan.runs
   pub tasks : HasTasks records space.tasks plan

@@ -1,5 +1,6 @@
 -- How the rules of a plan are made: rows of nodes, and the cycles in which they take turns.
-use Rattle.std.specs.Prelude.{◌≡◌, ℕ, ◌+◌, ◌^◌, ◌<◌, ◌≤◌, ◌&&◌, not, Option, List, [], ◌∷◌, ◌++◌, filter, flat_map, replicate, All}
+use Rattle.std.specs.Prelude.{◌≡◌, ℕ, ◌+◌, ◌^◌, ◌<◌, ◌≤◌, ◌&&◌, not, Option, List, [], ◌∷◌, ◌++◌}
+use Rattle.std.specs.Prelude.{filter, flat_map, replicate, All}
 use Rattle.numa_mask.specs.NodeSet.{has, members, weight_of}
 use Rattle.numa_machine.specs.Machine.{distance_order}
 use Rattle.numa_mode.specs.Policy.{PolicyRecord}
@@ -9,11 +10,14 @@ use Rattle.numa_plan.specs.Rows.{RuleData, HasRow, row_number, row_of}
 use Rattle.numa_compile.specs.declared.reach.Reach.{Reach}
 use Rattle.numa_compile.specs.declared.reach.Reach.TheVariants.{Only, First}
 
--- the row for a fault on a node: the nodes of a set, the nearest first, alone or with the other allowed nodes behind them
+-- the row for a fault on a node: the nodes of a set, the nearest first, alone or with the other
+-- allowed nodes behind them
 abbrev pub row_from : Setting → Reach → ℕ → List ℕ
 row_from setting (Only set) from = within set (distance_order setting.machine from)
 row_from setting (First set) from =
-    within set (distance_order setting.machine from) ++ filter (λ node. has setting.allowed node && not (has set node)) (distance_order setting.machine from)
+    within set (distance_order setting.machine from)
+    ++ filter (λ node. has setting.allowed node && not (has set node))
+    (distance_order setting.machine from)
 
 -- the rows for faults on these nodes, one behind another
 abbrev pub rows_from : Setting → Reach → List ℕ → List ℕ
@@ -32,11 +36,13 @@ width_in setting (First set) = weight_of setting.allowed
 -- the place of each node in a list, from this one on, as often as the node's weight
 abbrev pub places_from : ℕ → (ℕ → ℕ) → List ℕ → List ℕ
 places_from place weight [] = []
-places_from place weight (node ∷ nodes) = replicate (weight node) place ++ places_from (place + 1) weight nodes
+places_from place weight (node ∷ nodes) = replicate (weight node) place
+    ++ places_from (place + 1) weight nodes
 
 -- for each faulting node and index the rule has a row, which is this one
 abbrev pub GivesRows : ℕ → RuleData → (ℕ → ℕ → List ℕ) → Type 0
-GivesRows nodes rule row = (cpu index : ℕ) → cpu < nodes → HasRow rule (row_number rule cpu index) × (row_of rule cpu index ≡ row cpu index)
+GivesRows nodes rule row = (cpu index : ℕ) → cpu < nodes → HasRow rule (row_number rule cpu index)
+    × (row_of rule cpu index ≡ row cpu index)
 
 -- the rule of a policy, or of local allocation where there is none
 abbrev pub IsRuleOf : Setting → RuleData → Option PolicyRecord → Type 0

@@ -10,12 +10,16 @@ use Rattle.numa_plan.specs.Meaning.{PlanData}
 
 -- the rule gives the record's lists, for each faulting node and index
 abbrev pub GivesLists : Setting → RuleData → PolicyRecord → Type 0
-GivesLists setting rule r = (cpu index : ℕ) → cpu < setting.machine.nodes → row_of rule cpu index ≡ list_for setting (Some r) cpu index
+GivesLists setting rule r = (cpu index : ℕ) → cpu < setting.machine.nodes
+    → row_of rule cpu index ≡ list_for setting (Some r) cpu index
 
 -- the slot of this number has a rule that gives the record's lists
 abbrev pub IsServed : Setting → PlanData → ℕ → PolicyRecord → Type 0
-IsServed setting plan number r = (rule : RuleData) × (rule_in plan.slots number ≡ Some rule) × GivesLists setting rule r
+IsServed setting plan number r = (rule : RuleData) × (rule_in plan.slots number ≡ Some rule)
+    × GivesLists setting rule r
 
 -- a range or a task has the record, and it is live
 abbrev pub IsUsed : SpaceState → PolicyRecord → Type 0
-IsUsed space r = (is_live r ≡ true) × (((run : Run (Option PolicyRecord)) × Contains space.ranges run × (run.value ≡ Some r)) ⊎ ((task : ℕ) × (record_of space.tasks task ≡ Some r)))
+IsUsed space r = (is_live r ≡ true) × (((run : Run (Option PolicyRecord))
+    × Contains space.ranges run × (run.value ≡ Some r)) ⊎
+    ((task : ℕ) × (record_of space.tasks task ≡ Some r)))

@@ -14,13 +14,18 @@ first_node machine history task page cpu = slice_index (node_list machine histor
 
 -- how many pages of a span are mapped and have this node as the first of their node list
 abbrev pub meant_count : Hardware → List Command → ℕ → ℕ → ℕ → ℕ → ℕ → ℕ
-meant_count machine history task cpu first pages node = count_pages (λ page. is_mapped history page && (first_node machine history task page cpu == node)) first pages
+meant_count machine history task cpu first pages node =
+    count_pages (λ page. is_mapped history page
+    && (first_node machine history task page cpu == node)) first pages
 
 -- a page of the span isn't mapped
 abbrev pub HasUnmapped : List Command → ℕ → ℕ → Type 0
-HasUnmapped history first pages = (page : ℕ) × (first ≤ page) × (page < first + pages) × (is_mapped history page ≡ false)
+HasUnmapped history first pages = (page : ℕ) × (first ≤ page) × (page < first + pages)
+    × (is_mapped history page ≡ false)
 
--- a refusal of the pages from `first` on: the faulting node is none of the machine's, or else a page isn't mapped
+-- a refusal of the pages from `first` on: the faulting node is none of the machine's, or else a
+-- page isn't mapped
 abbrev pub SpanIsRefused : Hardware → List Command → ℕ → ℕ → ℕ → PlaceRefusal → Type 0
 SpanIsRefused machine history first pages cpu BadCpu = machine.nodes ≤ cpu
-SpanIsRefused machine history first pages cpu Unmapped = (cpu < machine.nodes) × HasUnmapped history first pages
+SpanIsRefused machine history first pages cpu Unmapped =
+    (cpu < machine.nodes) × HasUnmapped history first pages

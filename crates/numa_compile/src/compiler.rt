@@ -26,7 +26,8 @@ fn survey(space: &Space)
     ensures ranges { length space.now.ranges ≤ 65536 }
     ensures tasks { length space.now.tasks ≤ 1024 }
 {
-    // Tells the proof that the space and its machine are sound, and how many ranges and tasks there can be.
+    // Tells the proof that the space and its machine are sound, and how many ranges and tasks there
+    // can be.
     let machine = space.machine();
     let _ = machine.nodes();
     let _ = machine.memory().weight();
@@ -95,17 +96,20 @@ fn set_tasks(
     Ok(())
 }
 
-/// The plan of a space: one run for each of its ranges, and one rule for each policy that is live, which all ranges and tasks with
-/// equal records share; a policy that isn't live has none, so that the next scope counts ("NUMA Memory Policy", scopes). Its
-/// version is the number of commands that the space has accepted.
+/// The plan of a space: one run for each of its ranges, and one rule for each policy that is live,
+/// which all ranges and tasks with equal records share; a policy that isn't live has none, so that
+/// the next scope counts ("NUMA Memory Policy", scopes). Its version is the number of commands that
+/// the space has accepted.
 ///
 /// # Errors
 /// `NoMemory` where there is none for the plan.
 pub fn compile(alloc: Global, space: &Space) -> Result<Plan, NoMemory>
-    ensures stands { (history : List Command) → StandsFor space.now history → IfOk result (λ plan. PlanStandsFor space.now.machine plan history) }
+    ensures stands { (history : List Command) → StandsFor space.now history
+        → IfOk result (λ plan. PlanStandsFor space.now.machine plan history) }
     ensures plan { IfOk result (λ plan. IsPlanOf space.now plan) }
     ensures rules { IfOk result (λ plan. SharesRules space.now plan) }
-    ensures sound { IfOk result (λ plan. (task page cpu : ℕ) → cpu < plan.nodes → ForSome (planned_list plan task page cpu) (IsNodeList space.now.allowed)) }
+    ensures sound { IfOk result (λ plan. (task page cpu : ℕ) → cpu < plan.nodes
+        → ForSome (planned_list plan task page cpu) (IsNodeList space.now.allowed)) }
 {
     survey(space);
     let local = local_rule(alloc, space)?;
@@ -119,7 +123,8 @@ pub fn compile(alloc: Global, space: &Space) -> Result<Plan, NoMemory>
     Ok(plan)
 }
 
-/// The plan of a new space of the machine, after these commands, the first first; those that are refused are passed over.
+/// The plan of a new space of the machine, after these commands, the first first; those that are
+/// refused are passed over.
 ///
 /// # Errors
 /// `NoMemory` where there is none for a command or for the plan.
@@ -129,8 +134,11 @@ pub fn compile_commands(
     limits: Limits,
     commands: &[Command],
 ) -> Result<Plan, NoMemory>
-    ensures stands { IfOk result (λ plan. PlanStandsFor machine plan (accepted_of machine limits commands.now [])) }
-    ensures sound { IfOk result (λ plan. (task page cpu : ℕ) → cpu < plan.nodes → ForSome (planned_list plan task page cpu) (IsNodeList (allowed_nodes machine (accepted_of machine limits commands.now [])))) }
+    ensures stands { IfOk result (λ plan. PlanStandsFor machine plan
+        (accepted_of machine limits commands.now [])) }
+    ensures sound { IfOk result (λ plan. (task page cpu : ℕ) → cpu < plan.nodes
+        → ForSome (planned_list plan task page cpu)
+        (IsNodeList (allowed_nodes machine (accepted_of machine limits commands.now [])))) }
 {
     let mut space = Space::new(alloc, machine, limits);
     let Ok(()) = space.apply_all(commands) else {

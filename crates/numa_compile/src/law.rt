@@ -1,7 +1,8 @@
 //! What a plan answers, by the history that it stands for.
 ghost use Rattle.std.specs.Prelude.{◌≡◌, ◌≢◌, ℕ, ◌^◌, ◌<◌, ◌↔◌, true, Some, List, slice_index};
 ghost use Rattle.numa_machine.specs.Machine.{Hardware};
-ghost use Rattle.numa_plan.specs.Meaning.{PlanData, planned_list, planned_first, planned_count, place_refusal, RefusesSpan};
+ghost use Rattle.numa_plan.specs.Meaning.{PlanData, planned_list, planned_first, planned_count};
+ghost use Rattle.numa_plan.specs.Meaning.{place_refusal, RefusesSpan};
 ghost use Rattle.numa_space.specs.declared.command.Command.{Command};
 ghost use Rattle.numa_space.specs.declared.refusal.PlaceRefusal.{PlaceRefusal};
 ghost use Rattle.numa_space.specs.Lists.{node_list};
@@ -12,29 +13,43 @@ ghost use Rattle.numa_space.specs.Standing.{IsAccepted, IsNodeList, place_refusa
 ghost use Rattle.numa_compile.specs.Standing.{PlanStandsFor};
 ghost use Rattle.numa_compile.specs.Spans.{first_node, meant_count, SpanIsRefused};
 
-/// A plan that stands for a history answers by it. The words are those of the clauses of `choice`, `fill` and `counts`: a
-/// list that the plan has is the node list of a mapped page; a question about a page is refused exactly where the history
-/// refuses it, and for the same cause; the first node that the plan has is the first of the node list; a node is counted
-/// once for each mapped page of the span whose node list begins with it; and a span is refused exactly where the history
-/// refuses it, a faulting node that the machine lacks before a page that isn't mapped. Each list that a plan of accepted
-/// commands lends, for a machine of which some nodes have memory, has a node, each once, and only allowed ones.
+/// A plan that stands for a history answers by it. The words are those of the clauses of `choice`,
+/// `fill` and `counts`: a list that the plan has is the node list of a mapped page; a question
+/// about a page is refused exactly where the history refuses it, and for the same cause; the first
+/// node that the plan has is the first of the node list; a node is counted once for each mapped
+/// page of the span whose node list begins with it; and a span is refused exactly where the history
+/// refuses it, a faulting node that the machine lacks before a page that isn't mapped. Each list
+/// that a plan of accepted commands lends, for a machine of which some nodes have memory, has a
+/// node, each once, and only allowed ones.
 pub fn every_plan()
-    ensures choice { (machine : Hardware) (plan : PlanData) (history : List Command) (task page cpu : ℕ) (nodes : List ℕ)
-        → PlanStandsFor machine plan history → cpu < plan.nodes → planned_list plan task page cpu ≡ Some nodes
-        → (cpu < machine.nodes) × (is_mapped history page ≡ true) × (nodes ≡ node_list machine history task page cpu) }
-    ensures refusal { (machine : Hardware) (plan : PlanData) (history : List Command) (page cpu : ℕ)
-        → PlanStandsFor machine plan history → place_refusal plan page cpu ≡ place_refusal_of machine history page cpu }
-    ensures fill { (machine : Hardware) (plan : PlanData) (history : List Command) (task page cpu node : ℕ)
-        → PlanStandsFor machine plan history → cpu < plan.nodes → planned_first plan task page cpu ≡ Some node
-        → (is_mapped history page ≡ true) × (node ≡ first_node machine history task page cpu) }
-    ensures counts { (machine : Hardware) (plan : PlanData) (history : List Command) (task cpu first pages node : ℕ)
+    ensures choice { (machine : Hardware) (plan : PlanData) (history : List Command)
+        (task page cpu : ℕ) (nodes : List ℕ)
         → PlanStandsFor machine plan history → cpu < plan.nodes
-        → planned_count plan task cpu first pages node ≡ meant_count machine history task cpu first pages node }
-    ensures span { (machine : Hardware) (plan : PlanData) (history : List Command) (first pages cpu : ℕ) (refusal : PlaceRefusal)
+        → planned_list plan task page cpu ≡ Some nodes
+        → (cpu < machine.nodes) × (is_mapped history page ≡ true)
+        × (nodes ≡ node_list machine history task page cpu) }
+    ensures refusal { (machine : Hardware) (plan : PlanData) (history : List Command) (page cpu : ℕ)
+        → PlanStandsFor machine plan history → place_refusal plan page cpu
+        ≡ place_refusal_of machine history page cpu }
+    ensures fill { (machine : Hardware) (plan : PlanData) (history : List Command)
+        (task page cpu node : ℕ)
+        → PlanStandsFor machine plan history → cpu < plan.nodes
+        → planned_first plan task page cpu ≡ Some node
+        → (is_mapped history page ≡ true) × (node ≡ first_node machine history task page cpu) }
+    ensures counts { (machine : Hardware) (plan : PlanData) (history : List Command)
+        (task cpu first pages node : ℕ)
+        → PlanStandsFor machine plan history → cpu < plan.nodes
+        → planned_count plan task cpu first pages node
+        ≡ meant_count machine history task cpu first pages node }
+    ensures span { (machine : Hardware) (plan : PlanData) (history : List Command)
+        (first pages cpu : ℕ) (refusal : PlaceRefusal)
         → PlanStandsFor machine plan history
-        → RefusesSpan plan first pages cpu refusal ↔ SpanIsRefused machine history first pages cpu refusal }
-    ensures sound { (machine : Hardware) (bounds : Bounds) (plan : PlanData) (history : List Command) (task page cpu : ℕ) (nodes : List ℕ)
+        → RefusesSpan plan first pages cpu refusal
+        ↔ SpanIsRefused machine history first pages cpu refusal }
+    ensures sound { (machine : Hardware) (bounds : Bounds) (plan : PlanData)
+        (history : List Command) (task page cpu : ℕ) (nodes : List ℕ)
         → machine.memory ≢ 0 → machine.memory < 2 ^ 256 → IsAccepted machine bounds history
-        → PlanStandsFor machine plan history → cpu < plan.nodes → planned_list plan task page cpu ≡ Some nodes
+        → PlanStandsFor machine plan history → cpu < plan.nodes
+        → planned_list plan task page cpu ≡ Some nodes
         → IsNodeList (allowed_nodes machine history) nodes }
 {}

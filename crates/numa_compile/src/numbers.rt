@@ -1,5 +1,6 @@
 //! The numbers of rules.
-ghost use Rattle.std.specs.Prelude.{◌≡◌, ◌^◌, ◌<◌, Some, IfOk, OnOk, OnSome, length, slice_get, true};
+ghost use Rattle.std.specs.Prelude.{◌≡◌, ◌^◌, ◌<◌, Some, IfOk, OnOk, OnSome, length, slice_get};
+ghost use Rattle.std.specs.Prelude.{true};
 ghost use Rattle.std.specs.Option.{ForSome};
 ghost use Rattle.numa_mode.specs.Policy.{is_live};
 ghost use Rattle.numa_space.specs.Policies.{where_live};
@@ -15,7 +16,8 @@ use numa_plan::{NoMemory, Plan, Steps};
 use numa_space::{RangeRecord, Space};
 use std::alloc::Global;
 
-/// The number of the rule of a live policy: its place among the records. The rule is written where the record is new.
+/// The number of the rule of a live policy: its place among the records. The rule is written where
+/// the record is new.
 fn number_of(
     alloc: Global,
     space: &Space,

@@ -39,7 +39,8 @@ fn push_others(
     allowed: &NodeMask,
     set: &NodeMask,
 ) -> Result<(), NoMemory>
-    ensures { OnOk result (rows.new.items ≡ rows.old.items ++ filter (λ node. has allowed.now node && not (has set.now node)) order.now) }
+    ensures { OnOk result (rows.new.items ≡ rows.old.items
+        ++ filter (λ node. has allowed.now node && not (has set.now node)) order.now) }
 {
     for node in order {
         if has(allowed, *node) && !has(set, *node) {
@@ -57,7 +58,8 @@ pub(crate) fn push_row(
     from: u32,
 ) -> Result<(), NoMemory>
     requires { from < space.now.machine.nodes }
-    ensures { OnOk result (rows.new.items ≡ rows.old.items ++ row_from (setting_in space.now) reach.now from) }
+    ensures { OnOk result (rows.new.items ≡ rows.old.items
+        ++ row_from (setting_in space.now) reach.now from) }
 {
     let order = space.machine().order(from);
     match reach {
@@ -71,7 +73,8 @@ pub(crate) fn push_row(
 
 /// The rows for faults on each node of the machine, from node 0 on.
 pub(crate) fn rows_by_node(alloc: Global, space: &Space, reach: &Reach) -> Result<Vec<u8>, NoMemory>
-    ensures { IfOk result (λ rows. rows.items ≡ rows_from (setting_in space.now) reach.now (range_with_len 0 space.now.machine.nodes)) }
+    ensures { IfOk result (λ rows. rows.items ≡ rows_from (setting_in space.now) reach.now
+        (range_with_len 0 space.now.machine.nodes)) }
 {
     let mut rows = Vec::new(alloc);
     for from in 0..space.machine().nodes() {
@@ -87,7 +90,8 @@ pub(crate) fn rows_by_member(
     set: &NodeMask,
 ) -> Result<Vec<u8>, NoMemory>
     requires { All (λ node. node < space.now.machine.nodes) (members set.now) }
-    ensures { IfOk result (λ rows. rows.items ≡ rows_from (setting_in space.now) (Only space.now.allowed) (members set.now)) }
+    ensures { IfOk result (λ rows. rows.items ≡ rows_from (setting_in space.now)
+        (Only space.now.allowed) (members set.now)) }
 {
     let near = Reach::Only(space.allowed());
     let mut rows = Vec::new(alloc);

@@ -1,12 +1,14 @@
 //! The rule of each policy.
-ghost use Rattle.std.specs.Prelude.{◌≡◌, ◌≢◌, ℕ, ◌<◌, ◌≤◌, ◌%◌, true, Some, None, IfOk, All, length, slice_index, unwrap_or};
+ghost use Rattle.std.specs.Prelude.{◌≡◌, ◌≢◌, ℕ, ◌<◌, ◌≤◌, ◌%◌, true, Some, None, IfOk, All};
+ghost use Rattle.std.specs.Prelude.{length, slice_index, unwrap_or};
 ghost use Rattle.std.specs.Option.{ForSome};
 ghost use Rattle.numa_mask.specs.NodeSet.{both, has, members, weight_of};
 ghost use Rattle.numa_machine.specs.Weights.{interleave_node, weight_at, weighted_node};
 ghost use Rattle.numa_mode.specs.Policy.{is_live};
 ghost use Rattle.numa_space.specs.Lists.{near};
 ghost use Rattle.numa_space.specs.Standing.{setting_in, IsInForce};
-ghost use Rattle.numa_compile.specs.Rules.{row_from, set_in, width_in, GivesRows, IsRuleOf, IsReady};
+ghost use Rattle.numa_compile.specs.Rules.{row_from, set_in, width_in, GivesRows, IsRuleOf};
+ghost use Rattle.numa_compile.specs.Rules.{IsReady};
 ghost use Rattle.numa_compile.specs.declared.reach.Reach.TheVariants.{Only, First};
 
 use crate::reach::Reach;
@@ -33,7 +35,8 @@ fn faulting_rule(alloc: Global, space: &Space, reach: Reach) -> Result<Rule, NoM
     requires ready { IsReady space.now }
     requires some { set_in reach ≢ 0 }
     requires allowed { both (set_in reach) space.now.allowed ≡ set_in reach }
-    ensures { IfOk result (λ rule. GivesRows space.now.machine.nodes rule (λ cpu index. row_from (setting_in space.now) reach cpu)) }
+    ensures { IfOk result (λ rule. GivesRows space.now.machine.nodes rule
+        (λ cpu index. row_from (setting_in space.now) reach cpu)) }
 {
     let rows = rows_by_node(alloc, space, &reach)?;
     Ok(Rule::faulting(width(space, &reach), rows))
@@ -45,7 +48,8 @@ fn fixed_rule(alloc: Global, space: &Space, reach: Reach, from: u32) -> Result<R
     requires some { set_in reach ≢ 0 }
     requires allowed { both (set_in reach) space.now.allowed ≡ set_in reach }
     requires from { from < space.now.machine.nodes }
-    ensures { IfOk result (λ rule. GivesRows space.now.machine.nodes rule (λ cpu index. row_from (setting_in space.now) reach from)) }
+    ensures { IfOk result (λ rule. GivesRows space.now.machine.nodes rule
+        (λ cpu index. row_from (setting_in space.now) reach from)) }
 {
     let mut row = Vec::new(alloc);
     push_row(&mut row, space, &reach, from)?;
@@ -63,7 +67,8 @@ fn rule_by_home(
     requires some { set_in reach ≢ 0 }
     requires allowed { both (set_in reach) space.now.allowed ≡ set_in reach }
     requires home { ForSome home (λ node. node < space.now.machine.nodes) }
-    ensures { IfOk result (λ rule. GivesRows space.now.machine.nodes rule (λ cpu index. row_from (setting_in space.now) reach (unwrap_or home cpu))) }
+    ensures { IfOk result (λ rule. GivesRows space.now.machine.nodes rule
+        (λ cpu index. row_from (setting_in space.now) reach (unwrap_or home cpu))) }
 {
     match home {
         Some(home) => fixed_rule(alloc, space, reach, u32::from(home)),
@@ -84,7 +89,8 @@ fn turns_rule(
     requires cycle { 0 < length cycle.items }
     requires places { All (λ place. place < weight_of set.now) cycle.items }
     ensures { IfOk result (λ rule. GivesRows space.now.machine.nodes rule (λ cpu index.
-        near (setting_in space.now) (slice_index (members set.now) (slice_index cycle.items (index % length cycle.items))))) }
+        near (setting_in space.now) (slice_index (members set.now)
+        (slice_index cycle.items (index % length cycle.items))))) }
 {
     let rows = rows_by_member(alloc, space, set)?;
     let rule = Rule::turns(alloc, space.allowed().weight(), rows, cycle)?;
@@ -96,7 +102,8 @@ fn interleave_rule(alloc: Global, space: &Space, set: &NodeMask) -> Result<Rule,
     requires ready { IsReady space.now }
     requires some { set.now ≢ 0 }
     requires allowed { both set.now space.now.allowed ≡ set.now }
-    ensures { IfOk result (λ rule. GivesRows space.now.machine.nodes rule (λ cpu index. near (setting_in space.now) (interleave_node set.now index))) }
+    ensures { IfOk result (λ rule. GivesRows space.now.machine.nodes rule
+        (λ cpu index. near (setting_in space.now) (interleave_node set.now index))) }
 {
     let cycle = equal_turns(alloc, set.weight())?;
     turns_rule(alloc, space, set, cycle)
@@ -107,7 +114,9 @@ fn weighted_rule(alloc: Global, space: &Space, set: &NodeMask) -> Result<Rule, N
     requires ready { IsReady space.now }
     requires some { set.now ≢ 0 }
     requires allowed { both set.now space.now.allowed ≡ set.now }
-    ensures { IfOk result (λ rule. GivesRows space.now.machine.nodes rule (λ cpu index. near (setting_in space.now) (weighted_node (weight_at space.now.weights) set.now index))) }
+    ensures { IfOk result (λ rule. GivesRows space.now.machine.nodes rule
+        (λ cpu index. near (setting_in space.now)
+        (weighted_node (weight_at space.now.weights) set.now index))) }
 {
     let cycle = weighted_turns(alloc, space.weights(), set)?;
     turns_rule(alloc, space, set, cycle)
@@ -127,7 +136,8 @@ fn preferred_rule(alloc: Global, space: &Space, set: &NodeMask) -> Result<Rule, 
     requires ready { IsReady space.now }
     requires some { set.now ≢ 0 }
     requires allowed { both set.now space.now.allowed ≡ set.now }
-    ensures { IfOk result (λ rule. GivesRows space.now.machine.nodes rule (λ cpu index. near (setting_in space.now) (slice_index (members set.now) 0))) }
+    ensures { IfOk result (λ rule. GivesRows space.now.machine.nodes rule
+        (λ cpu index. near (setting_in space.now) (slice_index (members set.now) 0))) }
 {
     let node = u32::from(first_node(set));
     fixed_rule(alloc, space, Reach::Only(space.allowed()), node)

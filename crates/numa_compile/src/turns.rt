@@ -32,14 +32,15 @@ fn push_turns(cycle: &mut Vec<u8>, place: u8, turns: u32) -> Result<(), NoMemory
     Ok(())
 }
 
-/// As many turns for each member of a set as its weight, by the member's place in the set, from the lowest member on;
-/// each has one at least.
+/// As many turns for each member of a set as its weight, by the member's place in the set, from the
+/// lowest member on; each has one at least.
 pub(crate) fn weighted_turns(
     alloc: Global,
     weights: &Weights,
     set: &NodeMask,
 ) -> Result<Vec<u8>, NoMemory>
-    ensures places { IfOk result (λ cycle. cycle.items ≡ places_from 0 (weight_at weights.now) (members set.now)) }
+    ensures places { IfOk result (λ cycle. cycle.items
+        ≡ places_from 0 (weight_at weights.now) (members set.now)) }
     ensures each { IfOk result (λ cycle. weight_of set.now ≤ length cycle.items) }
 {
     let mut cycle = Vec::new(alloc);

@@ -1,5 +1,8 @@
--- Lists of runs as private functions edit them: cut at the ends of a span, edited inside, and joined.
-use Rattle.std.specs.Prelude.{◌≡◌, ℕ, ◌+◌, ◌-◌, ◌<◌, ◌≤◌, ◌^◌, ◌&&◌, Bool, Option, Some, None, List, [], ◌∷◌, ◌++◌, min, max, length, take, drop, option_map, ◌==◌, nat_lt, if◌then◌else◌}
+-- Lists of runs as private functions edit them: cut at the ends of a span, edited inside, and
+-- joined.
+use Rattle.std.specs.Prelude.{◌≡◌, ℕ, ◌+◌, ◌-◌, ◌<◌, ◌≤◌, ◌^◌, ◌&&◌, Bool, Option, Some, None, List}
+use Rattle.std.specs.Prelude.{[], ◌∷◌, ◌++◌, min, max, length, take, drop, option_map, ◌==◌, nat_lt}
+use Rattle.std.specs.Prelude.{if◌then◌else◌}
 use Rattle.std.specs.List.{AllWithin, flat_map}
 use Rattle.numa_ranges.specs.declared.run.Run.{Run}
 use Rattle.numa_ranges.specs.Runs.{in_pages, end_of, page_at, AreApart, AreMaximal}
@@ -12,25 +15,35 @@ edited_page edit None = None
 edited_page edit (Some p) = option_map (λ value. (p.0, value)) (edit p.1)
 
 -- the map with each mapped page of a span edited
-abbrev pub edited_span : {T : Type 0} → ℕ → ℕ → (T → Option T) → (ℕ → Option (ℕ × T)) → ℕ → Option (ℕ × T)
-edited_span first pages edit at page = if in_pages first pages page then edited_page edit (at page) else at page
+abbrev pub edited_span : {T : Type 0} → ℕ → ℕ → (T → Option T) → (ℕ → Option (ℕ × T)) → ℕ
+    → Option (ℕ × T)
+edited_span first pages edit at page = if in_pages first pages page then edited_page edit (at page)
+    else at page
 
 -- the runs before a place start at the page or before it, and those from there on start after it
 abbrev pub StartsAround : {T : Type 0} → List (Run T) → ℕ → ℕ → Type 0
-StartsAround runs place page = AllWithin (λ run. run.first ≤ page) runs 0 place × AllWithin (λ run. page < run.first) runs place (length runs)
+StartsAround runs place page = AllWithin (λ run. run.first ≤ page) runs 0 place
+    × AllWithin (λ run. page < run.first) runs place (length runs)
 
 -- whether the second run continues the first, by a test of values
 abbrev pub joins : {T : Type 0} → (T → T → Bool) → Run T → Run T → Bool
-joins same run next = (next.first == end_of run) && ((next.index == run.index + run.pages) && same run.value next.value)
+joins same run next = (next.first == end_of run)
+    && ((next.index == run.index + run.pages) && same run.value next.value)
 
 -- a run, with the pages of one that continues it
 abbrev pub grown : {T : Type 0} → Run T → Run T → Run T
-grown run next = record { first = run.first; pages = run.pages + next.pages; index = run.index; value = run.value }
+grown run next = record {
+  first = run.first;
+  pages = run.pages + next.pages;
+  index = run.index;
+  value = run.value;
+}
 
 -- the runs from `run` on, with each that continues the one before it joined to that
 abbrev pub joined_from : {T : Type 0} → (T → T → Bool) → List (Run T) → Run T → List (Run T)
 joined_from same [] run = run ∷ []
-joined_from same (next ∷ runs) run = if joins same run next then joined_from same runs (grown run next) else run ∷ joined_from same runs next
+joined_from same (next ∷ runs) run = if joins same run next
+    then joined_from same runs (grown run next) else run ∷ joined_from same runs next
 
 -- the runs, each that continues the one before it joined to that
 abbrev pub joined : {T : Type 0} → (T → T → Bool) → List (Run T) → List (Run T)
@@ -38,30 +51,53 @@ joined same [] = []
 joined same (run ∷ runs) = joined_from same runs run
 
 -- the runs behind one that is still open, if one is
-abbrev pub joined_after : {T : Type 0} → (T → T → Bool) → Option (Run T) → List (Run T) → List (Run T)
+abbrev pub joined_after : {T : Type 0} → (T → T → Bool) → Option (Run T) → List (Run T)
+    → List (Run T)
 joined_after same None runs = joined same runs
 joined_after same (Some open_run) runs = joined_from same runs open_run
 
 -- the part of a run before a page
 abbrev pub part_before : {T : Type 0} → ℕ → Run T → List (Run T)
-part_before page run = if nat_lt run.first page then record { first = run.first; pages = min run.pages (page - run.first); index = run.index; value = run.value } ∷ [] else []
+part_before page run = if nat_lt run.first page then record {
+  first = run.first;
+  pages = min run.pages (page - run.first);
+  index = run.index;
+  value = run.value;
+} ∷ [] else []
 
 -- the part of a run from a page on
 abbrev pub part_from : {T : Type 0} → ℕ → Run T → List (Run T)
-part_from page run = if nat_lt page (end_of run) then record { first = max page run.first; pages = end_of run - max page run.first; index = run.index + (max page run.first - run.first); value = run.value } ∷ [] else []
+part_from page run = if nat_lt page (end_of run) then record {
+  first = max page run.first;
+  pages = end_of run - max page run.first;
+  index = run.index + (max page run.first - run.first);
+  value = run.value;
+} ∷ [] else []
 
 -- a run with another value, or none
 abbrev pub with_value : {T : Type 0} → Run T → Option T → List (Run T)
 with_value run None = []
-with_value run (Some value) = record { first = run.first; pages = run.pages; index = run.index; value = value } ∷ []
+with_value run (Some value) = record {
+  first = run.first;
+  pages = run.pages;
+  index = run.index;
+  value = value;
+} ∷ []
 
 -- the part of a run between two pages, edited
 abbrev pub part_within : {T : Type 0} → ℕ → ℕ → (T → Option T) → Run T → List (Run T)
-part_within first end edit run = if nat_lt (max first run.first) (min end (end_of run)) then with_value (record { first = max first run.first; pages = min end (end_of run) - max first run.first; index = run.index + (max first run.first - run.first); value = run.value }) (edit run.value) else []
+part_within first end edit run = if nat_lt (max first run.first) (min end (end_of run))
+    then with_value (record {
+      first = max first run.first;
+      pages = min end (end_of run) - max first run.first;
+      index = run.index + (max first run.first - run.first);
+      value = run.value;
+    }) (edit run.value) else []
 
 -- a run, cut at both ends of a span and edited inside
 abbrev pub parts : {T : Type 0} → ℕ → ℕ → (T → Option T) → Run T → List (Run T)
-parts first end edit run = part_before first run ++ (part_within first end edit run ++ part_from end run)
+parts first end edit run = part_before first run
+    ++ (part_within first end edit run ++ part_from end run)
 
 -- the runs, edited in a span and not joined
 abbrev pub edited : {T : Type 0} → ℕ → ℕ → (T → Option T) → List (Run T) → List (Run T)
@@ -73,7 +109,12 @@ inserted place run runs = take place runs ++ run ∷ drop place runs
 
 -- a run with a changed value
 abbrev pub revalued : {T : Type 0} → (T → T) → Run T → Run T
-revalued change run = record { first = run.first; pages = run.pages; index = run.index; value = change run.value }
+revalued change run = record {
+  first = run.first;
+  pages = run.pages;
+  index = run.index;
+  value = change run.value;
+}
 
 -- a run that has the pages and indexes of another, and a value that is made of that one's
 pub record IsRevalued {T : Type 0} (Made : T → T → Type 0) (run changed : Run T) : Type 0 where
@@ -92,14 +133,16 @@ pub record HoldsPage {T : Type 0} (runs : List (Run T)) (run : Run T) (page : �
   pub from : run.first ≤ page
   pub to : page < end_of run
   pub in_range : IsInRange run
-  pub pages : (p : ℕ) → run.first ≤ p → p < end_of run → page_at runs p ≡ Some (run.index + (p - run.first), run.value)
+  pub pages : (p : ℕ) → run.first ≤ p → p < end_of run
+      → page_at runs p ≡ Some (run.index + (p - run.first), run.value)
 
 -- a fact of each run
 abbrev pub Each : {T : Type 0} → (Run T → Type 0) → List (Run T) → Type 0
 Each P [] = Unit {0}
 Each P (run ∷ runs) = P run × Each P runs
 
--- a place among the runs where a span fits in: the runs before end before it, those from there on begin behind it
+-- a place among the runs where a span fits in: the runs before end before it, those from there on
+-- begin behind it
 pub record HasRoom {T : Type 0} (runs : List (Run T)) (place first last : ℕ) : Type 0 where
   pub within : place ≤ length runs
   pub apart : AreApart 0 runs
@@ -108,6 +151,7 @@ pub record HasRoom {T : Type 0} (runs : List (Run T)) (place first last : ℕ) :
   pub behind : Each (λ run. (0 < run.pages) × (last < run.first)) (drop place runs)
 
 -- a range map came to show this map, which it may have
-pub record Becomes {T : Type 0} (same : T → T → Bool) (old new : Ranges T) (at : ℕ → Option (ℕ × T)) : Type 0 where
+pub record Becomes {T : Type 0} (same : T → T → Bool) (old new : Ranges T)
+    (at : ℕ → Option (ℕ × T)) : Type 0 where
   pub shows : Shows new.runs at
   pub accepted : count_refusal same old.max_ranges at ≡ None

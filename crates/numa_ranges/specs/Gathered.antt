@@ -5,8 +5,10 @@ use Rattle.numa_ranges.specs.declared.pieces.Pieces.{Pieces}
 use Rattle.numa_ranges.specs.Edits.{joined, joined_after}
 
 -- the closed runs and the open one are the joined form of the runs that were added
-pub record Gathered {T : Type 0} (same : T → T → Bool) (pieces : Pieces T) (added : List (Run T)) : Type 0 where
+pub record Gathered {T : Type 0} (same : T → T → Bool) (pieces : Pieces T)
+    (added : List (Run T)) : Type 0 where
   pub closed : List (Run T)
   pub count : pieces.count ≡ length closed
   pub kept : pieces.is_refused ≡ false → pieces.closed.items ≡ closed
-  pub so_far : (rest : List (Run T)) → joined same (added ++ rest) ≡ closed ++ joined_after same pieces.open_run rest
+  pub so_far : (rest : List (Run T)) → joined same (added ++ rest) ≡ closed
+      ++ joined_after same pieces.open_run rest

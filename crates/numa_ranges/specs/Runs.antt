@@ -1,5 +1,6 @@
 -- Runs of mapped pages, and what a list of them says of each page.
-use Rattle.std.specs.Prelude.{◌≡◌, ℕ, ◌+◌, ◌-◌, ◌<◌, ◌≤◌, ◌^◌, ◌&&◌, Bool, Option, Some, None, List, [], ◌∷◌, nat_lt, nat_le, if◌then◌else◌}
+use Rattle.std.specs.Prelude.{◌≡◌, ℕ, ◌+◌, ◌-◌, ◌<◌, ◌≤◌, ◌^◌, ◌&&◌, Bool, Option, Some, None, List}
+use Rattle.std.specs.Prelude.{[], ◌∷◌, nat_lt, nat_le, if◌then◌else◌}
 use Rattle.numa_ranges.specs.declared.run.Run.{Run}
 
 -- whether a page is among the pages from `first` on
@@ -13,12 +14,15 @@ end_of run = run.first + run.pages
 -- the index and the value of a page, where a run has it
 abbrev pub page_at : {T : Type 0} → List (Run T) → ℕ → Option (ℕ × T)
 page_at [] page = None
-page_at (run ∷ runs) page = if in_pages run.first run.pages page then Some (run.index + (page - run.first), run.value) else page_at runs page
+page_at (run ∷ runs) page = if in_pages run.first run.pages page
+    then Some (run.index + (page - run.first), run.value) else page_at runs page
 
--- the runs rise, begin at `from` or later and are apart; each has a page, and ends below the last page and index
+-- the runs rise, begin at `from` or later and are apart; each has a page, and ends below the last
+-- page and index
 abbrev pub AreApart : {T : Type 0} → ℕ → List (Run T) → Type 0
 AreApart from [] = from ≤ 2 ^ 35
-AreApart from (run ∷ runs) = (from ≤ run.first) × (0 < run.pages) × (run.index + run.pages ≤ 2 ^ 36) × AreApart (end_of run) runs
+AreApart from (run ∷ runs) = (from ≤ run.first) × (0 < run.pages) × (run.index + run.pages ≤ 2 ^ 36)
+    × AreApart (end_of run) runs
 
 -- the second run begins where the first ends, with the next index and the same value
 pub record Continues {T : Type 0} (run next : Run T) : Type 0 where

@@ -1,7 +1,9 @@
 //! Runs, cut at the ends of a span and edited inside.
-ghost use Rattle.std.specs.Prelude.{◌≡◌, ◌+◌, ◌*◌, ◌<◌, ◌≤◌, ◌^◌, List, ◌++◌, length, take, drop, Option, All};
+ghost use Rattle.std.specs.Prelude.{◌≡◌, ◌+◌, ◌*◌, ◌<◌, ◌≤◌, ◌^◌, List, ◌++◌, length, take, drop};
+ghost use Rattle.std.specs.Prelude.{Option, All};
 ghost use Rattle.numa_rows.specs.Changes.{Makes};
-ghost use Rattle.numa_ranges.specs.Edits.{IsInRange, part_before, part_within, part_from, parts, edited};
+ghost use Rattle.numa_ranges.specs.Edits.{IsInRange, part_before, part_within, part_from, parts};
+ghost use Rattle.numa_ranges.specs.Edits.{edited};
 ghost use Rattle.numa_ranges.specs.Gathered.{Gathered};
 
 use crate::exact::Exact;
@@ -71,7 +73,9 @@ fn add_parts<T: Exact, F: Fn(&T) -> Option<T>>(
     requires callable { F.IsAlwaysCallable edit.now }
     requires in_range { IsInRange run }
     requires room { pieces.old.count < 2 ^ 62 }
-    ensures gathered { (change : T → Option T) → Makes F.Fn edit.now change → (added : List (Run T)) → Gathered T.eq pieces.old added → Gathered T.eq pieces.new (added ++ parts first end change run) }
+    ensures gathered { (change : T → Option T) → Makes F.Fn edit.now change → (added : List (Run T))
+        → Gathered T.eq pieces.old added → Gathered T.eq pieces.new
+        (added ++ parts first end change run) }
     ensures count { pieces.new.count ≤ pieces.old.count + 3 }
 {
     add_before(pieces, run, first);
@@ -83,7 +87,8 @@ fn add_parts<T: Exact, F: Fn(&T) -> Option<T>>(
 fn add_before<T: Exact>(pieces: &mut Pieces<T>, run: Run<T>, page: u64)
     requires in_range { IsInRange run }
     requires room { pieces.old.count < 2 ^ 63 }
-    ensures gathered { (added : List (Run T)) → Gathered T.eq pieces.old added → Gathered T.eq pieces.new (added ++ part_before page run) }
+    ensures gathered { (added : List (Run T)) → Gathered T.eq pieces.old added
+        → Gathered T.eq pieces.new (added ++ part_before page run) }
     ensures count { pieces.new.count ≤ pieces.old.count + 1 }
 {
     if run.first < page {
@@ -106,7 +111,8 @@ fn add_before<T: Exact>(pieces: &mut Pieces<T>, run: Run<T>, page: u64)
 fn add_from<T: Exact>(pieces: &mut Pieces<T>, run: Run<T>, page: u64)
     requires in_range { IsInRange run }
     requires room { pieces.old.count < 2 ^ 63 }
-    ensures gathered { (added : List (Run T)) → Gathered T.eq pieces.old added → Gathered T.eq pieces.new (added ++ part_from page run) }
+    ensures gathered { (added : List (Run T)) → Gathered T.eq pieces.old added
+        → Gathered T.eq pieces.new (added ++ part_from page run) }
     ensures count { pieces.new.count ≤ pieces.old.count + 1 }
 {
     let end = run.first + run.pages;
@@ -133,7 +139,9 @@ fn add_within<T: Exact, F: Fn(&T) -> Option<T>>(
     requires callable { F.IsAlwaysCallable edit.now }
     requires in_range { IsInRange run }
     requires room { pieces.old.count < 2 ^ 63 }
-    ensures gathered { (change : T → Option T) → Makes F.Fn edit.now change → (added : List (Run T)) → Gathered T.eq pieces.old added → Gathered T.eq pieces.new (added ++ part_within first end change run) }
+    ensures gathered { (change : T → Option T) → Makes F.Fn edit.now change → (added : List (Run T))
+        → Gathered T.eq pieces.old added → Gathered T.eq pieces.new
+        (added ++ part_within first end change run) }
     ensures count { pieces.new.count ≤ pieces.old.count + 1 }
 {
     let start = first.max(run.first);

@@ -21,11 +21,13 @@ pub(crate) struct Pieces<T> {
 }
 
 impl<T: Exact> Pieces<T> {
-    ghost use Rattle.std.specs.Prelude.{◌≡◌, ◌+◌, ◌<◌, ◌≤◌, ◌^◌, List, [], ◌∷◌, ◌++◌, length, OnOk, OnErr, IfErr, false, if◌then◌else◌, nat_lt};
+    ghost use Rattle.std.specs.Prelude.{◌≡◌, ◌+◌, ◌<◌, ◌≤◌, ◌^◌, List, [], ◌∷◌, ◌++◌, length, OnOk};
+    ghost use Rattle.std.specs.Prelude.{OnErr, IfErr, false, if◌then◌else◌, nat_lt};
     ghost use Rattle.numa_ranges.specs.Edits.{IsInRange, joined};
     ghost use Rattle.numa_ranges.specs.Gathered.{Gathered};
     ghost use Rattle.std.specs.List.{splice};
-    ghost use Rattle.numa_ranges.specs.declared.fault.RangeFault.TheVariants.{TooManyRanges, NoMemory};
+    ghost use Rattle.numa_ranges.specs.declared.fault.RangeFault.TheVariants.{TooManyRanges};
+    ghost use Rattle.numa_ranges.specs.declared.fault.RangeFault.TheVariants.{NoMemory};
 
     /// No runs.
     pub(crate) fn new(alloc: Global) -> Pieces<T>
@@ -44,7 +46,8 @@ impl<T: Exact> Pieces<T> {
     pub(crate) fn add(&mut self, run: Run<T>)
         requires in_range { IsInRange run }
         requires room { self.old.count < 2 ^ 63 }
-        ensures gathered { (added : List (Run T)) → Gathered T.eq self.old added → Gathered T.eq self.new (added ++ run ∷ []) }
+        ensures gathered { (added : List (Run T)) → Gathered T.eq self.old added
+            → Gathered T.eq self.new (added ++ run ∷ []) }
         ensures count { self.new.count ≤ self.old.count + 1 }
     {
         let Some(last) = self.open_run else {
@@ -67,8 +70,10 @@ impl<T: Exact> Pieces<T> {
     /// Closes the open run, so that all that was added stands among the closed ones.
     fn seal(&mut self)
         requires room { self.old.count < 2 ^ 63 }
-        ensures count { (added : List (Run T)) → Gathered T.eq self.old added → self.new.count ≡ length (joined T.eq added) }
-        ensures closed { (added : List (Run T)) → Gathered T.eq self.old added → self.new.is_refused ≡ false → self.new.closed.items ≡ joined T.eq added }
+        ensures count { (added : List (Run T)) → Gathered T.eq self.old added
+            → self.new.count ≡ length (joined T.eq added) }
+        ensures closed { (added : List (Run T)) → Gathered T.eq self.old added
+            → self.new.is_refused ≡ false → self.new.closed.items ≡ joined T.eq added }
         ensures bound { self.new.count ≤ self.old.count + 1 }
     {
         if let Some(last) = self.open_run {
@@ -87,8 +92,13 @@ impl<T: Exact> Pieces<T> {
     ) -> Result<(), RangeFault>
         requires window { (from ≤ to) × (to ≤ length runs.old) }
         requires room { self.count < 2 ^ 62 }
-        ensures ok { (added : List (Run T)) → Gathered T.eq self added → OnOk result ((runs.new ≡ splice runs.old from to (joined T.eq added)) × (length (splice runs.old from to (joined T.eq added)) ≤ limit)) }
-        ensures err { (added : List (Run T)) → Gathered T.eq self added → IfErr result (λ refusal. refusal ≡ (if nat_lt limit (length (splice runs.old from to (joined T.eq added))) then TooManyRanges else NoMemory)) }
+        ensures ok { (added : List (Run T)) → Gathered T.eq self added
+            → OnOk result ((runs.new ≡ splice runs.old from to (joined T.eq added))
+            × (length (splice runs.old from to (joined T.eq added)) ≤ limit)) }
+        ensures err { (added : List (Run T)) → Gathered T.eq self added
+            → IfErr result (λ refusal. refusal
+            ≡ (if nat_lt limit (length (splice runs.old from to (joined T.eq added)))
+            then TooManyRanges else NoMemory)) }
         ensures unchanged { OnErr result (runs.new ≡ runs.old) }
     {
         self.seal();
@@ -116,7 +126,8 @@ impl<T: Exact> Pieces<T> {
         requires room { self.old.count < 2 ^ 63 }
         ensures open_run { self.new.open_run ≡ self.old.open_run }
         ensures count { self.new.count ≡ self.old.count + 1 }
-        ensures closed { self.new.is_refused ≡ false → (self.old.is_refused ≡ false) × (self.new.closed.items ≡ self.old.closed.items ++ run ∷ []) }
+        ensures closed { self.new.is_refused ≡ false → (self.old.is_refused ≡ false)
+            × (self.new.closed.items ≡ self.old.closed.items ++ run ∷ []) }
     {
         self.count += 1;
         if !self.is_refused && self.closed.push(run).is_err() {

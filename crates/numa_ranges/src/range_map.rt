@@ -1,12 +1,17 @@
 //! The map from pages to an index and a value.
-ghost use Rattle.std.specs.Prelude.{true, ◌↔◌, Contains, IfOk, OnOk, OnErr, IfErr, MatchOption, ◌≡◌, ◌+◌, ◌-◌, ◌<◌, ◌≤◌, ◌^◌, ℕ, Option, List, length, [], not, is_some, IsSomeAnd, IfNone, IfSome, OnSome, false};
+ghost use Rattle.std.specs.Prelude.{true, ◌↔◌, Contains, IfOk, OnOk, OnErr, IfErr, MatchOption};
+ghost use Rattle.std.specs.Prelude.{◌≡◌, ◌+◌, ◌-◌, ◌<◌, ◌≤◌, ◌^◌, ℕ, Option, List, length, [], not};
+ghost use Rattle.std.specs.Prelude.{is_some, IsSomeAnd, IfNone, IfSome, OnSome, false};
 ghost use Rattle.std.specs.List.{splice, slice_range};
 ghost use Rattle.std.specs.Fn.{FnReturnsAt};
 ghost use Rattle.numa_ranges.specs.Runs.{end_of, page_at, AreApart, AreMaximal};
 ghost use Rattle.numa_ranges.specs.Counts.{range_count, IsRange};
 ghost use Rattle.numa_rows.specs.Changes.{Makes};
-ghost use Rattle.numa_ranges.specs.Maps.{Shows, IsRefusal, any_page, with_span, without_span, changed_page, changed_span, count_refusal, map_refusal, set_refusal};
-ghost use Rattle.numa_ranges.specs.Edits.{StartsAround, joined, edited, HoldsPage, HasRoom, Becomes, edited_span};
+ghost use Rattle.numa_ranges.specs.Maps.{Shows, IsRefusal, any_page, with_span, without_span};
+ghost use Rattle.numa_ranges.specs.Maps.{changed_page, changed_span, count_refusal, map_refusal};
+ghost use Rattle.numa_ranges.specs.Maps.{set_refusal};
+ghost use Rattle.numa_ranges.specs.Edits.{StartsAround, joined, edited, HoldsPage, HasRoom};
+ghost use Rattle.numa_ranges.specs.Edits.{Becomes, edited_span};
 
 use crate::edit::{add_all, gather_edited};
 use crate::exact::Exact;
@@ -21,13 +26,15 @@ use std::marker::Model;
 
 /// A finite map from pages to an index and a value, kept as its ranges.
 ///
-/// A range is a maximal run of mapped pages whose indexes run on by one and whose values are equal. Pages lie below
-/// 2^35, and the index of a page counts the pages of what is mapped there: as the page offset of a mapping in
-/// mmap(2), it belongs to its page, whatever happens to the pages beside it. Ranges split and join as Linux splits
-/// and merges the areas of an address space under mbind(2).
+/// A range is a maximal run of mapped pages whose indexes run on by one and whose values are equal.
+/// Pages lie below 2^35, and the index of a page counts the pages of what is mapped there: as the
+/// page offset of a mapping in mmap(2), it belongs to its page, whatever happens to the pages
+/// beside it. Ranges split and join as Linux splits and merges the areas of an address space under
+/// mbind(2).
 ///
-/// The ranges stand in one sorted list in chunks. A call over a span finds its first range by one search, works on the
-/// ranges that it touches and one or two more on each side, judges their number, and edits one chunk or a few.
+/// The ranges stand in one sorted list in chunks. A call over a span finds its first range by one
+/// search, works on the ranges that it touches and one or two more on each side, judges their
+/// number, and edits one chunk or a few.
 #[derive(Drop)]
 pub struct RangeMap<T: Exact> {
     runs: Rows<Run<T>, Owned<Run<T>>>,
@@ -45,11 +52,13 @@ impl<T: Exact> Model for RangeMap<T> {
 
     ghost view = { λ a. record { runs = a.runs; max_ranges = a.max_ranges } };
 
-    ghost invariant = { λ a. AreApart 0 a.runs × AreMaximal a.runs × (length a.runs ≤ a.max_ranges) };
+    ghost invariant = { λ a. AreApart 0 a.runs × AreMaximal a.runs
+        × (length a.runs ≤ a.max_ranges) };
 }
 
 impl<T: Exact> RangeMap<T> {
-    /// A map without pages, for at most `max_ranges` ranges. It keeps the allocator and takes no memory.
+    /// A map without pages, for at most `max_ranges` ranges. It keeps the allocator and takes no
+    /// memory.
     pub fn new(alloc: Global, max_ranges: u32) -> RangeMap<T>
         ensures { result ≡ record { runs = []; max_ranges = max_ranges } }
     {
@@ -75,8 +84,8 @@ impl<T: Exact> RangeMap<T> {
         })
     }
 
-    /// How many ranges there are: as many as mapped pages whose predecessor is unmapped, has another value or an
-    /// index that is not one less.
+    /// How many ranges there are: as many as mapped pages whose predecessor is unmapped, has
+    /// another value or an index that is not one less.
     pub fn len(&self) -> usize
         ensures runs { result ≡ length self.now.runs }
         ensures count { result ≡ range_count T.eq (page_at self.now.runs) }
@@ -85,13 +94,16 @@ impl<T: Exact> RangeMap<T> {
         self.runs.len()
     }
 
-    /// The ranges in rising order, each as its first page, its number of pages, its first index and its value.
+    /// The ranges in rising order, each as its first page, its number of pages, its first index and
+    /// its value.
     pub fn iter(&self) -> Iter<'_, Run<T>, Owned<Run<T>>>
         ensures runs { result ≡ self.now.runs }
         ensures rising { AreApart 0 self.now.runs }
         ensures maximal { AreMaximal self.now.runs }
-        ensures ranges { (run : Run T) → Contains self.now.runs run ↔ IsRange T.eq (page_at self.now.runs) run }
-        ensures alone { (others : List (Run T)) → AreApart 0 others → AreMaximal others → Shows others (page_at self.now.runs)
+        ensures ranges { (run : Run T) → Contains self.now.runs run
+            ↔ IsRange T.eq (page_at self.now.runs) run }
+        ensures alone { (others : List (Run T)) → AreApart 0 others → AreMaximal others
+            → Shows others (page_at self.now.runs)
             → others ≡ self.now.runs }
     {
         self.runs.iter()
@@ -106,11 +118,12 @@ impl<T: Exact> RangeMap<T> {
         Some((run.index + (page - run.first), run.value))
     }
 
-    /// Whether one of the `pages` pages from `first` on is not mapped, which mbind(2) answers with EFAULT. `set_span`
-    /// is then refused.
+    /// Whether one of the `pages` pages from `first` on is not mapped, which mbind(2) answers with
+    /// EFAULT. `set_span` is then refused.
     pub fn has_hole(&self, first: u64, pages: u64) -> bool
         requires span { first + pages ≤ 2 ^ 35 }
-        ensures { result ≡ any_page (λ page. not (is_some (page_at self.now.runs page))) first pages }
+        ensures { result ≡ any_page (λ page. not (is_some (page_at self.now.runs page))) first
+            pages }
     {
         let place = self.starts_up_to(first);
         lacks_page(&self.runs, place, first, pages)
@@ -132,9 +145,12 @@ impl<T: Exact> RangeMap<T> {
         requires some { 0 < pages }
         requires span { first + pages ≤ 2 ^ 35 }
         requires index { index < 2 ^ 35 }
-        ensures ok { OnOk result (Shows self.new.runs (with_span first pages index value (page_at self.old.runs))) }
-        ensures accepted { OnOk result (map_refusal T.eq self.old.max_ranges (page_at self.old.runs) first pages index value ≡ None) }
-        ensures err { IfErr result (IsRefusal (map_refusal T.eq self.old.max_ranges (page_at self.old.runs) first pages index value)) }
+        ensures ok { OnOk result (Shows self.new.runs
+            (with_span first pages index value (page_at self.old.runs))) }
+        ensures accepted { OnOk result (map_refusal T.eq self.old.max_ranges
+            (page_at self.old.runs) first pages index value ≡ None) }
+        ensures err { IfErr result (IsRefusal (map_refusal T.eq self.old.max_ranges
+            (page_at self.old.runs) first pages index value)) }
         ensures unchanged { OnErr result (self.new ≡ self.old) }
         ensures max_ranges { self.new.max_ranges ≡ self.old.max_ranges }
     {
@@ -150,14 +166,17 @@ impl<T: Exact> RangeMap<T> {
         self.insert_run(place, run)
     }
 
-    /// Puts a run in at its place among the runs, joined to its neighbours where they go on from one another.
+    /// Puts a run in at its place among the runs, joined to its neighbours where they go on from
+    /// one another.
     fn insert_run(&mut self, place: usize, run: Run<T>) -> Result<(), RangeFault>
         requires some { 0 < run.pages }
         requires room { HasRoom self.old.runs place run.first (run.first + (run.pages - 1)) }
         requires span { end_of run ≤ 2 ^ 35 }
         requires index { run.index < 2 ^ 35 }
-        ensures ok { OnOk result (Becomes T.eq self.old self.new (with_span run.first run.pages run.index run.value (page_at self.old.runs))) }
-        ensures err { IfErr result (IsRefusal (count_refusal T.eq self.old.max_ranges (with_span run.first run.pages run.index run.value (page_at self.old.runs)))) }
+        ensures ok { OnOk result (Becomes T.eq self.old self.new
+            (with_span run.first run.pages run.index run.value (page_at self.old.runs))) }
+        ensures err { IfErr result (IsRefusal (count_refusal T.eq self.old.max_ranges
+            (with_span run.first run.pages run.index run.value (page_at self.old.runs)))) }
         ensures unchanged { OnErr result (self.new ≡ self.old) }
         ensures max_ranges { self.new.max_ranges ≡ self.old.max_ranges }
     {
@@ -176,9 +195,12 @@ impl<T: Exact> RangeMap<T> {
     fn place_between(&self, first: u64, pages: u64) -> Option<usize>
         requires some { 0 < pages }
         requires span { first + pages ≤ 2 ^ 35 }
-        ensures none { IfNone result (any_page (λ page. is_some (page_at self.now.runs page)) first pages ≡ true) }
-        ensures room { IfSome result (λ place. HasRoom self.now.runs place first (first + (pages - 1))) }
-        ensures free { OnSome result (any_page (λ page. is_some (page_at self.now.runs page)) first pages ≡ false) }
+        ensures none { IfNone result (any_page
+            (λ page. is_some (page_at self.now.runs page)) first pages ≡ true) }
+        ensures room { IfSome result (λ place. HasRoom self.now.runs place first
+            (first + (pages - 1))) }
+        ensures free { OnSome result (any_page
+            (λ page. is_some (page_at self.now.runs page)) first pages ≡ false) }
     {
         let place = self.starts_up_to(first + (pages - 1));
         if place == 0 {
@@ -201,9 +223,12 @@ impl<T: Exact> RangeMap<T> {
     pub fn set_span(&mut self, first: u64, pages: u64, value: T) -> Result<(), RangeFault>
         requires some { 0 < pages }
         requires span { first + pages ≤ 2 ^ 35 }
-        ensures ok { OnOk result (Shows self.new.runs (changed_span first pages (λ old. value) (page_at self.old.runs))) }
-        ensures accepted { OnOk result (set_refusal T.eq self.old.max_ranges (page_at self.old.runs) first pages value ≡ None) }
-        ensures err { IfErr result (IsRefusal (set_refusal T.eq self.old.max_ranges (page_at self.old.runs) first pages value)) }
+        ensures ok { OnOk result (Shows self.new.runs
+            (changed_span first pages (λ old. value) (page_at self.old.runs))) }
+        ensures accepted { OnOk result (set_refusal T.eq self.old.max_ranges
+            (page_at self.old.runs) first pages value ≡ None) }
+        ensures err { IfErr result (IsRefusal (set_refusal T.eq self.old.max_ranges
+            (page_at self.old.runs) first pages value)) }
         ensures unchanged { OnErr result (self.new ≡ self.old) }
         ensures max_ranges { self.new.max_ranges ≡ self.old.max_ranges }
     {
@@ -214,8 +239,8 @@ impl<T: Exact> RangeMap<T> {
         self.edit_span(place, first, pages, &|_: &T| Some(value))
     }
 
-    /// Unmaps the `pages` pages from `first` on, as munmap(2) does: pages of the span that are not mapped are passed
-    /// over, and the others keep their indexes.
+    /// Unmaps the `pages` pages from `first` on, as munmap(2) does: pages of the span that are not
+    /// mapped are passed over, and the others keep their indexes.
     ///
     /// Refusals, in this order, after which the map is as it was:
     /// - `TooManyRanges`: a range that is split would make more than `max_ranges` ranges.
@@ -223,9 +248,12 @@ impl<T: Exact> RangeMap<T> {
     pub fn unmap_span(&mut self, first: u64, pages: u64) -> Result<(), RangeFault>
         requires some { 0 < pages }
         requires span { first + pages ≤ 2 ^ 35 }
-        ensures ok { OnOk result (Shows self.new.runs (without_span first pages (page_at self.old.runs))) }
-        ensures accepted { OnOk result (count_refusal T.eq self.old.max_ranges (without_span first pages (page_at self.old.runs)) ≡ None) }
-        ensures err { IfErr result (IsRefusal (count_refusal T.eq self.old.max_ranges (without_span first pages (page_at self.old.runs)))) }
+        ensures ok { OnOk result (Shows self.new.runs
+            (without_span first pages (page_at self.old.runs))) }
+        ensures accepted { OnOk result (count_refusal T.eq self.old.max_ranges
+            (without_span first pages (page_at self.old.runs)) ≡ None) }
+        ensures err { IfErr result (IsRefusal (count_refusal T.eq self.old.max_ranges
+            (without_span first pages (page_at self.old.runs)))) }
         ensures unchanged { OnErr result (self.new ≡ self.old) }
         ensures max_ranges { self.new.max_ranges ≡ self.old.max_ranges }
     {
@@ -233,8 +261,9 @@ impl<T: Exact> RangeMap<T> {
         self.edit_span(place, first, pages, &|_: &T| None)
     }
 
-    /// Gives each mapped page among the `pages` pages from `first` on the value that `f` makes of its own. Each keeps
-    /// its index, and pages that are not mapped are passed over. `f` answers equal values with equal values.
+    /// Gives each mapped page among the `pages` pages from `first` on the value that `f` makes of
+    /// its own. Each keeps its index, and pages that are not mapped are passed over. `f` answers
+    /// equal values with equal values.
     ///
     /// Refusals, in this order, after which the map is as it was:
     /// - `TooManyRanges`: there would be more than `max_ranges` ranges.
@@ -249,11 +278,15 @@ impl<T: Exact> RangeMap<T> {
         requires span { first + pages ≤ 2 ^ 35 }
         requires callable { F.IsAlwaysCallable f }
         requires function { (change : T → T) × Makes F.Fn f change }
-        ensures ok { (change : T → T) → Makes F.Fn f change → OnOk result (Shows self.new.runs (changed_span first pages change (page_at self.old.runs))) }
+        ensures ok { (change : T → T) → Makes F.Fn f change
+            → OnOk result (Shows self.new.runs
+            (changed_span first pages change (page_at self.old.runs))) }
         ensures accepted { (change : T → T) → Makes F.Fn f change
-            → OnOk result (count_refusal T.eq self.old.max_ranges (changed_span first pages change (page_at self.old.runs)) ≡ None) }
+            → OnOk result (count_refusal T.eq self.old.max_ranges
+            (changed_span first pages change (page_at self.old.runs)) ≡ None) }
         ensures err { (change : T → T) → Makes F.Fn f change
-            → IfErr result (IsRefusal (count_refusal T.eq self.old.max_ranges (changed_span first pages change (page_at self.old.runs)))) }
+            → IfErr result (IsRefusal (count_refusal T.eq self.old.max_ranges
+            (changed_span first pages change (page_at self.old.runs)))) }
         ensures unchanged { OnErr result (self.new ≡ self.old) }
         ensures max_ranges { self.new.max_ranges ≡ self.old.max_ranges }
     {
@@ -265,21 +298,23 @@ impl<T: Exact> RangeMap<T> {
         self.edit_span(place, first, pages, &edit)
     }
 
-    /// Gives each mapped page the value that `f` makes of its own. Each keeps its index, and neighbours that become
-    /// equal join. `f` answers equal values with equal values. It takes no memory and is never refused.
+    /// Gives each mapped page the value that `f` makes of its own. Each keeps its index, and
+    /// neighbours that become equal join. `f` answers equal values with equal values. It takes no
+    /// memory and is never refused.
     pub fn update_all<F: Fn(&T) -> T>(&mut self, f: F)
         requires callable { F.IsAlwaysCallable f }
         requires function { (change : T → T) × Makes F.Fn f change }
         ensures pages { (change : T → T) → Makes F.Fn f change
-            → (page : ℕ) → page_at self.new.runs page ≡ changed_page change (page_at self.old.runs page) }
+            → (page : ℕ) → page_at self.new.runs page
+            ≡ changed_page change (page_at self.old.runs page) }
         ensures max_ranges { self.new.max_ranges ≡ self.old.max_ranges }
     {
         change_values(&mut self.runs, f);
         join_in_place(&mut self.runs);
     }
 
-    /// Gives every mapped page of a span the value that `edit` makes of its own, or unmaps it, where so many runs start at
-    /// its first page or before it.
+    /// Gives every mapped page of a span the value that `edit` makes of its own, or unmaps it,
+    /// where so many runs start at its first page or before it.
     fn edit_span<F: Fn(&T) -> Option<T>>(
         &mut self,
         place: usize,
@@ -293,9 +328,11 @@ impl<T: Exact> RangeMap<T> {
         requires callable { F.IsAlwaysCallable edit.now }
         requires function { (change : T → Option T) × Makes F.Fn edit.now change }
         ensures ok { (change : T → Option T) → Makes F.Fn edit.now change
-            → OnOk result (Becomes T.eq self.old self.new (edited_span first pages change (page_at self.old.runs))) }
+            → OnOk result (Becomes T.eq self.old self.new
+            (edited_span first pages change (page_at self.old.runs))) }
         ensures err { (change : T → Option T) → Makes F.Fn edit.now change
-            → IfErr result (IsRefusal (count_refusal T.eq self.old.max_ranges (edited_span first pages change (page_at self.old.runs)))) }
+            → IfErr result (IsRefusal (count_refusal T.eq self.old.max_ranges
+            (edited_span first pages change (page_at self.old.runs)))) }
         ensures unchanged { OnErr result (self.new ≡ self.old) }
         ensures max_ranges { self.new.max_ranges ≡ self.old.max_ranges }
     {
@@ -307,14 +344,17 @@ impl<T: Exact> RangeMap<T> {
         Ok(())
     }
 
-    /// The places of the runs that an edit of a span can change or join, where so many start at its first page or before it.
+    /// The places of the runs that an edit of a span can change or join, where so many start at its
+    /// first page or before it.
     fn window(&self, place: usize, first: u64, end: u64) -> (usize, usize)
         requires rises { first ≤ end }
         requires within { place ≤ length self.now.runs }
         requires parts { StartsAround self.now.runs place first }
         ensures rises { result.0 ≤ result.1 }
         ensures within { result.1 ≤ length self.now.runs }
-        ensures whole { (change : T → Option T) → splice self.now.runs result.0 result.1 (joined T.eq (edited first end change (slice_range self.now.runs result.0 result.1)))
+        ensures whole { (change : T → Option T)
+            → splice self.now.runs result.0 result.1
+            (joined T.eq (edited first end change (slice_range self.now.runs result.0 result.1)))
             ≡ joined T.eq (edited first end change self.now.runs) }
     {
         let from = place.saturating_sub(2);
@@ -327,7 +367,8 @@ impl<T: Exact> RangeMap<T> {
 
     /// The run that holds a page, where it is mapped.
     fn run_at(&self, page: u64) -> Option<Run<T>>
-        ensures { MatchOption result (page_at self.now.runs page ≡ None) (λ run. HoldsPage self.now.runs run page) }
+        ensures { MatchOption result (page_at self.now.runs page ≡ None)
+            (λ run. HoldsPage self.now.runs run page) }
     {
         let count = self.starts_up_to(page);
         if count == 0 {

@@ -4,7 +4,8 @@ ghost use Rattle.numa_ranges.specs.Runs.{Continues, end_of};
 
 use crate::exact::Exact;
 
-/// Pages that follow each other, with indexes that run on by one, and one value. The items of a range map.
+/// Pages that follow each other, with indexes that run on by one, and one value. The items of a
+/// range map.
 #[derive(Clone, Copy, Debug, PartialEq, Eq)]
 pub struct Run<T> {
     /// The first page.

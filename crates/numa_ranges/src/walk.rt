@@ -8,7 +8,8 @@ use crate::exact::Exact;
 use crate::run::Run;
 use numa_rows::{Owned, Rows};
 
-/// Whether one of the pages of a span is not mapped, where so many runs start at its first page or before it.
+/// Whether one of the pages of a span is not mapped, where so many runs start at its first page or
+/// before it.
 pub(crate) fn lacks_page<T: Exact>(
     runs: &Rows<Run<T>, Owned<Run<T>>>,
     place: usize,
@@ -35,7 +36,8 @@ pub(crate) fn lacks_page<T: Exact>(
     page < end
 }
 
-/// How many runs start at a page or before it, where so many start at an earlier page or before that.
+/// How many runs start at a page or before it, where so many start at an earlier page or before
+/// that.
 pub(crate) fn starts_on<T: Exact>(
     runs: &Rows<Run<T>, Owned<Run<T>>>,
     place: usize,

@@ -1,5 +1,6 @@
 -- What an edit of a space's ranges answers.
-use Rattle.std.specs.Prelude.{◌≡◌, ℕ, ◌-◌, ◌&&◌, Bool, nat_lt, is_some, not, Option, Some, Result, Err, List, MatchOption, MatchResult}
+use Rattle.std.specs.Prelude.{◌≡◌, ℕ, ◌-◌, ◌&&◌, Bool, nat_lt, is_some, not, Option, Some, Result}
+use Rattle.std.specs.Prelude.{Err, List, MatchOption, MatchResult}
 use Rattle.numa_mode.specs.Policy.{PolicyRecord}
 use Rattle.numa_ranges.specs.Maps.{any_page}
 use Rattle.numa_ranges.specs.Runs.{page_at}
@@ -8,7 +9,8 @@ use Rattle.numa_ranges.specs.declared.run.Run.{Run}
 use Rattle.numa_ranges.specs.declared.fault.RangeFault.{RangeFault}
 use Rattle.numa_ranges.specs.declared.fault.RangeFault.TheVariants as fault
 use Rattle.numa_space.specs.declared.refusal.Refusal.{Refusal}
-use Rattle.numa_space.specs.declared.refusal.Refusal.TheVariants.{Overlap, Hole, TooManyRanges, NoMemory}
+use Rattle.numa_space.specs.declared.refusal.Refusal.TheVariants.{Overlap, Hole, TooManyRanges}
+use Rattle.numa_space.specs.declared.refusal.Refusal.TheVariants.{NoMemory}
 use Rattle.numa_space.specs.Refusals.{PageMap, when, takes_no_home}
 use Rattle.numa_space.specs.Same.{same_record}
 
@@ -33,13 +35,17 @@ overlap_cause pages first count = when (any_page (λ page. is_some (pages page))
 abbrev pub hole_cause : PageMap → ℕ → ℕ → Option Refusal
 hole_cause pages first count = when (any_page (λ page. not (is_some (pages page))) first count) Hole
 
--- the first cause, or the pages afterwards; want of memory where there is no cause; unchanged where it is refused
-abbrev pub IsEdit : Option Refusal → PageMap → PageRanges → Result (Unit {0}) Refusal → PageRanges → Type 0
+-- the first cause, or the pages afterwards; want of memory where there is no cause; unchanged where
+-- it is refused
+abbrev pub IsEdit : Option Refusal → PageMap → PageRanges → Result (Unit {0}) Refusal → PageRanges
+    → Type 0
 IsEdit cause after old result new =
     MatchOption cause
-    (MatchResult result (λ _. (page : ℕ) → page_at new.runs page ≡ after page) (λ refusal. (refusal ≡ NoMemory) × (new ≡ old)))
+    (MatchResult result (λ _. (page : ℕ) → page_at new.runs page ≡ after page)
+    (λ refusal. (refusal ≡ NoMemory) × (new ≡ old)))
     (λ first. (result ≡ Err first) × (new ≡ old))
 
 -- whether a run reaches into the pages from `first` up to `end`, and takes no home
 abbrev pub refuses : ℕ → ℕ → Run (Option PolicyRecord) → Bool
-refuses first end run = nat_lt run.first end && (nat_lt (first - run.first) run.pages && takes_no_home (Some (0, run.value)))
+refuses first end run = nat_lt run.first end &&
+    (nat_lt (first - run.first) run.pages && takes_no_home (Some (0, run.value)))

@@ -1,8 +1,15 @@
 -- The error number of each refusal (errno(3)).
 use Rattle.numa_space.specs.declared.refusal.Refusal.{Refusal}
-use Rattle.numa_space.specs.declared.refusal.Refusal.TheVariants.{CommandsSpent, Unaligned, OutOfSpace, EmptyLength, BadOffset, Overlap, Hole, NoSuchNode, BadWeight, NodesNotAllowed, NotSupported, TooManyTasks, TooManyRanges, NoMemory}
+use Rattle.numa_space.specs.declared.refusal.Refusal.TheVariants.{CommandsSpent, Unaligned}
+use Rattle.numa_space.specs.declared.refusal.Refusal.TheVariants.{OutOfSpace, EmptyLength}
+use Rattle.numa_space.specs.declared.refusal.Refusal.TheVariants.{BadOffset, Overlap, Hole}
+use Rattle.numa_space.specs.declared.refusal.Refusal.TheVariants.{NoSuchNode, BadWeight}
+use Rattle.numa_space.specs.declared.refusal.Refusal.TheVariants.{NodesNotAllowed, NotSupported}
+use Rattle.numa_space.specs.declared.refusal.Refusal.TheVariants.{TooManyTasks, TooManyRanges}
+use Rattle.numa_space.specs.declared.refusal.Refusal.TheVariants.{NoMemory}
 use Rattle.numa_space.specs.declared.refusal.Errno.{Errno}
-use Rattle.numa_space.specs.declared.refusal.Errno.TheVariants.{EInval, ENoMem, EExist, EFault, ENoSpc, EOpNotSupp}
+use Rattle.numa_space.specs.declared.refusal.Errno.TheVariants.{EInval, ENoMem, EExist, EFault}
+use Rattle.numa_space.specs.declared.refusal.Errno.TheVariants.{ENoSpc, EOpNotSupp}
 
 abbrev pub errno_of : Refusal → Errno
 errno_of CommandsSpent = ENoSpc

@@ -1,4 +1,5 @@
--- A history is the list of the accepted commands, the newest first: `command ∷ history` is the history with the command added.
+-- A history is the list of the accepted commands, the newest first: `command ∷ history` is the
+-- history with the command added.
 use Rattle.std.specs.Prelude.{ℕ, ◌+◌, ◌/◌, Bool, Option, Some, None, List, [], ◌∷◌, if◌then◌else◌}
 use Rattle.std.specs.Option.{option_map}
 use Rattle.numa_ranges.specs.Runs.{in_pages}
@@ -34,4 +35,5 @@ one_later command place = record place { after = command ∷ place.after }
 abbrev pub last_where : (Command → Bool) → List Command → Option Place
 last_where test [] = None
 last_where test (command ∷ history) =
-    if test command then Some (record { before = history; command = command; after = [] }) else option_map (one_later command) (last_where test history)
+    if test command then Some (record { before = history; command = command; after = [] })
+    else option_map (one_later command) (last_where test history)

@@ -1,11 +1,15 @@
--- The node list of a page: on which nodes its memory is looked for, in which order (set_mempolicy(2), "NUMA Memory Policy").
-use Rattle.std.specs.Prelude.{ℕ, ◌&&◌, not, Option, Some, None, List, ◌++◌, filter, slice_index, unwrap_or}
+-- The node list of a page: on which nodes its memory is looked for, in which order
+-- (set_mempolicy(2), "NUMA Memory Policy").
+use Rattle.std.specs.Prelude.{ℕ, ◌&&◌, not, Option, Some, None, List, ◌++◌, filter, slice_index}
+use Rattle.std.specs.Prelude.{unwrap_or}
 use Rattle.numa_mask.specs.NodeSet.{has, members}
 use Rattle.numa_machine.specs.Machine.{Hardware, distance_order}
 use Rattle.numa_machine.specs.Weights.{interleave_node, weighted_node}
 use Rattle.numa_mode.specs.Policy.{PolicyRecord}
 use Rattle.numa_mode.specs.declared.modes.Mode.{Mode}
-use Rattle.numa_mode.specs.declared.modes.Mode.TheVariants.{Default, Preferred, Bind, Interleave, Local, PreferredMany, WeightedInterleave}
+use Rattle.numa_mode.specs.declared.modes.Mode.TheVariants.{Default, Preferred, Bind, Interleave}
+use Rattle.numa_mode.specs.declared.modes.Mode.TheVariants.{Local, PreferredMany}
+use Rattle.numa_mode.specs.declared.modes.Mode.TheVariants.{WeightedInterleave}
 use Rattle.numa_space.specs.declared.command.Command.{Command}
 use Rattle.numa_space.specs.Policies.{allowed_nodes, node_weight}
 use Rattle.numa_space.specs.Pages.{index_of, resolved_policy}
@@ -24,25 +28,36 @@ within set nodes = filter (has set) nodes
 abbrev pub near : Setting → ℕ → List ℕ
 near setting node = within setting.allowed (distance_order setting.machine node)
 
--- the list of a policy with this effective set, for a fault on the node `from`, at a page of this index
+-- the list of a policy with this effective set, for a fault on the node `from`, at a page of this
+-- index
 abbrev pub list_by_mode : Setting → Mode → ℕ → ℕ → ℕ → List ℕ
 list_by_mode setting Default set from index = near setting from
 list_by_mode setting Local set from index = near setting from
 list_by_mode setting Preferred set from index = near setting (slice_index (members set) 0)
 list_by_mode setting Bind set from index = within set (distance_order setting.machine from)
 list_by_mode setting PreferredMany set from index =
-    within set (distance_order setting.machine from) ++ filter (λ node. has setting.allowed node && not (has set node)) (distance_order setting.machine from)
+    within set (distance_order setting.machine from)
+    ++ filter (λ node. has setting.allowed node && not (has set node))
+    (distance_order setting.machine from)
 list_by_mode setting Interleave set from index = near setting (interleave_node set index)
-list_by_mode setting WeightedInterleave set from index = near setting (weighted_node setting.weight set index)
+list_by_mode setting WeightedInterleave set from index =
+    near setting (weighted_node setting.weight set index)
 
--- the list of a policy: its home, where it has one, stands in for the faulting node; without a policy it is local
+-- the list of a policy: its home, where it has one, stands in for the faulting node; without a
+-- policy it is local
 abbrev pub list_for : Setting → Option PolicyRecord → ℕ → ℕ → List ℕ
 list_for setting None cpu index = near setting cpu
-list_for setting (Some r) cpu index = list_by_mode setting r.spec.mode r.effective (unwrap_or r.home cpu) index
+list_for setting (Some r) cpu index = list_by_mode setting r.spec.mode r.effective
+    (unwrap_or r.home cpu) index
 
 abbrev pub setting_of : Hardware → List Command → Setting
-setting_of machine history = record { machine = machine; allowed = allowed_nodes machine history; weight = node_weight history }
+setting_of machine history = record {
+  machine = machine;
+  allowed = allowed_nodes machine history;
+  weight = node_weight history;
+}
 
 -- the node list of a task, a page and a faulting node
 abbrev pub node_list : Hardware → List Command → ℕ → ℕ → ℕ → List ℕ
-node_list machine history task page cpu = list_for (setting_of machine history) (resolved_policy machine history task page) cpu (index_of history page)
+node_list machine history task page cpu = list_for (setting_of machine history)
+    (resolved_policy machine history task page) cpu (index_of history page)

@@ -1,5 +1,7 @@
--- Which pages are mapped, with which index, and which policy their range has (mbind(2), set_mempolicy_home_node(2)).
-use Rattle.std.specs.Prelude.{ℕ, ◌+◌, ◌-◌, Bool, true, false, not, Option, Some, None, List, [], ◌∷◌, option_and_then, if◌then◌else◌}
+-- Which pages are mapped, with which index, and which policy their range has (mbind(2),
+-- set_mempolicy_home_node(2)).
+use Rattle.std.specs.Prelude.{ℕ, ◌+◌, ◌-◌, Bool, true, false, not, Option, Some, None, List, []}
+use Rattle.std.specs.Prelude.{◌∷◌, option_and_then, if◌then◌else◌}
 use Rattle.std.specs.Option.{option_map, option_map_or}
 use Rattle.numa_machine.specs.Machine.{Hardware}
 use Rattle.numa_mode.specs.Policy.{PolicyRecord, takes_home}
@@ -26,7 +28,8 @@ is_unmap _ = false
 
 -- a page is mapped where it has a cover that doesn't unmap it
 abbrev pub is_mapped : List Command → ℕ → Bool
-is_mapped history page = option_map_or (λ place. not (is_unmap place.command)) (cover_of history page) false
+is_mapped history page = option_map_or (λ place. not (is_unmap place.command))
+    (cover_of history page) false
 
 -- ---- its index
 
@@ -40,14 +43,16 @@ index_by page _ = 0
 
 -- the offset of the last command that maps the page, and the page's place in its span
 abbrev pub index_of : List Command → ℕ → ℕ
-index_of history page = option_map_or (λ place. index_by page place.command) (last_where (maps page) history) 0
+index_of history page = option_map_or (λ place. index_by page place.command)
+    (last_where (maps page) history) 0
 
 -- ---- the record of its range
 
 -- the home that the newest of these commands gives the page, if any does
 abbrev pub last_home : ℕ → List Command → Option ℕ
 last_home page [] = None
-last_home page (SetHome start bytes node ∷ later) = if in_span start bytes page then Some node else last_home page later
+last_home page (SetHome start bytes node ∷ later) =
+    if in_span start bytes page then Some node else last_home page later
 last_home page (_ ∷ later) = last_home page later
 
 -- the record with the home of the last command of these, for the modes that have one
@@ -55,19 +60,23 @@ abbrev pub at_home : ℕ → List Command → PolicyRecord → PolicyRecord
 at_home page later r = if takes_home r then record r { home = last_home page later } else r
 
 abbrev pub bound_by : Hardware → ℕ → Command → Place → Option PolicyRecord
-bound_by machine page (Mbind start bytes spec) place = option_map (at_home page place.after) (record_set machine spec place)
+bound_by machine page (Mbind start bytes spec) place =
+    option_map (at_home page place.after) (record_set machine spec place)
 bound_by machine page _ place = None
 
 -- the record that the cover of the page set, where that is an Mbind other than DEFAULT
 abbrev pub range_record : Hardware → List Command → ℕ → Option PolicyRecord
-range_record machine history page = option_and_then (λ place. bound_by machine page place.command place) (cover_of history page)
+range_record machine history page = option_and_then
+    (λ place. bound_by machine page place.command place) (cover_of history page)
 
 -- the index and the range's record of each mapped page
 abbrev pub page_in : Hardware → List Command → ℕ → Option (ℕ × Option PolicyRecord)
-page_in machine history page = if is_mapped history page then Some (index_of history page, range_record machine history page) else None
+page_in machine history page = if is_mapped history page
+    then Some (index_of history page, range_record machine history page) else None
 
 -- ---- the policy that counts
 
 -- the live policy of a page for a task; none is local allocation
 abbrev pub resolved_policy : Hardware → List Command → ℕ → ℕ → Option PolicyRecord
-resolved_policy machine history task page = resolved (range_record machine history page) (task_record machine history task)
+resolved_policy machine history task page = resolved (range_record machine history page)
+    (task_record machine history task)

@@ -1,8 +1,11 @@
--- Which nodes are allowed, and which set each policy has now ("NUMA Memory Policy", memory policies and cpusets).
-use Rattle.std.specs.Prelude.{ℕ, ◌==◌, Bool, false, Option, Some, None, List, [], ◌∷◌, ◌++◌, filter, not, option_and_then, if◌then◌else◌}
+-- Which nodes are allowed, and which set each policy has now ("NUMA Memory Policy", memory policies
+-- and cpusets).
+use Rattle.std.specs.Prelude.{ℕ, ◌==◌, Bool, false, Option, Some, None, List, [], ◌∷◌, ◌++◌, filter}
+use Rattle.std.specs.Prelude.{not, option_and_then, if◌then◌else◌}
 use Rattle.numa_mask.specs.NodeSet.{both, remap_set}
 use Rattle.numa_machine.specs.Machine.{Hardware}
-use Rattle.numa_mode.specs.Policy.{Specification, PolicyRecord, is_default, effect_when_set, is_live}
+use Rattle.numa_mode.specs.Policy.{Specification, PolicyRecord, is_default, effect_when_set}
+use Rattle.numa_mode.specs.Policy.{is_live}
 use Rattle.numa_mode.specs.declared.modes.NodeFlag.{NodeFlag}
 use Rattle.numa_mode.specs.declared.modes.NodeFlag.TheVariants.{Plain, Static, Relative}
 use Rattle.numa_space.specs.declared.command.Command.{Command}
@@ -11,7 +14,8 @@ use Rattle.numa_space.specs.History.{Place, last_where}
 
 -- ---- the allowed nodes
 
--- the nodes of the last change of the allowed nodes that have memory; before any, all nodes with memory
+-- the nodes of the last change of the allowed nodes that have memory; before any, all nodes with
+-- memory
 abbrev pub allowed_nodes : Hardware → List Command → ℕ
 allowed_nodes machine [] = machine.memory
 allowed_nodes machine (SetMems mask ∷ history) = both mask machine.memory
@@ -19,26 +23,35 @@ allowed_nodes machine (_ ∷ history) = allowed_nodes machine history
 
 -- ---- the effective set of a policy
 
--- a set that stood right after the commands `before`, moved by each later change of the allowed nodes in turn
+-- a set that stood right after the commands `before`, moved by each later change of the allowed
+-- nodes in turn
 abbrev pub followed : Hardware → List Command → List Command → ℕ → ℕ
 followed machine before [] set = set
-followed machine before (SetMems mask ∷ later) set = remap_set (followed machine before later set) (allowed_nodes machine (later ++ before)) (allowed_nodes machine (SetMems mask ∷ later ++ before))
+followed machine before (SetMems mask ∷ later) set =
+    remap_set (followed machine before later set) (allowed_nodes machine (later ++ before))
+    (allowed_nodes machine (SetMems mask ∷ later ++ before))
 followed machine before (_ ∷ later) set = followed machine before later set
 
--- the effective set of a policy that was set right after the commands `before`, once the commands `later` came too:
--- with a flag it is worked out from the user's mask and the nodes that are allowed now; without one it is worked out once, and follows
+-- the effective set of a policy that was set right after the commands `before`, once the commands
+-- `later` came too: with a flag it is worked out from the user's mask and the nodes that are
+-- allowed now; without one it is worked out once, and follows
 abbrev pub effective_set : Hardware → List Command → List Command → Specification → ℕ
 effective_set machine before later spec = by_flag spec.flag
   where
     by_flag : NodeFlag → ℕ
     by_flag Static = effect_when_set spec (allowed_nodes machine (later ++ before))
     by_flag Relative = effect_when_set spec (allowed_nodes machine (later ++ before))
-    by_flag Plain = followed machine before later (effect_when_set spec (allowed_nodes machine before))
+    by_flag Plain = followed machine before later
+        (effect_when_set spec (allowed_nodes machine before))
 
 -- the record that a command at a place set, where its specification isn't DEFAULT; it has no home
 abbrev pub record_set : Hardware → Specification → Place → Option PolicyRecord
 record_set machine spec place =
-    if is_default spec then None else Some (record { spec = spec; effective = effective_set machine place.before place.after spec; home = None })
+    if is_default spec then None else Some (record {
+      spec = spec;
+      effective = effective_set machine place.before place.after spec;
+      home = None;
+    })
 
 -- ---- tasks
 
@@ -52,13 +65,15 @@ set_by_task machine _ place = None
 
 -- the record of a task: that of its last command, none where that is DEFAULT or missing
 abbrev pub task_record : Hardware → List Command → ℕ → Option PolicyRecord
-task_record machine history task = option_and_then (λ place. set_by_task machine place.command place) (last_where (sets_task task) history)
+task_record machine history task = option_and_then
+    (λ place. set_by_task machine place.command place) (last_where (sets_task task) history)
 
 -- the tasks that have a record, each once
 abbrev pub tasks_of : List Command → List ℕ
 tasks_of [] = []
 tasks_of (SetTask task spec ∷ history) =
-    (if is_default spec then [] else task ∷ []) ++ filter (λ other. not (other == task)) (tasks_of history)
+    (if is_default spec then [] else task ∷ [])
+    ++ filter (λ other. not (other == task)) (tasks_of history)
 tasks_of (_ ∷ history) = tasks_of history
 
 -- ---- weights
@@ -66,7 +81,8 @@ tasks_of (_ ∷ history) = tasks_of history
 -- the weight of a node: that of its last command, else 1 (sysfs, "weighted_interleave")
 abbrev pub node_weight : List Command → ℕ → ℕ
 node_weight [] node = 1
-node_weight (SetWeight n weight ∷ history) node = if n == node then weight else node_weight history node
+node_weight (SetWeight n weight ∷ history) node =
+    if n == node then weight else node_weight history node
 node_weight (_ ∷ history) node = node_weight history node
 
 -- ---- which of two policies counts
@@ -76,7 +92,8 @@ abbrev pub where_live : Option PolicyRecord → Option PolicyRecord
 where_live None = None
 where_live (Some r) = if is_live r then Some r else None
 
--- the range's policy where there is one and it is live, else the task's where there is one and it is live, else none
+-- the range's policy where there is one and it is live, else the task's where there is one and it
+-- is live, else none
 abbrev pub resolved : Option PolicyRecord → Option PolicyRecord → Option PolicyRecord
 resolved range task = first_of (where_live range)
   where

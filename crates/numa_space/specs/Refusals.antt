@@ -1,16 +1,25 @@
 -- The first cause that refuses a command, and the commands that are accepted.
-use Rattle.std.specs.Prelude.{ℕ, ◌+◌, ◌*◌, ◌%◌, ◌^◌, ◌&&◌, ◌||◌, not, ◌==◌, nat_lt, nat_le, Bool, true, false, Option, Some, None, is_some, List, ◌∷◌, length, if◌then◌else◌}
+use Rattle.std.specs.Prelude.{ℕ, ◌+◌, ◌*◌, ◌%◌, ◌^◌, ◌&&◌, ◌||◌, not, ◌==◌, nat_lt, nat_le, Bool}
+use Rattle.std.specs.Prelude.{true, false, Option, Some, None, is_some, List, ◌∷◌, length}
+use Rattle.std.specs.Prelude.{if◌then◌else◌}
 use Rattle.std.specs.List.{list_any}
 use Rattle.numa_mask.specs.NodeSet.{both, members}
 use Rattle.numa_machine.specs.Machine.{Hardware}
-use Rattle.numa_mode.specs.Policy.{Specification, PolicyRecord, is_default, is_local, effect_when_set, takes_home}
+use Rattle.numa_mode.specs.Policy.{Specification, PolicyRecord, is_default, is_local}
+use Rattle.numa_mode.specs.Policy.{effect_when_set, takes_home}
 use Rattle.numa_ranges.specs.Counts.{range_count}
 use Rattle.numa_ranges.specs.Maps.{any_page}
 use Rattle.numa_space.specs.Limited.{Bounds}
 use Rattle.numa_space.specs.declared.command.Command.{Command}
-use Rattle.numa_space.specs.declared.command.Command.TheVariants.{Map, Unmap, Mbind, SetTask, SetHome, SetWeight, SetMems}
+use Rattle.numa_space.specs.declared.command.Command.TheVariants.{Map, Unmap, Mbind, SetTask}
+use Rattle.numa_space.specs.declared.command.Command.TheVariants.{SetHome, SetWeight, SetMems}
 use Rattle.numa_space.specs.declared.refusal.Refusal.{Refusal}
-use Rattle.numa_space.specs.declared.refusal.Refusal.TheVariants.{CommandsSpent, Unaligned, OutOfSpace, EmptyLength, BadOffset, Overlap, Hole, NoSuchNode, BadWeight, NodesNotAllowed, NotSupported, TooManyTasks, TooManyRanges}
+use Rattle.numa_space.specs.declared.refusal.Refusal.TheVariants.{CommandsSpent, Unaligned}
+use Rattle.numa_space.specs.declared.refusal.Refusal.TheVariants.{OutOfSpace, EmptyLength}
+use Rattle.numa_space.specs.declared.refusal.Refusal.TheVariants.{BadOffset, Overlap, Hole}
+use Rattle.numa_space.specs.declared.refusal.Refusal.TheVariants.{NoSuchNode, BadWeight}
+use Rattle.numa_space.specs.declared.refusal.Refusal.TheVariants.{NodesNotAllowed, NotSupported}
+use Rattle.numa_space.specs.declared.refusal.Refusal.TheVariants.{TooManyTasks, TooManyRanges}
 use Rattle.numa_space.specs.History.{page_of, page_count}
 use Rattle.numa_space.specs.Policies.{allowed_nodes, task_record, tasks_of}
 use Rattle.numa_space.specs.Pages.{page_in}
@@ -45,14 +54,17 @@ when false cause = None
 
 -- a span begins at a page, and ends at address 2^47 at the latest
 abbrev pub bad_span : ℕ → ℕ → Option Refusal
-bad_span start bytes = first_of (when (not (start % 4096 == 0)) Unaligned) (when (nat_lt (2 ^ 47) (start + page_count bytes * 4096)) OutOfSpace)
+bad_span start bytes = first_of (when (not (start % 4096 == 0)) Unaligned)
+    (when (nat_lt (2 ^ 47) (start + page_count bytes * 4096)) OutOfSpace)
 
 -- a policy other than DEFAULT and LOCAL that has no node when it is set
 abbrev pub has_no_node : ℕ → Specification → Bool
-has_no_node allowed spec = not (is_default spec) && (not (is_local spec) && (effect_when_set spec allowed == 0))
+has_no_node allowed spec = not (is_default spec)
+    && (not (is_local spec) && (effect_when_set spec allowed == 0))
 
 abbrev pub too_many_ranges : Scene → Option Refusal
-too_many_ranges scene = when (nat_lt scene.bounds.max_ranges (range_count same_record scene.pages_after)) TooManyRanges
+too_many_ranges scene = when (nat_lt scene.bounds.max_ranges
+    (range_count same_record scene.pages_after)) TooManyRanges
 
 -- whether a home can't be given to the page: its range has a record of another mode
 abbrev pub takes_no_home : Option (ℕ × Option PolicyRecord) → Bool
@@ -67,24 +79,28 @@ cause_in scene (Map start bytes offset) =
     first_of (bad_span start bytes)
     (first_of (when (bytes == 0) EmptyLength)
     (first_of (when (nat_le (2 ^ 35) offset) BadOffset)
-    (first_of (when (any_page (λ page. is_some (scene.pages page)) (page_of start) (page_count bytes)) Overlap)
+    (first_of (when (any_page (λ page. is_some (scene.pages page)) (page_of start)
+    (page_count bytes)) Overlap)
     (too_many_ranges scene))))
 cause_in scene (Unmap start bytes) =
     first_of (bad_span start bytes) (if bytes == 0 then None else too_many_ranges scene)
 cause_in scene (Mbind start bytes spec) =
     first_of (bad_span start bytes)
     (if bytes == 0 then None
-    else first_of (when (any_page (λ page. not (is_some (scene.pages page))) (page_of start) (page_count bytes)) Hole)
+    else first_of (when (any_page (λ page. not (is_some (scene.pages page))) (page_of start)
+    (page_count bytes)) Hole)
     (first_of (when (has_no_node scene.allowed spec) NodesNotAllowed)
     (too_many_ranges scene)))
 cause_in scene (SetTask task spec) =
     first_of (when (has_no_node scene.allowed spec) NodesNotAllowed)
-    (when (not (is_default spec) && (not (is_some (scene.task task)) && nat_le scene.bounds.max_tasks scene.task_count)) TooManyTasks)
+    (when (not (is_default spec) && (not (is_some (scene.task task))
+    && nat_le scene.bounds.max_tasks scene.task_count)) TooManyTasks)
 cause_in scene (SetHome start bytes node) =
     first_of (bad_span start bytes)
     (first_of (when (nat_le scene.machine.nodes node) NoSuchNode)
     (if bytes == 0 then None
-    else first_of (when (any_page (λ page. takes_no_home (scene.pages page)) (page_of start) (page_count bytes)) NotSupported)
+    else first_of (when (any_page (λ page. takes_no_home (scene.pages page)) (page_of start)
+    (page_count bytes)) NotSupported)
     (too_many_ranges scene)))
 cause_in scene (SetWeight node weight) =
     first_of (when (nat_le scene.machine.nodes node) NoSuchNode)
@@ -95,7 +111,8 @@ cause_in scene (SetMems mask) =
 
 -- the first cause, that of the number of commands before all others
 abbrev pub refusal_in : Scene → Command → Option Refusal
-refusal_in scene command = first_of (when (nat_le scene.bounds.max_commands scene.version) CommandsSpent) (cause_in scene command)
+refusal_in scene command = first_of (when (nat_le scene.bounds.max_commands scene.version)
+    CommandsSpent) (cause_in scene command)
 
 -- ---- over a history
 
@@ -113,8 +130,10 @@ scene_of machine bounds history command = record {
 
 -- the first cause that refuses the command after this history, want of memory apart
 abbrev pub refusal_of : Hardware → Bounds → List Command → Command → Option Refusal
-refusal_of machine bounds history command = refusal_in (scene_of machine bounds history command) command
+refusal_of machine bounds history command = refusal_in
+    (scene_of machine bounds history command) command
 
--- how many ranges there are: mapped pages whose predecessor isn't mapped, or has another record, or an index that isn't one less
+-- how many ranges there are: mapped pages whose predecessor isn't mapped, or has another record, or
+-- an index that isn't one less
 abbrev pub range_count_of : Hardware → List Command → ℕ
 range_count_of machine history = range_count same_record (page_in machine history)

@@ -1,16 +1,20 @@
 -- The node lists in words: which nodes each has, and in which order.
-use Rattle.std.specs.Prelude.{◌≡◌, ◌≢◌, ◌≤◌, ◌↔◌, ℕ, ◌&&◌, not, Bool, true, IsTrue, List, ◌++◌, AllPairs, Contains}
+use Rattle.std.specs.Prelude.{◌≡◌, ◌≢◌, ◌≤◌, ◌↔◌, ℕ, ◌&&◌, not, Bool, true, IsTrue, List, ◌++◌}
+use Rattle.std.specs.Prelude.{AllPairs, Contains}
 use Rattle.numa_mask.specs.NodeSet.{has, members}
 use Rattle.numa_machine.specs.Machine.{Hardware, nearer}
 use Rattle.numa_machine.specs.Weights.{IsInterleaveNode, IsWeightedNode}
 use Rattle.numa_mode.specs.declared.modes.Mode.{Mode}
-use Rattle.numa_mode.specs.declared.modes.Mode.TheVariants.{Default, Preferred, Bind, Interleave, Local, PreferredMany, WeightedInterleave}
+use Rattle.numa_mode.specs.declared.modes.Mode.TheVariants.{Default, Preferred, Bind, Interleave}
+use Rattle.numa_mode.specs.declared.modes.Mode.TheVariants.{Local, PreferredMany}
+use Rattle.numa_mode.specs.declared.modes.Mode.TheVariants.{WeightedInterleave}
 use Rattle.numa_space.specs.Lists.{Setting}
 
--- the list has exactly the nodes with memory that pass the test, each once, and of each two the earlier is nearer to `from`, or as near
--- and lower
+-- the list has exactly the nodes with memory that pass the test, each once, and of each two the
+-- earlier is nearer to `from`, or as near and lower
 pub record IsRow (machine : Hardware) (from : ℕ) (test : ℕ → Bool) (row : List ℕ) : Type 0 where
-  pub nodes : (node : ℕ) → Contains row node ↔ (Contains (members machine.memory) node × (test node ≡ true))
+  pub nodes : (node : ℕ) → Contains row node ↔
+      (Contains (members machine.memory) node × (test node ≡ true))
   pub without_repeats : AllPairs (λ earlier later. earlier ≢ later) row
   pub nearest_first : AllPairs (λ earlier later. IsTrue (nearer machine from earlier later)) row
 
@@ -29,7 +33,8 @@ pub record IsRowAndOthers (setting : Setting) (set from : ℕ) (row : List ℕ) 
   pub others : List ℕ
   pub both : row ≡ first ++ others
   pub is_first : IsRow setting.machine from (has set) first
-  pub is_others : IsRow setting.machine from (λ node. has setting.allowed node && not (has set node)) others
+  pub is_others : IsRow setting.machine from (λ node. has setting.allowed node
+      && not (has set node)) others
 
 -- the row of the allowed nodes around a node of which the fact holds
 pub record IsRowAround (setting : Setting) (P : ℕ → Type 0) (row : List ℕ) : Type 0 where
@@ -37,12 +42,15 @@ pub record IsRowAround (setting : Setting) (P : ℕ → Type 0) (row : List ℕ)
   pub chosen : P node
   pub is_row : IsNearRow setting node row
 
--- the list of a mode with this effective set, for a fault on the node `from`, at a page of this index
+-- the list of a mode with this effective set, for a fault on the node `from`, at a page of this
+-- index
 abbrev pub IsModeRow : Setting → Mode → ℕ → ℕ → ℕ → List ℕ → Type 0
 IsModeRow setting Default set from index row = IsNearRow setting from row
 IsModeRow setting Local set from index row = IsNearRow setting from row
 IsModeRow setting Preferred set from index row = IsRowAround setting (IsLowest set) row
 IsModeRow setting Bind set from index row = IsRow setting.machine from (has set) row
 IsModeRow setting PreferredMany set from index row = IsRowAndOthers setting set from row
-IsModeRow setting Interleave set from index row = IsRowAround setting (IsInterleaveNode set index) row
-IsModeRow setting WeightedInterleave set from index row = IsRowAround setting (IsWeightedNode setting.weight set index) row
+IsModeRow setting Interleave set from index row =
+    IsRowAround setting (IsInterleaveNode set index) row
+IsModeRow setting WeightedInterleave set from index row =
+    IsRowAround setting (IsWeightedNode setting.weight set index) row

@@ -1,8 +1,11 @@
--- Whether two records are one: in specification (mode, flag and the user's mask), effective set and home.
+-- Whether two records are one: in specification (mode, flag and the user's mask), effective set and
+-- home.
 use Rattle.std.specs.Prelude.{ℕ, ◌&&◌, ◌==◌, Bool, true, false, Option, Some, None}
 use Rattle.numa_mode.specs.Policy.{PolicyRecord, Specification}
 use Rattle.numa_mode.specs.declared.modes.Mode.{Mode}
-use Rattle.numa_mode.specs.declared.modes.Mode.TheVariants.{Default, Preferred, Bind, Interleave, Local, PreferredMany, WeightedInterleave}
+use Rattle.numa_mode.specs.declared.modes.Mode.TheVariants.{Default, Preferred, Bind, Interleave}
+use Rattle.numa_mode.specs.declared.modes.Mode.TheVariants.{Local, PreferredMany}
+use Rattle.numa_mode.specs.declared.modes.Mode.TheVariants.{WeightedInterleave}
 use Rattle.numa_mode.specs.declared.modes.NodeFlag.{NodeFlag}
 use Rattle.numa_mode.specs.declared.modes.NodeFlag.TheVariants.{Plain, Static, Relative}
 
@@ -28,9 +31,11 @@ same_home (Some a) (Some b) = a == b
 same_home _ _ = false
 
 abbrev pub same_specification : Specification → Specification → Bool
-same_specification a b = (mode_number a.mode == mode_number b.mode) && (same_flag a.flag b.flag && (a.mask == b.mask))
+same_specification a b = (mode_number a.mode == mode_number b.mode)
+    && (same_flag a.flag b.flag && (a.mask == b.mask))
 
 abbrev pub same_record : Option PolicyRecord → Option PolicyRecord → Bool
 same_record None None = true
-same_record (Some a) (Some b) = same_specification a.spec b.spec && ((a.effective == b.effective) && same_home a.home b.home)
+same_record (Some a) (Some b) = same_specification a.spec b.spec
+    && ((a.effective == b.effective) && same_home a.home b.home)
 same_record _ _ = false

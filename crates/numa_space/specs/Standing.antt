@@ -1,5 +1,7 @@
 -- What a space shows, and which histories it stands for.
-use Rattle.std.specs.Prelude.{◌≡◌, ◌≢◌, ◌≤◌, ◌<◌, ℕ, Bool, true, nat_eq, nat_le, is_some, Option, Some, None, List, [], ◌∷◌, length, AllPairs, All, if◌then◌else◌, option_and_then}
+use Rattle.std.specs.Prelude.{◌≡◌, ◌≢◌, ◌≤◌, ◌<◌, ℕ, Bool, true, nat_eq, nat_le, is_some, Option}
+use Rattle.std.specs.Prelude.{Some, None, List, [], ◌∷◌, length, AllPairs, All, if◌then◌else◌}
+use Rattle.std.specs.Prelude.{option_and_then}
 use Rattle.std.specs.Option.{ForSome, option_map_or}
 use Rattle.std.specs.Map.{lookup}
 use Rattle.numa_mask.specs.NodeSet.{has, both}
@@ -17,8 +19,8 @@ use Rattle.numa_space.specs.Pages.{page_in, is_mapped}
 use Rattle.numa_space.specs.Lists.{Setting, list_for}
 use Rattle.numa_space.specs.Refusals.{refusal_of}
 
--- a space: its machine and limits, the number of accepted commands, the allowed nodes, the ranges in rising order, the tasks that have
--- a policy, and the nodes' weights
+-- a space: its machine and limits, the number of accepted commands, the allowed nodes, the ranges
+-- in rising order, the tasks that have a policy, and the nodes' weights
 pub record SpaceState : Type 0 where
   pub machine : Hardware
   pub bounds : Bounds
@@ -56,22 +58,30 @@ pub record HasHistory (space : SpaceState) : Type 0 where
 -- ---- what a space answers
 
 abbrev pub setting_in : SpaceState → Setting
-setting_in space = record { machine = space.machine; allowed = space.allowed; weight = weight_at space.weights }
+setting_in space = record {
+  machine = space.machine;
+  allowed = space.allowed;
+  weight = weight_at space.weights;
+}
 
 -- the live policy of a page for a task
 abbrev pub policy_in : SpaceState → ℕ → ℕ → Option PolicyRecord
-policy_in space task page = resolved (option_and_then (λ at. at.1) (page_at space.ranges page)) (record_of space.tasks task)
+policy_in space task page = resolved (option_and_then (λ at. at.1) (page_at space.ranges page))
+    (record_of space.tasks task)
 
 -- the node list of a page
 abbrev pub list_in : SpaceState → ℕ → ℕ → ℕ → List ℕ
-list_in space task page cpu = list_for (setting_in space) (policy_in space task page) cpu (option_map_or (λ at. at.0) (page_at space.ranges page) 0)
+list_in space task page cpu = list_for (setting_in space) (policy_in space task page) cpu
+    (option_map_or (λ at. at.0) (page_at space.ranges page) 0)
 
 -- the first cause that refuses a question about a page, where these pages are mapped
 abbrev pub place_refusal_in : ℕ → Bool → ℕ → Option PlaceRefusal
-place_refusal_in nodes mapped cpu = if nat_le nodes cpu then Some BadCpu else if mapped then None else Some Unmapped
+place_refusal_in nodes mapped cpu = if nat_le nodes cpu then Some BadCpu else if mapped then None
+    else Some Unmapped
 
 abbrev pub place_refusal_of : Hardware → List Command → ℕ → ℕ → Option PlaceRefusal
-place_refusal_of machine history page cpu = place_refusal_in machine.nodes (is_mapped history page) cpu
+place_refusal_of machine history page cpu = place_refusal_in machine.nodes
+    (is_mapped history page) cpu
 
 -- a list in which memory is looked for: it has a node, each once, and only allowed ones
 pub record IsNodeList (allowed : ℕ) (nodes : List ℕ) : Type 0 where
@@ -81,7 +91,8 @@ pub record IsNodeList (allowed : ℕ) (nodes : List ℕ) : Type 0 where
 
 -- ---- what holds of every space
 
--- a policy that is in force where these nodes are allowed: its set is inside them, and its home is a node of the machine
+-- a policy that is in force where these nodes are allowed: its set is inside them, and its home is
+-- a node of the machine
 pub record IsInForce (machine : Hardware) (allowed : ℕ) (r : PolicyRecord) : Type 0 where
   pub inside : both r.effective allowed ≡ r.effective
   pub home : ForSome r.home (λ node. node < machine.nodes)
@@ -89,8 +100,10 @@ pub record IsInForce (machine : Hardware) (allowed : ℕ) (r : PolicyRecord) : T
 pub record IsSound (space : SpaceState) : Type 0 where
   pub allowed_some : space.allowed ≢ 0
   pub allowed_memory : both space.allowed space.machine.memory ≡ space.allowed
-  pub pages : (page : ℕ) → ForSome (page_at space.ranges page) (λ at. ForSome at.1 (IsInForce space.machine space.allowed))
-  pub tasks : (task : ℕ) → ForSome (record_of space.tasks task) (IsInForce space.machine space.allowed)
+  pub pages : (page : ℕ) → ForSome (page_at space.ranges page)
+      (λ at. ForSome at.1 (IsInForce space.machine space.allowed))
+  pub tasks : (task : ℕ) → ForSome (record_of space.tasks task)
+      (IsInForce space.machine space.allowed)
   pub task_limit : length space.tasks ≤ space.bounds.max_tasks
   pub version_limit : space.version ≤ space.bounds.max_commands
 

@@ -1,15 +1,19 @@
 -- What one command makes of what a space shows.
-use Rattle.std.specs.Prelude.{◌≡◌, ◌≢◌, ℕ, false, ◌+◌, ◌-◌, ◌==◌, is_some, Option, Some, None, Result, Err, MatchOption, MatchResult, List, length, slice_get, take, if◌then◌else◌}
+use Rattle.std.specs.Prelude.{◌≡◌, ◌≢◌, ℕ, false, ◌+◌, ◌-◌, ◌==◌, is_some, Option, Some, None}
+use Rattle.std.specs.Prelude.{Result, Err, MatchOption, MatchResult, List, length, slice_get, take}
+use Rattle.std.specs.Prelude.{if◌then◌else◌}
 use Rattle.std.specs.Option.{option_map}
 use Rattle.numa_mask.specs.NodeSet.{both}
 use Rattle.numa_machine.specs.Machine.{Hardware}
 use Rattle.numa_machine.specs.Weights.{weight_at}
-use Rattle.numa_mode.specs.Policy.{Specification, PolicyRecord, is_default, takes_home, with_home, record_when_set, record_after}
+use Rattle.numa_mode.specs.Policy.{Specification, PolicyRecord, is_default, takes_home, with_home}
+use Rattle.numa_mode.specs.Policy.{record_when_set, record_after}
 use Rattle.numa_ranges.specs.Runs.{page_at}
 use Rattle.numa_ranges.specs.Maps.{with_span, without_span, changed_page, changed_span}
 use Rattle.numa_space.specs.Limited.{Bounds}
 use Rattle.numa_space.specs.declared.command.Command.{Command}
-use Rattle.numa_space.specs.declared.command.Command.TheVariants.{Map, Unmap, Mbind, SetTask, SetHome, SetWeight, SetMems}
+use Rattle.numa_space.specs.declared.command.Command.TheVariants.{Map, Unmap, Mbind, SetTask}
+use Rattle.numa_space.specs.declared.command.Command.TheVariants.{SetHome, SetWeight, SetMems}
 use Rattle.numa_space.specs.declared.refusal.Refusal.{Refusal}
 use Rattle.numa_space.specs.declared.refusal.Refusal.TheVariants.{NoMemory}
 use Rattle.numa_space.specs.History.{page_of, page_count}
@@ -33,20 +37,28 @@ allowed_next machine allowed (SetMems mask) = both mask machine.memory
 allowed_next machine allowed _ = allowed
 
 abbrev pub pages_next : Hardware → ℕ → PageMap → Command → PageMap
-pages_next machine allowed pages (Map start bytes offset) page = with_span (page_of start) (page_count bytes) offset None pages page
-pages_next machine allowed pages (Unmap start bytes) page = without_span (page_of start) (page_count bytes) pages page
-pages_next machine allowed pages (Mbind start bytes spec) page = changed_span (page_of start) (page_count bytes) (λ old. record_now allowed spec) pages page
-pages_next machine allowed pages (SetHome start bytes node) page = changed_span (page_of start) (page_count bytes) (homed node) pages page
-pages_next machine allowed pages (SetMems mask) page = changed_page (rebound allowed (both mask machine.memory)) (pages page)
+pages_next machine allowed pages (Map start bytes offset) page =
+    with_span (page_of start) (page_count bytes) offset None pages page
+pages_next machine allowed pages (Unmap start bytes) page =
+    without_span (page_of start) (page_count bytes) pages page
+pages_next machine allowed pages (Mbind start bytes spec) page =
+    changed_span (page_of start) (page_count bytes) (λ old. record_now allowed spec) pages page
+pages_next machine allowed pages (SetHome start bytes node) page =
+    changed_span (page_of start) (page_count bytes) (homed node) pages page
+pages_next machine allowed pages (SetMems mask) page =
+    changed_page (rebound allowed (both mask machine.memory)) (pages page)
 pages_next machine allowed pages _ page = pages page
 
 abbrev pub task_next : Hardware → ℕ → (ℕ → Option PolicyRecord) → Command → ℕ → Option PolicyRecord
-task_next machine allowed tasks (SetTask task spec) other = if task == other then record_now allowed spec else tasks other
-task_next machine allowed tasks (SetMems mask) other = rebound allowed (both mask machine.memory) (tasks other)
+task_next machine allowed tasks (SetTask task spec) other =
+    if task == other then record_now allowed spec else tasks other
+task_next machine allowed tasks (SetMems mask) other =
+    rebound allowed (both mask machine.memory) (tasks other)
 task_next machine allowed tasks _ other = tasks other
 
 abbrev pub task_count_next : (ℕ → Option PolicyRecord) → ℕ → Command → ℕ
-task_count_next tasks count (SetTask task spec) = (count - (if is_some (tasks task) then 1 else 0)) + (if is_default spec then 0 else 1)
+task_count_next tasks count (SetTask task spec) =
+    (count - (if is_some (tasks task) then 1 else 0)) + (if is_default spec then 0 else 1)
 task_count_next tasks count _ = count
 
 abbrev pub weight_next : (ℕ → ℕ) → Command → ℕ → ℕ
@@ -59,10 +71,14 @@ pub record IsNext (old : SpaceState) (command : Command) (new : SpaceState) : Ty
   pub bounds : new.bounds ≡ old.bounds
   pub version : new.version ≡ old.version + 1
   pub allowed : new.allowed ≡ allowed_next old.machine old.allowed command
-  pub pages : (page : ℕ) → page_at new.ranges page ≡ pages_next old.machine old.allowed (page_at old.ranges) command page
-  pub tasks : (task : ℕ) → record_of new.tasks task ≡ task_next old.machine old.allowed (record_of old.tasks) command task
-  pub task_count : length new.tasks ≡ task_count_next (record_of old.tasks) (length old.tasks) command
-  pub weights : (node : ℕ) → weight_at new.weights node ≡ weight_next (weight_at old.weights) command node
+  pub pages : (page : ℕ) → page_at new.ranges page
+      ≡ pages_next old.machine old.allowed (page_at old.ranges) command page
+  pub tasks : (task : ℕ) → record_of new.tasks task
+      ≡ task_next old.machine old.allowed (record_of old.tasks) command task
+  pub task_count : length new.tasks ≡ task_count_next (record_of old.tasks)
+      (length old.tasks) command
+  pub weights : (node : ℕ) → weight_at new.weights node
+      ≡ weight_next (weight_at old.weights) command node
 
 -- what a space judges a command by
 abbrev pub scene_in : SpaceState → Command → Scene
@@ -87,16 +103,20 @@ MayNeedRoom (SetTask task spec) = is_default spec ≡ false
 MayNeedRoom (SetWeight node weight) = ⊥
 MayNeedRoom (SetMems mask) = ⊥
 
--- the command at this place of a list may need room, and no cause stands against it after those before it
-pub record MayStopAt (machine : Hardware) (bounds : Bounds) (commands history : List Command) (place : ℕ) : Type 0 where
+-- the command at this place of a list may need room, and no cause stands against it after those
+-- before it
+pub record MayStopAt (machine : Hardware) (bounds : Bounds) (commands history : List Command)
+    (place : ℕ) : Type 0 where
   pub command : Command
   pub there : slice_get commands place ≡ Some command
-  pub no_cause : refusal_of machine bounds (accepted_of machine bounds (take place commands) history) command ≡ None
+  pub no_cause : refusal_of machine bounds (accepted_of machine bounds
+      (take place commands) history) command ≡ None
   pub room : MayNeedRoom command
 
 -- what a command answers, and the space after it
 abbrev pub IsAnswer : SpaceState → Command → Result (Unit {0}) Refusal → SpaceState → Type 0
 IsAnswer old command result new =
     MatchOption (refusal_in (scene_in old command) command)
-    (MatchResult result (λ _. IsNext old command new) (λ refusal. (refusal ≡ NoMemory) × (new ≡ old)))
+    (MatchResult result (λ _. IsNext old command new)
+    (λ refusal. (refusal ≡ NoMemory) × (new ≡ old)))
     (λ refusal. (result ≡ Err refusal) × (new ≡ old))

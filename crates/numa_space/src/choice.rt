@@ -1,7 +1,9 @@
 //! The nodes that an index or a set chooses, and the nodes of an order that a set has.
-ghost use Rattle.std.specs.Prelude.{◌≡◌, ◌≢◌, ◌<◌, ◌≤◌, ◌+◌, ◌++◌, ◌&&◌, not, true, length, filter, slice_index};
+ghost use Rattle.std.specs.Prelude.{◌≡◌, ◌≢◌, ◌<◌, ◌≤◌, ◌+◌, ◌++◌, ◌&&◌, not, true, length, filter};
+ghost use Rattle.std.specs.Prelude.{slice_index};
 ghost use Rattle.numa_mask.specs.NodeSet.{has, members};
-ghost use Rattle.numa_machine.specs.Weights.{interleave_node, total_weight, weight_at, weighted_node};
+ghost use Rattle.numa_machine.specs.Weights.{interleave_node, total_weight, weight_at};
+ghost use Rattle.numa_machine.specs.Weights.{weighted_node};
 ghost use Rattle.numa_space.specs.Lists.{within};
 
 use arrayvec::ArrayVec;
@@ -34,8 +36,10 @@ pub(crate) fn push_others(
     allowed: &NodeMask,
     set: &NodeMask,
 )
-    requires { length list.old.items + length (filter (λ node. has allowed.now node && not (has set.now node)) order.now) ≤ 256 }
-    ensures { list.new.items ≡ list.old.items ++ filter (λ node. has allowed.now node && not (has set.now node)) order.now }
+    requires { length list.old.items + length (filter
+        (λ node. has allowed.now node && not (has set.now node)) order.now) ≤ 256 }
+    ensures { list.new.items ≡ list.old.items ++ filter
+        (λ node. has allowed.now node && not (has set.now node)) order.now }
 {
     for node in order {
         if has(allowed, *node) && !has(set, *node) {
@@ -79,7 +83,8 @@ fn total_weight(weights: &Weights, set: &NodeMask) -> u64
     total
 }
 
-/// The node of a set that weighted interleave chooses for an index: the members take turns, each as many as its weight.
+/// The node of a set that weighted interleave chooses for an index: the members take turns, each as
+/// many as its weight.
 pub(crate) fn weighted_node(weights: &Weights, set: &NodeMask, index: u64) -> u8
     requires { set.now ≢ 0 }
     ensures node { result ≡ weighted_node (weight_at weights.now) set.now index }

@@ -2,8 +2,8 @@
 use numa_mask::NodeMask;
 use numa_mode::PolicySpec;
 
-/// What a user asks of a space. Starts and lengths are in bytes; a span is the pages of 4,096 bytes from `start / 4096` on,
-/// as many as the length rounded up to whole pages. Offsets are in pages.
+/// What a user asks of a space. Starts and lengths are in bytes; a span is the pages of 4,096 bytes
+/// from `start / 4096` on, as many as the length rounded up to whole pages. Offsets are in pages.
 #[derive(Clone, Copy, Debug, PartialEq, Eq)]
 pub enum Command {
     /// Maps a span of unmapped pages; the first of them has the index `offset` (mmap(2)).

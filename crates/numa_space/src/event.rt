@@ -5,8 +5,8 @@ use crate::refusal::Refusal;
 use crate::request::Request;
 use numa_machine::Frame;
 
-/// One atomic step of the core. Workers are numbered from 0. A word is 64 frames of a node: word 0 is the frames 0 to 63,
-/// word 1 the frames 64 to 127, and so on.
+/// One atomic step of the core. Workers are numbered from 0. A word is 64 frames of a node: word 0
+/// is the frames 0 to 63, word 1 the frames 64 to 127, and so on.
 #[derive(Clone, Copy, Debug, PartialEq, Eq)]
 pub enum Event {
     /// A command is to be accepted.
@@ -15,11 +15,11 @@ pub enum Event {
     Publish,
     /// A worker takes a published version, and that version's node list for the request.
     Begin(u32, Request),
-    /// A worker looks at a word of its current node, the first listed one with a frame that it has not met. Each owned
-    /// frame there counts as met.
+    /// A worker looks at a word of its current node, the first listed one with a frame that it has
+    /// not met. Each owned frame there counts as met.
     Look(u32, u32),
-    /// A worker tries a frame of its current node that it has not met. A free frame becomes the worker's; an owned one
-    /// counts as met.
+    /// A worker tries a frame of its current node that it has not met. A free frame becomes the
+    /// worker's; an owned one counts as met.
     Try(u32, Frame),
     /// A worker gives a frame back.
     Give(u32, Frame),
@@ -34,7 +34,8 @@ pub enum CoreReply {
     Published(u64),
     /// The worker has a current node, and goes on.
     Still,
-    /// The worker has met every frame of every listed node, and is idle. The version is that of its Begin.
+    /// The worker has met every frame of every listed node, and is idle. The version is that of its
+    /// Begin.
     Exhausted(u64),
     /// The frame was free and is the worker's now, and the worker is idle.
     Won(Placement),

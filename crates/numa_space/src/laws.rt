@@ -1,5 +1,5 @@
-//! Laws about the definitions that the contracts of this crate cite. Each function does nothing: what it ensures is the
-//! law.
+//! Laws about the definitions that the contracts of this crate cite. Each function does nothing:
+//! what it ensures is the law.
 ghost use Rattle.std.specs.Prelude.{◌≡◌, ◌≢◌, ◌^◌, ◌<◌, ◌≤◌, ℕ, List, ◌∷◌};
 ghost use Rattle.numa_mask.specs.NodeSet.{weight_of};
 ghost use Rattle.numa_machine.specs.Machine.{Hardware};
@@ -13,30 +13,36 @@ ghost use Rattle.numa_space.specs.Rows.{IsModeRow};
 ghost use Rattle.numa_space.specs.Standing.{IsAccepted, IsNodeList};
 ghost use Rattle.numa_space.specs.declared.command.Command.{Command};
 
-/// The list of a mode has the words of `IsModeRow`, where its set has a node and no weight is 0, and it is the only list that
-/// has: for BIND the list without repeats whose nodes are those of the set and in which each earlier node is nearer.
+/// The list of a mode has the words of `IsModeRow`, where its set has a node and no weight is 0,
+/// and it is the only list that has: for BIND the list without repeats whose nodes are those of the
+/// set and in which each earlier node is nearer.
 pub fn mode_rows()
     ensures is_one { (setting : Setting) (mode : Mode) (set from index : ℕ)
         → 0 < weight_of set → ((node : ℕ) → 0 < setting.weight node)
         → IsModeRow setting mode set from index (list_by_mode setting mode set from index) }
     ensures is_the_only_one { (setting : Setting) (mode : Mode) (set from index : ℕ) (row : List ℕ)
-        → IsModeRow setting mode set from index row → row ≡ list_by_mode setting mode set from index }
+        → IsModeRow setting mode set from index row
+        → row ≡ list_by_mode setting mode set from index }
 {}
 
-/// Each node list that accepted commands mean, on a machine of which some nodes have memory, has a node, each once, and only
-/// allowed ones.
+/// Each node list that accepted commands mean, on a machine of which some nodes have memory, has a
+/// node, each once, and only allowed ones.
 pub fn node_lists()
-    ensures sound { (machine : Hardware) (bounds : Bounds) (history : List Command) (task page cpu : ℕ)
+    ensures sound { (machine : Hardware) (bounds : Bounds) (history : List Command)
+        (task page cpu : ℕ)
         → machine.memory ≢ 0 → machine.memory < 2 ^ 256 → IsAccepted machine bounds history
         → IsNodeList (allowed_nodes machine history) (node_list machine history task page cpu) }
 {}
 
-/// A command that names no pages never raises the number of ranges, so it need not be judged by that number.
+/// A command that names no pages never raises the number of ranges, so it need not be judged by
+/// that number.
 pub fn range_counts()
     ensures task { (machine : Hardware) (history : List Command) (task : ℕ) (spec : Specification)
-        → range_count_of machine (Command.SetTask task spec ∷ history) ≡ range_count_of machine history }
+        → range_count_of machine (Command.SetTask task spec ∷ history)
+        ≡ range_count_of machine history }
     ensures weight { (machine : Hardware) (history : List Command) (node weight : ℕ)
-        → range_count_of machine (Command.SetWeight node weight ∷ history) ≡ range_count_of machine history }
+        → range_count_of machine (Command.SetWeight node weight ∷ history)
+        ≡ range_count_of machine history }
     ensures mems { (machine : Hardware) (history : List Command) (mask : ℕ)
         → range_count_of machine (Command.SetMems mask ∷ history) ≤ range_count_of machine history }
 {}

@@ -17,18 +17,36 @@ impl Model for Limits {
 
     ghost Value = { Bounds };
 
-    ghost view = { λ a. record { max_ranges = a.max_ranges; max_tasks = a.max_tasks; max_commands = a.max_commands } };
+    ghost view = { λ a. record {
+      max_ranges = a.max_ranges;
+      max_tasks = a.max_tasks;
+      max_commands = a.max_commands;
+    } };
 
-    ghost invariant = { λ a. AreBounds (record { max_ranges = a.max_ranges; max_tasks = a.max_tasks; max_commands = a.max_commands }) };
+    ghost invariant = { λ a. AreBounds (record {
+      max_ranges = a.max_ranges;
+      max_tasks = a.max_tasks;
+      max_commands = a.max_commands;
+    }) };
 
-    ghost inverse = { λ b. record { max_ranges = b.max_ranges; max_tasks = b.max_tasks; max_commands = b.max_commands } };
+    ghost inverse = { λ b. record {
+      max_ranges = b.max_ranges;
+      max_tasks = b.max_tasks;
+      max_commands = b.max_commands;
+    } };
 }
 
 impl Limits {
-    /// Limits of at most 65,536 ranges, 1,024 task policies and 4,294,967,295 commands; None past any of these.
+    /// Limits of at most 65,536 ranges, 1,024 task policies and 4,294,967,295 commands; None past
+    /// any of these.
     pub fn new(max_ranges: u32, max_tasks: u32, max_commands: u32) -> Option<Limits>
         ensures exists { IsSome result ↔ ((max_ranges ≤ 65536) × (max_tasks ≤ 1024)) }
-        ensures value { IfSome result (λ limits. limits ≡ record { max_ranges = max_ranges; max_tasks = max_tasks; max_commands = max_commands }) }
+        ensures value { IfSome result (λ limits. limits
+            ≡ record {
+              max_ranges = max_ranges;
+              max_tasks = max_tasks;
+              max_commands = max_commands;
+            }) }
     {
         if max_ranges <= 65_536 && max_tasks <= 1_024 {
             Some(Limits {

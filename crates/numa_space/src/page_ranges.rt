@@ -1,12 +1,14 @@
 //! The pages of a space: a map that splits and joins, with refusals as a space gives them.
-ghost use Rattle.std.specs.Prelude.{◌≡◌, ◌≢◌, ◌+◌, ◌<◌, ◌≤◌, ◌^◌, ℕ, Some, None, Option, Ok, Err, IfOk, MatchResult, is_some, not, [], length, Contains, ◌↔◌};
+ghost use Rattle.std.specs.Prelude.{◌≡◌, ◌≢◌, ◌+◌, ◌<◌, ◌≤◌, ◌^◌, ℕ, Some, None, Option, Ok, Err};
+ghost use Rattle.std.specs.Prelude.{IfOk, MatchResult, is_some, not, [], length, Contains, ◌↔◌};
 ghost use Rattle.numa_mode.specs.Policy.{PolicyRecord};
 ghost use Rattle.numa_ranges.specs.Runs.{AreApart, AreMaximal, page_at};
 ghost use Rattle.numa_ranges.specs.declared.run.Run.{Run};
 ghost use Rattle.numa_ranges.specs.Counts.{IsRange, range_count};
 ghost use Rattle.numa_ranges.specs.Maps.{any_page};
 ghost use Rattle.numa_ranges.specs.Maps.{with_span, without_span, changed_span, changed_page};
-ghost use Rattle.numa_space.specs.Edits.{IsEdit, too_many, overlap_cause, hole_cause, refusal_from, refuses};
+ghost use Rattle.numa_space.specs.Edits.{IsEdit, too_many, overlap_cause, hole_cause, refusal_from};
+ghost use Rattle.numa_space.specs.Edits.{refuses};
 ghost use Rattle.numa_space.specs.Refusals.{first_of};
 ghost use Rattle.numa_space.specs.Same.{same_record};
 ghost use Rattle.numa_space.specs.Steps.{homed, rebound};
@@ -67,7 +69,8 @@ impl Pages {
         ensures runs { result ≡ self.now.runs }
         ensures rising { AreApart 0 self.now.runs }
         ensures maximal { AreMaximal self.now.runs }
-        ensures ranges { (run : Run (Option PolicyRecord)) → Contains self.now.runs run ↔ IsRange same_record (page_at self.now.runs) run }
+        ensures ranges { (run : Run (Option PolicyRecord)) → Contains self.now.runs run
+            ↔ IsRange same_record (page_at self.now.runs) run }
     {
         self.map.iter()
     }
@@ -85,7 +88,9 @@ impl Pages {
         requires some { 0 < pages }
         requires span { first + pages ≤ 2 ^ 35 }
         requires index { index < 2 ^ 35 }
-        ensures edit { IsEdit (first_of (overlap_cause (page_at self.old.runs) first pages) (too_many self.old.limit (with_span first pages index None (page_at self.old.runs)))) (with_span first pages index None (page_at self.old.runs)) self.old result self.new }
+        ensures edit { IsEdit (first_of (overlap_cause (page_at self.old.runs) first pages)
+            (too_many self.old.limit (with_span first pages index None (page_at self.old.runs))))
+            (with_span first pages index None (page_at self.old.runs)) self.old result self.new }
         ensures limit { self.new.limit ≡ self.old.limit }
     {
         let none = RangeRecord::of(None);
@@ -96,7 +101,9 @@ impl Pages {
     pub(crate) fn unmap_span(&mut self, first: u64, pages: u64) -> Result<(), Refusal>
         requires some { 0 < pages }
         requires span { first + pages ≤ 2 ^ 35 }
-        ensures edit { IsEdit (too_many self.old.limit (without_span first pages (page_at self.old.runs))) (without_span first pages (page_at self.old.runs)) self.old result self.new }
+        ensures edit { IsEdit (too_many self.old.limit
+            (without_span first pages (page_at self.old.runs)))
+            (without_span first pages (page_at self.old.runs)) self.old result self.new }
         ensures limit { self.new.limit ≡ self.old.limit }
     {
         answered(self.map.unmap_span(first, pages))
@@ -111,7 +118,10 @@ impl Pages {
     ) -> Result<(), Refusal>
         requires some { 0 < pages }
         requires span { first + pages ≤ 2 ^ 35 }
-        ensures edit { IsEdit (first_of (hole_cause (page_at self.old.runs) first pages) (too_many self.old.limit (changed_span first pages (λ old. policy) (page_at self.old.runs)))) (changed_span first pages (λ old. policy) (page_at self.old.runs)) self.old result self.new }
+        ensures edit { IsEdit (first_of (hole_cause (page_at self.old.runs) first pages)
+            (too_many self.old.limit (changed_span first pages (λ old. policy)
+            (page_at self.old.runs)))) (changed_span first pages (λ old. policy)
+            (page_at self.old.runs)) self.old result self.new }
         ensures limit { self.new.limit ≡ self.old.limit }
     {
         answered(self.map.set_span(first, pages, RangeRecord::of(policy)))
@@ -120,7 +130,8 @@ impl Pages {
     /// Whether some page of a span isn't mapped.
     pub(crate) fn has_hole(&self, first: u64, pages: u64) -> bool
         requires span { first + pages ≤ 2 ^ 35 }
-        ensures { result ≡ any_page (λ page. not (is_some (page_at self.now.runs page))) first pages }
+        ensures { result ≡ any_page (λ page. not (is_some (page_at self.now.runs page))) first
+            pages }
     {
         self.map.has_hole(first, pages)
     }
@@ -129,7 +140,10 @@ impl Pages {
     pub(crate) fn home_span(&mut self, first: u64, pages: u64, node: u8) -> Result<(), Refusal>
         requires some { 0 < pages }
         requires span { first + pages ≤ 2 ^ 35 }
-        ensures edit { IsEdit (too_many self.old.limit (changed_span first pages (homed node) (page_at self.old.runs))) (changed_span first pages (homed node) (page_at self.old.runs)) self.old result self.new }
+        ensures edit { IsEdit (too_many self.old.limit
+            (changed_span first pages (homed node) (page_at self.old.runs)))
+            (changed_span first pages (homed node) (page_at self.old.runs)) self.old result
+            self.new }
         ensures limit { self.new.limit ≡ self.old.limit }
     {
         let at_home = |value: &RangeRecord| -> RangeRecord
@@ -141,7 +155,8 @@ impl Pages {
     /// Moves every policy with a change of the allowed nodes; takes no memory.
     pub(crate) fn rebind(&mut self, old: &NodeMask, new: &NodeMask)
         requires some { new.now ≢ 0 }
-        ensures pages { (page : ℕ) → page_at self.new.runs page ≡ changed_page (rebound old.now new.now) (page_at self.old.runs page) }
+        ensures pages { (page : ℕ) → page_at self.new.runs page
+            ≡ changed_page (rebound old.now new.now) (page_at self.old.runs page) }
         ensures limit { self.new.limit ≡ self.old.limit }
     {
         let (from, to) = (*old, *new);
@@ -156,7 +171,8 @@ impl Pages {
     pub(crate) fn refuses_home(&self, first: u64, pages: u64) -> bool
         requires some { 0 < pages }
         requires span { first + pages ≤ 2 ^ 35 }
-        ensures { result ≡ any_page (λ page. takes_no_home (page_at self.now.runs page)) first pages }
+        ensures { result ≡ any_page (λ page. takes_no_home (page_at self.now.runs page)) first
+            pages }
     {
         let end = first + pages;
         for run in self.map.iter() {
@@ -179,7 +195,8 @@ fn refuses(run: &Run<RangeRecord>, first: u64, end: u64) -> bool
 
 /// A map's answer, as a space's.
 fn answered(outcome: Result<(), RangeFault>) -> Result<(), Refusal>
-    ensures { MatchResult outcome (λ done. result ≡ Ok done) (λ fault. result ≡ Err (refusal_from fault)) }
+    ensures { MatchResult outcome (λ done. result ≡ Ok done)
+        (λ fault. result ≡ Err (refusal_from fault)) }
 {
     match outcome {
         Ok(()) => Ok(()),

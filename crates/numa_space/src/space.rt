@@ -1,5 +1,7 @@
 //! A space of pages and its policies.
-ghost use Rattle.std.specs.Prelude.{◌≡◌, ◌≢◌, ◌≤◌, ◌<◌, ℕ, IfOk, OnOk, OnErr, IfErr, IfSome, None, Option, Some, List, [], ◌∷◌, length, MatchOption, slice_get, take, AllPairs, Contains, ◌↔◌};
+ghost use Rattle.std.specs.Prelude.{◌≡◌, ◌≢◌, ◌≤◌, ◌<◌, ℕ, IfOk, OnOk, OnErr, IfErr, IfSome, None};
+ghost use Rattle.std.specs.Prelude.{Option, Some, List, [], ◌∷◌, length, MatchOption, slice_get};
+ghost use Rattle.std.specs.Prelude.{take, AllPairs, Contains, ◌↔◌};
 ghost use Rattle.numa_machine.specs.Machine.{Hardware};
 ghost use Rattle.numa_machine.specs.Weights.{weight_at};
 ghost use Rattle.numa_mode.specs.Policy.{PolicyRecord};
@@ -11,7 +13,8 @@ ghost use Rattle.numa_space.specs.Policies.{allowed_nodes, node_weight, task_rec
 ghost use Rattle.numa_space.specs.Pages.{page_in};
 ghost use Rattle.numa_space.specs.Refusals.{refusal_of, range_count_of};
 ghost use Rattle.numa_space.specs.Same.{same_record};
-ghost use Rattle.numa_space.specs.Standing.{HasHistory, IsSound, SpaceState, StandsFor, accepted_of, record_of};
+ghost use Rattle.numa_space.specs.Standing.{HasHistory, IsSound, SpaceState, StandsFor};
+ghost use Rattle.numa_space.specs.Standing.{accepted_of, record_of};
 ghost use Rattle.numa_space.specs.Steps.{IsAnswer, MayNeedRoom, MayStopAt};
 
 use crate::command::Command;
@@ -56,8 +59,8 @@ impl Model for Space {
 }
 
 impl Space {
-    /// A space in which nothing is mapped, no task has a policy, every weight is 1 and all nodes with memory are allowed.
-    /// Takes no memory; the allocator is kept for later commands.
+    /// A space in which nothing is mapped, no task has a policy, every weight is 1 and all nodes
+    /// with memory are allowed. Takes no memory; the allocator is kept for later commands.
     pub fn new(alloc: Global, machine: Machine, limits: Limits) -> Space
         ensures stands { StandsFor result [] }
         ensures machine { result.machine ≡ machine }
@@ -103,25 +106,34 @@ impl Space {
         })
     }
 
-    /// Carries out a command, or refuses it by the first cause that applies; want of memory is the last. A refusal leaves
-    /// the space as it was.
+    /// Carries out a command, or refuses it by the first cause that applies; want of memory is the
+    /// last. A refusal leaves the space as it was.
     pub fn apply(&mut self, command: &Command) -> Result<(), Refusal>
-        ensures ok { (history : List Command) → StandsFor self.old history → OnOk result ((refusal_of self.old.machine self.old.bounds history command.now ≡ None) × StandsFor self.new (command.now ∷ history)) }
-        ensures err { (history : List Command) → StandsFor self.old history → IfErr result (λ refusal. MatchOption (refusal_of self.old.machine self.old.bounds history command.now) (refusal ≡ Refusal.NoMemory) (λ first. refusal ≡ first)) }
+        ensures ok { (history : List Command) → StandsFor self.old history
+            → OnOk result ((refusal_of self.old.machine self.old.bounds history command.now ≡ None)
+            × StandsFor self.new (command.now ∷ history)) }
+        ensures err { (history : List Command) → StandsFor self.old history
+            → IfErr result (λ refusal. MatchOption
+            (refusal_of self.old.machine self.old.bounds history command.now)
+            (refusal ≡ Refusal.NoMemory) (λ first. refusal ≡ first)) }
         ensures unchanged { OnErr result (self.new ≡ self.old) }
-        ensures room { IfErr result (λ refusal. refusal ≡ Refusal.NoMemory → MayNeedRoom command.now) }
+        ensures room { IfErr result (λ refusal. refusal ≡ Refusal.NoMemory
+            → MayNeedRoom command.now) }
         ensures machine { self.new.machine ≡ self.old.machine }
         ensures bounds { self.new.bounds ≡ self.old.bounds }
     {
         self.answer(command)
     }
 
-    /// Carries out commands, the first first, and passes over those against which a cause stands. Ends at the first for
-    /// which there is no memory, and then answers how many commands came before it.
+    /// Carries out commands, the first first, and passes over those against which a cause stands.
+    /// Ends at the first for which there is no memory, and then answers how many commands came
+    /// before it.
     pub fn apply_all(&mut self, commands: &[Command]) -> Result<(), usize>
         ensures ok { (history : List Command) → StandsFor self.old history → OnOk result
-            (StandsFor self.new (accepted_of self.old.machine self.old.bounds commands.now history)) }
-        ensures err { (history : List Command) → StandsFor self.old history → IfErr result (λ done. StandsFor self.new
+            (StandsFor self.new (accepted_of self.old.machine self.old.bounds commands.now
+            history)) }
+        ensures err { (history : List Command) → StandsFor self.old history
+            → IfErr result (λ done. StandsFor self.new
             (accepted_of self.old.machine self.old.bounds (take done commands.now) history)) }
         ensures stop { (history : List Command) → StandsFor self.old history → IfErr result
             (MayStopAt self.old.machine self.old.bounds commands.now history) }
@@ -139,7 +151,8 @@ impl Space {
     /// How many commands were accepted. Every space stands for the history of those.
     pub fn version(&self) -> u64
         ensures version { result ≡ self.now.version }
-        ensures meaning { (history : List Command) → StandsFor self.now history → result ≡ length history }
+        ensures meaning { (history : List Command) → StandsFor self.now history
+            → result ≡ length history }
         ensures limit { result ≤ self.now.bounds.max_commands }
         ensures history { HasHistory self.now }
     {
@@ -173,12 +186,14 @@ impl Space {
         &self.weights
     }
 
-    /// How many ranges there are: mapped pages whose predecessor isn't mapped, or has another policy of its own or an index
-    /// that isn't one less. Linux keeps as many areas for such an address space (mbind(2) splits and merges them).
+    /// How many ranges there are: mapped pages whose predecessor isn't mapped, or has another
+    /// policy of its own or an index that isn't one less. Linux keeps as many areas for such an
+    /// address space (mbind(2) splits and merges them).
     pub fn ranges(&self) -> usize
         ensures ranges { result ≡ length self.now.ranges }
         ensures count { result ≡ range_count same_record (page_at self.now.ranges) }
-        ensures meaning { (history : List Command) → StandsFor self.now history → result ≡ range_count_of self.now.machine history }
+        ensures meaning { (history : List Command) → StandsFor self.now history
+            → result ≡ range_count_of self.now.machine history }
         ensures limit { result ≤ self.now.bounds.max_ranges }
         ensures at_most { result ≤ 65536 }
     {
@@ -186,14 +201,17 @@ impl Space {
         self.pages.len()
     }
 
-    /// The ranges, rising: each as its first page, how many pages it has, the index of the first and, by `value.policy()`, the
-    /// policy of its own, if it has one. No two of them could be one.
+    /// The ranges, rising: each as its first page, how many pages it has, the index of the first
+    /// and, by `value.policy()`, the policy of its own, if it has one. No two of them could be one.
     pub fn range_iter(&self) -> Iter<'_, Run<RangeRecord>, Owned<Run<RangeRecord>>>
         ensures runs { result ≡ self.now.ranges }
         ensures rising { AreApart 0 self.now.ranges }
         ensures maximal { AreMaximal self.now.ranges }
-        ensures ranges { (run : Run (Option PolicyRecord)) → Contains self.now.ranges run ↔ IsRange same_record (page_at self.now.ranges) run }
-        ensures meaning { (history : List Command) → StandsFor self.now history → (run : Run (Option PolicyRecord)) → Contains self.now.ranges run ↔ IsRange same_record (page_in self.now.machine history) run }
+        ensures ranges { (run : Run (Option PolicyRecord)) → Contains self.now.ranges run
+            ↔ IsRange same_record (page_at self.now.ranges) run }
+        ensures meaning { (history : List Command) → StandsFor self.now history
+            → (run : Run (Option PolicyRecord)) → Contains self.now.ranges run
+            ↔ IsRange same_record (page_in self.now.machine history) run }
     {
         self.pages.iter()
     }
@@ -211,13 +229,16 @@ impl Space {
         self.tasks.len()
     }
 
-    /// The k-th task that has a policy, and the policy; None from `task_count` on. Each task that has one is at some place.
+    /// The k-th task that has a policy, and the policy; None from `task_count` on. Each task that
+    /// has one is at some place.
     pub fn task_at(&self, k: usize) -> Option<(u32, Record)>
         ensures task { result ≡ slice_get self.now.tasks k }
-        ensures every { (task : ℕ) (policy : PolicyRecord) → record_of self.now.tasks task ≡ Some policy
+        ensures every { (task : ℕ) (policy : PolicyRecord)
+            → record_of self.now.tasks task ≡ Some policy
             → (place : ℕ) × (slice_get self.now.tasks place ≡ Some (task, policy)) }
         ensures policy { IfSome result (λ held. record_of self.now.tasks held.0 ≡ Some held.1) }
-        ensures meaning { (history : List Command) → StandsFor self.now history → IfSome result (λ held. task_record self.now.machine history held.0 ≡ Some held.1) }
+        ensures meaning { (history : List Command) → StandsFor self.now history
+            → IfSome result (λ held. task_record self.now.machine history held.0 ≡ Some held.1) }
     {
         self.tasks.at(k)
     }

@@ -1,5 +1,7 @@
 //! The policies of tasks.
-ghost use Rattle.std.specs.Prelude.{◌≡◌, ◌≢◌, ◌+◌, ◌==◌, ◌<◌, ℕ, Some, None, IfOk, OnOk, OnErr, IsOk, [], length, is_some, slice_get, if◌then◌else◌, AllPairs, IfSome};
+ghost use Rattle.std.specs.Prelude.{◌≡◌, ◌≢◌, ◌+◌, ◌==◌, ◌<◌, ℕ, Some, None, IfOk, OnOk, OnErr};
+ghost use Rattle.std.specs.Prelude.{IsOk, [], length, is_some, slice_get, if◌then◌else◌, AllPairs};
+ghost use Rattle.std.specs.Prelude.{IfSome};
 ghost use Rattle.numa_space.specs.Standing.{record_of};
 ghost use Rattle.numa_space.specs.Steps.{rebound};
 
@@ -70,8 +72,11 @@ impl Tasks {
 
     /// Gives a task a policy.
     pub(crate) fn set(&mut self, task: u32, policy: Record) -> Result<(), AllocError>
-        ensures records { OnOk result ((other : ℕ) → record_of self.new other ≡ if task == other then Some policy else record_of self.old other) }
-        ensures count { OnOk result (length self.new ≡ length self.old + (if is_some (record_of self.old task) then 0 else 1)) }
+        ensures records { OnOk result ((other : ℕ)
+            → record_of self.new other ≡ if task == other then Some policy
+            else record_of self.old other) }
+        ensures count { OnOk result (length self.new
+            ≡ length self.old + (if is_some (record_of self.old task) then 0 else 1)) }
         ensures err { OnErr result (self.new ≡ self.old) }
     {
         match self.records.insert(task, policy) {
@@ -82,8 +87,10 @@ impl Tasks {
 
     /// Takes a task's policy away, if it has one.
     pub(crate) fn clear(&mut self, task: u32)
-        ensures records { (other : ℕ) → record_of self.new other ≡ if task == other then None else record_of self.old other }
-        ensures count { length self.new + (if is_some (record_of self.old task) then 1 else 0) ≡ length self.old }
+        ensures records { (other : ℕ) → record_of self.new other ≡ if task == other then None
+            else record_of self.old other }
+        ensures count { length self.new + (if is_some (record_of self.old task) then 1 else 0)
+            ≡ length self.old }
     {
         let _ = self.records.shift_remove(&task);
     }
@@ -91,7 +98,8 @@ impl Tasks {
     /// Moves every policy with a change of the allowed nodes; takes no memory.
     pub(crate) fn rebind(&mut self, old: &NodeMask, new: &NodeMask)
         requires some { new.now ≢ 0 }
-        ensures records { (task : ℕ) → record_of self.new task ≡ rebound old.now new.now (record_of self.old task) }
+        ensures records { (task : ℕ) → record_of self.new task
+            ≡ rebound old.now new.now (record_of self.old task) }
         ensures count { length self.new ≡ length self.old }
     {
         for k in 0..self.records.len() {

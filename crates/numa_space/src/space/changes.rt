@@ -1,5 +1,6 @@
 //! What each command changes.
-ghost use Rattle.std.specs.Prelude.{◌≡◌, ◌+◌, ◌<◌, ◌≤◌, ◌^◌, ◌&&◌, ℕ, true, false, not, nat_le, is_some, length, Option, Some, None, MatchResult, IfErr};
+ghost use Rattle.std.specs.Prelude.{◌≡◌, ◌+◌, ◌<◌, ◌≤◌, ◌^◌, ◌&&◌, ℕ, true, false, not, nat_le};
+ghost use Rattle.std.specs.Prelude.{is_some, length, Option, Some, None, MatchResult, IfErr};
 ghost use Rattle.std.specs.List.{list_any};
 ghost use Rattle.numa_mask.specs.NodeSet.{members};
 ghost use Rattle.numa_mode.specs.Policy.{PolicyRecord};
@@ -18,7 +19,9 @@ use numa_mode::{Mode, PolicySpec, Record};
 
 /// The first page of a span and the number of its pages.
 fn span_of(start: u64, length: u64) -> Result<(u64, u64), Refusal>
-    ensures span { MatchResult result (λ span. (bad_span start length ≡ None) × (span.0 ≡ page_of start) × (span.1 ≡ page_count length)) (λ refusal. bad_span start length ≡ Some refusal) }
+    ensures span { MatchResult result (λ span. (bad_span start length ≡ None)
+        × (span.0 ≡ page_of start) × (span.1 ≡ page_count length))
+        (λ refusal. bad_span start length ≡ Some refusal) }
     ensures within { MatchResult result (λ span. span.0 + span.1 ≤ 2 ^ 35) (λ refusal. Unit {0}) }
 {
     if start % 4096 != 0 {
@@ -42,7 +45,8 @@ impl Space {
     /// Carries out a command, or refuses it.
     pub(super) fn answer(&mut self, command: &Command) -> Result<(), Refusal>
         ensures answer { IsAnswer self.old command.now result self.new }
-        ensures room { IfErr result (λ refusal. refusal ≡ Refusal.NoMemory → MayNeedRoom command.now) }
+        ensures room { IfErr result (λ refusal. refusal ≡ Refusal.NoMemory
+            → MayNeedRoom command.now) }
     {
         if self.version >= u64::from(self.limits.max_commands()) {
             return Err(Refusal::CommandsSpent);
@@ -72,7 +76,10 @@ impl Space {
 
     /// The policy that a specification sets now; DEFAULT sets none.
     fn policy_of(&self, spec: PolicySpec) -> Result<Option<Record>, Refusal>
-        ensures { MatchResult result (λ policy. (has_no_node self.now.allowed spec ≡ false) × (policy ≡ record_now self.now.allowed spec)) (λ refusal. (has_no_node self.now.allowed spec ≡ true) × (refusal ≡ Refusal.NodesNotAllowed)) }
+        ensures { MatchResult result (λ policy. (has_no_node self.now.allowed spec ≡ false)
+            × (policy ≡ record_now self.now.allowed spec))
+            (λ refusal. (has_no_node self.now.allowed spec ≡ true)
+            × (refusal ≡ Refusal.NodesNotAllowed)) }
     {
         if spec.mode() == Mode::Default {
             return Ok(None);
@@ -86,7 +93,8 @@ impl Space {
     fn map(&mut self, start: u64, length: u64, offset: u64) -> Result<(), Refusal>
         requires { self.old.version < self.old.bounds.max_commands }
         ensures answer { IsAnswer self.old (Command.Map start length offset) result self.new }
-        ensures room { IfErr result (λ refusal. refusal ≡ Refusal.NoMemory → MayNeedRoom (Command.Map start length offset)) }
+        ensures room { IfErr result (λ refusal. refusal ≡ Refusal.NoMemory
+            → MayNeedRoom (Command.Map start length offset)) }
     {
         let (first, pages) = span_of(start, length)?;
         if length == 0 {
@@ -103,7 +111,8 @@ impl Space {
     fn unmap(&mut self, start: u64, length: u64) -> Result<(), Refusal>
         requires { self.old.version < self.old.bounds.max_commands }
         ensures answer { IsAnswer self.old (Command.Unmap start length) result self.new }
-        ensures room { IfErr result (λ refusal. refusal ≡ Refusal.NoMemory → MayNeedRoom (Command.Unmap start length)) }
+        ensures room { IfErr result (λ refusal. refusal ≡ Refusal.NoMemory
+            → MayNeedRoom (Command.Unmap start length)) }
     {
         let (first, pages) = span_of(start, length)?;
         if length == 0 {
@@ -118,7 +127,8 @@ impl Space {
     fn bind(&mut self, start: u64, length: u64, spec: PolicySpec) -> Result<(), Refusal>
         requires { self.old.version < self.old.bounds.max_commands }
         ensures answer { IsAnswer self.old (Command.Mbind start length spec) result self.new }
-        ensures room { IfErr result (λ refusal. refusal ≡ Refusal.NoMemory → MayNeedRoom (Command.Mbind start length spec)) }
+        ensures room { IfErr result (λ refusal. refusal ≡ Refusal.NoMemory
+            → MayNeedRoom (Command.Mbind start length spec)) }
     {
         let (first, pages) = span_of(start, length)?;
         if length == 0 {
@@ -136,7 +146,8 @@ impl Space {
 
     /// Whether a task has no policy, and as many tasks as may have one do.
     fn has_no_place_for(&self, task: u32) -> bool
-        ensures { result ≡ (not (is_some (record_of self.now.tasks task)) && nat_le self.now.bounds.max_tasks (length self.now.tasks)) }
+        ensures { result ≡ (not (is_some (record_of self.now.tasks task))
+            && nat_le self.now.bounds.max_tasks (length self.now.tasks)) }
     {
         let is_full = self.limits.max_tasks() as usize <= self.tasks.len();
         self.tasks.get(task).is_none() && is_full
@@ -145,7 +156,8 @@ impl Space {
     fn set_task(&mut self, task: u32, spec: PolicySpec) -> Result<(), Refusal>
         requires { self.old.version < self.old.bounds.max_commands }
         ensures answer { IsAnswer self.old (Command.SetTask task spec) result self.new }
-        ensures room { IfErr result (λ refusal. refusal ≡ Refusal.NoMemory → MayNeedRoom (Command.SetTask task spec)) }
+        ensures room { IfErr result (λ refusal. refusal ≡ Refusal.NoMemory
+            → MayNeedRoom (Command.SetTask task spec)) }
     {
         let Some(policy) = self.policy_of(spec)? else {
             self.tasks.clear(task);
@@ -165,7 +177,8 @@ impl Space {
     fn set_home(&mut self, start: u64, length: u64, node: u32) -> Result<(), Refusal>
         requires { self.old.version < self.old.bounds.max_commands }
         ensures answer { IsAnswer self.old (Command.SetHome start length node) result self.new }
-        ensures room { IfErr result (λ refusal. refusal ≡ Refusal.NoMemory → MayNeedRoom (Command.SetHome start length node)) }
+        ensures room { IfErr result (λ refusal. refusal ≡ Refusal.NoMemory
+            → MayNeedRoom (Command.SetHome start length node)) }
     {
         let (first, pages) = span_of(start, length)?;
         if node >= self.machine.nodes() {
@@ -186,7 +199,8 @@ impl Space {
     fn set_weight(&mut self, node: u32, weight: u32) -> Result<(), Refusal>
         requires { self.old.version < self.old.bounds.max_commands }
         ensures answer { IsAnswer self.old (Command.SetWeight node weight) result self.new }
-        ensures room { IfErr result (λ refusal. refusal ≡ Refusal.NoMemory → MayNeedRoom (Command.SetWeight node weight)) }
+        ensures room { IfErr result (λ refusal. refusal ≡ Refusal.NoMemory
+            → MayNeedRoom (Command.SetWeight node weight)) }
     {
         match self.weights.set(node, weight) {
             Ok(()) => {}
@@ -200,7 +214,8 @@ impl Space {
     fn set_mems(&mut self, mask: NodeMask) -> Result<(), Refusal>
         requires { self.old.version < self.old.bounds.max_commands }
         ensures answer { IsAnswer self.old (Command.SetMems mask) result self.new }
-        ensures room { IfErr result (λ refusal. refusal ≡ Refusal.NoMemory → MayNeedRoom (Command.SetMems mask)) }
+        ensures room { IfErr result (λ refusal. refusal ≡ Refusal.NoMemory
+            → MayNeedRoom (Command.SetMems mask)) }
     {
         if has_node_from(&mask, self.machine.nodes()) {
             return Err(Refusal::NoSuchNode);

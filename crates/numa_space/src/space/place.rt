@@ -1,5 +1,6 @@
 //! What a space answers about a page.
-ghost use Rattle.std.specs.Prelude.{◌≡◌, ◌≢◌, ◌<◌, ◌++◌, ◌&&◌, ℕ, true, not, filter, is_some, Option, Some, None, List, IfOk, IfSome, MatchResult};
+ghost use Rattle.std.specs.Prelude.{◌≡◌, ◌≢◌, ◌<◌, ◌++◌, ◌&&◌, ℕ, true, not, filter, is_some};
+ghost use Rattle.std.specs.Prelude.{Option, Some, None, List, IfOk, IfSome, MatchResult};
 ghost use Rattle.numa_mask.specs.NodeSet.{has};
 ghost use Rattle.numa_machine.specs.Machine.{distance_order};
 ghost use Rattle.numa_mode.specs.Policy.{PolicyRecord, is_live};
@@ -8,7 +9,9 @@ ghost use Rattle.numa_space.specs.declared.command.Command.{Command};
 ghost use Rattle.numa_space.specs.Lists.{list_by_mode, list_for, near, node_list, within};
 ghost use Rattle.numa_space.specs.Pages.{resolved_policy};
 ghost use Rattle.numa_space.specs.Policies.{resolved, where_live};
-ghost use Rattle.numa_space.specs.Standing.{IsInForce, IsNodeList, StandsFor, list_in, place_refusal_in, place_refusal_of, policy_in, setting_in};
+ghost use Rattle.numa_space.specs.Standing.{IsInForce, IsNodeList, StandsFor, list_in};
+ghost use Rattle.numa_space.specs.Standing.{place_refusal_in, place_refusal_of, policy_in};
+ghost use Rattle.numa_space.specs.Standing.{setting_in};
 
 use crate::choice::{first_node, interleave_node, push_others, push_within, weighted_node};
 use crate::refusal::PlaceRefusal;
@@ -38,12 +41,15 @@ fn resolved(range: Option<Record>, task: Option<Record>) -> Option<Record>
 }
 
 impl Space {
-    /// The policy by which a task's fault at a page is served: that of the page's range where there is one that is live, else
-    /// the task's where there is one that is live. None means local allocation ("NUMA Memory Policy", scopes).
+    /// The policy by which a task's fault at a page is served: that of the page's range where there
+    /// is one that is live, else the task's where there is one that is live. None means local
+    /// allocation ("NUMA Memory Policy", scopes).
     pub fn policy_at(&self, task: u32, page: u64) -> Option<Record>
         ensures policy { result ≡ policy_in self.now task page }
-        ensures meaning { (history : List Command) → StandsFor self.now history → result ≡ resolved_policy self.now.machine history task page }
-        ensures in_force { IfSome result (λ policy. IsInForce self.now.machine self.now.allowed policy × (is_live policy ≡ true)) }
+        ensures meaning { (history : List Command) → StandsFor self.now history
+            → result ≡ resolved_policy self.now.machine history task page }
+        ensures in_force { IfSome result (λ policy. IsInForce self.now.machine self.now.allowed
+            policy × (is_live policy ≡ true)) }
     {
         let _ = &self.allowed;
         self.policy_of_page(task, page)
@@ -60,16 +66,21 @@ impl Space {
         resolved(range, self.tasks.get(task))
     }
 
-    /// The nodes on which memory for a page is looked for, in this order, when the task faults on it on node `cpu`. Takes no
-    /// memory.
+    /// The nodes on which memory for a page is looked for, in this order, when the task faults on
+    /// it on node `cpu`. Takes no memory.
     ///
-    /// Refusals, the first that applies: `BadCpu` where the machine has no node `cpu`, `Unmapped` where the page isn't mapped.
+    /// Refusals, the first that applies: `BadCpu` where the machine has no node `cpu`, `Unmapped`
+    /// where the page isn't mapped.
     pub fn list_at(&self, task: u32, page: u64, cpu: u32) -> Result<ArrayVec<u8, 256>, PlaceRefusal>
         ensures answer { MatchResult result
-            (λ list. (place_refusal_in self.now.machine.nodes (is_some (page_at self.now.ranges page)) cpu ≡ None) × (list.items ≡ list_in self.now task page cpu))
-            (λ refusal. place_refusal_in self.now.machine.nodes (is_some (page_at self.now.ranges page)) cpu ≡ Some refusal) }
+            (λ list. (place_refusal_in self.now.machine.nodes
+            (is_some (page_at self.now.ranges page)) cpu ≡ None)
+            × (list.items ≡ list_in self.now task page cpu))
+            (λ refusal. place_refusal_in self.now.machine.nodes
+            (is_some (page_at self.now.ranges page)) cpu ≡ Some refusal) }
         ensures meaning { (history : List Command) → StandsFor self.now history → MatchResult result
-            (λ list. (place_refusal_of self.now.machine history page cpu ≡ None) × (list.items ≡ node_list self.now.machine history task page cpu))
+            (λ list. (place_refusal_of self.now.machine history page cpu ≡ None)
+            × (list.items ≡ node_list self.now.machine history task page cpu))
             (λ refusal. place_refusal_of self.now.machine history page cpu ≡ Some refusal) }
         ensures sound { IfOk result (λ list. IsNodeList self.now.allowed list.items) }
     {
@@ -85,8 +96,11 @@ impl Space {
         cpu: u32,
     ) -> Result<ArrayVec<u8, 256>, PlaceRefusal>
         ensures { MatchResult result
-            (λ list. (place_refusal_in self.now.machine.nodes (is_some (page_at self.now.ranges page)) cpu ≡ None) × (list.items ≡ list_in self.now task page cpu))
-            (λ refusal. place_refusal_in self.now.machine.nodes (is_some (page_at self.now.ranges page)) cpu ≡ Some refusal) }
+            (λ list. (place_refusal_in self.now.machine.nodes
+            (is_some (page_at self.now.ranges page)) cpu ≡ None)
+            × (list.items ≡ list_in self.now task page cpu))
+            (λ refusal. place_refusal_in self.now.machine.nodes
+            (is_some (page_at self.now.ranges page)) cpu ≡ Some refusal) }
     {
         if cpu >= self.machine.nodes() {
             return Err(PlaceRefusal::BadCpu);
@@ -101,7 +115,8 @@ impl Space {
     /// The list of a policy that is in force, for a fault on a node, at a page of this index.
     fn list_of(&self, policy: Option<Record>, cpu: u32, index: u64) -> ArrayVec<u8, 256>
         requires cpu { cpu < self.now.machine.nodes }
-        requires in_force { IfSome policy (λ r. IsInForce self.now.machine self.now.allowed r × (is_live r ≡ true)) }
+        requires in_force { IfSome policy (λ r. IsInForce self.now.machine self.now.allowed r
+            × (is_live r ≡ true)) }
         ensures { result.items ≡ list_for (setting_in self.now) policy cpu index }
     {
         let Some(policy) = policy else {
@@ -116,7 +131,8 @@ impl Space {
         requires from { from < self.now.machine.nodes }
         requires in_force { IsInForce self.now.machine self.now.allowed policy.now }
         requires live { is_live policy.now ≡ true }
-        ensures { result.items ≡ list_by_mode (setting_in self.now) policy.now.spec.mode policy.now.effective from index }
+        ensures { result.items ≡ list_by_mode (setting_in self.now) policy.now.spec.mode
+            policy.now.effective from index }
     {
         let set = policy.effective();
         match policy.spec().mode() {
@@ -149,10 +165,13 @@ impl Space {
         list
     }
 
-    /// The nodes of a set, the nearest to a node first, and behind them the other allowed nodes in the same order.
+    /// The nodes of a set, the nearest to a node first, and behind them the other allowed nodes in
+    /// the same order.
     fn nearest_before_others(&self, set: &NodeMask, from: u32) -> ArrayVec<u8, 256>
         requires { from < self.now.machine.nodes }
-        ensures { result.items ≡ within set.now (distance_order self.now.machine from) ++ filter (λ node. has self.now.allowed node && not (has set.now node)) (distance_order self.now.machine from) }
+        ensures { result.items ≡ within set.now (distance_order self.now.machine from)
+            ++ filter (λ node. has self.now.allowed node && not (has set.now node))
+            (distance_order self.now.machine from) }
     {
         let mut list = self.nearest(set, from);
         push_others(&mut list, self.machine.order(from), &self.allowed, set);
