@@ -3,7 +3,7 @@ use Rattle.std.specs.Prelude.{◌≡◌, ℕ, ◌<◌, ◌⊎◌, true, Option, 
 use Rattle.numa_mode.specs.Policy.{PolicyRecord, is_live}
 use Rattle.numa_ranges.specs.declared.run.Run.{Run}
 use Rattle.numa_space.specs.Lists.{Setting, list_for}
-use Rattle.numa_space.specs.Standing.{SpaceState, record_of, setting_in}
+use Rattle.numa_space.specs.Standing.{SpaceState, record_of}
 use Rattle.numa_plan.specs.Rows.{RuleData, row_of}
 use Rattle.numa_plan.specs.Slots.{rule_in}
 use Rattle.numa_plan.specs.Meaning.{PlanData}

@@ -1,7 +1,6 @@
 -- A core's tables, copied.
 use Rattle.std.proofs.Common.{zero, suc, ◌≡◌, ℕ, Some, List, [], ◌∷◌, length, map, slice_get, vec_len, refl, sym, ap, subst, ◌∙◌, arith}
 use Rattle.std.specs.List.{AllZip}
-use Rattle.numa_machine.specs.Machine.{Hardware}
 use Rattle.numa_space.specs.Standing.{SpaceState}
 use Rattle.numa_core.specs.declared.seat.Seat.{Seat}
 use Rattle.numa_core.specs.declared.state.State.{State}

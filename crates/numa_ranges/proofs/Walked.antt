@@ -1,10 +1,10 @@
 -- A list that is walked from its front: what one step says of the whole.
-use Rattle.std.proofs.Common.{◌≡◌, ℕ, zero, suc, ◌+◌, ◌-◌, ◌<◌, ◌≤◌, ◌^◌, max, Bool, true, false, not, is_some, Some, None, List, [], ◌∷◌, ◌++◌, length, take, drop, get_or, refl, sym, ap, subst, ◌∙◌, arith, inl, inr}
+use Rattle.std.proofs.Common.{◌≡◌, ℕ, zero, suc, ◌+◌, ◌-◌, ◌<◌, ◌≤◌, ◌^◌, max, true, false, not, is_some, Some, None, List, [], ◌∷◌, ◌++◌, length, take, drop, get_or, refl, sym, ap, subst, ◌∙◌, arith, inl, inr}
 use Rattle.std.specs.Prelude.{All, nat_lt}
 use Rattle.std.specs.List.{AllWithin, slice_range}
 use Rattle.std.proofs.lemmas.Bool.{cases_lt, lt-ltb, le-ltb}
 use Rattle.std.proofs.lemmas.List.{drop-drop, drop_more, take_more, get_or-drop, get_or-take, length-drop, length-take}
-use Rattle.numa_ranges.specs.Runs.{page_at, in_pages, end_of, AreApart}
+use Rattle.numa_ranges.specs.Runs.{page_at, end_of, AreApart}
 use Rattle.numa_ranges.specs.Maps.{any_page}
 use Rattle.numa_ranges.specs.Edits.{Each, StartsAround}
 use Rattle.numa_ranges.specs.declared.run.Run.{Run}

@@ -1,4 +1,3 @@
-use Rattle.numa_core.specs.Runs.{world_of}
 use Rattle.numa_core.specs.Standing.{setup_of}
 use Rattle.numa_core.proofs.CommandsOfRuns.{newest-known}
 use Rattle.numa_core.proofs.Newest.{newest}

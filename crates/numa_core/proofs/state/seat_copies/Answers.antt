@@ -1,4 +1,4 @@
-use Rattle.std.proofs.Common.{◌≡◌, List, sym, arith, subst}
+use Rattle.std.proofs.Common.{List, sym, arith, subst}
 use Rattle.std.specs.List.{AllZip}
 use Rattle.std.proofs.Common.{take, ◌+◌}
 use Rattle.std.proofs.lemmas.List.Elements.{all_zip_more}

@@ -1,5 +1,5 @@
 -- One more run is added.
-use Rattle.std.proofs.Common.{◌≡◌, List, ◌∷◌, ◌++◌, [], take, sym, ap, subst, ◌∙◌, append_assoc, length, arith}
+use Rattle.std.proofs.Common.{List, ◌∷◌, ◌++◌, [], take, sym, ap, subst, ◌∙◌, append_assoc, length, arith}
 use Rattle.std.proofs.lemmas.List.{length-drop}
 use Rattle.numa_ranges.specs.declared.run.Run.{Run}
 use Rattle.numa_ranges.specs.Edits.{IsInRange}

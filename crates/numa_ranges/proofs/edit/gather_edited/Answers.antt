@@ -1,5 +1,5 @@
 -- One more run adds its edited parts.
-use Rattle.std.proofs.Common.{◌≡◌, ◌++◌, List, length, take, ap, sym, subst, ◌∙◌, arith}
+use Rattle.std.proofs.Common.{◌≡◌, List, length, take, ap, sym, subst, arith}
 use Rattle.std.proofs.lemmas.List.{length-drop}
 use Rattle.numa_ranges.specs.declared.run.Run.{Run}
 use Rattle.numa_ranges.specs.Edits.{IsInRange, edited}

@@ -1,5 +1,5 @@
 -- What the closure makes of a run is the run with its changed value.
-use Rattle.std.proofs.Common.{◌≡◌, rules}
+use Rattle.std.proofs.Common.{rules}
 use Rattle.std.specs.Fn.{FnReturnsAt}
 use Rattle.std.proofs.lemmas.Fn.{says_at}
 use Rattle.numa_ranges.specs.Edits.{IsRevalued, revalued}

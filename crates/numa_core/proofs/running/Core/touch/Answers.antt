@@ -2,7 +2,7 @@ use Rattle.std.proofs.Common.{◌≡◌, ◌++◌, sym, ap, subst, ◌∙◌}
 use Rattle.numa_core.specs.Kept.{shown}
 use Rattle.numa_core.specs.World.{World}
 use Rattle.numa_core.specs.Runs.{IsLegalRun, world_of}
-use Rattle.numa_core.specs.Standing.{CoreState, CoreStandsFor, HasRun, LeadsTo, setup_of}
+use Rattle.numa_core.specs.Standing.{CoreStandsFor, HasRun, setup_of}
 use Rattle.numa_core.specs.Touching.{Answered, IsTouch, touched, touch_answer, touch_world}
 use Rattle.numa_core.proofs.TouchLaw.{touch_law}
 use Rattle.numa_core.proofs.TouchRuns.{touches}

@@ -1,4 +1,4 @@
-use Rattle.std.proofs.Common.{◌≡◌, List, arith, ap, subst, ◌∙◌}
+use Rattle.std.proofs.Common.{List, arith, ap, subst, ◌∙◌}
 use Rattle.std.proofs.lemmas.List.Elements.{length_all_zip}
 use Rattle.std.specs.List.{AllZip}
 use Rattle.numa_machine.specs.Machine.{Hardware}

@@ -1,5 +1,5 @@
 -- The runs rise, so those that start at the page or before it come first.
-use Rattle.std.proofs.Common.{◌≡◌, leb, ap, ◌∙◌, rules}
+use Rattle.std.proofs.Common.{◌≡◌, leb, ap, rules}
 use Rattle.std.proofs.lemmas.List.Sorted.{IsPartitionedBy-leb, IsPartitionPoint-from_clause}
 use Rattle.std.proofs.lemmas.Bool.{leb-true, leb-false}
 use Rattle.numa_ranges.proofs.Apart.{apart-rising}
