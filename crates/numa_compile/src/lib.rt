@@ -3,7 +3,7 @@
 
 mod compiler;
 mod guesses;
-mod law;
+mod laws;
 mod numbers;
 mod reach;
 mod rows;
@@ -11,4 +11,4 @@ mod rules;
 mod turns;
 
 pub use compiler::{compile, compile_commands};
-pub use law::every_plan;
+pub use laws::every_plan;

@@ -14,10 +14,10 @@ use Rattle.numa_space.specs.declared.event.CoreRefusal.TheVariants.{Command as B
 use Rattle.numa_space.specs.declared.refusal.Refusal.TheVariants.{NoMemory as NoRoom}
 use Rattle.numa_core.specs.World.{Setup, Hunt, World, hunt_of, owner_of, is_frame, list_at, current_rank, looked, missed, may_try, begun}
 use Rattle.numa_core.specs.Steps.{first_refusal, refusal_of, reply_of, refused_or, goes_on, placement_of, owns, IsAnswer, IsOutOfMemory}
-use Rattle.numa_core.specs.Runs.{Moment, IsLegalRun}
+use Rattle.numa_core.specs.Executions.{Moment, IsExecution}
 
--- what came earlier is a legal run
-pub legal_before : (s : Setup) (later rest : List Moment) → IsLegalRun s (later ++ rest) → IsLegalRun s rest
+-- what came earlier is an execution
+pub legal_before : (s : Setup) (later rest : List Moment) → IsExecution s (later ++ rest) → IsExecution s rest
 legal_before s [] rest legal = legal
 legal_before s (m ∷ later) rest legal = legal_before s later rest legal.0
 

@@ -23,7 +23,7 @@ use Rattle.numa_space.specs.declared.event.CoreRefusal.{CoreRefusal}
 use Rattle.numa_space.specs.declared.event.CoreRefusal.TheVariants.{Idle, BadTry}
 use Rattle.numa_core.specs.World.{Setup, Hunt, Worker, World, opening, newest_published, first_commands, hunt_of, last_of, owner_of, is_frame, list_at, may_look, may_try, looked, missed, begun}
 use Rattle.numa_core.specs.Steps.{because, refusal_of, reply_of, effect_of, goes_on, going_on, placement_of, with_worker, with_owner, refused_or, IsAnswer, world_after, MayTake}
-use Rattle.numa_core.specs.Runs.{Moment, IsLegalRun, world_of}
+use Rattle.numa_core.specs.Executions.{Moment, IsExecution, world_of}
 use Rattle.numa_core.specs.Standing.{Busy, CoreState, CoreStandsFor, LeadsTo, place_in, place_of, owner_at, hunt_by, setup_of, frames_before, moment_after, hunt_in, hunt_of_busy}
 use Rattle.numa_core.specs.declared.seat.Job.{Job}
 use Rattle.numa_core.specs.declared.seat.Seat.{Seat}
@@ -228,13 +228,13 @@ may_take core world (Give w frame) stands = tt
 
 -- a step leads on
 pub leads_on : (old new : CoreState) (event : Event) (answer : Result CoreReply CoreRefusal) → setup_of new ≡ setup_of old → ((world : World) → CoreStandsFor old world → IsAnswer (setup_of old) world (newest_published world) event answer × CoreStandsFor new (world_after (setup_of old) world (newest_published world) event answer))
-    → (run : List Moment) → LeadsTo run old → LeadsTo (moment_after (setup_of old) run event answer ∷ run) new
-leads_on old new event answer same follows run leads =
-    let step = follows (world_of (setup_of old) run) leads.stands in
-    let legal : IsLegalRun (setup_of old) (moment_after (setup_of old) run event answer ∷ run) = (leads.legal, may_take old (world_of (setup_of old) run) event leads.stands, step.0) in
+    → (past : List Moment) → LeadsTo past old → LeadsTo (moment_after (setup_of old) past event answer ∷ past) new
+leads_on old new event answer same follows past leads =
+    let step = follows (world_of (setup_of old) past) leads.stands in
+    let legal : IsExecution (setup_of old) (moment_after (setup_of old) past event answer ∷ past) = (leads.legal, may_take old (world_of (setup_of old) past) event leads.stands, step.0) in
     record {
-      legal = subst (λ s. IsLegalRun s (moment_after (setup_of old) run event answer ∷ run)) (sym same) legal;
-      stands = subst (λ s. CoreStandsFor new (world_of s (moment_after (setup_of old) run event answer ∷ run))) (sym same) step.1;
+      legal = subst (λ s. IsExecution s (moment_after (setup_of old) past event answer ∷ past)) (sym same) legal;
+      stands = subst (λ s. CoreStandsFor new (world_of s (moment_after (setup_of old) past event answer ∷ past))) (sym same) step.1;
     }
 
 -- ---- the steps of a core, by what the code did

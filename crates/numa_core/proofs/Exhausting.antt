@@ -8,7 +8,7 @@ use Rattle.numa_space.specs.declared.event.Event.TheVariants.{Accept, Publish, B
 use Rattle.numa_space.specs.declared.event.CoreReply.TheVariants.{Still, Exhausted, Won}
 use Rattle.numa_core.specs.World.{Setup, Hunt, hunt_of, owner_of, current_rank, has_unmet, begun, looked, missed}
 use Rattle.numa_core.specs.Steps.{refusal_of, reply_of, goes_on, placement_of, IsAnswer, MayTake}
-use Rattle.numa_core.specs.Runs.{Moment, world_of, IsLegalRun, IsExhausted, worker_of}
+use Rattle.numa_core.specs.Executions.{Moment, world_of, IsExecution, IsExhausted, worker_of}
 use Rattle.numa_core.proofs.Answered.{replied}
 use Rattle.numa_core.proofs.Versions.{sound}
 use Rattle.numa_core.proofs.Tracking.{Tracked, moment, tracked, tracked-listed, tracked-begun, tracked-looked, tracked-missed}
@@ -22,8 +22,8 @@ goes_on-exhausted s hunt version = go (current_rank s hunt)
     go (Some rank) e = absurd (cc)
 
 -- a hunt that is over
-all_met : (s : Setup) (run : List Moment) (w version : ℕ) (hunt : Hunt) → Tracked s run w hunt → Exhausted version ≡ goes_on s hunt → IsExhausted s w version run
-all_met s run w version hunt t e =
+all_met : (s : Setup) (past : List Moment) (w version : ℕ) (hunt : Hunt) → Tracked s past w hunt → Exhausted version ≡ goes_on s hunt → IsExhausted s w version past
+all_met s past w version hunt t e =
     let over = goes_on-exhausted s hunt version e in
     record {
       begun = t.begun;
@@ -31,38 +31,38 @@ all_met s run w version hunt t e =
       is_last = t.is_last;
       its_version = sym t.version ∙ over.1;
       published = t.published;
-      listed = tracked-listed s run w hunt t;
+      listed = tracked-listed s past w hunt t;
       every = λ i k low few. sym (t.met (slice_index hunt.nodes i) k) ∙ not_false-is _ (any_below-none (λ k. not (hunt.met (slice_index hunt.nodes i) k)) (frames_of s.machine (slice_index hunt.nodes i)) k (first_place-none (has_unmet s hunt) hunt.nodes over.0 i low) few);
     }
 
 -- what is known of the worker of an event that is answered so
 abbrev ends : Setup → List Moment → ℕ → Event → ℕ → Type 0
-ends s run version event told = (w : ℕ) × (worker_of event ≡ Some w) × IsExhausted s w told (moment event version (Ok (Exhausted told)) ∷ run)
+ends s past version event told = (w : ℕ) × (worker_of event ≡ Some w) × IsExhausted s w told (moment event version (Ok (Exhausted told)) ∷ past)
 
-exhausted-step : (s : Setup) (run : List Moment) (version : ℕ) (event : Event) (told : ℕ) → IsLegalRun s run → MayTake (world_of s run) version event → refusal_of s (world_of s run) version event ≡ None → Exhausted told ≡ reply_of s (world_of s run) version event → ends s run version event told
-exhausted-step s run version (Accept command) told legal may ok e = absurd (cc)
-exhausted-step s run version Publish told legal may ok e = absurd (cc)
-exhausted-step s run version (Begin v request) told legal may ok e =
-    (v, refl, all_met s (moment (Begin v request) version (Ok (Exhausted told)) ∷ run) v told (begun s (world_of s run) version request) (tracked-begun s run version v v request (Exhausted told) (sound s run legal) may ok (eq-eqb v v refl)) e)
-exhausted-step s run version (Look v word) told legal may ok e = go (hunt_of (world_of s run) v) refl e
+exhausted-step : (s : Setup) (past : List Moment) (version : ℕ) (event : Event) (told : ℕ) → IsExecution s past → MayTake (world_of s past) version event → refusal_of s (world_of s past) version event ≡ None → Exhausted told ≡ reply_of s (world_of s past) version event → ends s past version event told
+exhausted-step s past version (Accept command) told legal may ok e = absurd (cc)
+exhausted-step s past version Publish told legal may ok e = absurd (cc)
+exhausted-step s past version (Begin v request) told legal may ok e =
+    (v, refl, all_met s (moment (Begin v request) version (Ok (Exhausted told)) ∷ past) v told (begun s (world_of s past) version request) (tracked-begun s past version v v request (Exhausted told) (sound s past legal) may ok (eq-eqb v v refl)) e)
+exhausted-step s past version (Look v word) told legal may ok e = go (hunt_of (world_of s past) v) refl e
   where
-    go : (o : Option Hunt) → hunt_of (world_of s run) v ≡ o → Exhausted told ≡ option_map_or (λ hunt. goes_on s (looked s (world_of s run) word hunt)) o Still → ends s run version (Look v word) told
+    go : (o : Option Hunt) → hunt_of (world_of s past) v ≡ o → Exhausted told ≡ option_map_or (λ hunt. goes_on s (looked s (world_of s past) word hunt)) o Still → ends s past version (Look v word) told
     go None is e = absurd (cc)
     go (Some hunt) is e =
-        (v, refl, all_met s (moment (Look v word) version (Ok (Exhausted told)) ∷ run) v told (looked s (world_of s run) word hunt) (tracked-looked s run version v v word (Exhausted told) hunt (eq-eqb v v refl) is (tracked s run legal v hunt is)) e)
-exhausted-step s run version (Try v frame) told legal may ok e = go (owner_of (world_of s run) frame) refl (hunt_of (world_of s run) v) refl e
+        (v, refl, all_met s (moment (Look v word) version (Ok (Exhausted told)) ∷ past) v told (looked s (world_of s past) word hunt) (tracked-looked s past version v v word (Exhausted told) hunt (eq-eqb v v refl) is (tracked s past legal v hunt is)) e)
+exhausted-step s past version (Try v frame) told legal may ok e = go (owner_of (world_of s past) frame) refl (hunt_of (world_of s past) v) refl e
   where
-    go : (owner : Option ℕ) → owner_of (world_of s run) frame ≡ owner → (o : Option Hunt) → hunt_of (world_of s run) v ≡ o → Exhausted told ≡ (if is_some owner then option_map_or (λ hunt. goes_on s (missed frame hunt)) o Still else option_map_or (λ hunt. Won (placement_of s hunt frame)) o Still) → ends s run version (Try v frame) told
+    go : (owner : Option ℕ) → owner_of (world_of s past) frame ≡ owner → (o : Option Hunt) → hunt_of (world_of s past) v ≡ o → Exhausted told ≡ (if is_some owner then option_map_or (λ hunt. goes_on s (missed frame hunt)) o Still else option_map_or (λ hunt. Won (placement_of s hunt frame)) o Still) → ends s past version (Try v frame) told
     go (Some u) owned None is e = absurd (cc)
     go (Some u) owned (Some hunt) is e =
-        (v, refl, all_met s (moment (Try v frame) version (Ok (Exhausted told)) ∷ run) v told (missed frame hunt) (tracked-missed s run version v v u frame (Exhausted told) hunt owned (eq-eqb v v refl) (tracked s run legal v hunt is)) e)
+        (v, refl, all_met s (moment (Try v frame) version (Ok (Exhausted told)) ∷ past) v told (missed frame hunt) (tracked-missed s past version v v u frame (Exhausted told) hunt owned (eq-eqb v v refl) (tracked s past legal v hunt is)) e)
     go None owned None is e = absurd (cc)
     go None owned (Some hunt) is e = absurd (cc)
-exhausted-step s run version (Give v frame) told legal may ok e = absurd (cc)
+exhausted-step s past version (Give v frame) told legal may ok e = absurd (cc)
 
 -- each reply Exhausted is to a worker whose list is exhausted
-pub exhausted : (s : Setup) (run : List Moment) (m : Moment) (version : ℕ) → IsLegalRun s (m ∷ run) → m.answer ≡ Ok (Exhausted version) → (w : ℕ) × (worker_of m.event ≡ Some w) × IsExhausted s w version (m ∷ run)
-exhausted s run m version legal e =
-    let answer = replied s (world_of s run) m.version m.event (Exhausted version) (subst (λ a. IsAnswer s (world_of s run) m.version m.event a) e legal.2) in
-    let found = exhausted-step s run m.version m.event version legal.0 legal.1 answer.0 answer.1 in
-    (found.0, found.1, subst (λ a. IsExhausted s found.0 version (moment m.event m.version a ∷ run)) (sym e) found.2)
+pub exhausted : (s : Setup) (past : List Moment) (m : Moment) (version : ℕ) → IsExecution s (m ∷ past) → m.answer ≡ Ok (Exhausted version) → (w : ℕ) × (worker_of m.event ≡ Some w) × IsExhausted s w version (m ∷ past)
+exhausted s past m version legal e =
+    let answer = replied s (world_of s past) m.version m.event (Exhausted version) (subst (λ a. IsAnswer s (world_of s past) m.version m.event a) e legal.2) in
+    let found = exhausted-step s past m.version m.event version legal.0 legal.1 answer.0 answer.1 in
+    (found.0, found.1, subst (λ a. IsExhausted s found.0 version (moment m.event m.version a ∷ past)) (sym e) found.2)

@@ -3,7 +3,7 @@ pub mod GivenBack
 pub mod Versions
 pub mod Newest
 pub mod Tracking
-pub mod CommandsOfRuns
+pub mod CommandsOfExecutions
 pub mod Placing
 pub mod Exhausting
 pub mod Rows
@@ -16,7 +16,7 @@ pub mod TouchRows
 pub mod TouchLowest
 pub mod TouchSteps
 pub mod TouchLaw
-pub mod TouchRuns
+pub mod TouchExecutions
 pub mod TouchFinds
 pub mod TouchJudged
 pub mod TouchStands

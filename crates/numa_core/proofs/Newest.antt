@@ -7,7 +7,7 @@ use Rattle.numa_space.specs.declared.event.CoreReply.{CoreReply}
 use Rattle.numa_space.specs.declared.event.CoreRefusal.{CoreRefusal}
 use Rattle.numa_core.specs.World.{Setup, Worker, World, is_published, newest_published, last_of, owner_of}
 use Rattle.numa_core.specs.Steps.{effect_of, MayTake}
-use Rattle.numa_core.specs.Runs.{Moment, world_of, IsLegalRun}
+use Rattle.numa_core.specs.Executions.{Moment, world_of, IsExecution}
 use Rattle.numa_core.proofs.Versions.{IsSound, sound, by_itself}
 
 pub record HasNewest (world : World) : Type 0 where
@@ -51,17 +51,17 @@ newest-step s world version (Try v frame) may sound newest = go (owner_of world 
     }
 newest-step s world version (Give v frame) may sound newest = record { there = newest.there; greatest = newest.greatest; lasts = newest.lasts }
 
--- every legal run leads to a world with a newest published version
-pub newest : (s : Setup) (run : List Moment) → IsLegalRun s run → HasNewest (world_of s run)
+-- every execution leads to a world with a newest published version
+pub newest : (s : Setup) (past : List Moment) → IsExecution s past → HasNewest (world_of s past)
 newest s [] legal = record { there = refl; greatest = λ v h. go v (0 == v) refl h; lasts = λ w. omega arith }
   where
     go : (v : ℕ) (b : Bool) → (0 == v) ≡ b → (b || false) ≡ true → v ≤ 0
     go v true e h = omega (arith, eqb-true 0 v e)
     go v false e h = absurd (cc)
-newest s (m ∷ run) legal = go m.answer (newest s run legal.0)
+newest s (m ∷ past) legal = go m.answer (newest s past legal.0)
   where
-    go : (answer : Result CoreReply CoreRefusal) → HasNewest (world_of s run) → HasNewest (if is_ok answer then effect_of s (world_of s run) m.version m.event else world_of s run)
-    go (Ok reply) h = newest-step s (world_of s run) m.version m.event legal.1 (sound s run legal.0) h
+    go : (answer : Result CoreReply CoreRefusal) → HasNewest (world_of s past) → HasNewest (if is_ok answer then effect_of s (world_of s past) m.version m.event else world_of s past)
+    go (Ok reply) h = newest-step s (world_of s past) m.version m.event legal.1 (sound s past legal.0) h
     go (Err refusal) h = h
 
 -- each worker may take the newest published version

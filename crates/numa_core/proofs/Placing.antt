@@ -11,7 +11,7 @@ use Rattle.numa_space.specs.declared.event.Event.TheVariants.{Try}
 use Rattle.numa_space.specs.declared.event.CoreReply.TheVariants.{Won}
 use Rattle.numa_core.specs.World.{Setup, Hunt, owner_of, any_below, first_place, one_further, current_rank, at_current, has_unmet}
 use Rattle.numa_core.specs.Steps.{refusal_of, reply_of, placement_of, IsAnswer}
-use Rattle.numa_core.specs.Runs.{Moment, world_of, IsLegalRun, IsRightPlacement}
+use Rattle.numa_core.specs.Executions.{Moment, world_of, IsExecution, IsRightPlacement}
 use Rattle.numa_core.proofs.Answered.{replied, try_means, won_means, won_by_try}
 use Rattle.numa_core.proofs.Tracking.{Tracked, tracked, tracked-listed}
 
@@ -84,13 +84,13 @@ pub not_false-is : (b : Bool) → not b ≡ false → b ≡ true
 not_false-is true e = refl
 not_false-is false e = absurd (cc)
 
-placed : (s : Setup) (run : List Moment) (w : ℕ) (frame : Frame) (hunt : Hunt) (placement : Placement) → Tracked s run w hunt → owner_of (world_of s run) frame ≡ None → placement ≡ placement_of s hunt frame → (rank : ℕ) → current_rank s hunt ≡ Some rank
-    → ((slice_index hunt.nodes rank == frame.node) ≡ true) × (nat_lt frame.number (frames_of s.machine (slice_index hunt.nodes rank)) ≡ true) × (not (hunt.met (slice_index hunt.nodes rank) frame.number) ≡ true) → IsRightPlacement s w placement run
-placed s run w frame hunt placement t free is rank current tried =
+placed : (s : Setup) (past : List Moment) (w : ℕ) (frame : Frame) (hunt : Hunt) (placement : Placement) → Tracked s past w hunt → owner_of (world_of s past) frame ≡ None → placement ≡ placement_of s hunt frame → (rank : ℕ) → current_rank s hunt ≡ Some rank
+    → ((slice_index hunt.nodes rank == frame.node) ≡ true) × (nat_lt frame.number (frames_of s.machine (slice_index hunt.nodes rank)) ≡ true) × (not (hunt.met (slice_index hunt.nodes rank) frame.number) ≡ true) → IsRightPlacement s w placement past
+placed s past w frame hunt placement t free is rank current tried =
     let spot = first_place-some (has_unmet s hunt) hunt.nodes rank current in
     let here : slice_index hunt.nodes rank ≡ frame.node = eqb-true _ _ tried.0 in
     let ranked : unwrap_or (current_rank s hunt) 0 ≡ rank = ap (λ o. unwrap_or o 0) current in
-    subst (λ p. IsRightPlacement s w p run) (sym is) record {
+    subst (λ p. IsRightPlacement s w p past) (sym is) record {
       begun = t.begun;
       nodes = hunt.nodes;
       is_last = t.is_last;
@@ -98,7 +98,7 @@ placed s run w frame hunt placement t free is rank current tried =
       published = t.published;
       task = ap (λ (r : Request). r.task) t.request;
       page = ap (λ (r : Request). r.page) t.request;
-      listed = tracked-listed s run w hunt t;
+      listed = tracked-listed s past w hunt t;
       rank = subst (λ r. r < length hunt.nodes) (sym ranked) spot.0;
       node = ap (λ r. slice_index hunt.nodes r) ranked ∙ here;
       frame_node = refl;
@@ -107,21 +107,21 @@ placed s run w frame hunt placement t free is rank current tried =
       earlier = λ i k low few. sym (t.met (slice_index hunt.nodes i) k) ∙ not_false-is _ (any_below-none (λ k. not (hunt.met (slice_index hunt.nodes i) k)) (frames_of s.machine (slice_index hunt.nodes i)) k (spot.1 i (subst (λ r. i < r) ranked low)) few);
     }
 
-right_try : (s : Setup) (run : List Moment) (w version : ℕ) (frame : Frame) (placement : Placement) → IsLegalRun s run → refusal_of s (world_of s run) version (Try w frame) ≡ None → Won placement ≡ reply_of s (world_of s run) version (Try w frame) → IsRightPlacement s w placement run
-right_try s run w version frame placement legal ok reply =
-    let win = won_means s (world_of s run) w version frame placement reply in
-    let t = tracked s run legal w win.0 win.1 in
-    let tried = at_current-means s win.0 (λ n. (n == frame.node) && (nat_lt frame.number (frames_of s.machine n) && not (win.0.met n frame.number))) (try_means s (world_of s run) version w frame win.0 ok win.1) in
-    placed s run w frame win.0 placement t win.2 win.3 tried.0 tried.1 (all_three _ _ _ tried.2)
+right_try : (s : Setup) (past : List Moment) (w version : ℕ) (frame : Frame) (placement : Placement) → IsExecution s past → refusal_of s (world_of s past) version (Try w frame) ≡ None → Won placement ≡ reply_of s (world_of s past) version (Try w frame) → IsRightPlacement s w placement past
+right_try s past w version frame placement legal ok reply =
+    let win = won_means s (world_of s past) w version frame placement reply in
+    let t = tracked s past legal w win.0 win.1 in
+    let tried = at_current-means s win.0 (λ n. (n == frame.node) && (nat_lt frame.number (frames_of s.machine n) && not (win.0.met n frame.number))) (try_means s (world_of s past) version w frame win.0 ok win.1) in
+    placed s past w frame win.0 placement t win.2 win.3 tried.0 tried.1 (all_three _ _ _ tried.2)
 
 -- each reply Won answers a Try of its frame, and its placement is right
-pub right : (s : Setup) (run : List Moment) (m : Moment) (placement : Placement) → IsLegalRun s (m ∷ run) → m.answer ≡ Ok (Won placement) → (w : ℕ) × (m.event ≡ Try w placement.frame) × IsRightPlacement s w placement run
-right s run m placement legal e =
-    let answer = replied s (world_of s run) m.version m.event (Won placement) (subst (λ a. IsAnswer s (world_of s run) m.version m.event a) e legal.2) in
-    let attempt = won_by_try s (world_of s run) m.version m.event placement answer.1 in (
+pub right : (s : Setup) (past : List Moment) (m : Moment) (placement : Placement) → IsExecution s (m ∷ past) → m.answer ≡ Ok (Won placement) → (w : ℕ) × (m.event ≡ Try w placement.frame) × IsRightPlacement s w placement past
+right s past m placement legal e =
+    let answer = replied s (world_of s past) m.version m.event (Won placement) (subst (λ a. IsAnswer s (world_of s past) m.version m.event a) e legal.2) in
+    let attempt = won_by_try s (world_of s past) m.version m.event placement answer.1 in (
       attempt.0,
       attempt.1,
-      right_try s run attempt.0 m.version placement.frame placement legal.0
-          (subst (λ x. refusal_of s (world_of s run) m.version x ≡ None) attempt.1 answer.0)
-          (subst (λ x. Won placement ≡ reply_of s (world_of s run) m.version x) attempt.1 answer.1),
+      right_try s past attempt.0 m.version placement.frame placement legal.0
+          (subst (λ x. refusal_of s (world_of s past) m.version x ≡ None) attempt.1 answer.0)
+          (subst (λ x. Won placement ≡ reply_of s (world_of s past) m.version x) attempt.1 answer.1),
     )

@@ -78,7 +78,7 @@ judged-bad_cpu core w request idle high world stands =
     judged-idle core w request world stands idle
     ∙ rw (high_true core.space.machine.nodes request.cpu (subst (λ n. n ≤ request.cpu) stands.plan.nodes high)) refl
 
--- no run of the plan has the page
+-- no execution of the plan has the page
 pub judged-unmapped : (core : CoreState) (w : ℕ) (request : Request) → slice_get core.workers w ≡ Some None → request.cpu < core.plan.nodes → planned_list core.plan request.task request.page request.cpu ≡ None → IsJudged core w request (Some (Unmapped core.plan.version))
 judged-unmapped core w request idle cpu none world stands =
     let within : request.cpu < core.space.machine.nodes = subst (λ n. request.cpu < n) stands.plan.nodes cpu in

@@ -11,7 +11,7 @@ use Rattle.numa_space.specs.declared.event.CoreReply.TheVariants.{Still, Exhaust
 use Rattle.numa_space.specs.declared.event.CoreRefusal.{CoreRefusal}
 use Rattle.numa_core.specs.World.{Setup, Hunt, Worker, World, is_published, last_of, hunt_of, owner_of, current_rank, begun, looked, missed}
 use Rattle.numa_core.specs.Steps.{reply_of, effect_of, goes_on, going_on, placement_of, IsAnswer, MayTake}
-use Rattle.numa_core.specs.Runs.{Moment, world_of, IsLegalRun, version_told, worker_of}
+use Rattle.numa_core.specs.Executions.{Moment, world_of, IsExecution, version_told, worker_of}
 use Rattle.numa_core.proofs.Answered.{legal_before, replied}
 
 -- each published version is of accepted commands, each worker's last one too, and a hunt is by the last one
@@ -88,8 +88,8 @@ sound-step s world version (Try v frame) may sound = go (owner_of world frame) r
     }
 sound-step s world version (Give v frame) may sound = record { published = sound.published; lasts = sound.lasts; hunts = sound.hunts }
 
--- every legal run leads to a sound world
-pub sound : (s : Setup) (run : List Moment) → IsLegalRun s run → IsSound (world_of s run)
+-- every execution leads to a sound world
+pub sound : (s : Setup) (past : List Moment) → IsExecution s past → IsSound (world_of s past)
 sound s [] legal = record {
   published = λ v h. go v h;
   lasts = λ w. omega arith;
@@ -102,10 +102,10 @@ sound s [] legal = record {
         pick : (b : Bool) → (0 == v) ≡ b → (b || false) ≡ true → v ≤ 0
         pick true e h = omega (arith, eqb-true 0 v e)
         pick false e h = absurd (cc)
-sound s (m ∷ run) legal = go m.answer (sound s run legal.0)
+sound s (m ∷ past) legal = go m.answer (sound s past legal.0)
   where
-    go : (answer : Result CoreReply CoreRefusal) → IsSound (world_of s run) → IsSound (if is_ok answer then effect_of s (world_of s run) m.version m.event else world_of s run)
-    go (Ok reply) h = sound-step s (world_of s run) m.version m.event legal.1 h
+    go : (answer : Result CoreReply CoreRefusal) → IsSound (world_of s past) → IsSound (if is_ok answer then effect_of s (world_of s past) m.version m.event else world_of s past)
+    go (Ok reply) h = sound-step s (world_of s past) m.version m.event legal.1 h
     go (Err refusal) h = h
 
 rises-step : (s : Setup) (world : World) (version w : ℕ) (event : Event) → MayTake world version event → last_of world w ≤ last_of (effect_of s world version event) w
@@ -121,12 +121,12 @@ rises-step s world version w (Try v frame) may = go (owner_of world frame) refl
 rises-step s world version w (Give v frame) may = omega arith
 
 -- a worker's last version never falls
-pub rises : (s : Setup) (between run : List Moment) (w : ℕ) → IsLegalRun s (between ++ run) → last_of (world_of s run) w ≤ last_of (world_of s (between ++ run)) w
-rises s [] run w legal = omega arith
-rises s (m ∷ between) run w legal = go m.answer (rises s between run w legal.0)
+pub rises : (s : Setup) (between past : List Moment) (w : ℕ) → IsExecution s (between ++ past) → last_of (world_of s past) w ≤ last_of (world_of s (between ++ past)) w
+rises s [] past w legal = omega arith
+rises s (m ∷ between) past w legal = go m.answer (rises s between past w legal.0)
   where
-    go : (answer : Result CoreReply CoreRefusal) → last_of (world_of s run) w ≤ last_of (world_of s (between ++ run)) w → last_of (world_of s run) w ≤ last_of (if is_ok answer then effect_of s (world_of s (between ++ run)) m.version m.event else world_of s (between ++ run)) w
-    go (Ok reply) h = let more : last_of (world_of s (between ++ run)) w ≤ last_of (effect_of s (world_of s (between ++ run)) m.version m.event) w = rises-step s (world_of s (between ++ run)) m.version w m.event legal.1 in omega arith
+    go : (answer : Result CoreReply CoreRefusal) → last_of (world_of s past) w ≤ last_of (world_of s (between ++ past)) w → last_of (world_of s past) w ≤ last_of (if is_ok answer then effect_of s (world_of s (between ++ past)) m.version m.event else world_of s (between ++ past)) w
+    go (Ok reply) h = let more : last_of (world_of s (between ++ past)) w ≤ last_of (effect_of s (world_of s (between ++ past)) m.version m.event) w = rises-step s (world_of s (between ++ past)) m.version w m.event legal.1 in omega arith
     go (Err refusal) h = h
 
 same_number : (v w : ℕ) → ◌≡◌ {A = Option ℕ} (Some v) (Some w) → v ≡ w
@@ -171,19 +171,19 @@ told-step s world version (Try v frame) w a sound own_step e = go (owner_of worl
 told-step s world version (Give v frame) w a sound own_step e = absurd (cc)
 
 -- the version that a reply tells the worker is its last one then
-pub told_is_last : (s : Setup) (run : List Moment) (m : Moment) (w a : ℕ) → IsLegalRun s (m ∷ run) → worker_of m.event ≡ Some w → version_told m.answer ≡ Some a → last_of (world_of s (m ∷ run)) w ≡ a
-told_is_last s run m w a legal own_step e = go m.answer legal.2 e
+pub told_is_last : (s : Setup) (past : List Moment) (m : Moment) (w a : ℕ) → IsExecution s (m ∷ past) → worker_of m.event ≡ Some w → version_told m.answer ≡ Some a → last_of (world_of s (m ∷ past)) w ≡ a
+told_is_last s past m w a legal own_step e = go m.answer legal.2 e
   where
-    go : (answer : Result CoreReply CoreRefusal) → IsAnswer s (world_of s run) m.version m.event answer → version_told answer ≡ Some a → last_of (if is_ok answer then effect_of s (world_of s run) m.version m.event else world_of s run) w ≡ a
+    go : (answer : Result CoreReply CoreRefusal) → IsAnswer s (world_of s past) m.version m.event answer → version_told answer ≡ Some a → last_of (if is_ok answer then effect_of s (world_of s past) m.version m.event else world_of s past) w ≡ a
     go (Ok reply) answer e =
-        let same = (replied s (world_of s run) m.version m.event reply answer).1 in
-        told-step s (world_of s run) m.version m.event w a (sound s run legal.0) own_step (sym (ap (λ r. version_told (Ok r)) same) ∙ e)
+        let same = (replied s (world_of s past) m.version m.event reply answer).1 in
+        told-step s (world_of s past) m.version m.event w a (sound s past legal.0) own_step (sym (ap (λ r. version_told (Ok r)) same) ∙ e)
     go (Err refusal) answer e = absurd (none e)
       where
         none : ◌≡◌ {A = Option ℕ} None (Some a) → ⊥
         none e = cc
 
-pub never_falls : (s : Setup) (between earlier : List Moment) (old new : Moment) (w a b : ℕ) → IsLegalRun s (new ∷ (between ++ old ∷ earlier)) → worker_of old.event ≡ Some w → worker_of new.event ≡ Some w → version_told old.answer ≡ Some a → version_told new.answer ≡ Some b → a ≤ b
+pub never_falls : (s : Setup) (between earlier : List Moment) (old new : Moment) (w a b : ℕ) → IsExecution s (new ∷ (between ++ old ∷ earlier)) → worker_of old.event ≡ Some w → worker_of new.event ≡ Some w → version_told old.answer ≡ Some a → version_told new.answer ≡ Some b → a ≤ b
 never_falls s between earlier old new w a b legal old_step new_step first second =
     let one : last_of (world_of s (old ∷ earlier)) w ≡ a = told_is_last s earlier old w a (legal_before s between (old ∷ earlier) legal.0) old_step first in
     let two : last_of (world_of s (new ∷ (between ++ old ∷ earlier))) w ≡ b = told_is_last s (between ++ old ∷ earlier) new w b legal new_step second in

@@ -1,6 +1,6 @@
 pub mod World
 pub mod Steps
-pub mod Runs
+pub mod Executions
 pub mod Standing
 pub mod Touching
 pub mod Places

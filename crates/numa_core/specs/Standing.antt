@@ -1,4 +1,4 @@
--- What a core shows, and which worlds and runs it stands for.
+-- What a core shows, and which worlds and executions it stands for.
 use Rattle.std.specs.Prelude.{zero, suc, ◌≡◌, ◌==◌, ◌+◌, ◌/◌, ◌%◌, ℕ, ◌≤◌, Bool, true}
 use Rattle.std.specs.Prelude.{false, Option, Some, None, Result, List, length, nat_lt}
 use Rattle.std.specs.Prelude.{slice_get, slice_index, option_and_then, if◌then◌else◌}
@@ -9,7 +9,7 @@ use Rattle.numa_plan.specs.Meaning.{PlanData}
 use Rattle.numa_compile.specs.Standing.{PlanStandsFor}
 use Rattle.numa_core.specs.World.{Setup, Hunt, World, newest_published, is_published}
 use Rattle.numa_core.specs.World.{first_commands, hunt_of, last_of}
-use Rattle.numa_core.specs.Runs.{Moment, IsLegalRun, world_of}
+use Rattle.numa_core.specs.Executions.{Moment, IsExecution, world_of}
 use Rattle.numa_space.specs.declared.request.Request.{Request}
 use Rattle.numa_space.specs.declared.event.Event.{Event}
 use Rattle.numa_space.specs.declared.event.CoreReply.{CoreReply}
@@ -115,18 +115,18 @@ pub record ShowsWorld (core : CoreState) (world : World) : Type 0 where
   pub hunts : (w : ℕ) → shown_hunt core w ≡ hunt_of world w
   pub owners : (n k : ℕ) → shown_owner core n k ≡ world.owner n k
 
--- the run is legal and leads to a world that the core stands for
-pub record LeadsTo (run : List Moment) (core : CoreState) : Type 0 where
-  pub legal : IsLegalRun (setup_of core) run
-  pub stands : CoreStandsFor core (world_of (setup_of core) run)
+-- the execution is legal and leads to a world that the core stands for
+pub record LeadsTo (past : List Moment) (core : CoreState) : Type 0 where
+  pub legal : IsExecution (setup_of core) past
+  pub stands : CoreStandsFor core (world_of (setup_of core) past)
 
--- some legal run leads to the core
-pub record HasRun (core : CoreState) : Type 0 where
-  pub run : List Moment
-  pub leads : LeadsTo run core
+-- some execution leads to the core
+pub record HasPast (core : CoreState) : Type 0 where
+  pub past : List Moment
+  pub leads : LeadsTo past core
 
--- the moment of an event that comes after a run and was answered so; a Begin takes the newest
+-- the moment of an event that comes after an execution and was answered so; a Begin takes the newest
 -- published version
 abbrev pub moment_after : Setup → List Moment → Event → Result CoreReply CoreRefusal → Moment
-moment_after s run event answer =
-    record { event = event; version = newest_published (world_of s run); answer = answer }
+moment_after s past event answer =
+    record { event = event; version = newest_published (world_of s past); answer = answer }

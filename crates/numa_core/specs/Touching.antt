@@ -18,7 +18,7 @@ use Rattle.numa_core.specs.World.{Setup, Hunt, World, newest_published}
 use Rattle.numa_core.specs.World.{hunt_of, current_rank, begun}
 use Rattle.numa_core.specs.Steps.{refusal_of, refused_or, answer_of, world_after}
 use Rattle.numa_core.specs.Steps.{with_worker, with_owner}
-use Rattle.numa_core.specs.Runs.{Moment}
+use Rattle.numa_core.specs.Executions.{Moment}
 use Rattle.numa_core.specs.Standing.{owner_at, place_in}
 
 -- the lowest number below the count that passes the test

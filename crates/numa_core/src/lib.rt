@@ -4,7 +4,7 @@
 #![tactic(auto)]
 
 mod judging;
-pub mod law;
+pub mod laws;
 mod places;
 pub mod running;
 mod seat;

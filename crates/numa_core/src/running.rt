@@ -3,8 +3,8 @@ ghost use Rattle.std.specs.Prelude.{◌≡◌, ℕ, ◌≤◌, List, [], ◌∷�
 ghost use Rattle.numa_space.specs.Standing.{StandsFor};
 ghost use Rattle.numa_core.specs.World.{World, newest_published};
 ghost use Rattle.numa_core.specs.Steps.{IsAnswer, world_after};
-ghost use Rattle.numa_core.specs.Runs.{Moment};
-ghost use Rattle.numa_core.specs.Standing.{CoreState, CoreStandsFor, HasRun};
+ghost use Rattle.numa_core.specs.Executions.{Moment};
+ghost use Rattle.numa_core.specs.Standing.{CoreState, CoreStandsFor, HasPast};
 ghost use Rattle.numa_core.specs.Standing.{LeadsTo, moment_after, setup_of};
 
 use crate::state::State;
@@ -22,14 +22,14 @@ pub struct Core {
 }
 
 impl Model for Core {
-    ghost use Rattle.numa_core.specs.Standing.{CoreState, HasRun};
+    ghost use Rattle.numa_core.specs.Standing.{CoreState, HasPast};
     ghost use Rattle.numa_core.specs.Kept.{shown, IsKept};
 
     ghost Value = { CoreState };
 
     ghost view = { λ a. shown a.state };
 
-    ghost invariant = { λ a. IsKept a.state × HasRun (shown a.state) };
+    ghost invariant = { λ a. IsKept a.state × HasPast (shown a.state) };
 }
 
 impl Core {
@@ -58,7 +58,7 @@ impl Core {
     }
 
     /// The same core once more: the copy stands for each world for which this one does, and each
-    /// legal run that leads to this one leads to the copy. An event at one of the two leaves the
+    /// execution that leads to this one leads to the copy. An event at one of the two leaves the
     /// other as it is, so that a caller can try what events come to.
     ///
     /// # Errors
@@ -68,8 +68,8 @@ impl Core {
         ensures same { IfOk result (λ copy. copy ≡ self.now) }
         ensures stands { (world : World) → CoreStandsFor self.now world →
             IfOk result (λ copy. CoreStandsFor copy world) }
-        ensures runs { (run : List Moment) → LeadsTo run self.now →
-            IfOk result (λ copy. LeadsTo run copy) }
+        ensures executions { (past : List Moment) → LeadsTo past self.now →
+            IfOk result (λ copy. LeadsTo past copy) }
     {
         let state = self.state.copy()?;
         Ok(Core { state })
@@ -91,8 +91,8 @@ impl Core {
             IsAnswer (setup_of self.old) world (newest_published world) event result
             × CoreStandsFor self.new (world_after (setup_of self.old) world (newest_published world)
             event result) }
-        ensures runs { (run : List Moment) → LeadsTo run self.old →
-            LeadsTo (moment_after (setup_of self.old) run event result ∷ run) self.new }
+        ensures executions { (past : List Moment) → LeadsTo past self.old →
+            LeadsTo (moment_after (setup_of self.old) past event result ∷ past) self.new }
         ensures unchanged { OnErr result (self.new ≡ self.old) }
         ensures setup { setup_of self.new ≡ setup_of self.old }
     {
@@ -115,12 +115,12 @@ impl Core {
         &self.state.space
     }
 
-    /// The newest published version. Some legal run leads to every core.
+    /// The newest published version. Some execution leads to every core.
     pub fn published(&self) -> u64
         ensures published { result ≡ self.now.plan.version }
         ensures meaning { (world : World) → CoreStandsFor self.now world →
             result ≡ newest_published world }
-        ensures run { HasRun self.now }
+        ensures past { HasPast self.now }
     {
         self.state.plan.version()
     }

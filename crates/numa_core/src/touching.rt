@@ -5,7 +5,7 @@ ghost use Rattle.std.specs.Prelude.{◌≡◌, ℕ, ◌<◌, ◌≤◌, true, Op
 ghost use Rattle.std.specs.Prelude.{◌++◌, IfOk, IfSome, OnErr, length, vec_len, slice_index};
 ghost use Rattle.numa_core.specs.World.{Setup, World};
 ghost use Rattle.numa_core.specs.Steps.{put_frame};
-ghost use Rattle.numa_core.specs.Runs.{Moment};
+ghost use Rattle.numa_core.specs.Executions.{Moment};
 ghost use Rattle.numa_core.specs.Standing.{setup_of, frames_before, owner_at};
 ghost use Rattle.numa_core.specs.Standing.{place_in, CoreStandsFor, LeadsTo};
 ghost use Rattle.numa_core.specs.Kept.{shown, IsKept};
@@ -168,8 +168,8 @@ impl Core {
         ensures answer { (world : World) → CoreStandsFor self.old world →
             (result ≡ (touched (setup_of self.old) world worker request).answer)
             × CoreStandsFor self.new (touched (setup_of self.old) world worker request).world }
-        ensures runs { (run : List Moment) → LeadsTo run self.old → (moments : List Moment)
-            × IsTouch worker request result moments × LeadsTo (moments ++ run) self.new }
+        ensures executions { (past : List Moment) → LeadsTo past self.old → (moments : List Moment)
+            × IsTouch worker request result moments × LeadsTo (moments ++ past) self.new }
         ensures unchanged { OnErr result (self.new ≡ self.old) }
         ensures setup { setup_of self.new ≡ setup_of self.old }
     {

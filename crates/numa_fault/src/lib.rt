@@ -7,7 +7,7 @@ mod along;
 pub mod answer;
 pub mod crew;
 mod gathering;
-pub mod law;
+pub mod laws;
 mod page;
 mod placing;
 pub mod refusal;

@@ -13,7 +13,7 @@ ghost use Rattle.numa_fault.specs.Walked.{frame_in};
 use crate::along::take_along;
 use numa_machine::Frame;
 use numa_plan::Steps;
-use numa_pool::law::{walk_is_sparing, walks_compose};
+use numa_pool::laws::{walk_is_sparing, walks_compose};
 use numa_pool::{PoolSeat, Pools};
 use numa_publish::PlanView;
 use numa_space::{Placement, Request};

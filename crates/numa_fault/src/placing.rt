@@ -6,7 +6,7 @@ use crate::along::take_along;
 use crate::refusal::FaultRefusal;
 use numa_machine::Frame;
 use numa_plan::Steps;
-use numa_pool::law::{walk_is_sparing, walks_compose};
+use numa_pool::laws::{walk_is_sparing, walks_compose};
 use numa_pool::{PoolSeat, Pools};
 use numa_publish::{PlanReader, PlanView};
 use numa_space::{PlaceRefusal, Placement, Request};

@@ -6,7 +6,7 @@ use Rattle.numa_space.specs.declared.command.Command.{Command}
 use Rattle.numa_space.specs.declared.request.Request.{Request}
 use Rattle.numa_core.specs.World.{Setup, Worker, World}
 use Rattle.numa_core.specs.Steps.{answer_of, effect_of}
-use Rattle.numa_core.specs.Runs.{worker_of, world_of}
+use Rattle.numa_core.specs.Executions.{worker_of, world_of}
 use Rattle.numa_space.specs.declared.event.Event.TheVariants.{Accept, Publish, Begin, Look, Try, Give}
 use Rattle.numa_pool.specs.Seats.{SeatView}
 use Rattle.numa_pool.specs.declared.view.Entry.{Entry}
@@ -14,7 +14,7 @@ use Rattle.numa_pool.specs.declared.view.Entry.TheVariants.{Load, Won, Lost, Gav
 use Rattle.numa_tie.specs.Hunts.{TakesTurns, Turn, steps_of, world_left}
 use Rattle.numa_tie.specs.Moments.{event_of}
 use Rattle.numa_tie.specs.Moves.{Makes, PoolState}
-use Rattle.numa_tie.specs.Plays.{Deed, makes_step, splits, has_event, Done, Fits, IsPlay, pools_of, run_of, since_of}
+use Rattle.numa_tie.specs.Plays.{Deed, makes_step, splits, has_event, Done, Fits, IsPlay, pools_of, execution_of, since_of}
 use Rattle.numa_tie.proofs.Playing.{plays}
 use Rattle.numa_hunts.specs.Faults.{Falls, IsReady, LeavesLast, begun_world}
 use Rattle.numa_hunts.specs.Interleaved.{HaveNoBegin, IsNoBegin, begins, turns_in, with_turn}
@@ -31,12 +31,12 @@ module _ (s : Setup) (w : ℕ) (few : (n : ℕ) → slice_index s.machine.frames
   record Stand (done : List Done) (turns : List Turn) : Type 0 where
     taken : TakesTurns s w begun turns
     last : LeavesLast s w begun turns
-    worker : (world_of s (run_of s done)).worker w ≡ (world_left s w begun turns).worker w
+    worker : (world_of s (execution_of s done)).worker w ≡ (world_left s w begun turns).worker w
     since : since_of s done w ≡ steps_of turns
 
   module _ (rest : List Done) (turns : List Turn) (play : IsPlay s first rest) (h : Stand rest turns) where
     abbrev world : World
-    world = world_of s (run_of s rest)
+    world = world_of s (execution_of s rest)
 
     one-more : (deed : Deed) (pools : PoolState) → Fits s world (since_of s rest) deed (pools_of s first rest) pools → IsNoBegin w deed
         → Stand (record { deed = deed; pools = pools } ∷ rest) (with_turn w deed world (pools_of s first rest) pools turns)
@@ -94,12 +94,12 @@ module _ (s : Setup) (w : ℕ) (few : (n : ℕ) → slice_index s.machine.frames
   stand base (d ∷ later) h play none = one-more (later ++ base) (turns_in s w first later base) play.0 (stand base later h play.0 none.0) d.deed d.pools play.1 none.1
 
 module _ (s : Setup) (w : ℕ) (few : (n : ℕ) → slice_index s.machine.frames n ≤ 4096) (first pools : PoolState) (done later : List Done) (history : List Command) (request : Request)
-    (play : IsPlay s first (later ++ begins w (length history) request pools ∷ done)) (none : HaveNoBegin w later) (ready : IsReady s w history (world_of s (run_of s done))) where
+    (play : IsPlay s first (later ++ begins w (length history) request pools ∷ done)) (none : HaveNoBegin w later) (ready : IsReady s w history (world_of s (execution_of s done))) where
   abbrev base : List Done
   base = begins w (length history) request pools ∷ done
 
   abbrev start : World
-  start = world_of s (run_of s done)
+  start = world_of s (execution_of s done)
 
   some : 0 < s.workers
   some = let inside : w < s.workers = ready.worker in omega arith

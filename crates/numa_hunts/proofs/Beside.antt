@@ -2,7 +2,7 @@
 use Rattle.std.proofs.Common.{◌≡◌, ◌≢◌, ℕ, Bool, Option, Some, None, Result, Ok, Err, refl, sym, ap, ◌∙◌, ne_eqb, if◌then◌else◌}
 use Rattle.numa_core.specs.World.{Setup, Hunt, World, owner_of}
 use Rattle.numa_core.specs.Steps.{effect_of, with_owner, with_worker, world_after}
-use Rattle.numa_core.specs.Runs.{worker_of}
+use Rattle.numa_core.specs.Executions.{worker_of}
 use Rattle.numa_space.specs.declared.event.CoreRefusal.{CoreRefusal}
 use Rattle.numa_space.specs.declared.event.Event.{Event}
 use Rattle.numa_space.specs.declared.event.Event.TheVariants.{Accept, Publish, Begin, Look, Try, Give}

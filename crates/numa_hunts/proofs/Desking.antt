@@ -11,7 +11,7 @@ use Rattle.numa_publish.specs.Batches.{Extends}
 use Rattle.numa_publish.specs.Shown.{DeskState, Refuses, ViewState, accepted, and_newest}
 use Rattle.numa_core.specs.World.{Setup, World, first_commands, is_published, opening, owner_of}
 use Rattle.numa_core.specs.Steps.{because, refused_or, effect_of, world_after}
-use Rattle.numa_core.specs.Runs.{worker_of}
+use Rattle.numa_core.specs.Executions.{worker_of}
 use Rattle.numa_space.specs.declared.event.CoreRefusal.{CoreRefusal}
 use Rattle.numa_space.specs.declared.event.Event.{Event}
 use Rattle.numa_space.specs.declared.event.Event.TheVariants.{Accept, Publish, Begin, Look, Try, Give}

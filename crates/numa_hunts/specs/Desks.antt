@@ -6,7 +6,7 @@ use Rattle.numa_space.specs.Refusals.{refusal_of}
 use Rattle.numa_space.specs.declared.command.Command.{Command}
 use Rattle.numa_publish.specs.Shown.{DeskState, accepted, versions_after}
 use Rattle.numa_core.specs.World.{Setup, World}
-use Rattle.numa_core.specs.Runs.{Moment}
+use Rattle.numa_core.specs.Executions.{Moment}
 use Rattle.numa_hunts.specs.Moments.{IsLegal, after_moment}
 
 -- a desk of this machine with these limits, as `Desk::new` makes it

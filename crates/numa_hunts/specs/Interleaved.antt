@@ -2,14 +2,14 @@
 use Rattle.std.specs.Prelude.{◌≢◌, ℕ, ◌==◌, List, [], ◌∷◌, ◌++◌, if◌then◌else◌}
 use Rattle.numa_space.specs.declared.request.Request.{Request}
 use Rattle.numa_core.specs.World.{Setup, World}
-use Rattle.numa_core.specs.Runs.{world_of}
+use Rattle.numa_core.specs.Executions.{world_of}
 use Rattle.numa_space.specs.declared.event.Event.{Event}
 use Rattle.numa_space.specs.declared.event.Event.TheVariants.{Accept, Publish, Begin}
 use Rattle.numa_space.specs.declared.event.Event.TheVariants.{Look, Try, Give}
 use Rattle.numa_publish.specs.Shown.{DeskState}
 use Rattle.numa_tie.specs.Hunts.{Turn}
 use Rattle.numa_tie.specs.Moves.{PoolState}
-use Rattle.numa_tie.specs.Plays.{Deed, makes_step, splits, has_event, Done, pools_of, run_of}
+use Rattle.numa_tie.specs.Plays.{Deed, makes_step, splits, has_event, Done, pools_of, execution_of}
 use Rattle.numa_hunts.specs.Desks.{Accepts, IsNew, Publishes}
 
 -- the event is no Begin of worker w
@@ -52,7 +52,7 @@ with_turn w (has_event version event) world before after turns = turns
 abbrev pub turns_in : Setup → ℕ → PoolState → List Done → List Done → List Turn
 turns_in s w first [] earlier = []
 turns_in s w first (d ∷ later) earlier =
-    with_turn w d.deed (world_of s (run_of s (later ++ earlier)))
+    with_turn w d.deed (world_of s (execution_of s (later ++ earlier)))
     (pools_of s first (later ++ earlier)) d.pools (turns_in s w first later earlier)
 
 module _ (s : Setup) where

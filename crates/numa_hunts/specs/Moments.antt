@@ -3,7 +3,7 @@ use Rattle.std.specs.Prelude.{◌≡◌, true, Result, List, length}
 use Rattle.numa_space.specs.declared.command.Command.{Command}
 use Rattle.numa_core.specs.World.{Setup, World, first_commands, is_published}
 use Rattle.numa_core.specs.Steps.{IsAnswer, MayTake, world_after}
-use Rattle.numa_core.specs.Runs.{Moment}
+use Rattle.numa_core.specs.Executions.{Moment}
 use Rattle.numa_space.specs.declared.event.CoreRefusal.{CoreRefusal}
 use Rattle.numa_space.specs.declared.event.Event.{Event}
 use Rattle.numa_space.specs.declared.event.CoreReply.{CoreReply}

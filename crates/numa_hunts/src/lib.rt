@@ -4,4 +4,4 @@
 #![tactic(auto)]
 
 pub mod desk;
-pub mod law;
+pub mod laws;

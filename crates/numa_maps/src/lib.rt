@@ -3,7 +3,7 @@
 #![tactic(auto)]
 
 mod hex;
-pub mod law;
+pub mod laws;
 mod line;
 pub mod listing;
 pub mod resident;

@@ -6,7 +6,7 @@
 pub mod alone;
 mod close;
 pub mod closed;
-pub mod law;
+pub mod laws;
 mod marks;
 pub mod pools;
 mod search;

@@ -1,9 +1,9 @@
--- An interleaving of seats and workers is a legal run of the core.
+-- An interleaving of seats and workers is an execution of the core.
 use Rattle.std.proofs.Common.{◌≡◌, ℕ, ◌<◌, ◌≤◌, List, [], ◌∷◌, Some, is_ok, refl, sym, ap, subst, inl}
 use Rattle.std.specs.Prelude.{slice_index}
 use Rattle.numa_core.specs.World.{Setup, World, Hunt, begun, hunt_of}
 use Rattle.numa_core.specs.Steps.{answer_of, effect_of, going_on, world_after}
-use Rattle.numa_core.specs.Runs.{Moment, IsLegalRun, world_of}
+use Rattle.numa_core.specs.Executions.{Moment, IsExecution, world_of}
 use Rattle.numa_space.specs.declared.event.Event.{Event}
 use Rattle.numa_space.specs.declared.event.Event.TheVariants.{Accept, Publish, Begin, Look, Try, Give}
 use Rattle.numa_space.specs.declared.event.CoreReply.{CoreReply}
@@ -14,24 +14,24 @@ use Rattle.numa_pool.specs.declared.view.Entry.{Entry}
 use Rattle.numa_pool.specs.declared.view.Entry.TheVariants.{Load, Won, Lost, Gave}
 use Rattle.numa_tie.specs.Moments.{IsMoment, MayCome, event_of}
 use Rattle.numa_tie.specs.Moves.{PoolState, Makes}
-use Rattle.numa_tie.specs.Plays.{since_deed, Deed, makes_step, splits, has_event, Done, IsApart, since_event, MayStep, Fits, with_event, with_deed, run_of, since_of, pools_of, IsPlay, NoneRefused}
+use Rattle.numa_tie.specs.Plays.{since_deed, Deed, makes_step, splits, has_event, Done, IsApart, since_event, MayStep, Fits, with_event, with_deed, execution_of, since_of, pools_of, IsPlay, NoneRefused}
 use Rattle.numa_tie.specs.Tie.{IsTied, HaveMet, noted}
 use Rattle.numa_tie.proofs.Handing.{opening-ties, split-ties}
 use Rattle.numa_tie.proofs.Keeping.{met-put, met-idle, goes-on-as, look-moment, won-moment, lost-moment, step-ties, step-meets, give-moment, give-ties}
 
 module _ (s : Setup) where
-  -- a run that is legal and refuses nothing, and leads to a world that is tied to these pools
-  pub record Stands (run : List Moment) (state : PoolState) (since : ℕ → List Entry) : Type 0 where
-    pub legal : IsLegalRun s run
-    pub granted : NoneRefused run
-    pub tied : IsTied s (world_of s run) state
-    pub met : HaveMet (world_of s run) since
+  -- an execution that is legal and refuses nothing, and leads to a world that is tied to these pools
+  pub record Stands (past : List Moment) (state : PoolState) (since : ℕ → List Entry) : Type 0 where
+    pub legal : IsExecution s past
+    pub granted : NoneRefused past
+    pub tied : IsTied s (world_of s past) state
+    pub met : HaveMet (world_of s past) since
 
   -- one moment more
-  more : (run : List Moment) (state new : PoolState) (since later : ℕ → List Entry) (version : ℕ) (event : Event) (reply : CoreReply) → Stands run state since → IsMoment s (world_of s run) version event reply
-      → IsTied s (effect_of s (world_of s run) version event) new → HaveMet (effect_of s (world_of s run) version event) later → Stands (with_event s version event run) new later
-  more run state new since later version event reply h m tied met =
-      let world = world_of s run in
+  more : (past : List Moment) (state new : PoolState) (since later : ℕ → List Entry) (version : ℕ) (event : Event) (reply : CoreReply) → Stands past state since → IsMoment s (world_of s past) version event reply
+      → IsTied s (effect_of s (world_of s past) version event) new → HaveMet (effect_of s (world_of s past) version event) later → Stands (with_event s version event past) new later
+  more past state new since later version event reply h m tied met =
+      let world = world_of s past in
       let leads : effect_of s world version event ≡ world_after s world version event (answer_of s world version event) = ap (world_after s world version event) (sym m.1) in
       record {
         legal = (h.legal, m.0, inl refl);
@@ -58,19 +58,19 @@ module _ (s : Setup) where
   apart-meets world since version (Try w frame) h met = absurd h
   apart-meets world since version (Give w frame) h met = absurd h
 
-  module _ (run : List Moment) (old new : PoolState) (since : ℕ → List Entry) (h : Stands run old since) where
+  module _ (past : List Moment) (old new : PoolState) (since : ℕ → List Entry) (h : Stands past old since) where
     abbrev world : World
-    world = world_of s run
+    world = world_of s past
 
     -- a step of a walk
-    walks : (id : ℕ) (e : Entry) (hunt : Hunt) (reply : CoreReply) → hunt_of world id ≡ Some hunt → MayCome s.machine.frames hunt.nodes (since id) e → Makes e id old new → IsMoment s world 0 (event_of id e) reply → Stands (with_event s 0 (event_of id e) run) new (noted since id e)
+    walks : (id : ℕ) (e : Entry) (hunt : Hunt) (reply : CoreReply) → hunt_of world id ≡ Some hunt → MayCome s.machine.frames hunt.nodes (since id) e → Makes e id old new → IsMoment s world 0 (event_of id e) reply → Stands (with_event s 0 (event_of id e) past) new (noted since id e)
     walks id e hunt reply busy next m moment =
         let met = h.met id hunt busy in
-        more run old new since (noted since id e) 0 (event_of id e) reply h moment
+        more past old new since (noted since id e) 0 (event_of id e) reply h moment
         (step-ties s world id 0 hunt (since id) old new h.tied busy met e m next)
         (step-meets s world id 0 hunt (since id) old new h.tied busy met since h.met e m next)
 
-    steps : (id : ℕ) (e : Entry) → MayStep s world since id e → Makes e id old new → Stands (with_event s 0 (event_of id e) run) new (noted since id e)
+    steps : (id : ℕ) (e : Entry) → MayStep s world since id e → Makes e id old new → Stands (with_event s 0 (event_of id e) past) new (noted since id e)
     steps id (Load n w x) may m =
         let met = h.met id may.0 may.1 in
         walks id (Load n w x) may.0 (goes_on s (looked s world w may.0)) may.1 may.2 m
@@ -84,12 +84,12 @@ module _ (s : Setup) where
         walks id (Lost f) may.0 (goes_on s (missed f may.0)) may.1 may.2 m
         (lost-moment s world id 0 may.0 (since id) old new h.tied may.1 met f m may.2)
     steps id (Gave f) may m =
-        more run old new since (noted since id (Gave f)) 0 (Give id f) Given h
+        more past old new since (noted since id (Gave f)) 0 (Give id f) Given h
         (give-moment s world old new id 0 f h.tied may m)
         (give-ties s world old new id 0 f h.tied may m)
         (met-idle world since h.met id may (Gave f ∷ since id))
 
-    deeds : (d : Deed) → Fits s world since d old new → Stands (with_deed s d run) new (since_deed d since)
+    deeds : (d : Deed) → Fits s world since d old new → Stands (with_deed s d past) new (since_deed d since)
     deeds (makes_step id e) fit = steps id e fit.0 fit.1
     deeds (splits id) fit = record {
       legal = h.legal;
@@ -98,16 +98,16 @@ module _ (s : Setup) where
       met = h.met;
     }
     deeds (has_event version event) fit =
-        more run old new since (since_event event since) version event fit.2.0 h fit.2.1
+        more past old new since (since_event event since) version event fit.2.0 h fit.2.1
         (subst (λ state. IsTied s (effect_of s world version event) state) (sym fit.1) (apart-ties world old version event fit.0 h.tied))
         (apart-meets world since version event fit.0 h.met)
 
   module _ (few : (n : ℕ) → slice_index s.machine.frames n ≤ 4096) (some_worker : 0 < s.workers) (first : PoolState) where
-    pub plays : (done : List Done) → IsPlay s first done → Stands (run_of s done) (pools_of s first done) (since_of s done)
+    pub plays : (done : List Done) → IsPlay s first done → Stands (execution_of s done) (pools_of s first done) (since_of s done)
     plays [] fresh = record {
       legal = tt;
       granted = tt;
       tied = opening-ties s first few some_worker fresh;
       met = λ id hunt e. absurd (cc);
     }
-    plays (d ∷ done) h = deeds (run_of s done) (pools_of s first done) d.pools (since_of s done) (plays done h.0) d.deed h.1
+    plays (d ∷ done) h = deeds (execution_of s done) (pools_of s first done) d.pools (since_of s done) (plays done h.0) d.deed h.1

@@ -5,7 +5,7 @@ use Rattle.numa_machine.specs.declared.frame.Frame.{Frame}
 use Rattle.numa_space.specs.declared.placement.Placement.{Placement}
 use Rattle.numa_core.specs.World.{Setup, World, Hunt, hunt_of, looked, missed}
 use Rattle.numa_core.specs.Steps.{answer_of, placement_of}
-use Rattle.numa_core.specs.Runs.{Moment, IsRightPlacement, IsExhausted, world_of, worker_of}
+use Rattle.numa_core.specs.Executions.{Moment, IsRightPlacement, IsExhausted, world_of, worker_of}
 use Rattle.numa_space.specs.declared.event.Event.{Event}
 use Rattle.numa_space.specs.declared.event.Event.TheVariants.{Try}
 use Rattle.numa_space.specs.declared.event.CoreReply.{CoreReply}
@@ -17,7 +17,7 @@ use Rattle.numa_pool.specs.declared.view.Entry.TheVariants.{Load, Won, Lost, Gav
 use Rattle.numa_pool.specs.Walk.{AllFull}
 use Rattle.numa_tie.specs.Moments.{MayCome, event_of}
 use Rattle.numa_tie.specs.Moves.{PoolState}
-use Rattle.numa_tie.specs.Plays.{Done, by_seat, with_event, run_of, since_of, pools_of, IsPlay}
+use Rattle.numa_tie.specs.Plays.{Done, by_seat, with_event, execution_of, since_of, pools_of, IsPlay}
 use Rattle.numa_tie.specs.Tie.{HasMet}
 use Rattle.numa_tie.proofs.Current.{still, over}
 use Rattle.numa_tie.proofs.Keeping.{look-moment, won-moment, lost-moment, look-meets}
@@ -31,11 +31,11 @@ same-worker : (v w : ℕ) → ◌≡◌ {A = Option ℕ} (Some v) (Some w) → v
 same-worker v w e = cc
 
 module _ (s : Setup) (few : (n : ℕ) → slice_index s.machine.frames n ≤ 4096) (some_worker : 0 < s.workers) (first pools : PoolState) (done : List Done) (id : ℕ) where
-  abbrev run : List Moment
-  run = run_of s done
+  abbrev past : List Moment
+  past = execution_of s done
 
   abbrev world : World
-  world = world_of s run
+  world = world_of s past
 
   abbrev es : List Entry
   es = since_of s done id
@@ -44,27 +44,27 @@ module _ (s : Setup) (few : (n : ℕ) → slice_index s.machine.frames n ≤ 409
   old = pools_of s first done
 
   module _ (f : Frame) (h : IsPlay s first (by_seat id (Won f) pools ∷ done)) where
-    before : Stands s run old (since_of s done)
+    before : Stands s past old (since_of s done)
     before = plays s few some_worker first done h.0
 
-    after : Stands s (with_event s 0 (Try id f) run) pools (since_of s (by_seat id (Won f) pools ∷ done))
+    after : Stands s (with_event s 0 (Try id f) past) pools (since_of s (by_seat id (Won f) pools ∷ done))
     after = plays s few some_worker first (by_seat id (Won f) pools ∷ done) h
 
-    pub win-right : (placement : Placement) × (placement.frame ≡ f) × IsRightPlacement s id placement run
+    pub win-right : (placement : Placement) × (placement.frame ≡ f) × IsRightPlacement s id placement past
     win-right =
         let may = h.1.0 in
         let placement = placement_of s may.0 f in
         let moment = won-moment s world id 0 may.0 es old pools before.tied may.1 (before.met id may.0 may.1) f h.1.1 may.2 in
         let m : Moment = record { event = Try id f; version = 0; answer = answer_of s world 0 (Try id f) } in
-        let found = right s run m placement after.legal moment.1 in
+        let found = right s past m placement after.legal moment.1 in
         let same = same-try id found.0 f f found.1 in
-        (placement, refl, subst (λ w. IsRightPlacement s w placement run) (sym same.0) found.2)
+        (placement, refl, subst (λ w. IsRightPlacement s w placement past) (sym same.0) found.2)
 
   module _ (e : Entry) (hunt : Hunt) (h : IsPlay s first (by_seat id e pools ∷ done)) (busy : hunt_of world id ≡ Some hunt) (full : AllFull s.machine.frames (e ∷ es) hunt.nodes) where
-    start : Stands s run old (since_of s done)
+    start : Stands s past old (since_of s done)
     start = plays s few some_worker first done h.0
 
-    end : Stands s (with_event s 0 (event_of id e) run) pools (since_of s (by_seat id e pools ∷ done))
+    end : Stands s (with_event s 0 (event_of id e) past) pools (since_of s (by_seat id e pools ∷ done))
     end = plays s few some_worker first (by_seat id e pools ∷ done) h
 
     met : HasMet hunt es
@@ -73,17 +73,17 @@ module _ (s : Setup) (few : (n : ℕ) → slice_index s.machine.frames n ≤ 409
     abbrev Replies : Type 0
     Replies = (answer_of s world 0 (event_of id e) ≡ Ok (Exhausted hunt.version)) × (worker_of (event_of id e) ≡ Some id)
 
-    over-right : Replies → IsExhausted s id hunt.version (with_event s 0 (event_of id e) run)
+    over-right : Replies → IsExhausted s id hunt.version (with_event s 0 (event_of id e) past)
     over-right r =
         let m : Moment = record { event = event_of id e; version = 0; answer = answer_of s world 0 (event_of id e) } in
-        let found = exhausted s run m hunt.version end.legal r.0 in
+        let found = exhausted s past m hunt.version end.legal r.0 in
         let same = same-worker id found.0 (sym r.1 ∙ found.1) in
-        subst (λ w. IsExhausted s w hunt.version (m ∷ run)) (sym same) found.2
+        subst (λ w. IsExhausted s w hunt.version (m ∷ past)) (sym same) found.2
 
   same-hunt : (a b : Hunt) → hunt_of world id ≡ Some a → hunt_of world id ≡ Some b → a ≡ b
   same-hunt a b p q = let e : Some a ≡ Some b = sym p ∙ q in cc
 
-  pub end-right : (e : Entry) (hunt : Hunt) → IsPlay s first (by_seat id e pools ∷ done) → hunt_of world id ≡ Some hunt → AllFull s.machine.frames (e ∷ es) hunt.nodes → IsExhausted s id hunt.version (with_event s 0 (event_of id e) run)
+  pub end-right : (e : Entry) (hunt : Hunt) → IsPlay s first (by_seat id e pools ∷ done) → hunt_of world id ≡ Some hunt → AllFull s.machine.frames (e ∷ es) hunt.nodes → IsExhausted s id hunt.version (with_event s 0 (event_of id e) past)
   end-right (Load n w x) hunt h busy full =
       let tied = (start (Load n w x) hunt h busy full).tied in
       let has = met (Load n w x) hunt h busy full in

@@ -2,7 +2,7 @@
 use Rattle.std.specs.Prelude.{◌≡◌, ℕ, ◌*◌, ◌<◌, ◌≤◌, ◌==◌, true, List, slice_index}
 use Rattle.std.specs.Prelude.{Option, Some, None, Ok, if◌then◌else◌}
 use Rattle.numa_core.specs.World.{Setup, World, Hunt, hunt_of, is_published, last_of, list_at}
-use Rattle.numa_core.specs.Runs.{Moment}
+use Rattle.numa_core.specs.Executions.{Moment}
 use Rattle.numa_core.specs.Steps.{MayTake, answer_of}
 use Rattle.numa_space.specs.declared.event.Event.{Event}
 use Rattle.numa_space.specs.declared.event.Event.TheVariants.{Look, Try, Give}

@@ -2,7 +2,7 @@
 use Rattle.std.specs.Prelude.{◌≡◌, ℕ, ◌<◌, true, List, [], ◌∷◌, length, Some, None, is_ok}
 use Rattle.numa_core.specs.World.{Setup, World, Hunt, hunt_of}
 use Rattle.numa_core.specs.Steps.{answer_of, put}
-use Rattle.numa_core.specs.Runs.{Moment, world_of}
+use Rattle.numa_core.specs.Executions.{Moment, world_of}
 use Rattle.numa_space.specs.declared.event.Event.{Event}
 use Rattle.numa_space.specs.declared.event.Event.TheVariants.{Accept, Publish, Begin}
 use Rattle.numa_space.specs.declared.event.Event.TheVariants.{Look, Try, Give}
@@ -74,23 +74,23 @@ module _ (s : Setup) where
   Fits world since (has_event version event) old new =
       IsApart event × (new ≡ old) × ((reply : CoreReply) × IsMoment s world version event reply)
 
-  -- the run with one moment more, of this event
+  -- the execution with one moment more, of this event
   abbrev pub with_event : ℕ → Event → List Moment → List Moment
-  with_event version event run = record {
+  with_event version event past = record {
     event = event;
     version = version;
-    answer = answer_of s (world_of s run) version event;
-  } ∷ run
+    answer = answer_of s (world_of s past) version event;
+  } ∷ past
 
   abbrev pub with_deed : Deed → List Moment → List Moment
-  with_deed (makes_step id e) run = with_event 0 (event_of id e) run
-  with_deed (splits id) run = run
-  with_deed (has_event version event) run = with_event version event run
+  with_deed (makes_step id e) past = with_event 0 (event_of id e) past
+  with_deed (splits id) past = past
+  with_deed (has_event version event) past = with_event version event past
 
-  -- the run of the core that the deeds are, the newest first in both
-  abbrev pub run_of : List Done → List Moment
-  run_of [] = []
-  run_of (d ∷ done) = with_deed d.deed (run_of done)
+  -- the execution of the core that the deeds are, the newest first in both
+  abbrev pub execution_of : List Done → List Moment
+  execution_of [] = []
+  execution_of (d ∷ done) = with_deed d.deed (execution_of done)
 
   -- each seat's steps since its worker's Begin, after these deeds
   abbrev pub since_of : List Done → ℕ → List Entry
@@ -107,9 +107,9 @@ module _ (s : Setup) where
     IsPlay [] = IsOpening s.machine.frames first
     IsPlay (d ∷ done) =
         IsPlay done
-        × Fits (world_of s (run_of done)) (since_of done) d.deed (pools_of done) d.pools
+        × Fits (world_of s (execution_of done)) (since_of done) d.deed (pools_of done) d.pools
 
--- no moment of the run is refused
+-- no moment of the execution is refused
 abbrev pub NoneRefused : List Moment → Type 0
 NoneRefused [] = Unit {0}
-NoneRefused (m ∷ run) = (is_ok m.answer ≡ true) × NoneRefused run
+NoneRefused (m ∷ past) = (is_ok m.answer ≡ true) × NoneRefused past

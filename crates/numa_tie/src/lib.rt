@@ -3,4 +3,4 @@
 //! is the seat that holds it.
 #![tactic(auto)]
 
-pub mod law;
+pub mod laws;

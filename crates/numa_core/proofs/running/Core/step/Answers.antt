@@ -1,6 +1,6 @@
 use Rattle.std.proofs.Common.{◌∷◌, List, sym, subst}
-use Rattle.numa_core.specs.Runs.{Moment}
-use Rattle.numa_core.specs.Standing.{CoreState, HasRun, LeadsTo, setup_of, moment_after}
+use Rattle.numa_core.specs.Executions.{Moment}
+use Rattle.numa_core.specs.Standing.{CoreState, HasPast, LeadsTo, setup_of, moment_after}
 use Rattle.numa_space.specs.declared.event.Event.{Event}
 use Rattle.numa_space.specs.declared.event.CoreReply.{CoreReply}
 use Rattle.numa_space.specs.declared.event.CoreRefusal.{CoreRefusal}
@@ -10,10 +10,10 @@ use Rattle.numa_core.specs.Kept.{shown, Follows}
 use Rattle.numa_core.proofs.CoreSteps.{leads_on}
 use Rattle.numa_core.proofs.running.Core.step.Goals as goal
 
-ran : (old new : CoreState) (event : Event) (answer : Result CoreReply CoreRefusal) → setup_of new ≡ setup_of old → Follows old event answer new → HasRun old → HasRun new
+ran : (old new : CoreState) (event : Event) (answer : Result CoreReply CoreRefusal) → setup_of new ≡ setup_of old → Follows old event answer new → HasPast old → HasPast new
 ran old new event answer same follows had = record {
-  run = moment_after (setup_of old) had.run event answer ∷ had.run;
-  leads = leads_on old new event answer same follows had.run had.leads;
+  past = moment_after (setup_of old) had.past event answer ∷ had.past;
+  leads = leads_on old new event answer same follows had.past had.leads;
 }
 
 pub invariant_of-self : goal.invariant_of-self
@@ -34,12 +34,12 @@ invariant_of-self-in-Try c = (c.attempt.ensures.kept, ran (shown c.self.inside.s
 pub invariant_of-self-in-Give : goal.invariant_of-self-in-Give
 invariant_of-self-in-Give c = (c.give.ensures.kept, ran (shown c.self.inside.state) (shown c.give.new.self) (Give c.in-Give.worker c.in-Give.frame) c.give.result c.give.ensures.setup c.give.ensures.follows c.self.invariant.1)
 
-pub returns-in-Accept-clause-runs : goal.returns-in-Accept-clause-runs
-returns-in-Accept-clause-runs c =
-    let P : CoreState → Type 0 = λ old. (run : List Moment) → LeadsTo run old → LeadsTo (moment_after (setup_of old) run c.args.event c.accept.result ∷ run) (shown c.accept.new.self) in
+pub returns-in-Accept-clause-executions : goal.returns-in-Accept-clause-executions
+returns-in-Accept-clause-executions c =
+    let P : CoreState → Type 0 = λ old. (past : List Moment) → LeadsTo past old → LeadsTo (moment_after (setup_of old) past c.args.event c.accept.result ∷ past) (shown c.accept.new.self) in
     subst P c.self.view_is (leads_on (shown c.self.inside.state) (shown c.accept.new.self) c.args.event c.accept.result c.accept.ensures.setup (subst (λ e. Follows (shown c.self.inside.state) e c.accept.result (shown c.accept.new.self)) (sym c.in-Accept.is) c.accept.ensures.follows))
 
-pub returns-in-Begin-clause-runs : goal.returns-in-Begin-clause-runs
-returns-in-Begin-clause-runs c =
-    let P : CoreState → Type 0 = λ old. (run : List Moment) → LeadsTo run old → LeadsTo (moment_after (setup_of old) run c.args.event c.begin.result ∷ run) (shown c.begin.new.self) in
+pub returns-in-Begin-clause-executions : goal.returns-in-Begin-clause-executions
+returns-in-Begin-clause-executions c =
+    let P : CoreState → Type 0 = λ old. (past : List Moment) → LeadsTo past old → LeadsTo (moment_after (setup_of old) past c.args.event c.begin.result ∷ past) (shown c.begin.new.self) in
     subst P c.self.view_is (leads_on (shown c.self.inside.state) (shown c.begin.new.self) c.args.event c.begin.result c.begin.ensures.setup (subst (λ e. Follows (shown c.self.inside.state) e c.begin.result (shown c.begin.new.self)) (sym c.in-Begin.is) c.begin.ensures.follows))

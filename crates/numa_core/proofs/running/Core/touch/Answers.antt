@@ -1,11 +1,11 @@
 use Rattle.std.proofs.Common.{◌≡◌, ◌++◌, sym, ap, subst, ◌∙◌}
 use Rattle.numa_core.specs.Kept.{shown}
 use Rattle.numa_core.specs.World.{World}
-use Rattle.numa_core.specs.Runs.{IsLegalRun, world_of}
-use Rattle.numa_core.specs.Standing.{CoreStandsFor, HasRun, setup_of}
+use Rattle.numa_core.specs.Executions.{IsExecution, world_of}
+use Rattle.numa_core.specs.Standing.{CoreStandsFor, HasPast, setup_of}
 use Rattle.numa_core.specs.Touching.{Answered, IsTouch, touched, touch_answer, touch_world}
 use Rattle.numa_core.proofs.TouchLaw.{touch_law}
-use Rattle.numa_core.proofs.TouchRuns.{touches}
+use Rattle.numa_core.proofs.TouchExecutions.{touches}
 use Rattle.numa_core.proofs.running.Core.touch.Goals as goal
 
 ends : (c : goal.After-touch) (world : World) → CoreStandsFor c.args.self.now world → (c.touch.result ≡ (touched (setup_of c.args.self.now) world c.args.worker c.args.request).answer) × CoreStandsFor (shown c.touch.new.self) (touched (setup_of c.args.self.now) world c.args.worker c.args.request).world
@@ -22,33 +22,33 @@ returns-clause-answer c world stands = ends c world stands
 
 pub invariant_of-self : goal.invariant_of-self
 invariant_of-self c =
-    let had = subst HasRun c.self.view_is c.self.invariant.1 in
+    let had = subst HasPast c.self.view_is c.self.invariant.1 in
     let old = setup_of c.args.self.now in
     let new = shown c.touch.new.self in
-    let last = ends c (world_of old had.run) had.leads.stands in
-    let steps = touches old had.run c.args.worker c.args.request had.leads.legal in
+    let last = ends c (world_of old had.past) had.leads.stands in
+    let steps = touches old had.past c.args.worker c.args.request had.leads.legal in
     let same = c.touch.ensures.setup ∙ ap setup_of c.self.view_is in (
       c.touch.ensures.kept,
       record {
-        run = steps.moments ++ had.run;
+        past = steps.moments ++ had.past;
         leads = record {
-          legal = subst (λ s. IsLegalRun s (steps.moments ++ had.run)) (sym same) steps.legal;
-          stands = subst (λ s. CoreStandsFor new (world_of s (steps.moments ++ had.run))) (sym same) (subst (λ w. CoreStandsFor new w) (sym steps.world) last.1);
+          legal = subst (λ s. IsExecution s (steps.moments ++ had.past)) (sym same) steps.legal;
+          stands = subst (λ s. CoreStandsFor new (world_of s (steps.moments ++ had.past))) (sym same) (subst (λ w. CoreStandsFor new w) (sym steps.world) last.1);
         };
       },
     )
 
-pub returns-clause-runs : goal.returns-clause-runs
-returns-clause-runs c run leads =
+pub returns-clause-executions : goal.returns-clause-executions
+returns-clause-executions c past leads =
     let old = setup_of c.args.self.now in
     let new = shown c.touch.new.self in
-    let last = ends c (world_of old run) leads.stands in
-    let steps = touches old run c.args.worker c.args.request leads.legal in
+    let last = ends c (world_of old past) leads.stands in
+    let steps = touches old past c.args.worker c.args.request leads.legal in
     let same = c.touch.ensures.setup ∙ ap setup_of c.self.view_is in (
       steps.moments,
       subst (λ answer. IsTouch c.args.worker c.args.request answer steps.moments) (sym last.0) steps.touch,
       record {
-        legal = subst (λ s. IsLegalRun s (steps.moments ++ run)) (sym same) steps.legal;
-        stands = subst (λ s. CoreStandsFor new (world_of s (steps.moments ++ run))) (sym same) (subst (λ w. CoreStandsFor new w) (sym steps.world) last.1);
+        legal = subst (λ s. IsExecution s (steps.moments ++ past)) (sym same) steps.legal;
+        stands = subst (λ s. CoreStandsFor new (world_of s (steps.moments ++ past))) (sym same) (subst (λ w. CoreStandsFor new w) (sym steps.world) last.1);
       },
     )

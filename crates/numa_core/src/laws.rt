@@ -1,0 +1,94 @@
+//! What holds of every execution of the core.
+ghost use Rattle.std.specs.Prelude.{◌≡◌, ◌≢◌, ℕ, ◌^◌, ◌<◌, ◌≤◌, true, Ok, Some};
+ghost use Rattle.std.specs.Prelude.{List, ◌∷◌, ◌++◌, length, count_by};
+ghost use Rattle.std.specs.List.{list_any};
+ghost use Rattle.numa_mask.specs.NodeSet.{has};
+ghost use Rattle.numa_space.specs.Policies.{allowed_nodes};
+ghost use Rattle.numa_space.specs.Standing.{IsAccepted, IsNodeList};
+ghost use Rattle.numa_core.specs.World.{Setup, first_commands, is_published};
+ghost use Rattle.numa_core.specs.World.{list_at, newest_published};
+ghost use Rattle.numa_core.specs.Standing.{CoreState, CoreStandsFor, ShowsWorld, setup_of};
+ghost use Rattle.numa_space.specs.declared.request.Request.{Request};
+ghost use Rattle.numa_core.specs.Executions.{Moment, accepts, world_of, answered, IsExecution};
+ghost use Rattle.numa_core.specs.Executions.{IsRightPlacement, IsExhausted, IsWin, worker_of};
+ghost use Rattle.numa_core.specs.Executions.{gives_back, version_told};
+ghost use Rattle.numa_space.specs.declared.event.Event.{Event};
+ghost use Rattle.numa_space.specs.declared.event.CoreReply.{CoreReply};
+ghost use Rattle.numa_machine.specs.declared.frame.Frame.{Frame};
+ghost use Rattle.numa_space.specs.declared.placement.Placement.{Placement};
+
+/// In every execution, whatever the machine, the limits and the number of workers: each reply Won
+/// answers a Try of its frame and its placement is right; at each reply Exhausted the worker has
+/// found each frame of its list with an owner; between two Won of one frame the first winner gives
+/// the frame back; and the versions that the replies Won and Exhausted to one worker carry never
+/// fall.
+pub fn every_execution()
+    ensures right { (s : Setup) (later earlier : List Moment) (m : Moment) (placement : Placement) →
+        IsExecution s (later ++ m ∷ earlier) → m.answer ≡ Ok (CoreReply.Won placement) →
+        (w : ℕ) × (m.event ≡ Event.Try w placement.frame) × IsRightPlacement s w placement earlier }
+    ensures exhausted { (s : Setup) (later earlier : List Moment) (m : Moment) (version : ℕ) →
+        IsExecution s (later ++ m ∷ earlier) → m.answer ≡ Ok (CoreReply.Exhausted version) →
+        (w : ℕ) × (worker_of m.event ≡ Some w) × IsExhausted s w version (m ∷ earlier) }
+    ensures given_back { (s : Setup) (later between earlier : List Moment) (first second : Moment)
+        (v w : ℕ) (frame : Frame) →
+        IsExecution s (later ++ second ∷ (between ++ first ∷ earlier)) → IsWin v frame first →
+        IsWin w frame second →
+        list_any (gives_back v frame) between ≡ true }
+    ensures never_falls { (s : Setup) (later between earlier : List Moment)
+        (old new : Moment) (w a b : ℕ) →
+        IsExecution s (later ++ new ∷ (between ++ old ∷ earlier)) → worker_of old.event ≡ Some w →
+        worker_of new.event ≡ Some w →
+        version_told old.answer ≡ Some a → version_told new.answer ≡ Some b → a ≤ b }
+{}
+
+/// No execution comes to a standstill: it goes on with every event, which has its answer with ample
+/// memory, where a Begin takes the newest published version. No published version is above that
+/// one.
+pub fn every_execution_goes_on()
+    ensures goes_on { (s : Setup) (past : List Moment) (event : Event) → IsExecution s past →
+        IsExecution s (answered s past event ∷ past) }
+    ensures newest { (s : Setup) (past : List Moment) (version : ℕ) → IsExecution s past →
+        is_published (world_of s past) version ≡ true → version ≤ newest_published (world_of s past) }
+{}
+
+/// The commands of every execution: against none of them did a cause stand when it came, and there
+/// are as many as Ok answers to Accept. A published version means the same commands for ever, and
+/// the newest one never falls.
+pub fn every_execution_has_commands()
+    ensures accepted { (s : Setup) (past : List Moment) → IsExecution s past →
+        IsAccepted s.machine s.bounds (world_of s past).history }
+    ensures counted { (s : Setup) (past : List Moment) → length (world_of s past).history
+        ≡ count_by accepts past }
+    ensures same { (s : Setup) (later earlier : List Moment) (version : ℕ) →
+        IsExecution s (later ++ earlier) →
+        is_published (world_of s earlier) version ≡ true →
+        first_commands version (world_of s (later ++ earlier)).history
+        ≡ first_commands version (world_of s earlier).history }
+    ensures rises { (s : Setup) (later earlier : List Moment) → IsExecution s (later ++ earlier) →
+        newest_published (world_of s earlier) ≤ newest_published (world_of s (later ++ earlier)) }
+{}
+
+/// On a machine of which some nodes have memory, each list that a version of an execution means has
+/// a node, each once, and only nodes that are allowed at that version; so the node of each won
+/// frame is one of these.
+pub fn every_list()
+    ensures sound { (s : Setup) (past : List Moment) (version : ℕ) (request : Request)
+        (nodes : List ℕ) →
+        s.machine.memory ≢ 0 → s.machine.memory < 2 ^ 256 → IsExecution s past →
+        list_at s.machine (world_of s past).history version request ≡ Some nodes →
+        IsNodeList (allowed_nodes s.machine (first_commands version (world_of s past).history)) nodes }
+    ensures allowed { (s : Setup) (later earlier : List Moment) (m : Moment)
+        (placement : Placement) →
+        s.machine.memory ≢ 0 → s.machine.memory < 2 ^ 256 → IsExecution s (later ++ m ∷ earlier) →
+        m.answer ≡ Ok (CoreReply.Won placement) →
+        has (allowed_nodes s.machine
+        (first_commands placement.version (world_of s earlier).history)) placement.node ≡ true }
+{}
+
+/// A core that shows the world of an execution stands for it: that the newest published version is
+/// of accepted commands, and that no worker took a newer one, follows.
+pub fn every_core()
+    ensures stands { (past : List Moment) (core : CoreState) → IsExecution (setup_of core) past →
+        ShowsWorld core (world_of (setup_of core) past) →
+        CoreStandsFor core (world_of (setup_of core) past) }
+{}

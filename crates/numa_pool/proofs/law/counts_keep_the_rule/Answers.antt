@@ -1,5 +1,0 @@
-use Rattle.numa_pool.proofs.Ruling.{means}
-use Rattle.numa_pool.proofs.law.counts_keep_the_rule.Goals as goal
-
-pub returns : goal.returns
-returns c = means
