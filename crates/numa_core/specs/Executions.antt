@@ -60,8 +60,8 @@ module _ (s : Setup) where
   IsExecution (m ∷ past) = IsExecution past × MayTake (world_of past) m.version m.event
       × IsAnswer s (world_of past) m.version m.event m.answer
 
-  -- the moment of an event that comes after an execution, with ample memory; a Begin takes the newest
-  -- published version
+  -- the moment of an event that comes after an execution, with ample memory; a Begin takes the
+  -- newest published version
   abbrev pub answered : List Moment → Event → Moment
   answered past event = record {
     event = event;
@@ -131,8 +131,8 @@ module _ (s : Setup) where
       k < frames_of s.machine (slice_index nodes i) →
       found_owned w past (slice_index nodes i) k ≡ true
 
-  -- after the execution the placement is right for the worker: its version is that of the worker's last
-  -- Begin, and was published before it; task and page are those that were asked for; its node
+  -- after the execution the placement is right for the worker: its version is that of the worker's
+  -- last Begin, and was published before it; task and page are those that were asked for; its node
   -- stands at its rank in the node list of the accepted commands up to that version; its frame is
   -- one of that node and had no owner; and each frame of each node earlier in the list was found
   -- with an owner since that Begin
@@ -144,7 +144,8 @@ module _ (s : Setup) where
     pub published : is_published (world_of s begun.before) begun.version ≡ true
     pub task : placement.task ≡ begun.request.task
     pub page : placement.page ≡ begun.request.page
-    pub listed : list_at s.machine (world_of s past).history begun.version begun.request ≡ Some nodes
+    pub listed : list_at s.machine (world_of s past).history begun.version begun.request
+        ≡ Some nodes
     pub rank : placement.rank < length nodes
     pub node : slice_index nodes placement.rank ≡ placement.node
     pub frame_node : placement.frame.node ≡ placement.node
@@ -152,8 +153,8 @@ module _ (s : Setup) where
     pub free : owner_of (world_of s past) placement.frame ≡ None
     pub earlier : AllFoundOwned w nodes placement.rank past
 
-  -- after the execution the list of the worker's last Begin is exhausted: that Begin took this version,
-  -- which was published before it; and each frame of each node of the list was found with an owner
+  -- after the execution the list of the worker's last Begin is exhausted: that Begin took this
+  -- version, which was published before it; and each frame of each node of the list was found with an owner
   -- since
   pub record IsExhausted (w version : ℕ) (past : List Moment) : Type 0 where
     pub begun : Begun
@@ -161,7 +162,8 @@ module _ (s : Setup) where
     pub is_last : last_begin w past ≡ Some begun
     pub its_version : begun.version ≡ version
     pub published : is_published (world_of s begun.before) begun.version ≡ true
-    pub listed : list_at s.machine (world_of s past).history begun.version begun.request ≡ Some nodes
+    pub listed : list_at s.machine (world_of s past).history begun.version begun.request
+        ≡ Some nodes
     pub every : AllFoundOwned w nodes (length nodes) past
 
 -- ---- what passes from hand to hand

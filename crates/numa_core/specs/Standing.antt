@@ -125,8 +125,8 @@ pub record HasPast (core : CoreState) : Type 0 where
   pub past : List Moment
   pub leads : LeadsTo past core
 
--- the moment of an event that comes after an execution and was answered so; a Begin takes the newest
--- published version
+-- the moment of an event that comes after an execution and was answered so; a Begin takes the
+-- newest published version
 abbrev pub moment_after : Setup → List Moment → Event → Result CoreReply CoreRefusal → Moment
 moment_after s past event answer =
     record { event = event; version = newest_published (world_of s past); answer = answer }

@@ -48,7 +48,8 @@ pub fn every_execution_goes_on()
     ensures goes_on { (s : Setup) (past : List Moment) (event : Event) → IsExecution s past →
         IsExecution s (answered s past event ∷ past) }
     ensures newest { (s : Setup) (past : List Moment) (version : ℕ) → IsExecution s past →
-        is_published (world_of s past) version ≡ true → version ≤ newest_published (world_of s past) }
+        is_published (world_of s past) version ≡ true
+        → version ≤ newest_published (world_of s past) }
 {}
 
 /// The commands of every execution: against none of them did a cause stand when it came, and there
@@ -76,7 +77,8 @@ pub fn every_list()
         (nodes : List ℕ) →
         s.machine.memory ≢ 0 → s.machine.memory < 2 ^ 256 → IsExecution s past →
         list_at s.machine (world_of s past).history version request ≡ Some nodes →
-        IsNodeList (allowed_nodes s.machine (first_commands version (world_of s past).history)) nodes }
+        IsNodeList (allowed_nodes s.machine (first_commands version (world_of s past).history))
+        nodes }
     ensures allowed { (s : Setup) (later earlier : List Moment) (m : Moment)
         (placement : Placement) →
         s.machine.memory ≢ 0 → s.machine.memory < 2 ^ 256 → IsExecution s (later ++ m ∷ earlier) →

@@ -133,7 +133,8 @@ impl Seat {
             result ≡ goes_on s (hunt_in places.now
             (busy_at job self.old.nodes.items self.old.met.items)) }
         ensures hunt { (s : Setup) → places.now ≡ s.machine.frames → seat_hunt places.now self.new
-            ≡ going_on s (hunt_in places.now (busy_at job self.old.nodes.items self.old.met.items)) }
+            ≡ going_on s (hunt_in places.now
+            (busy_at job self.old.nodes.items self.old.met.items)) }
         ensures fits { SeatFits places.now self.new }
     {
         let Some(at) = first_from(places, self.nodes.as_slice(), &self.met, job.at) else {

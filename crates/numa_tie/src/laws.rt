@@ -3,7 +3,8 @@ ghost use Rattle.std.specs.Prelude.{◌≡◌, ℕ, ◌+◌, ◌*◌, ◌<◌, �
 ghost use Rattle.std.specs.Prelude.{slice_index, slice_set, Option, Some, None};
 ghost use mathlib.Core.Option.{some};
 ghost use lib.ListN.{get_elem?};
-ghost use Rattle.numa_core.specs.Executions.{Moment, IsExhausted, IsExecution, IsRightPlacement, world_of};
+ghost use Rattle.numa_core.specs.Executions.{Moment, IsExhausted, IsExecution};
+ghost use Rattle.numa_core.specs.Executions.{IsRightPlacement, world_of};
 ghost use Rattle.numa_core.specs.Steps.{effect_of, goes_on, going_on, placement_of};
 ghost use Rattle.numa_core.specs.Steps.{put, with_owner};
 ghost use Rattle.numa_core.specs.World.{Setup, World, Hunt, opening, hunt_of, looked};
