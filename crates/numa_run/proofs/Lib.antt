@@ -6,4 +6,5 @@ pub mod JudgeLemmas
 pub mod Limiting
 pub mod LineLemmas
 pub mod Listed
+pub mod Resolved
 pub mod Spanned

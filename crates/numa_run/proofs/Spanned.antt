@@ -22,7 +22,7 @@ use Rattle.numa_run.specs.Texts.{refused_text, place_name}
 
 -- ---- lists
 
-mapped-list : (f : ℕ → ℕ) (xs : List ℕ) (first : ℕ) → ((k : ℕ) → k < length xs → slice_index xs k ≡ f (first + k)) → xs ≡ map f (range_with_len first (length xs))
+pub mapped-list : (f : ℕ → ℕ) (xs : List ℕ) (first : ℕ) → ((k : ℕ) → k < length xs → slice_index xs k ≡ f (first + k)) → xs ≡ map f (range_with_len first (length xs))
 mapped-list f [] first each = refl
 mapped-list f (x ∷ xs) first each =
     let head : x ≡ f first = each 0 (omega arith) ∙ ap f (omega arith) in
@@ -36,7 +36,7 @@ flat_map-agree f g (suc n) first each =
     let tail = flat_map-agree f g n (first + 1) (λ k low high. each k (omega arith) (omega arith)) in
     λ i. head i ++ tail i
 
-counts-agree : (f g : ℕ → ℕ) → ((node : ℕ) → node < 256 → f node ≡ g node) → counts_text f ≡ counts_text g
+pub counts-agree : (f g : ℕ → ℕ) → ((node : ℕ) → node < 256 → f node ≡ g node) → counts_text f ≡ counts_text g
 unfolding counts_text
 counts-agree f g each = flat_map-agree (λ node. node_text node (f node)) (λ node. node_text node (g node)) 256 0 (λ k low high. ap (node_text k) (each k (omega arith)))
 

@@ -1,6 +1,6 @@
 -- What questions are answered, by all accepted commands, published or not. `refused` says whether a growth was refused while the
 -- question was served; where it can be, that comes before every other refusal.
-use Rattle.std.specs.Prelude.{ℕ, Bool, not, Option, Some, None, List, ◌++◌, codes, decimal, length, map, if◌then◌else◌}
+use Rattle.std.specs.Prelude.{◌≡◌, ℕ, ◌+◌, ◌≤◌, ◌<◌, Bool, true, false, not, Option, Some, None, List, ◌++◌, codes, decimal, length, map, if◌then◌else◌}
 use Rattle.std.specs.List.{range_with_len}
 use Rattle.numa_machine.specs.Machine.{Hardware}
 use Rattle.numa_ranges.specs.Maps.{any_page}
@@ -11,7 +11,7 @@ use Rattle.numa_space.specs.Refusals.{range_count_of}
 use Rattle.numa_space.specs.Standing.{place_refusal_in, place_refusal_of}
 use Rattle.numa_space.specs.declared.command.Command.{Command}
 use Rattle.numa_space.specs.declared.refusal.PlaceRefusal.{PlaceRefusal}
-use Rattle.numa_compile.specs.Spans.{first_node, meant_count}
+use Rattle.numa_compile.specs.Spans.{HasUnmapped, first_node, meant_count}
 use Rattle.numa_maps.specs.Listing.{nodes_text as counts_text}
 use Rattle.numa_script.specs.declared.line.Question.{Question}
 use Rattle.numa_script.specs.declared.line.Question.TheVariants.{Place, Span, Counts, Ranges}
@@ -46,6 +46,17 @@ span_refusal_of machine history first pages cpu = place_refusal_in machine.nodes
 abbrev pub first_nodes : Hardware → List Command → ℕ → ℕ → ℕ → ℕ → List ℕ
 first_nodes machine history task first pages cpu = map (λ page. first_node machine history task page cpu) (range_with_len first pages)
 
+-- each page of a span is mapped
+abbrev pub AreMapped : List Command → ℕ → ℕ → Type 0
+AreMapped history first pages =
+    (page : ℕ) → first ≤ page → page < first + pages → is_mapped history page ≡ true
+
+-- the first nodes of the pages' lists; or a page isn't mapped
+abbrev pub AreFirsts : Bool → Hardware → List Command → ℕ → ℕ → ℕ → ℕ → List ℕ → Type 0
+AreFirsts true machine history task first cpu pages nodes =
+    AreMapped history first pages × (nodes ≡ first_nodes machine history task first pages cpu)
+AreFirsts false machine history task first cpu pages nodes = HasUnmapped history first pages
+
 -- ---- questions
 
 -- place TASK ADDR CPU
@@ -72,3 +83,10 @@ question_text refused machine history (Place task address cpu) = unless_starved 
 question_text refused machine history (Span task address pages cpu) = unless_starved refused (span_text machine history task (page_of address) pages cpu)
 question_text refused machine history (Counts task address pages cpu) = unless_starved refused (count_text machine history task (page_of address) pages cpu)
 question_text refused machine history Ranges = ranges_text machine history
+
+-- for how many pages a question asks
+abbrev pub pages_asked : Question → ℕ
+pages_asked (Place task address cpu) = 1
+pages_asked (Span task address pages cpu) = pages
+pages_asked (Counts task address pages cpu) = pages
+pages_asked Ranges = 0

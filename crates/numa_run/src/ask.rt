@@ -1,14 +1,17 @@
 //! Questions about pages, by a plan.
-ghost use Rattle.std.specs.Prelude.{ℕ, Bool, List, length};
+ghost use Rattle.std.specs.Prelude.{◌≢◌, ℕ, Bool, List, length};
 ghost use Rattle.numa_compile.specs.Standing.{PlanStandsFor};
 ghost use Rattle.numa_machine.specs.Machine.{Hardware};
 ghost use Rattle.numa_space.specs.declared.command.Command.{Command};
 ghost use Rattle.line_server.specs.Written.{Said};
-ghost use Rattle.numa_run.specs.Questions.{count_text, place_text, span_text, unless_starved};
+ghost use Rattle.numa_run.specs.Questions.{count_text, place_text, question_text};
+ghost use Rattle.numa_run.specs.Questions.{span_text, unless_starved};
 
+use crate::serving::PAGE;
 use crate::tell::{say_counts, say_nodes, say_place_refusal, say_starved};
 use line_server::Watched;
 use numa_plan::{Plan, Steps};
+use numa_script::Question;
 use std::alloc::Global;
 use std::io::Write;
 
@@ -82,5 +85,37 @@ pub(crate) fn say_pages<W: Write>(
     match plan.counts(task, cpu, first, pages) {
         Ok(counts) => say_counts(output, plan.version(), &counts),
         Err(refusal) => say_place_refusal(output, refusal),
+    }
+}
+
+/// Answers a question about pages.
+pub(crate) fn answer_by_plan<W: Write>(
+    alloc: Global,
+    plan: &Plan,
+    question: Question,
+    output: &mut Watched<W>,
+)
+    requires { question ≢ Question.Ranges }
+    ensures { (machine : Hardware) (history : List Command) → PlanStandsFor machine plan.now history
+        → (refused : Bool) × Said W.contents output.old output.new
+        (question_text refused machine history question) }
+{
+    match question {
+        Question::Place { task, address, cpu } => {
+            say_place(plan, task, address / PAGE, cpu, output)
+        }
+        Question::Span {
+            task,
+            address,
+            pages,
+            cpu,
+        } => say_span(alloc, plan, task, address / PAGE, pages, cpu, output),
+        Question::Counts {
+            task,
+            address,
+            pages,
+            cpu,
+        } => say_pages(plan, task, address / PAGE, pages, cpu, output),
+        Question::Ranges => unreachable!(),
     }
 }

@@ -1,15 +1,16 @@
 //! Lines that are judged: what is wrong with them, without the answers to questions.
-ghost use Rattle.std.specs.Prelude.{◌≡◌, Bool, List};
+ghost use Rattle.std.specs.Prelude.{◌≡◌, ◌≤◌, Bool, List, None};
 ghost use Rattle.numa_compile.specs.Standing.{PlanStandsFor};
 ghost use Rattle.numa_machine.specs.Machine.{Hardware};
 ghost use Rattle.numa_space.specs.declared.command.Command.{Command};
 ghost use Rattle.numa_run.specs.Answers.{State};
 ghost use Rattle.numa_run.specs.Judged.{fault_in, question_cause, question_refusal};
-ghost use Rattle.numa_run.specs.Questions.{span_refusal_of};
+ghost use Rattle.numa_run.specs.Questions.{pages_asked, span_refusal_of};
 ghost use Rattle.numa_run.specs.Scripts.{ScriptJudges};
-ghost use Rattle.numa_run.specs.Standing.{RunsAs};
+ghost use Rattle.numa_run.specs.Standing.{RunsAs, most_resolved};
 
 use crate::reply::Reply;
+use crate::resolve::refusal_by_space;
 use crate::running::Running;
 use crate::script::Script;
 use crate::serving::{PAGE, Taken};
@@ -74,7 +75,19 @@ fn plan_refusal(plan: &Plan, question: Question) -> Option<PlaceRefusal>
 }
 
 impl Running {
-    /// The first cause that refuses a question, for which a plan is compiled where none is kept.
+    /// The first cause that refuses a question about pages.
+    fn page_refusal(&self, question: Question) -> Option<PlaceRefusal>
+        requires { self.now.plan ≡ None → pages_asked question ≤ most_resolved }
+        ensures { (state : State) → RunsAs self.now state → result
+            ≡ question_refusal self.now.core.space.machine state.world.history question }
+    {
+        match self.plan.get() {
+            Some(plan) => plan_refusal(plan, question),
+            None => refusal_by_space(self.core.space(), question),
+        }
+    }
+
+    /// The first cause that refuses a question.
     fn question_cause(&mut self, alloc: Global, question: Question) -> Option<CoreRefusal>
         ensures { (state : State) → RunsAs self.old state → (refused : Bool) × RunsAs self.new state
             × (result ≡ question_cause refused self.old.core.space.machine state.world.history question) }
@@ -82,16 +95,15 @@ impl Running {
         if let Question::Ranges = question {
             return None;
         }
-        if self.prepare(alloc).is_err() {
+        if self.prepare(alloc, question).is_err() {
             return Some(CoreRefusal::NoMemory);
         }
-        let Some(plan) = &self.plan else {
-            unreachable!()
-        };
-        match plan_refusal(plan, question) {
+        match self.page_refusal(question) {
             None => None,
             Some(PlaceRefusal::BadCpu) => Some(CoreRefusal::BadCpu),
-            Some(PlaceRefusal::Unmapped) => Some(CoreRefusal::Unmapped(plan.version())),
+            Some(PlaceRefusal::Unmapped) => {
+                Some(CoreRefusal::Unmapped(self.core.space().version()))
+            }
         }
     }
 }

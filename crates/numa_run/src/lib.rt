@@ -4,8 +4,10 @@
 mod ask;
 mod build;
 mod judging;
+mod lazy_plan;
 pub mod names;
 pub mod reply;
+mod resolve;
 mod running;
 pub mod script;
 mod serving;

@@ -4,20 +4,20 @@ ghost use Rattle.numa_core.specs.Standing.{setup_of};
 ghost use Rattle.numa_run.specs.Standing.{Does};
 ghost use Rattle.numa_run.specs.Work.{event_outcome, kept_outcome, release_outcome, touch_outcome, work_outcome};
 
+use crate::lazy_plan::LazyPlan;
 use crate::reply::Reply;
 use crate::told::{is_accepted, told, win_of, won_by};
 use numa_core::{Core, CoreRefusal, Event, Frame, Placement, Request};
 use numa_maps::{RecordRefusal, Resident};
-use numa_plan::Plan;
 use numa_script::Work;
 use std::alloc::Global;
 
-/// A machine that is running: its core, the pages that are placed, and the plan last compiled, until a command is accepted.
+/// A machine that is running: its core, the pages that are placed, and the plan that is kept.
 #[derive(Drop)]
 pub(crate) struct Running {
     pub core: Core,
     pub resident: Resident,
-    pub plan: Option<Plan>,
+    pub plan: LazyPlan,
 }
 
 impl Running {
@@ -30,7 +30,7 @@ impl Running {
         Running {
             core,
             resident: Resident::new(alloc),
-            plan: None,
+            plan: LazyPlan::new(),
         }
     }
 
@@ -40,7 +40,7 @@ impl Running {
     {
         let answer = self.core.step(event);
         if is_accepted(&answer) {
-            self.plan = None;
+            self.plan.clear();
             return told(&answer);
         }
         told(&answer)

@@ -1,17 +1,17 @@
 //! A machine that is running serves lines.
-ghost use Rattle.std.specs.Prelude.{◌≡◌, ℕ, Bool, List, Option, IfErr, OnOk, Ok, IsSome};
+ghost use Rattle.std.specs.Prelude.{◌≡◌, ◌≤◌, ℕ, Bool, List, OnOk, Ok, None};
 ghost use Rattle.line_server.specs.Written.{Said};
 ghost use Rattle.numa_run.specs.Answers.{State, after, answer_of};
-ghost use Rattle.numa_run.specs.Questions.{question_text};
+ghost use Rattle.numa_run.specs.Questions.{pages_asked, question_text};
 ghost use Rattle.numa_run.specs.Ranges.{listing_of};
-ghost use Rattle.numa_run.specs.Standing.{RunsAs, Takes};
+ghost use Rattle.numa_run.specs.Standing.{RunsAs, Takes, most_resolved};
 
-use crate::ask::{say_pages, say_place, say_span};
+use crate::ask::answer_by_plan;
 use crate::reply::Reply;
+use crate::resolve::answer_by_space;
 use crate::running::Running;
 use crate::tell::{say_count, say_starved, tell};
 use line_server::Watched;
-use numa_compile::compile;
 use numa_core::Event;
 use numa_maps::write_maps;
 use numa_plan::NoMemory;
@@ -34,57 +34,49 @@ pub(crate) enum Taken {
     Maps(u32),
 }
 
+/// For how many pages a question asks.
+pub(crate) fn pages_asked(question: Question) -> u64
+    ensures { result ≡ pages_asked question }
+{
+    match question {
+        Question::Place { .. } => 1,
+        Question::Span { pages, .. } => u64::from(pages),
+        Question::Counts { pages, .. } => pages,
+        Question::Ranges => 0,
+    }
+}
+
 impl Running {
-    /// Compiles a plan, where none is kept.
-    pub(crate) fn prepare(&mut self, alloc: Global) -> Result<(), NoMemory>
+    /// Readies the answer of a question: it is answered by a plan where one is kept then, else by
+    /// the space.
+    pub(crate) fn prepare(&mut self, alloc: Global, question: Question) -> Result<(), NoMemory>
         ensures stands { (state : State) → RunsAs self.old state → RunsAs self.new state }
-        ensures ready { OnOk result (IsSome self.new.plan) }
+        ensures few { OnOk result
+            (self.new.plan ≡ None → pages_asked question ≤ most_resolved) }
         ensures core { self.new.core ≡ self.old.core }
     {
-        if self.plan.is_some() {
-            return Ok(());
-        }
-        let Ok(plan) = compile(alloc, self.core.space()) else {
-            return Err(NoMemory);
-        };
-        self.plan = Some(plan);
-        Ok(())
+        self.plan
+            .prepare(alloc, self.core.space(), pages_asked(question))
     }
 
-    /// Answers a question, for which a plan is compiled where none is kept.
+    /// Answers a question.
     fn answer<W: Write>(&mut self, alloc: Global, question: Question, output: &mut Watched<W>)
-        ensures { (state : State) → RunsAs self.old state → (refused : Bool) × RunsAs self.new state
-            × Said W.contents output.old output.new (question_text refused self.old.core.space.machine state.world.history question) }
+        ensures { (state : State) → RunsAs self.old state → (refused : Bool)
+            × RunsAs self.new state × Said W.contents output.old output.new (question_text refused
+            self.old.core.space.machine state.world.history question) }
     {
         if let Question::Ranges = question {
             let ranges = self.core.space().ranges() as u64;
             say_count(output, b"ranges ", ranges);
             return;
         }
-        if self.prepare(alloc).is_err() {
+        if self.prepare(alloc, question).is_err() {
             say_starved(output);
             return;
         }
-        let Some(plan) = &self.plan else {
-            unreachable!()
-        };
-        match question {
-            Question::Place { task, address, cpu } => {
-                say_place(plan, task, address / PAGE, cpu, output)
-            }
-            Question::Span {
-                task,
-                address,
-                pages,
-                cpu,
-            } => say_span(alloc, plan, task, address / PAGE, pages, cpu, output),
-            Question::Counts {
-                task,
-                address,
-                pages,
-                cpu,
-            } => say_pages(plan, task, address / PAGE, pages, cpu, output),
-            Question::Ranges => unreachable!(),
+        match self.plan.get() {
+            Some(plan) => answer_by_plan(alloc, plan, question, output),
+            None => answer_by_space(alloc, self.core.space(), question, output),
         }
     }
 

@@ -1,6 +1,7 @@
-use Rattle.std.proofs.Common.{◌∙◌, sym, ap, false, Some, length}
+use Rattle.std.proofs.Common.{◌∙◌, sym, subst, ap, false, Some, length}
 use Rattle.std.specs.Option.{option_map}
 use Rattle.numa_core.specs.Standing.{CoreState}
+use Rattle.numa_space.specs.Standing.{StandsFor}
 use Rattle.numa_space.specs.declared.event.CoreRefusal.TheVariants.{Unmapped}
 use Rattle.numa_run.specs.Judged.{cause_at, question_cause}
 use Rattle.numa_run.proofs.JudgeLemmas.{plain-cause}
@@ -12,7 +13,7 @@ returns-in-None c =
     let ready = c.prepare.ensures.stands state stands in
     let machine = c.prepare.new.self.core.space.machine in
     let history = state.world.history in
-    let why = c.plan_refusal.ensures machine history (ready.plan c.in-Some.plan c.in-Some.is) in (
+    let why = c.page_refusal.ensures state ready in (
       false,
       ready,
       ap (option_map (cause_at (length history))) (sym c.in-None.is ∙ why) ∙ sym (plain-cause machine history c.args.question)
@@ -25,7 +26,7 @@ returns-in-Some-BadCpu c =
     let ready = c.prepare.ensures.stands state stands in
     let machine = c.prepare.new.self.core.space.machine in
     let history = state.world.history in
-    let why = c.plan_refusal.ensures machine history (ready.plan c.in-Some.plan c.in-Some.is) in
+    let why = c.page_refusal.ensures state ready in
     let is = c.in-Some-BadCpu.is ∙ ap Some c.in-Some-BadCpu.field-0-is in (
       false,
       ready,
@@ -39,12 +40,12 @@ returns-in-Some-Unmapped c =
     let ready = c.prepare.ensures.stands state stands in
     let machine = c.prepare.new.self.core.space.machine in
     let history = state.world.history in
-    let plan = ready.plan c.in-Some.plan c.in-Some.is in
-    let why = c.plan_refusal.ensures machine history plan in
+    let why = c.page_refusal.ensures state ready in
+    let there = subst (λ s. StandsFor s history) (sym c.space.ensures.space) ready.core.world.space in
     let is = c.in-Some-Unmapped.is ∙ ap Some c.in-Some-Unmapped.field-0-is in (
       false,
       ready,
-      ap (λ v. Some (Unmapped v)) (c.version.ensures ∙ plan.version)
+      ap (λ v. Some (Unmapped v)) (c.version.ensures.meaning history there)
           ∙ ap (option_map (cause_at (length history))) (sym is ∙ why) ∙ sym (plain-cause machine history c.args.question)
           ∙ ap (λ (core : CoreState). question_cause false core.space.machine history c.args.question) c.prepare.ensures.core,
     )

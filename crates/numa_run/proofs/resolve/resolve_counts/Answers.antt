@@ -1,0 +1,10 @@
+use Rattle.std.proofs.Common.{◌≡◌, ◌∙◌, ap, false, ℕ, length}
+use Rattle.line_server.proofs.Adding.{said_same}
+use Rattle.numa_run.specs.Questions.{count_text}
+use Rattle.numa_run.proofs.resolve.resolve_counts.Goals as goal
+
+pub returns : goal.returns
+returns g c =
+    λ history stands.
+    let all : length c.as_mut_slice.result.now ≡ c.args.pages = c.as_mut_slice.ensures.len ∙ c.in-Ok.ensures.len in
+    (false, said_same g.W.Write.contents c.args.output.now c.say_first_counts.new.output _ _ (ap (λ (n : ℕ). count_text c.args.space.now.machine history c.args.task c.args.first n c.args.cpu) all) (c.say_first_counts.ensures history stands))
