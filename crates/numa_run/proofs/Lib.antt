@@ -1,5 +1,6 @@
 mod Examples
 pub mod Counts
+pub mod Digits
 pub mod Doing
 pub mod Histories
 pub mod JudgeLemmas

@@ -6,6 +6,7 @@ mod build;
 mod judging;
 mod lazy_plan;
 pub mod names;
+mod nodes;
 pub mod reply;
 mod resolve;
 mod running;

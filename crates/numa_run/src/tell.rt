@@ -7,6 +7,7 @@ ghost use Rattle.numa_run.specs.Questions.{counts_line, nodes_line};
 ghost use Rattle.numa_run.specs.Texts.{text_of, nodes_text, refused_text, cause_name, place_name, refusal_name, errno_name, frame_text, win_line, word_text};
 
 use crate::names::{errno_name, list_name, machine_name, place_name, policy_name, refusal_name};
+use crate::nodes::say_each_node;
 use crate::reply::{Reply, Win};
 use line_server::Watched;
 use numa_core::{CoreRefusal, Frame};
@@ -129,16 +130,6 @@ fn say_version<W: Write>(output: &mut Watched<W>, version: u64)
 {
     say_number(output, b"v", version);
     output.say(b":");
-}
-
-/// Says nodes, each after a space.
-fn say_each_node<W: Write>(output: &mut Watched<W>, nodes: &[u8])
-    ensures { Said W.contents output.old output.new (nodes_text nodes.now) }
-{
-    for node in nodes {
-        output.say(b" ");
-        output.say_number(u64::from(*node));
-    }
 }
 
 /// Says the nodes of a page, or of pages.
