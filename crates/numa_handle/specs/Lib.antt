@@ -1,0 +1,4 @@
+pub mod Held
+pub mod Ownership
+pub mod Steps
+pub use Rattle.numa_core.specs.Standing
