@@ -28,3 +28,9 @@ pub record IsStep (before : CoreState) (event : Event) (answer : Result CoreRepl
       → LeadsTo (moment_after (setup_of before) run event answer ∷ run) after
   pub unchanged : OnErr answer (after ≡ before)
   pub setup : setup_of after ≡ setup_of before
+
+-- the same of what is kept: a core before and a core after
+abbrev pub Steps : Option CoreState → Event → Result CoreReply CoreRefusal → Option CoreState → Type 0
+Steps old event answer new =
+    (before : CoreState) → old ≡ Some before →
+    (after : CoreState) × (new ≡ Some after) × IsStep before event answer after
