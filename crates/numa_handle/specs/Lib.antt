@@ -1,4 +1,6 @@
 pub mod Held
 pub mod Ownership
+pub mod Plans
 pub mod Steps
 pub use Rattle.numa_core.specs.Standing
+pub use Rattle.numa_plan.specs.Meaning

@@ -7,8 +7,10 @@ mod handle;
 mod held;
 mod kept;
 mod place;
+mod plan_handle;
 
 pub use core_handle::CoreHandle;
 pub use handle::Handle;
 pub use held::Held;
 pub use kept::Kept;
+pub use plan_handle::{ChoiceRefusal, PlanHandle};

@@ -61,8 +61,8 @@ into_box_spec {M} 𝓤 𝓛 𝓜 𝓡 wired T L drops glue =
     let Made = triple_of 𝓛 (callee.signature T Handle ghosts dict handle_drop) (callee.spec T Handle ghosts dict handle_drop 𝓛 𝓜.mem 𝓡.returns) in
     let Mades = callee.ended T Handle ghosts dict handle_drop in
     let known = met 𝓤 𝓛 𝓜 𝓡 (code.calls-std_alloc::boxed::Box::from_raw 𝓡.env wired) T Handle L handle_laws ghosts dict handle_drop
-        (heap_met.passed 𝓡.env (code.calls-std_heap::GlobalAllocator::allocate 𝓡.env wired) (code.calls-std_heap::GlobalAllocator::deallocate 𝓡.env wired) (code.calls-std_heap::GlobalAllocator::grow 𝓡.env wired) (code.calls-std_heap::GlobalAllocator::shrink 𝓡.env wired) M 𝓤 𝓛 𝓜 𝓡)
-        (glues "numa_handle::Destruct++none::drop" 𝓡.env (code.calls-numa_handle::Destruct++none::drop 𝓡.env wired) Handle handle_laws M 𝓤 𝓛 𝓜 𝓡) in
+    (heap_met.passed 𝓡.env (code.calls-std_heap::GlobalAllocator::allocate 𝓡.env wired) (code.calls-std_heap::GlobalAllocator::deallocate 𝓡.env wired) (code.calls-std_heap::GlobalAllocator::grow 𝓡.env wired) (code.calls-std_heap::GlobalAllocator::shrink 𝓡.env wired) M 𝓤 𝓛 𝓜 𝓡)
+    (glues "numa_handle::Destruct++none::drop" 𝓡.env (code.calls-numa_handle::Destruct++none::drop 𝓡.env wired) Handle handle_laws M 𝓤 𝓛 𝓜 𝓡) in
     proved_at 𝓛 En stays c 𝓜 𝓡 (Goes-blank 𝓛 1 (plain (λ _. P)) no (λ κs x f. tt), (Goes-dropped 𝓛 1 (plain (λ _. heap.the_row)) yes (λ κs x f. refl), tt)) (#self inst) fn (code.unfolded 𝓤 𝓛.H 𝓜 𝓡 wired (T, tt) drops) (λ z are.
     let κ = z.0.0.0 in let q = z.0.1.0 in let v = z.0.3.0 in let a = z.0.3.1.0 in let lives = κ ⊑ T.lives in
     let Post : Val → SProp 𝓤 = (walk_of 𝓛 En stays c).post z in
@@ -83,7 +83,7 @@ into_box_spec {M} 𝓤 𝓛 𝓜 𝓡 wired T L drops glue =
     sets ! (of_opd ! (get_in ! (fld ! refl (stop !)) (sub ! 0 refl (whole !)))) refl (ptr_good v.at) $ first ! $ blocks ! $
     calls_at_last ! (fm 𝓛 𝓜 𝓡) Made known y (and_then ! (get ! refl) (and_then ! (get ! refl) (no_more !))) (λ u.
     use1 𝓛 (later (some (λ (r : B.Denot). ((‵ (flft κ q) ⊛ ‵ (flft [] full_share) ⊛ ‵ ftrue) ⊛ ‵ (B.own_val r (u ∷ [])))
-        ⊛ some (λ (ls : Lasts Mades y.0.0 y.0.3). ‵ (lasts Mades y.0.0 y.0.3 ls) ⊛ (raw (fact 𝓤 (r.value ≡ v.value)) ⊛ raw (fact 𝓤 (r.alloc ≡ a))))))) (id⊢ 𝓤 (Made.post y u)) $
+    ⊛ some (λ (ls : Lasts Mades y.0.0 y.0.3). ‵ (lasts Mades y.0.0 y.0.3 ls) ⊛ (raw (fact 𝓤 (r.value ≡ v.value)) ⊛ raw (fact 𝓤 (r.alloc ≡ a))))))) (id⊢ 𝓤 (Made.post y u)) $
     await ! tt $ pick ! (λ r. split ! $ move ! (1 ∷ []) $ pick ! (λ _. split ! $ drop ! $ split ! $ move ! (1 ∷ []) $ drop ! $ heard ! (r.value ≡ v.value) (λ same.
     split ! $ split ! $ move ! (1 ∷ []) $ drop ! $ move ! (1 ∷ []) $
     -- [the box; the lifetime's token]

@@ -57,8 +57,8 @@ of_spec {M} 𝓤 𝓛 𝓜 𝓡 wired T L drops glue =
     let Raw = triple_of 𝓛 (callee.signature T Handle ghosts dict handle_drop drops) (callee.spec T Handle ghosts dict handle_drop drops 𝓛 𝓜.mem 𝓡.returns) in
     let Raws = callee.ended T Handle ghosts dict handle_drop drops in
     let known = met 𝓤 𝓛 𝓜 𝓡 (code.calls-std_alloc::boxed::Box::into_raw 𝓡.env wired) T Handle L handle_laws ghosts dict handle_drop drops
-        (heap_met.passed 𝓡.env (code.calls-std_heap::GlobalAllocator::allocate 𝓡.env wired) (code.calls-std_heap::GlobalAllocator::deallocate 𝓡.env wired) (code.calls-std_heap::GlobalAllocator::grow 𝓡.env wired) (code.calls-std_heap::GlobalAllocator::shrink 𝓡.env wired) M 𝓤 𝓛 𝓜 𝓡)
-        (glues "numa_handle::Destruct++none::drop" 𝓡.env (code.calls-numa_handle::Destruct++none::drop 𝓡.env wired) Handle handle_laws M 𝓤 𝓛 𝓜 𝓡) glue in
+    (heap_met.passed 𝓡.env (code.calls-std_heap::GlobalAllocator::allocate 𝓡.env wired) (code.calls-std_heap::GlobalAllocator::deallocate 𝓡.env wired) (code.calls-std_heap::GlobalAllocator::grow 𝓡.env wired) (code.calls-std_heap::GlobalAllocator::shrink 𝓡.env wired) M 𝓤 𝓛 𝓜 𝓡)
+    (glues "numa_handle::Destruct++none::drop" 𝓡.env (code.calls-numa_handle::Destruct++none::drop 𝓡.env wired) Handle handle_laws M 𝓤 𝓛 𝓜 𝓡) glue in
     proved_at 𝓛 En stays c 𝓜 𝓡 (Goes-blank 𝓛 1 (plain (λ _. B)) no (λ κs x f. tt), tt) (#self inst) fn (code.unfolded 𝓤 𝓛.H 𝓜 𝓡 wired (T, tt) drops) (λ z are.
     let κ = z.0.0.0 in let q = z.0.1.0 in let v = z.0.3.0 in let lives = κ ⊑ T.lives in
     let Post : Val → SProp 𝓤 = (walk_of 𝓛 En stays c).post z in
@@ -77,7 +77,7 @@ of_spec {M} 𝓤 𝓛 𝓜 𝓡 wired T L drops glue =
     enter ! 𝓣.C 𝓣.Λ fn (w ∷ []) Post $ alloc_all ! (λ l. pass_all ! refl (typed, tt) $ sets ! (of_opd ! (get ! refl)) refl typed $
     calls_at ! (fm 𝓛 𝓜 𝓡) Raw known y (and_then ! (get ! refl) (no_more !)) (λ u.
     use1 𝓛 (later (some (λ (p : Ptr). ((‵ (flft κ q) ⊛ ‵ (flft [] full_share) ⊛ ‵ ftrue) ⊛ ‵ (RawPtr.own_val p (u ∷ [])))
-        ⊛ some (λ (ls : Lasts Raws y.0.0 y.0.3). ‵ (lasts Raws y.0.0 y.0.3 ls) ⊛ ‵ (owns_at R p v.value))))) (id⊢ 𝓤 (Raw.post y u)) $
+    ⊛ some (λ (ls : Lasts Raws y.0.0 y.0.3). ‵ (lasts Raws y.0.0 y.0.3 ls) ⊛ ‵ (owns_at R p v.value))))) (id⊢ 𝓤 (Raw.post y u)) $
     await ! tt $ pick ! (λ p. split ! $ move ! (1 ∷ []) $ pick ! (λ _. split ! $ drop ! $ move ! (1 ∷ []) $ split ! $ split ! $ move ! (1 ∷ []) $ drop ! $ move ! (1 ∷ []) $
     feq_l ! (λ eu. let d : (Place R).Denot = record { at = p; value = v.value } in
     lands_as ! (ap only eu) refl (ptr_good p) $ sets ! (agg ! (and_then ! (get ! refl) (no_more !))) refl (word_good p) $
