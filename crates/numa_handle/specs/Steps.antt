@@ -1,7 +1,13 @@
 -- What a handle of a core keeps, and what an event does to it.
-use Rattle.std.specs.Prelude.{◌≡◌, Option, Some, None, Result, List, ◌∷◌, OnErr}
+use Rattle.std.specs.Prelude.{◌≡◌, ℕ, Option, Some, None, Result, List, ◌∷◌, ◌++◌, OnErr}
 use Rattle.numa_core.specs.Runs.{Moment}
 use Rattle.numa_core.specs.Standing.{CoreState, LeadsTo, moment_after, setup_of}
+use Rattle.numa_core.specs.Touching.{IsTouch}
+use Rattle.numa_compile.specs.Standing.{IsPlanOf, PlanStandsFor}
+use Rattle.numa_plan.specs.Meaning.{PlanData}
+use Rattle.numa_space.specs.Standing.{StandsFor}
+use Rattle.numa_space.specs.declared.command.Command.{Command}
+use Rattle.numa_space.specs.declared.request.Request.{Request}
 use Rattle.numa_space.specs.declared.event.Event.{Event}
 use Rattle.numa_space.specs.declared.event.CoreReply.{CoreReply}
 use Rattle.numa_space.specs.declared.event.CoreRefusal.{CoreRefusal}
@@ -34,3 +40,28 @@ abbrev pub Steps : Option CoreState → Event → Result CoreReply CoreRefusal �
 Steps old event answer new =
     (before : CoreState) → old ≡ Some before →
     (after : CoreState) × (new ≡ Some after) × IsStep before event answer after
+
+-- the touch took the core from the one state to the other: the moments of a touch that is answered so
+pub record IsTouched (before : CoreState) (worker : ℕ) (request : Request)
+    (answer : Result CoreReply CoreRefusal) (after : CoreState) : Type 0 where
+  pub runs : (run : List Moment) → LeadsTo run before → (moments : List Moment)
+      × IsTouch worker request answer moments × LeadsTo (moments ++ run) after
+  pub unchanged : OnErr answer (after ≡ before)
+  pub setup : setup_of after ≡ setup_of before
+
+abbrev pub Touches : Option CoreState → ℕ → Request → Result CoreReply CoreRefusal
+    → Option CoreState → Type 0
+Touches old worker request answer new =
+    (before : CoreState) → old ≡ Some before →
+    (after : CoreState) × (new ≡ Some after) × IsTouched before worker request answer after
+
+-- the plan is that of the core's accepted commands
+abbrev pub Compiles : Option CoreState → PlanData → Type 0
+Compiles kept plan = (core : CoreState) → kept ≡ Some core → IsPlanOf core.space plan
+    × ((history : List Command) → StandsFor core.space history
+    → PlanStandsFor core.space.machine plan history)
+
+-- so many commands are accepted, and so many of them are published
+abbrev pub HasVersions : Option CoreState → ℕ → ℕ → Type 0
+HasVersions kept accepted published = (core : CoreState) → kept ≡ Some core →
+    (accepted ≡ core.space.version) × (published ≡ core.plan.version)
