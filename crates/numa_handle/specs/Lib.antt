@@ -1,4 +1,5 @@
 pub mod Held
+pub mod Kinds
 pub mod Ownership
 pub mod Plans
 pub mod Steps

@@ -1,27 +1,18 @@
 -- What a handle of a plan keeps, and what it answers.
 use Rattle.std.specs.Prelude.{◌≡◌, ◌+◌, ◌<◌, ℕ, List, length, take, drop}
 use Rattle.std.specs.Prelude.{Option, Some, None, Result, Ok, Err, EachIndex, slice_index}
-use Rattle.std.specs.Arc.{arc_value}
 use Rattle.numa_plan.specs.Found.{IsMapped}
 use Rattle.numa_plan.specs.Meaning.{PlanData, planned_list, planned_first, place_refusal}
 use Rattle.numa_plan.specs.Meaning.{CountsFirsts, RefusesSpan}
 use Rattle.numa_space.specs.declared.refusal.PlaceRefusal.{PlaceRefusal}
 use Rattle.numa_handle.specs.declared.plan_handle.ChoiceRefusal.{ChoiceRefusal}
 use Rattle.numa_handle.specs.declared.plan_handle.ChoiceRefusal.TheVariants as refused
-use Rattle.numa_handle.specs.declared.kept.Kept.{Kept}
-use Rattle.numa_handle.specs.declared.kept.Kept.TheVariants as kept
+use Rattle.numa_handle.specs.declared.handles.PlanHandle.{PlanHandle}
+use Rattle.numa_handle.specs.Kinds.{plan_of}
 
--- the plan that is kept
-abbrev pub plan_of : Option Kept → Option PlanData
-plan_of None = None
-plan_of (Some (kept.Core core)) = None
-plan_of (Some (kept.Plan plan)) = Some (arc_value plan)
-
--- nothing but a plan is kept
-abbrev pub IsPlan : Option Kept → Type 0
-IsPlan None = Unit {0}
-IsPlan (Some (kept.Core core)) = ⊥
-IsPlan (Some (kept.Plan plan)) = Unit {0}
+-- the plan that a handle keeps
+abbrev pub plan_in : PlanHandle → Option PlanData
+plan_in h = plan_of h.handle.held.kept
 
 -- the list of a page of the plan, for a task and a fault on the node
 abbrev pub IsListOf : Option PlanData → ℕ → ℕ → ℕ → List ℕ → Type 0

@@ -11,20 +11,12 @@ use Rattle.numa_space.specs.declared.request.Request.{Request}
 use Rattle.numa_space.specs.declared.event.Event.{Event}
 use Rattle.numa_space.specs.declared.event.CoreReply.{CoreReply}
 use Rattle.numa_space.specs.declared.event.CoreRefusal.{CoreRefusal}
-use Rattle.numa_handle.specs.declared.kept.Kept.{Kept}
-use Rattle.numa_handle.specs.declared.kept.Kept.TheVariants as kept
+use Rattle.numa_handle.specs.declared.handles.CoreHandle.{CoreHandle}
+use Rattle.numa_handle.specs.Kinds.{core_of}
 
--- the core that is kept
-abbrev pub core_of : Option Kept → Option CoreState
-core_of None = None
-core_of (Some (kept.Core core)) = Some core
-core_of (Some (kept.Plan plan)) = None
-
--- nothing but a core is kept
-abbrev pub IsCore : Option Kept → Type 0
-IsCore None = Unit {0}
-IsCore (Some (kept.Core core)) = Unit {0}
-IsCore (Some (kept.Plan plan)) = ⊥
+-- the core that a handle keeps
+abbrev pub core_in : CoreHandle → Option CoreState
+core_in h = core_of h.handle.held.kept
 
 -- the event took the core from the one state to the other with this answer: each legal run that led
 -- to the first leads with this moment to the second, and a refusal changes nothing

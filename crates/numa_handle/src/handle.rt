@@ -1,11 +1,10 @@
 //! A handle of any kind.
-ghost use Rattle.std.specs.Prelude.{◌≡◌, Option, Some, None, MatchOption, is_some};
+ghost use Rattle.std.specs.Prelude.{◌≡◌, Some, None, MatchOption, is_some};
 
 use crate::held::Held;
 use crate::kept::Kept;
 use crate::place::Place;
 use std::alloc::Global;
-use std::marker::Model;
 use std::mem::replace;
 
 /// A value on the heap that a C caller keeps, or none: a handle whose bytes are all 0 is closed.
@@ -13,47 +12,65 @@ use std::mem::replace;
 pub struct Handle {
     is_open: bool,
     held: Held,
-}
-
-impl Model for Handle {
-    ghost use Rattle.std.specs.Prelude.{◌≡◌, Option, is_some};
-    ghost use Rattle.numa_handle.specs.declared.kept.Kept.{Kept};
-
-    ghost Value = { Option Kept };
-
-    ghost view = { λ h. h.held.kept };
-
-    ghost invariant = { λ h. is_some h.held.kept ≡ h.is_open };
+    ghost told: { is_some held.kept ≡ is_open },
 }
 
 impl Handle {
+    /// A handle that keeps nothing.
+    fn closed() -> Handle
+        ensures { result.held.kept ≡ None }
+    {
+        Handle {
+            is_open: false,
+            held: Held::none(),
+        }
+    }
+
+    /// A handle that keeps this.
+    fn open(kept: Box<Kept>) -> Handle
+        ensures { result.held.kept ≡ Some kept.value }
+    {
+        Handle {
+            is_open: true,
+            held: Held::of(Place::of(kept)),
+        }
+    }
+
     /// Whether it keeps something.
     pub fn is_open(&self) -> bool
-        ensures { result ≡ is_some self.now }
+        ensures { result ≡ is_some self.now.held.kept }
     {
         self.is_open
     }
 
-    /// Takes out what it keeps, which closes it.
-    pub fn take(&mut self, alloc: Global) -> Option<Box<Kept>>
-        ensures taken { MatchOption result (self.old ≡ None) (λ kept. self.old ≡ Some kept.value) }
-        ensures closed { self.new ≡ None }
+    /// What it keeps, where it keeps something.
+    fn into_kept(self, alloc: Global) -> Option<Box<Kept>>
+        ensures { MatchOption result (self.held.kept ≡ None) (λ kept. self.held.kept ≡ Some kept.value) }
     {
-        if !self.is_open {
-            return None;
+        let Handle { is_open, held } = self;
+        if is_open {
+            return Some(held.into_place().into_box(alloc));
         }
-        self.is_open = false;
-        let held = replace(&mut self.held, Held::none());
-        Some(held.into_place().into_box(alloc))
+        held.spent();
+        None
+    }
+
+    /// Takes out what it keeps, which closes it.
+    pub(crate) fn take(&mut self, alloc: Global) -> Option<Box<Kept>>
+        ensures taken { MatchOption result (self.old.held.kept ≡ None)
+            (λ kept. self.old.held.kept ≡ Some kept.value) }
+        ensures closed { self.new.held.kept ≡ None }
+    {
+        replace(self, Handle::closed()).into_kept(alloc)
     }
 
     /// Puts in what it is to keep, where it is closed.
-    pub fn put(&mut self, kept: Box<Kept>)
-        requires closed { self.old ≡ None }
-        ensures kept { self.new ≡ Some kept.value }
+    pub(crate) fn put(&mut self, kept: Box<Kept>)
+        requires closed { self.old.held.kept ≡ None }
+        ensures kept { self.new.held.kept ≡ Some kept.value }
     {
-        self.is_open = true;
-        replace(&mut self.held, Held::of(Place::of(kept))).spent();
+        let Handle { is_open: _, held } = replace(self, Handle::open(kept));
+        held.spent();
     }
 }
 

@@ -4,13 +4,14 @@
 
 mod core_handle;
 mod handle;
+mod handles;
 mod held;
 mod kept;
 mod place;
 mod plan_handle;
 
-pub use core_handle::CoreHandle;
 pub use handle::Handle;
+pub use handles::{CoreHandle, PlanHandle};
 pub use held::Held;
 pub use kept::Kept;
-pub use plan_handle::{ChoiceRefusal, PlanHandle};
+pub use plan_handle::ChoiceRefusal;

@@ -3,33 +3,15 @@ ghost use Rattle.std.specs.Prelude.{◌≡◌, ◌<◌, Option, Some, None, Matc
 ghost use Rattle.std.specs.Prelude.{OnOk, OnErr, IfOk, IfErr, length, take, drop};
 ghost use Rattle.numa_plan.specs.Meaning.{PlanData, place_refusal};
 ghost use Rattle.numa_plan.specs.Meaning.{CountsFirsts, RefusesSpan};
-ghost use Rattle.numa_handle.specs.Plans.{plan_of, IsPlan, IsListOf, Chooses, Fills, Counts};
+ghost use Rattle.numa_handle.specs.Kinds.{plan_of, is_plan};
+ghost use Rattle.numa_handle.specs.Plans.{plan_in, IsListOf, Chooses, Fills, Counts};
 
-use crate::handle::Handle;
+use crate::handles::PlanHandle;
 use crate::kept::Kept;
 use numa_plan::{Plan, Steps};
 use numa_space::PlaceRefusal;
 use std::alloc::{AllocError, Global};
-use std::marker::Model;
 use std::sync::Arc;
-
-/// A plan that a C caller keeps, or none. Handles of several threads may keep the same plan.
-#[repr(C)]
-pub struct PlanHandle {
-    handle: Handle,
-}
-
-impl Model for PlanHandle {
-    ghost use Rattle.std.specs.Prelude.{Option};
-    ghost use Rattle.numa_plan.specs.Meaning.{PlanData};
-    ghost use Rattle.numa_handle.specs.Plans.{plan_of, IsPlan};
-
-    ghost Value = { Option PlanData };
-
-    ghost view = { λ h. plan_of h.handle };
-
-    ghost invariant = { λ h. IsPlan h.handle };
-}
 
 /// Why the list of a page was not copied.
 #[derive(Clone, Copy, Debug, PartialEq, Eq)]
@@ -48,7 +30,7 @@ fn choose_kept(
     cpu: u32,
     nodes: &mut [u8],
 ) -> Result<usize, ChoiceRefusal>
-    requires plan { IsPlan (Some kept.now) }
+    requires plan { is_plan (Some kept.now) ≡ true }
     ensures chooses { Chooses (plan_of (Some kept.now)) task page cpu result nodes.old nodes.new }
 {
     let Kept::Plan(plan) = kept else {
@@ -74,7 +56,7 @@ fn fill_kept(
     first: u64,
     nodes: &mut [u8],
 ) -> Result<(), PlaceRefusal>
-    requires plan { IsPlan (Some kept.now) }
+    requires plan { is_plan (Some kept.now) ≡ true }
     ensures fills { Fills (plan_of (Some kept.now)) task cpu first result nodes.old nodes.new }
 {
     let Kept::Plan(plan) = kept else {
@@ -91,7 +73,7 @@ fn count_kept(
     first: u64,
     pages: u64,
 ) -> Result<[u64; 256], PlaceRefusal>
-    requires plan { IsPlan (Some kept.now) }
+    requires plan { is_plan (Some kept.now) ≡ true }
     ensures counts { Counts (plan_of (Some kept.now)) task cpu first pages result }
 {
     let Kept::Plan(plan) = kept else {
@@ -102,7 +84,7 @@ fn count_kept(
 
 /// The version of a kept plan.
 fn version_kept(kept: &Kept) -> u64
-    requires plan { IsPlan (Some kept.now) }
+    requires plan { is_plan (Some kept.now) ≡ true }
     ensures version { IfSome (plan_of (Some kept.now)) (λ plan. result ≡ plan.version) }
 {
     let Kept::Plan(plan) = kept else {
@@ -113,8 +95,8 @@ fn version_kept(kept: &Kept) -> u64
 
 /// A kept plan once more.
 fn share_kept(kept: &Kept, alloc: Global) -> Result<Box<Kept>, AllocError>
-    requires plan { IsPlan (Some kept.now) }
-    ensures plan { IfOk result (λ other. IsPlan (Some other.value)) }
+    requires plan { is_plan (Some kept.now) ≡ true }
+    ensures plan { IfOk result (λ other. is_plan (Some other.value) ≡ true) }
     ensures same { IfOk result (λ other.
         plan_of (Some other.value) ≡ plan_of (Some kept.now)) }
 {
@@ -131,7 +113,7 @@ fn share_kept(kept: &Kept, alloc: Global) -> Result<Box<Kept>, AllocError>
 impl PlanHandle {
     /// Whether it keeps a plan.
     pub fn is_open(&self) -> bool
-        ensures { result ≡ is_some self.now }
+        ensures { result ≡ is_some (plan_in self.now) }
     {
         self.handle.is_open()
     }
@@ -141,9 +123,9 @@ impl PlanHandle {
     /// # Errors
     /// There was no memory for it, and the plan is freed.
     pub fn open(&mut self, alloc: Global, plan: Plan) -> Result<(), AllocError>
-        requires closed { self.old ≡ None }
-        ensures ok { OnOk result (self.new ≡ Some plan) }
-        ensures err { OnErr result (self.new ≡ None) }
+        requires closed { plan_in self.old ≡ None }
+        ensures ok { OnOk result (plan_in self.new ≡ Some plan) }
+        ensures err { OnErr result (plan_in self.new ≡ None) }
     {
         let Ok(plan) = Arc::new(alloc, plan) else {
             return Err(AllocError);
@@ -155,7 +137,7 @@ impl PlanHandle {
 
     /// Lets go of the plan, where it keeps one, and frees it where no other handle keeps it.
     pub fn close(&mut self, alloc: Global)
-        ensures { self.new ≡ None }
+        ensures { plan_in self.new ≡ None }
     {
         drop(self.handle.take(alloc));
     }
@@ -165,12 +147,12 @@ impl PlanHandle {
     /// # Errors
     /// There was no memory for it, or as many handles keep the plan as can.
     pub fn share(&mut self, alloc: Global, other: &mut PlanHandle) -> Option<Result<(), AllocError>>
-        requires closed { other.old ≡ None }
-        ensures same { self.new ≡ self.old }
-        ensures none { MatchOption result (self.old ≡ None)
-            (λ answer. is_some self.old ≡ true) }
-        ensures shared { MatchOption result (other.new ≡ None) (λ answer.
-            (OnOk answer (other.new ≡ self.old)) × (OnErr answer (other.new ≡ None))) }
+        requires closed { plan_in other.old ≡ None }
+        ensures same { plan_in self.new ≡ plan_in self.old }
+        ensures none { MatchOption result (plan_in self.old ≡ None)
+            (λ answer. is_some (plan_in self.old) ≡ true) }
+        ensures shared { MatchOption result (plan_in other.new ≡ None) (λ answer.
+            (OnOk answer (plan_in other.new ≡ plan_in self.old)) × (OnErr answer (plan_in other.new ≡ None))) }
     {
         let kept = self.handle.take(alloc)?;
         let shared = share_kept(&kept, alloc);
@@ -186,9 +168,9 @@ impl PlanHandle {
 
     /// The version of the plan; None where it keeps none.
     pub fn version(&mut self, alloc: Global) -> Option<u64>
-        ensures same { self.new ≡ self.old }
-        ensures version { MatchOption result (self.old ≡ None)
-            (λ version. IfSome self.old (λ plan. version ≡ plan.version)) }
+        ensures same { plan_in self.new ≡ plan_in self.old }
+        ensures version { MatchOption result (plan_in self.old ≡ None)
+            (λ version. IfSome (plan_in self.old) (λ plan. version ≡ plan.version)) }
     {
         let kept = self.handle.take(alloc)?;
         let version = version_kept(&kept);
@@ -209,10 +191,10 @@ impl PlanHandle {
         cpu: u32,
         nodes: &mut [u8],
     ) -> Option<Result<usize, ChoiceRefusal>>
-        ensures same { self.new ≡ self.old }
-        ensures closed { self.old ≡ None → nodes.new ≡ nodes.old }
-        ensures chooses { MatchOption result (self.old ≡ None)
-            (λ answer. Chooses self.old task page cpu answer nodes.old nodes.new) }
+        ensures same { plan_in self.new ≡ plan_in self.old }
+        ensures closed { plan_in self.old ≡ None → nodes.new ≡ nodes.old }
+        ensures chooses { MatchOption result (plan_in self.old ≡ None)
+            (λ answer. Chooses (plan_in self.old) task page cpu answer nodes.old nodes.new) }
     {
         let kept = self.handle.take(alloc)?;
         let answer = choose_kept(&kept, task, page, cpu, nodes);
@@ -233,10 +215,10 @@ impl PlanHandle {
         first: u64,
         nodes: &mut [u8],
     ) -> Option<Result<(), PlaceRefusal>>
-        ensures same { self.new ≡ self.old }
-        ensures closed { self.old ≡ None → nodes.new ≡ nodes.old }
-        ensures fills { MatchOption result (self.old ≡ None)
-            (λ answer. Fills self.old task cpu first answer nodes.old nodes.new) }
+        ensures same { plan_in self.new ≡ plan_in self.old }
+        ensures closed { plan_in self.old ≡ None → nodes.new ≡ nodes.old }
+        ensures fills { MatchOption result (plan_in self.old ≡ None)
+            (λ answer. Fills (plan_in self.old) task cpu first answer nodes.old nodes.new) }
     {
         let kept = self.handle.take(alloc)?;
         let answer = fill_kept(&kept, task, cpu, first, nodes);
@@ -257,9 +239,9 @@ impl PlanHandle {
         first: u64,
         pages: u64,
     ) -> Option<Result<[u64; 256], PlaceRefusal>>
-        ensures same { self.new ≡ self.old }
-        ensures counts { MatchOption result (self.old ≡ None)
-            (λ answer. Counts self.old task cpu first pages answer) }
+        ensures same { plan_in self.new ≡ plan_in self.old }
+        ensures counts { MatchOption result (plan_in self.old ≡ None)
+            (λ answer. Counts (plan_in self.old) task cpu first pages answer) }
     {
         let kept = self.handle.take(alloc)?;
         let answer = count_kept(&kept, task, cpu, first, pages);

@@ -1,0 +1,19 @@
+//! The handles of each kind.
+ghost use Rattle.std.specs.Prelude.{◌≡◌, true};
+ghost use Rattle.numa_handle.specs.Kinds.{is_core, is_plan};
+
+use crate::handle::Handle;
+
+/// A core that a C caller keeps, or none.
+#[repr(C)]
+pub struct CoreHandle {
+    pub(crate) handle: Handle,
+    ghost kind: { is_core handle.held.kept ≡ true },
+}
+
+/// A plan that a C caller keeps, or none. Handles of several threads may keep the same plan.
+#[repr(C)]
+pub struct PlanHandle {
+    pub(crate) handle: Handle,
+    ghost kind: { is_plan handle.held.kept ≡ true },
+}
