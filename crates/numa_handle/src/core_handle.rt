@@ -121,6 +121,7 @@ impl CoreHandle {
     /// `NoMemory` where there is none for the plan.
     pub fn compile(&mut self, alloc: Global) -> Option<Result<Plan, NoMemory>>
         ensures same { core_in self.new ≡ core_in self.old }
+        ensures closed { core_in self.old ≡ None → result ≡ None }
         ensures plan { MatchOption result (core_in self.old ≡ None)
             (λ answer. IfOk answer (Compiles (core_in self.old))) }
     {
@@ -134,6 +135,7 @@ impl CoreHandle {
     /// core.
     pub fn versions(&mut self, alloc: Global) -> Option<(u64, u64)>
         ensures same { core_in self.new ≡ core_in self.old }
+        ensures closed { core_in self.old ≡ None → result ≡ None }
         ensures versions { MatchOption result (core_in self.old ≡ None)
             (λ both. HasVersions (core_in self.old) both.0 both.1) }
     {

@@ -149,7 +149,8 @@ impl PlanHandle {
     pub fn share(&mut self, alloc: Global, other: &mut PlanHandle) -> Option<Result<(), AllocError>>
         requires closed { plan_in other.old ≡ None }
         ensures same { plan_in self.new ≡ plan_in self.old }
-        ensures none { MatchOption result (plan_in self.old ≡ None)
+        ensures closed { plan_in self.old ≡ None → result ≡ None }
+        ensures open { MatchOption result (plan_in self.old ≡ None)
             (λ answer. is_some (plan_in self.old) ≡ true) }
         ensures shared { MatchOption result (plan_in other.new ≡ None) (λ answer.
             (OnOk answer (plan_in other.new ≡ plan_in self.old)) × (OnErr answer (plan_in other.new ≡ None))) }
@@ -169,6 +170,7 @@ impl PlanHandle {
     /// The version of the plan; None where it keeps none.
     pub fn version(&mut self, alloc: Global) -> Option<u64>
         ensures same { plan_in self.new ≡ plan_in self.old }
+        ensures closed { plan_in self.old ≡ None → result ≡ None }
         ensures version { MatchOption result (plan_in self.old ≡ None)
             (λ version. IfSome (plan_in self.old) (λ plan. version ≡ plan.version)) }
     {
@@ -192,7 +194,8 @@ impl PlanHandle {
         nodes: &mut [u8],
     ) -> Option<Result<usize, ChoiceRefusal>>
         ensures same { plan_in self.new ≡ plan_in self.old }
-        ensures closed { plan_in self.old ≡ None → nodes.new ≡ nodes.old }
+        ensures closed { plan_in self.old ≡ None →
+            (result ≡ None) × (nodes.new ≡ nodes.old) }
         ensures chooses { MatchOption result (plan_in self.old ≡ None)
             (λ answer. Chooses (plan_in self.old) task page cpu answer nodes.old nodes.new) }
     {
@@ -216,7 +219,8 @@ impl PlanHandle {
         nodes: &mut [u8],
     ) -> Option<Result<(), PlaceRefusal>>
         ensures same { plan_in self.new ≡ plan_in self.old }
-        ensures closed { plan_in self.old ≡ None → nodes.new ≡ nodes.old }
+        ensures closed { plan_in self.old ≡ None →
+            (result ≡ None) × (nodes.new ≡ nodes.old) }
         ensures fills { MatchOption result (plan_in self.old ≡ None)
             (λ answer. Fills (plan_in self.old) task cpu first answer nodes.old nodes.new) }
     {
@@ -240,6 +244,7 @@ impl PlanHandle {
         pages: u64,
     ) -> Option<Result<[u64; 256], PlaceRefusal>>
         ensures same { plan_in self.new ≡ plan_in self.old }
+        ensures closed { plan_in self.old ≡ None → result ≡ None }
         ensures counts { MatchOption result (plan_in self.old ≡ None)
             (λ answer. Counts (plan_in self.old) task cpu first pages answer) }
     {

@@ -1,0 +1,87 @@
+-- The numbers by which the C library answers. A number that was given once is never given to
+-- another cause.
+--     0          it is done
+--     1 to 4     the handle is closed; it is open; out of memory; no room for the answer
+--     10 to 22   a command is refused
+--     30 to 36   an event or a question is refused
+--     40, 41     the worker goes on; every frame of every listed node is met
+--     50 to 55   the machine, the limits or the workers are refused
+--     60 to 63   a list of nodes is faulty
+--     70 to 76   a policy word is faulty, says no policy, or no node is allowed
+use Rattle.std.specs.Prelude.{ℕ, Result, Ok, Err}
+use Rattle.numa_mask.specs.declared.list.ListFault.{ListFault}
+use Rattle.numa_mask.specs.declared.list.ListFault.TheVariants as list
+use Rattle.numa_mode.specs.declared.specification.SpecFault.TheVariants as spec
+use Rattle.numa_script.specs.declared.policy.WordFault.{WordFault}
+use Rattle.numa_script.specs.declared.policy.WordFault.TheVariants as word
+use Rattle.numa_machine.specs.declared.fault.MachineFault.{MachineFault}
+use Rattle.numa_machine.specs.declared.fault.MachineFault.TheVariants as machine
+use Rattle.numa_space.specs.declared.refusal.Refusal.{Refusal}
+use Rattle.numa_space.specs.declared.refusal.Refusal.TheVariants as refusal
+use Rattle.numa_space.specs.declared.refusal.PlaceRefusal.{PlaceRefusal}
+use Rattle.numa_space.specs.declared.refusal.PlaceRefusal.TheVariants as place
+use Rattle.numa_space.specs.declared.event.CoreReply.{CoreReply}
+use Rattle.numa_space.specs.declared.event.CoreReply.TheVariants as reply
+use Rattle.numa_space.specs.declared.event.CoreRefusal.{CoreRefusal}
+use Rattle.numa_space.specs.declared.event.CoreRefusal.TheVariants as cause
+
+abbrev pub refusal_code : Refusal → ℕ
+refusal_code refusal.CommandsSpent = 10
+refusal_code refusal.Unaligned = 11
+refusal_code refusal.OutOfSpace = 12
+refusal_code refusal.EmptyLength = 13
+refusal_code refusal.BadOffset = 14
+refusal_code refusal.Overlap = 15
+refusal_code refusal.Hole = 16
+refusal_code refusal.NoSuchNode = 17
+refusal_code refusal.BadWeight = 18
+refusal_code refusal.NodesNotAllowed = 19
+refusal_code refusal.NotSupported = 20
+refusal_code refusal.TooManyTasks = 21
+refusal_code refusal.TooManyRanges = 22
+refusal_code refusal.NoMemory = 3
+
+abbrev pub cause_code : CoreRefusal → ℕ
+cause_code (cause.Command r) = refusal_code r
+cause_code cause.NoSuchWorker = 30
+cause_code cause.Busy = 31
+cause_code cause.Idle = 32
+cause_code cause.BadTry = 33
+cause_code cause.NotOwned = 34
+cause_code cause.BadCpu = 35
+cause_code (cause.Unmapped version) = 36
+cause_code cause.NoMemory = 3
+
+abbrev pub answer_code : Result CoreReply CoreRefusal → ℕ
+answer_code (Ok reply.Still) = 40
+answer_code (Ok (reply.Exhausted version)) = 41
+answer_code (Ok (reply.Accepted version)) = 0
+answer_code (Ok (reply.Published version)) = 0
+answer_code (Ok (reply.Won placement)) = 0
+answer_code (Ok reply.Given) = 0
+answer_code (Err cause) = cause_code cause
+
+abbrev pub place_code : PlaceRefusal → ℕ
+place_code place.BadCpu = 35
+place_code place.Unmapped = 36
+
+abbrev pub machine_code : MachineFault → ℕ
+machine_code machine.NodeCount = 50
+machine_code machine.NoMemoryNode = 51
+machine_code machine.BadDistance = 52
+machine_code machine.TooManyFrames = 53
+machine_code machine.NoMemory = 3
+
+abbrev pub list_code : ListFault → ℕ
+list_code list.Empty = 60
+list_code list.BadDigit = 61
+list_code list.BackRange = 62
+list_code list.NodeTooHigh = 63
+
+abbrev pub word_code : WordFault → ℕ
+word_code (word.List f) = list_code f
+word_code (word.Policy spec.UnknownMode) = 70
+word_code (word.Policy spec.BothFlags) = 71
+word_code (word.Policy spec.NodesForbidden) = 72
+word_code (word.Policy spec.FlagsForbidden) = 73
+word_code (word.Policy spec.NodesMissing) = 74

@@ -1,0 +1,127 @@
+//! The numbers by which the library answers.
+ghost use Rattle.std.specs.Prelude.{◌≡◌, ◌≢◌};
+ghost use Rattle.numaplan_c.specs.Codes.{refusal_code, cause_code, answer_code, machine_code};
+ghost use Rattle.numaplan_c.specs.Codes.{list_code, word_code, place_code};
+
+use numa_core::{CoreRefusal, CoreReply};
+use numa_machine::MachineFault;
+use numa_mask::ListFault;
+use numa_mode::SpecFault;
+use numa_script::WordFault;
+use numa_space::{PlaceRefusal, Refusal};
+
+/// The handle keeps nothing.
+pub(crate) const CLOSED: u32 = 1;
+
+/// The handle keeps something.
+pub(crate) const OPEN: u32 = 2;
+
+/// Out of memory.
+pub(crate) const NO_MEMORY: u32 = 3;
+
+/// The answer is longer than the room for it.
+pub(crate) const NO_ROOM: u32 = 4;
+
+/// The number of a command's refusal.
+pub(crate) fn refusal_code(refusal: Refusal) -> u32
+    ensures { result ≡ refusal_code refusal }
+{
+    match refusal {
+        Refusal::CommandsSpent => 10,
+        Refusal::Unaligned => 11,
+        Refusal::OutOfSpace => 12,
+        Refusal::EmptyLength => 13,
+        Refusal::BadOffset => 14,
+        Refusal::Overlap => 15,
+        Refusal::Hole => 16,
+        Refusal::NoSuchNode => 17,
+        Refusal::BadWeight => 18,
+        Refusal::NodesNotAllowed => 19,
+        Refusal::NotSupported => 20,
+        Refusal::TooManyTasks => 21,
+        Refusal::TooManyRanges => 22,
+        Refusal::NoMemory => 3,
+    }
+}
+
+/// The number of an event's refusal.
+fn cause_code(cause: CoreRefusal) -> u32
+    ensures { result ≡ cause_code cause }
+{
+    match cause {
+        CoreRefusal::Command(refusal) => refusal_code(refusal),
+        CoreRefusal::NoSuchWorker => 30,
+        CoreRefusal::Busy => 31,
+        CoreRefusal::Idle => 32,
+        CoreRefusal::BadTry => 33,
+        CoreRefusal::NotOwned => 34,
+        CoreRefusal::BadCpu => 35,
+        CoreRefusal::Unmapped(_) => 36,
+        CoreRefusal::NoMemory => 3,
+    }
+}
+
+/// The number of an event's answer.
+pub(crate) fn answer_code(answer: &Result<CoreReply, CoreRefusal>) -> u32
+    ensures { result ≡ answer_code answer.now }
+{
+    match answer {
+        Ok(CoreReply::Still) => 40,
+        Ok(CoreReply::Exhausted(_)) => 41,
+        Ok(_) => 0,
+        Err(cause) => cause_code(*cause),
+    }
+}
+
+/// The number of a question's refusal.
+pub(crate) fn place_code(refusal: PlaceRefusal) -> u32
+    ensures code { result ≡ place_code refusal }
+    ensures refused { result ≢ 0 }
+{
+    match refusal {
+        PlaceRefusal::BadCpu => 35,
+        PlaceRefusal::Unmapped => 36,
+    }
+}
+
+/// The number of a machine's fault.
+pub(crate) fn machine_code(fault: MachineFault) -> u32
+    ensures code { result ≡ machine_code fault }
+    ensures refused { result ≢ 0 }
+{
+    match fault {
+        MachineFault::NodeCount => 50,
+        MachineFault::NoMemoryNode => 51,
+        MachineFault::BadDistance => 52,
+        MachineFault::TooManyFrames => 53,
+        MachineFault::NoMemory => 3,
+    }
+}
+
+/// The number of a list's fault.
+pub(crate) fn list_code(fault: ListFault) -> u32
+    ensures code { result ≡ list_code fault }
+    ensures refused { result ≢ 0 }
+{
+    match fault {
+        ListFault::Empty => 60,
+        ListFault::BadDigit => 61,
+        ListFault::BackRange => 62,
+        ListFault::NodeTooHigh => 63,
+    }
+}
+
+/// The number of a policy word's fault.
+pub(crate) fn word_code(fault: WordFault) -> u32
+    ensures code { result ≡ word_code fault }
+    ensures refused { result ≢ 0 }
+{
+    match fault {
+        WordFault::List(fault) => list_code(fault),
+        WordFault::Policy(SpecFault::UnknownMode) => 70,
+        WordFault::Policy(SpecFault::BothFlags) => 71,
+        WordFault::Policy(SpecFault::NodesForbidden) => 72,
+        WordFault::Policy(SpecFault::FlagsForbidden) => 73,
+        WordFault::Policy(SpecFault::NodesMissing) => 74,
+    }
+}

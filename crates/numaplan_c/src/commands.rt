@@ -1,0 +1,168 @@
+//! Commands, and what publishes them.
+ghost use Rattle.std.specs.Prelude.{◌≡◌, MatchResult};
+ghost use Rattle.numa_handle.specs.Steps.{core_in};
+ghost use Rattle.numa_mask.specs.Lists.{list_of};
+ghost use Rattle.numa_script.specs.Policies.{policy_of};
+ghost use Rattle.numa_space.specs.declared.event.Event.{Event};
+ghost use Rattle.numa_space.specs.declared.command.Command.{Command};
+ghost use Rattle.numaplan_c.specs.Border.{Answers};
+ghost use Rattle.numaplan_c.specs.Codes.{word_code, list_code};
+
+use crate::codes::{CLOSED, answer_code, list_code, word_code};
+use numa_core::Event;
+use numa_handle::CoreHandle;
+use numa_mask::read_list;
+use numa_script::policy::read_policy;
+use numa_space::Command;
+use std::alloc::Global;
+
+/// An event of the kept core, by the number of its answer.
+pub(crate) fn answer(alloc: Global, core: &mut CoreHandle, event: Event) -> u32
+    ensures { Answers (core_in core.old) event result (core_in core.new) }
+{
+    match core.step(alloc, event) {
+        None => CLOSED,
+        Some(answer) => answer_code(&answer),
+    }
+}
+
+/// Maps a span.
+#[unsafe(no_mangle)]
+pub extern "C" fn np_core_map(
+    alloc: Global,
+    core: &mut CoreHandle,
+    start: u64,
+    length: u64,
+    offset: u64,
+) -> u32
+    ensures { Answers (core_in core.old) (Event.Accept (Command.Map start length offset)) result
+        (core_in core.new) }
+{
+    let command = Command::Map {
+        start,
+        length,
+        offset,
+    };
+    answer(alloc, core, Event::Accept(command))
+}
+
+/// Unmaps the pages of a span.
+#[unsafe(no_mangle)]
+pub extern "C" fn np_core_unmap(
+    alloc: Global,
+    core: &mut CoreHandle,
+    start: u64,
+    length: u64,
+) -> u32
+    ensures { Answers (core_in core.old) (Event.Accept (Command.Unmap start length)) result
+        (core_in core.new) }
+{
+    answer(alloc, core, Event::Accept(Command::Unmap { start, length }))
+}
+
+/// Gives the pages of a span a policy of their own.
+#[unsafe(no_mangle)]
+pub extern "C" fn np_core_mbind(
+    alloc: Global,
+    core: &mut CoreHandle,
+    start: u64,
+    length: u64,
+    policy: &[u8],
+) -> u32
+    ensures { MatchResult (policy_of policy.now)
+        (λ spec. Answers (core_in core.old) (Event.Accept (Command.Mbind start length spec)) result
+        (core_in core.new))
+        (λ fault. (result ≡ word_code fault) × (core_in core.new ≡ core_in core.old)) }
+{
+    let spec = match read_policy(policy) {
+        Ok(spec) => spec,
+        Err(fault) => return word_code(fault),
+    };
+    let command = Command::Mbind {
+        start,
+        length,
+        spec,
+    };
+    answer(alloc, core, Event::Accept(command))
+}
+
+/// Gives a task its policy.
+#[unsafe(no_mangle)]
+pub extern "C" fn np_core_set_task(
+    alloc: Global,
+    core: &mut CoreHandle,
+    task: u32,
+    policy: &[u8],
+) -> u32
+    ensures { MatchResult (policy_of policy.now)
+        (λ spec. Answers (core_in core.old) (Event.Accept (Command.SetTask task spec)) result
+        (core_in core.new))
+        (λ fault. (result ≡ word_code fault) × (core_in core.new ≡ core_in core.old)) }
+{
+    let spec = match read_policy(policy) {
+        Ok(spec) => spec,
+        Err(fault) => return word_code(fault),
+    };
+    answer(alloc, core, Event::Accept(Command::SetTask { task, spec }))
+}
+
+/// Gives the policies of a span's pages a home node.
+#[unsafe(no_mangle)]
+pub extern "C" fn np_core_set_home(
+    alloc: Global,
+    core: &mut CoreHandle,
+    start: u64,
+    length: u64,
+    node: u32,
+) -> u32
+    ensures { Answers (core_in core.old) (Event.Accept (Command.SetHome start length node)) result
+        (core_in core.new) }
+{
+    let command = Command::SetHome {
+        start,
+        length,
+        node,
+    };
+    answer(alloc, core, Event::Accept(command))
+}
+
+/// Gives a node its weight.
+#[unsafe(no_mangle)]
+pub extern "C" fn np_core_set_weight(
+    alloc: Global,
+    core: &mut CoreHandle,
+    node: u32,
+    weight: u32,
+) -> u32
+    ensures { Answers (core_in core.old) (Event.Accept (Command.SetWeight node weight)) result
+        (core_in core.new) }
+{
+    answer(
+        alloc,
+        core,
+        Event::Accept(Command::SetWeight { node, weight }),
+    )
+}
+
+/// Changes the nodes on which memory may be placed.
+#[unsafe(no_mangle)]
+pub extern "C" fn np_core_set_mems(alloc: Global, core: &mut CoreHandle, nodes: &[u8]) -> u32
+    ensures { MatchResult (list_of nodes.now)
+        (λ mask. Answers (core_in core.old) (Event.Accept (Command.SetMems mask)) result
+        (core_in core.new))
+        (λ fault. (result ≡ list_code fault) × (core_in core.new ≡ core_in core.old)) }
+{
+    let mask = match read_list(nodes) {
+        Ok(mask) => mask,
+        Err(fault) => return list_code(fault),
+    };
+    answer(alloc, core, Event::Accept(Command::SetMems { mask }))
+}
+
+/// Publishes all accepted commands.
+#[unsafe(no_mangle)]
+pub extern "C" fn np_core_publish(alloc: Global, core: &mut CoreHandle) -> u32
+    ensures { Answers (core_in core.old) Event.Publish result (core_in core.new) }
+{
+    answer(alloc, core, Event::Publish)
+}

@@ -1,0 +1,135 @@
+//! Opening and closing of cores, and their versions.
+ghost use Rattle.std.specs.Prelude.{◌≡◌, ◌≢◌, [], Some, None, IfOk, IfErr, IfSome, is_some, true};
+ghost use Rattle.std.specs.Prelude.{length};
+ghost use Rattle.numa_core.specs.Standing.{CoreState, LeadsTo, setup_of};
+ghost use Rattle.numa_handle.specs.Steps.{core_in, HasVersions};
+ghost use Rattle.numa_mask.specs.Lists.{list_of};
+ghost use Rattle.numaplan_c.specs.Border.{IsSetUp};
+
+use crate::codes::{CLOSED, NO_MEMORY, OPEN, list_code, machine_code};
+use numa_core::Core;
+use numa_handle::CoreHandle;
+use numa_machine::Machine;
+use numa_mask::read_list;
+use numa_space::Limits;
+use std::alloc::Global;
+
+/// How large a core may grow: ranges, tasks with a policy, accepted commands.
+#[repr(C)]
+#[derive(Clone, Copy)]
+pub struct NpLimits {
+    pub max_ranges: u32,
+    pub max_tasks: u32,
+    pub max_commands: u32,
+}
+
+const _: () = prove!(size_of::<NpLimits>() == 12);
+
+/// The core of a description, or the number of what is wrong with it.
+fn make(
+    alloc: Global,
+    memory: &[u8],
+    frames: &[u32],
+    distances: &[u8],
+    limits: NpLimits,
+    workers: u32,
+) -> Result<Core, u32>
+    ensures run { IfOk result (LeadsTo []) }
+    ensures setup { IfOk result (λ core. IsSetUp (list_of memory.now) frames.now distances.now
+        (record {
+          max_ranges = limits.max_ranges;
+          max_tasks = limits.max_tasks;
+          max_commands = limits.max_commands;
+        }) workers (setup_of core)) }
+    ensures refused { IfErr result (λ code. code ≢ 0) }
+{
+    let memory = match read_list(memory) {
+        Ok(memory) => memory,
+        Err(fault) => return Err(list_code(fault)),
+    };
+    if frames.len() > 256 {
+        return Err(50);
+    }
+    let nodes = frames.len() as u32;
+    let machine = match Machine::new(alloc, nodes, memory, distances, frames) {
+        Ok(machine) => machine,
+        Err(fault) => return Err(machine_code(fault)),
+    };
+    let Some(limits) = Limits::new(limits.max_ranges, limits.max_tasks, limits.max_commands) else {
+        return Err(54);
+    };
+    if workers == 0 || workers > 16 {
+        return Err(55);
+    }
+    match Core::new(alloc, machine, limits, workers) {
+        Ok(core) => Ok(core),
+        Err(_) => Err(NO_MEMORY),
+    }
+}
+
+/// Opens a core of a machine.
+#[unsafe(no_mangle)]
+pub extern "C" fn np_core_open(
+    alloc: Global,
+    core: &mut CoreHandle,
+    memory: &[u8],
+    frames: &[u32],
+    distances: &[u8],
+    limits: &NpLimits,
+    workers: u32,
+) -> u32
+    ensures opened { result ≡ 0 → is_some (core_in core.new) ≡ true }
+    ensures run { core_in core.old ≡ None → IfSome (core_in core.new) (LeadsTo []) }
+    ensures setup { core_in core.old ≡ None → IfSome (core_in core.new) (λ made.
+        IsSetUp (list_of memory.now) frames.now distances.now
+        (record {
+          max_ranges = limits.now.max_ranges;
+          max_tasks = limits.now.max_tasks;
+          max_commands = limits.now.max_commands;
+        }) workers (setup_of made)) }
+    ensures unchanged { result ≢ 0 → core_in core.new ≡ core_in core.old }
+{
+    if core.is_open() {
+        return OPEN;
+    }
+    let made = match make(alloc, memory, frames, distances, *limits, workers) {
+        Ok(made) => made,
+        Err(code) => return code,
+    };
+    match core.open(alloc, made) {
+        Ok(()) => 0,
+        Err(_) => NO_MEMORY,
+    }
+}
+
+/// Frees a core.
+#[unsafe(no_mangle)]
+pub extern "C" fn np_core_close(alloc: Global, core: &mut CoreHandle)
+    ensures { core_in core.new ≡ None }
+{
+    core.close(alloc)
+}
+
+/// How many commands are accepted, and how many of them are published.
+#[unsafe(no_mangle)]
+pub extern "C" fn np_core_versions(
+    alloc: Global,
+    core: &mut CoreHandle,
+    accepted: &mut u64,
+    published: &mut u64,
+) -> u32
+    ensures same { core_in core.new ≡ core_in core.old }
+    ensures closed { core_in core.old ≡ None → (result ≡ 1)
+        × (accepted.new ≡ accepted.old) × (published.new ≡ published.old) }
+    ensures told { (kept : CoreState) → core_in core.old ≡ Some kept → (result ≡ 0)
+        × (accepted.new ≡ kept.space.version) × (published.new ≡ kept.plan.version) }
+{
+    match core.versions(alloc) {
+        None => CLOSED,
+        Some(versions) => {
+            *accepted = versions.0;
+            *published = versions.1;
+            0
+        }
+    }
+}

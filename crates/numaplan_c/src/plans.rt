@@ -1,0 +1,201 @@
+//! Plans.
+ghost use Rattle.std.specs.Prelude.{◌≡◌, ◌≢◌, Some, None, IfSome, is_some, true, Result, Ok, ℕ};
+ghost use Rattle.numa_plan.specs.Meaning.{PlanData};
+ghost use Rattle.numa_handle.specs.Steps.{core_in, Compiles};
+ghost use Rattle.numa_handle.specs.Plans.{plan_in, Chooses, Fills, Counts};
+ghost use Rattle.numa_handle.specs.declared.plan_handle.ChoiceRefusal.{ChoiceRefusal};
+ghost use Rattle.numa_space.specs.declared.refusal.PlaceRefusal.{PlaceRefusal};
+ghost use Rattle.numaplan_c.specs.Questions.{choice_code, fill_code, AreTold};
+
+use crate::codes::{CLOSED, NO_MEMORY, NO_ROOM, OPEN, place_code};
+use numa_handle::{ChoiceRefusal, CoreHandle, PlanHandle};
+use numa_space::PlaceRefusal;
+use std::alloc::Global;
+
+/// Compiles the accepted commands of a core.
+#[unsafe(no_mangle)]
+pub extern "C" fn np_core_compile(
+    alloc: Global,
+    core: &mut CoreHandle,
+    plan: &mut PlanHandle,
+) -> u32
+    ensures same { core_in core.new ≡ core_in core.old }
+    ensures opened { result ≡ 0 → is_some (plan_in plan.new) ≡ true }
+    ensures compiled { plan_in plan.old ≡ None →
+        IfSome (plan_in plan.new) (Compiles (core_in core.old)) }
+    ensures unchanged { result ≢ 0 → plan_in plan.new ≡ plan_in plan.old }
+{
+    if plan.is_open() {
+        return OPEN;
+    }
+    let made = match core.compile(alloc) {
+        None => return CLOSED,
+        Some(Err(_)) => return NO_MEMORY,
+        Some(Ok(made)) => made,
+    };
+    match plan.open(alloc, made) {
+        Ok(()) => 0,
+        Err(_) => NO_MEMORY,
+    }
+}
+
+/// Keeps a plan in another handle too.
+#[unsafe(no_mangle)]
+pub extern "C" fn np_plan_share(alloc: Global, plan: &mut PlanHandle, other: &mut PlanHandle) -> u32
+    ensures same { plan_in plan.new ≡ plan_in plan.old }
+    ensures shared { result ≡ 0 → (plan_in other.new ≡ plan_in plan.old)
+        × (is_some (plan_in plan.old) ≡ true) }
+    ensures unchanged { result ≢ 0 → plan_in other.new ≡ plan_in other.old }
+{
+    if other.is_open() {
+        return OPEN;
+    }
+    match plan.share(alloc, other) {
+        None => CLOSED,
+        Some(Ok(())) => 0,
+        Some(Err(_)) => NO_MEMORY,
+    }
+}
+
+/// Lets go of a plan.
+#[unsafe(no_mangle)]
+pub extern "C" fn np_plan_close(alloc: Global, plan: &mut PlanHandle)
+    ensures { plan_in plan.new ≡ None }
+{
+    plan.close(alloc)
+}
+
+/// The version of a plan.
+#[unsafe(no_mangle)]
+pub extern "C" fn np_plan_version(alloc: Global, plan: &mut PlanHandle, version: &mut u64) -> u32
+    ensures same { plan_in plan.new ≡ plan_in plan.old }
+    ensures closed { plan_in plan.old ≡ None → (result ≡ 1) × (version.new ≡ version.old) }
+    ensures told { (kept : PlanData) → plan_in plan.old ≡ Some kept →
+        (result ≡ 0) × (version.new ≡ kept.version) }
+{
+    match plan.version(alloc) {
+        None => CLOSED,
+        Some(found) => {
+            *version = found;
+            0
+        }
+    }
+}
+
+/// The number of an answer to a question for a list.
+fn choice_code(answer: Result<usize, ChoiceRefusal>) -> u32
+    ensures { result ≡ choice_code answer }
+{
+    match answer {
+        Ok(_) => 0,
+        Err(ChoiceRefusal::TooShort(_)) => NO_ROOM,
+        Err(ChoiceRefusal::Place(refusal)) => place_code(refusal),
+    }
+}
+
+/// How many nodes a list has, where there is one.
+fn told(answer: Result<usize, ChoiceRefusal>, count: usize) -> usize
+    ensures { AreTold answer count result }
+{
+    match answer {
+        Ok(found) => found,
+        Err(ChoiceRefusal::TooShort(found)) => found,
+        Err(ChoiceRefusal::Place(_)) => count,
+    }
+}
+
+/// The list of nodes of a page.
+#[unsafe(no_mangle)]
+pub extern "C" fn np_plan_choice(
+    alloc: Global,
+    plan: &mut PlanHandle,
+    task: u32,
+    page: u64,
+    cpu: u32,
+    nodes: &mut [u8],
+    count: &mut usize,
+) -> u32
+    ensures same { plan_in plan.new ≡ plan_in plan.old }
+    ensures closed { plan_in plan.old ≡ None →
+        (result ≡ 1) × (nodes.new ≡ nodes.old) × (count.new ≡ count.old) }
+    ensures chooses { (kept : PlanData) → plan_in plan.old ≡ Some kept →
+        (answer : Result ℕ ChoiceRefusal) × (result ≡ choice_code answer)
+        × Chooses (plan_in plan.old) task page cpu answer nodes.old nodes.new
+        × AreTold answer count.old count.new }
+{
+    match plan.choose(alloc, task, page, cpu, nodes) {
+        None => CLOSED,
+        Some(answer) => {
+            *count = told(answer, *count);
+            choice_code(answer)
+        }
+    }
+}
+
+/// The number of an answer to a question about a span.
+fn fill_code(answer: Result<(), PlaceRefusal>) -> u32
+    ensures { result ≡ fill_code answer }
+{
+    match answer {
+        Ok(()) => 0,
+        Err(refusal) => place_code(refusal),
+    }
+}
+
+/// The first node of each page's list.
+#[unsafe(no_mangle)]
+pub extern "C" fn np_plan_fill(
+    alloc: Global,
+    plan: &mut PlanHandle,
+    task: u32,
+    cpu: u32,
+    first: u64,
+    nodes: &mut [u8],
+) -> u32
+    ensures same { plan_in plan.new ≡ plan_in plan.old }
+    ensures closed { plan_in plan.old ≡ None → (result ≡ 1) × (nodes.new ≡ nodes.old) }
+    ensures fills { (kept : PlanData) → plan_in plan.old ≡ Some kept →
+        (answer : Result (Unit {0}) PlaceRefusal) × (result ≡ fill_code answer)
+        × Fills (plan_in plan.old) task cpu first answer nodes.old nodes.new }
+{
+    match plan.fill(alloc, task, cpu, first, nodes) {
+        None => CLOSED,
+        Some(answer) => fill_code(answer),
+    }
+}
+
+/// How many pages of a span have each node as the first of their list.
+#[unsafe(no_mangle)]
+pub extern "C" fn np_plan_counts(
+    alloc: Global,
+    plan: &mut PlanHandle,
+    task: u32,
+    cpu: u32,
+    first: u64,
+    pages: u64,
+    counts: &mut NpCounts,
+) -> u32
+    ensures same { plan_in plan.new ≡ plan_in plan.old }
+    ensures closed { plan_in plan.old ≡ None → (result ≡ 1) × (counts.new ≡ counts.old) }
+    ensures ok { result ≡ 0 → (kept : PlanData) → plan_in plan.old ≡ Some kept →
+        Counts (plan_in plan.old) task cpu first pages (Ok counts.new.pages) }
+    ensures err { result ≢ 0 → counts.new ≡ counts.old }
+{
+    match plan.counts(alloc, task, cpu, first, pages) {
+        None => CLOSED,
+        Some(Ok(found)) => {
+            counts.pages = found;
+            0
+        }
+        Some(Err(refusal)) => place_code(refusal),
+    }
+}
+
+/// How many pages have each node first: as many numbers as there can be nodes.
+#[repr(C)]
+#[derive(Clone, Copy)]
+pub struct NpCounts {
+    pub pages: [u64; 256],
+}
+
+const _: () = prove!(size_of::<NpCounts>() == 2048);
