@@ -1,0 +1,196 @@
+/* The core and its plans from C: answers with values from the man pages and the header, closed and
+ * opened handles, refused calls, and two threads on one plan. Prints what is wrong; not proved. */
+#include "numaplan.h"
+
+#include <pthread.h>
+#include <stdio.h>
+#include <string.h>
+
+static int wrong;
+
+#define WANT(got, wanted)                                                                          \
+    do {                                                                                           \
+        unsigned long long got_ = (got), wanted_ = (wanted);                                       \
+        if (got_ != wanted_) {                                                                     \
+            printf("line %d: %s is %llu, not %llu\n", __LINE__, #got, got_, wanted_);              \
+            wrong = 1;                                                                             \
+        }                                                                                          \
+    } while (0)
+
+#define TEXT(words) (const uint8_t *)(words), strlen(words)
+
+static const uint32_t frames[2] = {2, 1};
+static const uint8_t distances[4] = {10, 20, 20, 10};
+static const np_limits limits = {65536, 1024, UINT32_MAX};
+
+static uint32_t open_core(np_core *core) {
+    return np_core_open(core, TEXT("0-1"), frames, 2, distances, 4, &limits, 2);
+}
+
+/* A handle that keeps nothing answers so, and stays as it was. */
+static void closed(void) {
+    np_core core = {0}, zero = {0};
+    np_plan plan = {0};
+    uint64_t a = 7, b = 8;
+    uint8_t nodes[2] = {9, 9};
+    np_core_close(&core);
+    np_plan_close(&plan);
+    WANT(np_core_map(&core, 0x10000, 4096, 0), NP_CLOSED);
+    WANT(np_core_publish(&core), NP_CLOSED);
+    WANT(np_core_versions(&core, &a, &b), NP_CLOSED);
+    WANT(a, 7);
+    WANT(b, 8);
+    WANT(np_core_compile(&core, &plan), NP_CLOSED);
+    WANT(np_plan_fill(&plan, 1, 0, 16, nodes, 2), NP_CLOSED);
+    WANT(nodes[0], 9);
+    WANT(memcmp(&core, &zero, sizeof core) == 0, 1);
+}
+
+/* Descriptions that are refused. */
+static void machines(void) {
+    np_core core = {0};
+    np_limits large = {65537, 1024, 1};
+    const uint8_t bent[4] = {11, 20, 20, 10};
+    WANT(np_core_open(&core, TEXT("0-x"), frames, 2, distances, 4, &limits, 1), NP_LIST_BAD_DIGIT);
+    WANT(np_core_open(&core, TEXT("0-1"), frames, 2, distances, 3, &limits, 1), NP_BAD_NODE_COUNT);
+    WANT(np_core_open(&core, TEXT("0-2"), frames, 2, distances, 4, &limits, 1), NP_NO_MEMORY_NODE);
+    WANT(np_core_open(&core, TEXT("0-1"), frames, 2, bent, 4, &limits, 1), NP_BAD_DISTANCE);
+    WANT(np_core_open(&core, TEXT("0-1"), frames, 2, distances, 4, &large, 1), NP_BAD_LIMITS);
+    WANT(np_core_open(&core, TEXT("0-1"), frames, 2, distances, 4, &limits, 17), NP_BAD_WORKERS);
+    WANT(np_core_open(&core, TEXT("0-1"), frames, 2, distances, 4, &limits, 0), NP_BAD_WORKERS);
+    WANT(np_core_map(&core, 0, 4096, 0), NP_CLOSED);
+}
+
+/* Commands and their refusals: mmap(2), mbind(2), set_mempolicy(2). */
+static void commands(void) {
+    np_core core = {0};
+    uint64_t accepted, published;
+    WANT(open_core(&core), NP_OK);
+    WANT(open_core(&core), NP_OPEN);
+    WANT(np_core_map(&core, 0x10000, 0x8000, 16), NP_OK);
+    WANT(np_core_map(&core, 0x17000, 0x1000, 23), NP_OVERLAP);
+    WANT(np_core_map(&core, 0x10001, 0x1000, 0), NP_UNALIGNED);
+    WANT(np_core_map(&core, 0, 0, 0), NP_EMPTY_LENGTH);
+    WANT(np_core_map(&core, (uint64_t)1 << 47, 4096, 0), NP_OUT_OF_SPACE);
+    WANT(np_core_mbind(&core, 0x10000, 0x4000, TEXT("interleave:0-1")), NP_OK);
+    WANT(np_core_mbind(&core, 0x14000, 0x1000, TEXT("bind:1")), NP_OK);
+    WANT(np_core_mbind(&core, 0x14000, 0x8000, TEXT("bind:1")), NP_HOLE);
+    WANT(np_core_mbind(&core, 0x14000, 0x1000, TEXT("bind:7")), NP_NODES_NOT_ALLOWED);
+    WANT(np_core_mbind(&core, 0x14000, 0x1000, TEXT("bind")), NP_NODES_MISSING);
+    WANT(np_core_mbind(&core, 0x14000, 0x1000, TEXT("bend:1")), NP_UNKNOWN_MODE);
+    WANT(np_core_set_home(&core, 0x10000, 0x1000, 0), NP_NOT_SUPPORTED);
+    WANT(np_core_set_home(&core, 0x14000, 0x1000, 0), NP_OK);
+    WANT(np_core_set_weight(&core, 0, 256), NP_BAD_WEIGHT);
+    WANT(np_core_set_weight(&core, 2, 1), NP_NO_SUCH_NODE);
+    WANT(np_core_set_weight(&core, 0, 3), NP_OK);
+    WANT(np_core_set_mems(&core, TEXT("1-0")), NP_LIST_BACKWARDS);
+    WANT(np_core_set_task(&core, 5, TEXT("prefer:1")), NP_OK);
+    WANT(np_core_unmap(&core, 0x17000, 0x1000), NP_OK);
+    WANT(np_core_versions(&core, &accepted, &published), NP_OK);
+    WANT(accepted, 7);
+    WANT(published, 0);
+    WANT(np_core_publish(&core), NP_OK);
+    WANT(np_core_versions(&core, &accepted, &published), NP_OK);
+    WANT(published, 7);
+    np_core_close(&core);
+    np_core_close(&core);
+    WANT(np_core_publish(&core), NP_CLOSED);
+}
+
+/* Workers: two frames of node 0 and one of node 1; BIND falls back to no other node. */
+static void workers(void) {
+    np_core core = {0};
+    np_placement placed = {0, 0, 0, 0, 0, 0};
+    WANT(open_core(&core), NP_OK);
+    WANT(np_core_map(&core, 0x10000, 0x4000, 16), NP_OK);
+    WANT(np_core_mbind(&core, 0x10000, 0x1000, TEXT("bind:1")), NP_OK);
+    WANT(np_core_touch(&core, 0, 1, 16, 0, &placed), NP_UNMAPPED);
+    WANT(np_core_publish(&core), NP_OK);
+    WANT(np_core_touch(&core, 2, 1, 16, 0, &placed), NP_NO_SUCH_WORKER);
+    WANT(np_core_touch(&core, 0, 1, 16, 9, &placed), NP_BAD_CPU);
+    WANT(placed.page, 0);
+    WANT(np_core_touch(&core, 0, 1, 16, 0, &placed), NP_OK);
+    WANT(placed.version, 2);
+    WANT(placed.page, 16);
+    WANT(placed.node, 1);
+    WANT(placed.frame, 0);
+    WANT(placed.rank, 0);
+    WANT(np_core_touch(&core, 0, 1, 16, 0, &placed), NP_EXHAUSTED);
+    WANT(np_core_give(&core, 1, 1, 0), NP_NOT_OWNED);
+    WANT(np_core_give(&core, 0, 1, 0), NP_OK);
+    WANT(np_core_try(&core, 0, 1, 0, &placed), NP_IDLE);
+    WANT(np_core_begin(&core, 0, 1, 16, 0), NP_STILL);
+    WANT(np_core_begin(&core, 0, 1, 16, 0), NP_BUSY);
+    WANT(np_core_look(&core, 0, 1), NP_BAD_TRY);
+    WANT(np_core_try(&core, 0, 0, 0, &placed), NP_BAD_TRY);
+    WANT(np_core_try(&core, 0, 1, 0, &placed), NP_OK);
+    WANT(placed.node, 1);
+    np_core_close(&core);
+}
+
+static void *fill_many(void *handle) {
+    uint8_t nodes[4];
+    for (int turn = 0; turn < 20000; turn++) {
+        memset(nodes, 9, 4);
+        if (np_plan_fill((np_plan *)handle, 1, 0, 16, nodes, 4) || nodes[0] != 0 ||
+            nodes[1] != 1 || nodes[2] != 0 || nodes[3] != 1)
+            return handle;
+    }
+    return NULL;
+}
+
+/* A plan, which outlives its core, and in two threads. */
+static void plans(void) {
+    np_core core = {0};
+    np_plan plan = {0}, other = {0};
+    uint8_t nodes[4] = {9, 9, 9, 9};
+    size_t count = 0;
+    np_counts counts;
+    uint64_t version;
+    pthread_t thread;
+    void *failed;
+    WANT(open_core(&core), NP_OK);
+    WANT(np_core_map(&core, 0x10000, 0x6000, 16), NP_OK);
+    WANT(np_core_mbind(&core, 0x10000, 0x4000, TEXT("interleave:0-1")), NP_OK);
+    WANT(np_core_mbind(&core, 0x14000, 0x1000, TEXT("bind:1")), NP_OK);
+    WANT(np_core_compile(&core, &plan), NP_OK);
+    WANT(np_core_compile(&core, &plan), NP_OPEN);
+    np_core_close(&core);
+    WANT(np_plan_version(&plan, &version), NP_OK);
+    WANT(version, 3);
+    WANT(np_plan_choice(&plan, 1, 20, 0, nodes, 4, &count), NP_OK);
+    WANT(count, 1);
+    WANT(nodes[0], 1);
+    WANT(nodes[1], 9);
+    WANT(np_plan_choice(&plan, 1, 21, 1, nodes, 1, &count), NP_NO_ROOM);
+    WANT(count, 2);
+    WANT(np_plan_choice(&plan, 1, 21, 1, nodes, 4, &count), NP_OK);
+    WANT(nodes[0], 1);
+    WANT(nodes[1], 0);
+    WANT(np_plan_choice(&plan, 1, 22, 1, nodes, 4, &count), NP_UNMAPPED);
+    WANT(np_plan_choice(&plan, 1, 21, 2, nodes, 4, &count), NP_BAD_CPU);
+    WANT(np_plan_counts(&plan, 1, 1, 16, 6, &counts), NP_OK);
+    WANT(counts.pages[0], 2);
+    WANT(counts.pages[1], 4);
+    WANT(counts.pages[2], 0);
+    WANT(np_plan_counts(&plan, 1, 1, 16, 7, &counts), NP_UNMAPPED);
+    WANT(np_plan_share(&plan, &other), NP_OK);
+    WANT(np_plan_share(&plan, &other), NP_OPEN);
+    WANT(pthread_create(&thread, NULL, fill_many, &other), 0);
+    WANT(fill_many(&plan) == NULL, 1);
+    np_plan_close(&plan);
+    WANT(pthread_join(thread, &failed), 0);
+    WANT(failed == NULL, 1);
+    WANT(np_plan_version(&plan, &version), NP_CLOSED);
+    WANT(np_plan_version(&other, &version), NP_OK);
+    np_plan_close(&other);
+}
+
+int main(void) {
+    closed();
+    machines();
+    commands();
+    workers();
+    plans();
+    return wrong;
+}
