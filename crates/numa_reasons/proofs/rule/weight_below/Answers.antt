@@ -1,0 +1,15 @@
+use Rattle.std.proofs.Common.{◌≡◌, [], sum_by, filter, ap, arith}
+use Rattle.std.specs.Prelude.{nat_lt}
+use Rattle.numa_mask.specs.NodeSet.{members}
+use Rattle.numa_machine.specs.Weights.{weight_at, weight_below}
+use Rattle.numa_space.proofs.ListSizes.{weight-few}
+use Rattle.numa_reasons.proofs.rule.weight_below.Goals as goal
+
+pub overflow_add-sum : goal.overflow_add-sum
+overflow_add-sum c = omega (arith, c.loop-member.invariant.high, c.loop-member.invariant.count, weight-few c.args.set.now, c.get.ensures.at_most, c.from-sum.ensures)
+
+pub returns : goal.returns
+unfolding weight_below
+returns c =
+    let done : members c.loop-member.member-iterator ≡ [] = c.in-None.ensures.steps.0 in
+    omega (arith, c.loop-member.invariant.sum, ap (λ nodes. sum_by (weight_at c.args.weights.now) (filter (λ m. nat_lt m c.args.node) nodes)) done)

@@ -1,0 +1,18 @@
+//! Why there is no explanation.
+use numa_space::PlaceRefusal;
+use std::alloc::AllocError;
+
+/// Why there is no explanation.
+#[derive(Clone, Copy, Debug, PartialEq, Eq)]
+pub enum ReasonFault {
+    /// The question was refused: the machine has no such node, or the page isn't mapped.
+    Refused(PlaceRefusal),
+    /// There was no memory for it.
+    NoMemory,
+}
+
+impl From<AllocError> for ReasonFault {
+    fn from(_error: AllocError) -> ReasonFault {
+        ReasonFault::NoMemory
+    }
+}
