@@ -1,0 +1,73 @@
+//! Why a trace can't be replayed.
+use numa_space::PlaceRefusal;
+use std::alloc::{AllocError, AllocFailed};
+
+/// Why a line says no access.
+#[derive(Clone, Copy, Debug, PartialEq, Eq)]
+pub enum AccessFault {
+    /// There are fewer than three words, or more than four.
+    WordCount,
+    /// The task is no number below 2^32.
+    BadTask,
+    /// The address is no number below 2^64.
+    BadAddress,
+    /// The CPU's node is no number below 2^32.
+    BadCpu,
+    /// The count is no number below 2^32.
+    BadCount,
+}
+
+/// Why a trace can't be replayed.
+#[derive(Clone, Copy, Debug, PartialEq, Eq)]
+pub enum ReplayFault {
+    /// The line says no access.
+    Malformed(AccessFault),
+    /// The machine has no such node, or the page isn't mapped.
+    Refused(PlaceRefusal),
+    /// There are 2^64 accesses or more of one kind.
+    TooMany,
+    /// There was no memory.
+    NoMemory,
+}
+
+impl AccessFault {
+    /// What is wrong with the line, in a few words.
+    pub fn text(self) -> &'static str {
+        match self {
+            AccessFault::WordCount => "bad words: a line of a trace is TASK ADDRESS CPU [COUNT]",
+            AccessFault::BadTask => "bad words: TASK is no number below 2^32",
+            AccessFault::BadAddress => "bad words: ADDRESS is no number below 2^64",
+            AccessFault::BadCpu => "bad words: CPU is no number below 2^32",
+            AccessFault::BadCount => "bad words: COUNT is no number below 2^32",
+        }
+    }
+}
+
+impl ReplayFault {
+    /// Why the line can't be replayed, in a few words.
+    pub fn text(self) -> &'static str {
+        match self {
+            ReplayFault::Malformed(fault) => fault.text(),
+            ReplayFault::Refused(PlaceRefusal::BadCpu) => {
+                "refused BadCpu: the machine lacks the node of CPU"
+            }
+            ReplayFault::Refused(PlaceRefusal::Unmapped) => {
+                "refused Unmapped: the page isn't mapped after the scripts"
+            }
+            ReplayFault::TooMany => "too many accesses: 2^64 or more of one kind",
+            ReplayFault::NoMemory => "out of memory",
+        }
+    }
+}
+
+impl From<AllocError> for ReplayFault {
+    fn from(_error: AllocError) -> ReplayFault {
+        ReplayFault::NoMemory
+    }
+}
+
+impl<T: Drop> From<AllocFailed<T>> for ReplayFault {
+    fn from(_failed: AllocFailed<T>) -> ReplayFault {
+        ReplayFault::NoMemory
+    }
+}

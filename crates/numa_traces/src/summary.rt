@@ -1,0 +1,49 @@
+//! The accesses of a task, or of all, added up.
+use crate::replay::Tally;
+
+/// The accesses of a task, or of all.
+#[derive(Drop)]
+pub struct Summary {
+    /// How many accesses there were.
+    pub accesses: u64,
+    /// How many went to a page on each node.
+    pub nodes: [u64; 256],
+    /// How many went to a page at each distance from the CPU's node.
+    pub distances: [u64; 256],
+    /// How many faults placed a page.
+    pub placed: u64,
+    /// How many faults found no frame.
+    pub exhausted: u64,
+    /// How many accesses those made, which went nowhere.
+    pub unserved: u64,
+}
+
+impl Summary {
+    /// No accesses.
+    pub fn new() -> Summary {
+        Summary {
+            accesses: 0,
+            nodes: [0; 256],
+            distances: [0; 256],
+            placed: 0,
+            exhausted: 0,
+            unserved: 0,
+        }
+    }
+
+    /// Adds accesses to pages on a node at this distance.
+    pub(crate) fn add_served(&mut self, node: u8, distance: u8, tally: &Tally) {
+        let (node, far) = (usize::from(node), usize::from(distance));
+        self.accesses = self.accesses.saturating_add(tally.accesses);
+        self.nodes[node] = self.nodes[node].saturating_add(tally.accesses);
+        self.distances[far] = self.distances[far].saturating_add(tally.accesses);
+        self.placed = self.placed.saturating_add(tally.faults);
+    }
+
+    /// Adds accesses to pages that found no frame.
+    pub(crate) fn add_unserved(&mut self, tally: &Tally) {
+        self.accesses = self.accesses.saturating_add(tally.accesses);
+        self.unserved = self.unserved.saturating_add(tally.accesses);
+        self.exhausted = self.exhausted.saturating_add(tally.faults);
+    }
+}
