@@ -1,5 +1,5 @@
 -- The first node with a frame left has one.
-use Rattle.std.proofs.Common.{◌≡◌, ℕ, zero, suc, get_or, refl, ◌<◌, Bool, true, false, Some, None, List, [], ◌∷◌, length, slice_index, sym, subst, arith, inl, inr}
+use Rattle.std.proofs.Common.{◌≡◌, ℕ, zero, suc, get_or, refl, ◌<◌, Some, List, [], ◌∷◌, length, slice_index, subst, arith, inl, inr}
 use Rattle.std.specs.Prelude.{nat_lt}
 use Rattle.std.proofs.lemmas.Bool.{cases_Bool, cases_lt, ltb-true}
 use Rattle.std.proofs.lemmas.List.{get_or_past}

@@ -1,1 +1,3 @@
 pub mod Placing
+pub mod Replaying
+pub mod Tallies

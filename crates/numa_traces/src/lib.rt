@@ -12,10 +12,12 @@ mod memory;
 mod replay;
 mod report;
 mod summary;
+mod tallies;
 
 pub use access::{Access, read_access};
 pub use fault::{AccessFault, ReplayFault};
 pub use memory::Memory;
-pub use replay::{Replay, Tally};
+pub use replay::Replay;
 pub use report::{Shape, report_text};
 pub use summary::Summary;
+pub use tallies::{Tallies, Tally, Way};

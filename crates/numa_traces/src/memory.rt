@@ -81,6 +81,7 @@ impl Memory {
     pub fn place(&mut self, page: u64, nodes: &[u8]) -> Result<Option<u8>, AllocError>
         requires { node_of self.old.pages page ≡ None }
         ensures node { IfOk result (λ node. node ≡ first_free self.old.free nodes.now) }
+        ensures lies { IfOk result (λ node. node_of self.new.pages page ≡ node) }
         ensures placed { OnOk result (self.new ≡ touched self.old page nodes.now) }
         ensures unchanged { OnErr result (self.new ≡ self.old) }
     {

@@ -1,6 +1,7 @@
 //! What a replayed trace met, as text or JSON.
-use crate::replay::{Replay, Tally, Way};
+use crate::replay::Replay;
 use crate::summary::Summary;
+use crate::tallies::{Tally, Way};
 use numa_machine::Machine;
 use serde_json::{Value, json};
 use std::alloc::{AllocError, Global};
@@ -46,9 +47,7 @@ fn push_line(text: &mut String, said: &Summary) -> Result<(), AllocError> {
     write!(
         text,
         " placed={} exhausted={} unserved={}\n",
-        said.placed,
-        said.exhausted,
-        said.unserved
+        said.placed, said.exhausted, said.unserved
     )?;
     Ok(())
 }
@@ -70,11 +69,7 @@ fn counts_value(alloc: Global, name: &str, counts: &[u64; 256]) -> Result<Value,
 }
 
 /// The fields of an object, as one.
-fn summary_value(
-    alloc: Global,
-    task: Option<u32>,
-    said: &Summary,
-) -> Result<Value, AllocError> {
+fn summary_value(alloc: Global, task: Option<u32>, said: &Summary) -> Result<Value, AllocError> {
     let nodes = counts_value(alloc, "node", &said.nodes)?;
     let distances = counts_value(alloc, "distance", &said.distances)?;
     match task {
@@ -125,7 +120,8 @@ impl Sheet {
             Shape::Json => {
                 let value = summary_value(self.alloc, Some(task), &self.of_task)?;
                 let item = value.to_string(self.alloc)?;
-                self.text.push_str(if self.is_first { "\n" } else { ",\n" })?;
+                self.text
+                    .push_str(if self.is_first { "\n" } else { ",\n" })?;
                 self.text.push_str(item.as_str())?;
             }
         }

@@ -1,5 +1,5 @@
 //! The accesses of a task, or of all, added up.
-use crate::replay::Tally;
+use crate::tallies::Tally;
 
 /// The accesses of a task, or of all.
 #[derive(Drop)]
