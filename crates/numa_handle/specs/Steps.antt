@@ -1,6 +1,6 @@
 -- What a handle of a core keeps, and what an event does to it.
 use Rattle.std.specs.Prelude.{◌≡◌, ℕ, Option, Some, None, Result, List, ◌∷◌, ◌++◌, OnErr}
-use Rattle.numa_core.specs.Runs.{Moment}
+use Rattle.numa_core.specs.Executions.{Moment}
 use Rattle.numa_core.specs.Standing.{CoreState, LeadsTo, moment_after, setup_of}
 use Rattle.numa_core.specs.Touching.{IsTouch}
 use Rattle.numa_compile.specs.Standing.{IsPlanOf, PlanStandsFor}
@@ -18,7 +18,7 @@ use Rattle.numa_handle.specs.Kinds.{core_of}
 abbrev pub core_in : CoreHandle → Option CoreState
 core_in h = core_of h.handle.held.kept
 
--- the event took the core from the one state to the other with this answer: each legal run that led
+-- the event took the core from the one state to the other with this answer: each execution that led
 -- to the first leads with this moment to the second, and a refusal changes nothing
 pub record IsStep (before : CoreState) (event : Event) (answer : Result CoreReply CoreRefusal)
     (after : CoreState) : Type 0 where
