@@ -1,5 +1,6 @@
 -- How many pages go from one node to another, once commands are added.
-use Rattle.std.specs.Prelude.{◌≡◌, ℕ, ◌+◌, ◌*◌, ◌<◌, ◌^◌, ◌==◌, ◌&&◌, List, length, slice_index}
+use Rattle.std.specs.Prelude.{◌≡◌, ℕ, ◌+◌, ◌*◌, ◌<◌, ◌^◌, ◌==◌, ◌&&◌, Bool}
+use Rattle.std.specs.Prelude.{List, length, slice_index}
 use Rattle.numa_machine.specs.Machine.{Hardware}
 use Rattle.numa_ranges.specs.Counts.{count_pages}
 use Rattle.numa_plan.specs.Meaning.{PlanData, is_number, planned_first}
@@ -13,21 +14,31 @@ moved table from to = slice_index table (from * 256 + to)
 
 -- in how many places the first list has the one node, and the second the other
 abbrev pub pairs : List ℕ → List ℕ → ℕ → ℕ → ℕ
-pairs before after from to = count_pages (λ k. (slice_index before k == from) && (slice_index after k == to)) 0 (length before)
+pairs before after from to = count_pages
+    (λ k. (slice_index before k == from) && (slice_index after k == to)) 0 (length before)
 
--- how many pages of a span have the one node as the first of their list by the first plan, and the other by the second
+-- how many pages of a span have the one node as the first of their list by the first plan, and the
+-- other by the second
 abbrev pub planned_moves : PlanData → PlanData → ℕ → ℕ → ℕ → ℕ → ℕ → ℕ → ℕ
 planned_moves before after task cpu first pages from to =
-    count_pages (λ page. is_number from (planned_first before task page cpu) && is_number to (planned_first after task page cpu)) first pages
+    count_pages (λ page. is_number from (planned_first before task page cpu)
+    && is_number to (planned_first after task page cpu)) first pages
+
+-- the page is mapped, and has the node as the first of its node list
+abbrev pub goes_to : Hardware → List Command → ℕ → ℕ → ℕ → ℕ → Bool
+goes_to machine history task cpu node page =
+    is_mapped history page && (first_node machine history task page cpu == node)
 
 -- how many pages of a span are mapped before and after, and go from the one node to the other
 abbrev pub meant_moves : Hardware → List Command → List Command → ℕ → ℕ → ℕ → ℕ → ℕ → ℕ → ℕ
 meant_moves machine before after task cpu first pages from to =
-    count_pages (λ page. (is_mapped before page && (first_node machine before task page cpu == from)) && (is_mapped after page && (first_node machine after task page cpu == to))) first pages
+    count_pages (λ page. goes_to machine before task cpu from page
+    && goes_to machine after task cpu to page) first pages
 
 -- each entry of the table has so many pages more
 abbrev pub AddsMoves : List ℕ → List ℕ → (ℕ → ℕ → ℕ) → Type 0
-AddsMoves old new more = (from to : ℕ) → from < 256 → to < 256 → moved new from to ≡ moved old from to + more from to
+AddsMoves old new more = (from to : ℕ) → from < 256 → to < 256
+    → moved new from to ≡ moved old from to + more from to
 
 -- a table, each entry with room for so many pages more
 pub record HasRoomFor (table : List ℕ) (pages : ℕ) : Type 0 where
@@ -37,4 +48,5 @@ pub record HasRoomFor (table : List ℕ) (pages : ℕ) : Type 0 where
 -- the table has the pages of a span, for each two nodes
 abbrev pub AreMoves : Hardware → List Command → List Command → ℕ → ℕ → ℕ → ℕ → List ℕ → Type 0
 AreMoves machine before after task cpu first pages table =
-    (from to : ℕ) → from < 256 → to < 256 → moved table from to ≡ meant_moves machine before after task cpu first pages from to
+    (from to : ℕ) → from < 256 → to < 256
+    → moved table from to ≡ meant_moves machine before after task cpu first pages from to

@@ -11,9 +11,12 @@ use Rattle.numa_reports.specs.declared.prediction.RangePrediction.{RangePredicti
 -- each node's count is that of the mapped pages of the span whose node list begins with it
 abbrev pub AreFirsts : Hardware → List Command → ℕ → ℕ → ℕ → ℕ → List ℕ → Type 0
 AreFirsts machine history task cpu first pages counts =
-    (node : ℕ) → node < 256 → slice_index counts node ≡ meant_count machine history task cpu first pages node
+    (node : ℕ) → node < 256
+    → slice_index counts node ≡ meant_count machine history task cpu first pages node
 
--- the policy that serves the task at the range's first page, and how many of its pages each node is the first for
-pub record IsPrediction (machine : Hardware) (history : List Command) (task cpu : ℕ) (range : Run (Option PolicyRecord)) (said : RangePrediction) : Type 0 where
+-- the policy that serves the task at the range's first page, and how many of its pages each node is
+-- the first for
+pub record IsPrediction (machine : Hardware) (history : List Command) (task cpu : ℕ)
+    (range : Run (Option PolicyRecord)) (said : RangePrediction) : Type 0 where
   pub policy : said.policy ≡ resolved_policy machine history task range.first
   pub counts : AreFirsts machine history task cpu range.first range.pages said.counts

@@ -1,15 +1,13 @@
-//! Why a report ended early.
+//! Why there is no report.
 use numa_plan::NoMemory;
 use numa_space::PlaceRefusal;
 use std::alloc::AllocError;
 
-/// Why a report ended early.
+/// Why there is no report.
 #[derive(Clone, Copy, Debug, PartialEq, Eq)]
 pub enum ReportFault {
     /// The question was refused: the machine has no such node.
     Refused(PlaceRefusal),
-    /// A write failed.
-    Write,
     /// There was no memory for the report.
     Memory,
 }

@@ -1,9 +1,11 @@
 //! Which pages go to another node.
-ghost use Rattle.std.specs.Prelude.{◌≡◌, ◌≤◌, ◌<◌, ◌==◌, ◌&&◌, ℕ, List, length, slice_index, IfOk, OnOk, if◌then◌else◌};
+ghost use Rattle.std.specs.Prelude.{◌≡◌, ◌≤◌, ◌<◌, ◌==◌, ◌&&◌, ℕ, List, length, slice_index};
+ghost use Rattle.std.specs.Prelude.{IfOk, OnOk, if◌then◌else◌};
 ghost use Rattle.numa_compile.specs.Standing.{PlanStandsFor};
 ghost use Rattle.numa_machine.specs.Machine.{Hardware};
 ghost use Rattle.numa_space.specs.declared.command.Command.{Command};
-ghost use Rattle.numa_reports.specs.Moved.{AddsMoves, AreMoves, HasRoomFor, meant_moves, pairs, planned_moves};
+ghost use Rattle.numa_reports.specs.Moved.{AddsMoves, AreMoves, HasRoomFor};
+ghost use Rattle.numa_reports.specs.Moved.{meant_moves, pairs, planned_moves};
 
 use crate::fault::ReportFault;
 use numa_plan::Plan;
@@ -20,7 +22,8 @@ pub(crate) const ENTRIES: usize = 65_536;
 fn add_pair(table: &mut Vec<u64>, from: u8, to: u8)
     requires { HasRoomFor table.old.items 1 }
     ensures entries { length table.new.items ≡ 65536 }
-    ensures pair { AddsMoves table.old.items table.new.items (λ a b. if (from == a) && (to == b) then 1 else 0) }
+    ensures pair { AddsMoves table.old.items table.new.items
+        (λ a b. if (from == a) && (to == b) then 1 else 0) }
 {
     table[usize::from(from) * 256 + usize::from(to)] += 1;
 }
@@ -37,7 +40,8 @@ fn add_pairs(table: &mut Vec<u64>, before: &[u8], after: &[u8])
     }
 }
 
-/// Adds the pages of a span, as many as both lists have places, from their node by the one plan to that by the other.
+/// Adds the pages of a span, as many as both lists have places, from their node by the one plan to
+/// that by the other.
 fn add_filled(
     before: &Plan,
     after: &Plan,
@@ -50,7 +54,8 @@ fn add_filled(
 ) -> Result<(), PlaceRefusal>
     requires same { length new.old ≡ length old.old }
     requires room { HasRoomFor table.old.items (length old.old) }
-    ensures ok { OnOk result (AddsMoves table.old.items table.new.items (planned_moves before.now after.now task cpu first (length old.old))) }
+    ensures ok { OnOk result (AddsMoves table.old.items table.new.items
+        (planned_moves before.now after.now task cpu first (length old.old))) }
     ensures entries { length table.new.items ≡ 65536 }
 {
     before.fill(task, cpu, first, old)?;
@@ -71,7 +76,8 @@ fn add_block(
 ) -> Result<(), PlaceRefusal>
     requires few { pages ≤ 4096 }
     requires room { HasRoomFor table.old.items pages }
-    ensures ok { OnOk result (AddsMoves table.old.items table.new.items (planned_moves before.now after.now task cpu first pages)) }
+    ensures ok { OnOk result (AddsMoves table.old.items table.new.items
+        (planned_moves before.now after.now task cpu first pages)) }
     ensures entries { length table.new.items ≡ 65536 }
 {
     let mut old = [0u8; BLOCK];
@@ -99,8 +105,10 @@ fn add_moves(
     table: &mut Vec<u64>,
 ) -> Result<(), PlaceRefusal>
     requires room { HasRoomFor table.old.items pages }
-    ensures ok { (machine : Hardware) (old new : List Command) → PlanStandsFor machine before.now old → PlanStandsFor machine after.now new
-        → cpu < machine.nodes → OnOk result (AddsMoves table.old.items table.new.items (meant_moves machine old new task cpu first pages)) }
+    ensures ok { (machine : Hardware) (old new : List Command)
+        → PlanStandsFor machine before.now old → PlanStandsFor machine after.now new
+        → cpu < machine.nodes → OnOk result (AddsMoves table.old.items table.new.items
+        (meant_moves machine old new task cpu first pages)) }
     ensures entries { length table.new.items ≡ 65536 }
 {
     let Some(end) = first.checked_add(pages) else {
@@ -124,12 +132,14 @@ pub(crate) fn empty_table(alloc: Global, entries: usize) -> Result<Vec<u64>, All
     Ok(table)
 }
 
-/// How many pages of a span go from one node to another, for each two nodes: to the first by the plan `before`, and to the
-/// second by the plan `after`, if the task touched each of them on a CPU of node `cpu`. Entry `256 * from + to` of the table
-/// has them; pages that stay stand on its diagonal. The time grows with the pages.
+/// How many pages of a span go from one node to another, for each two nodes: to the first by the
+/// plan `before`, and to the second by the plan `after`, if the task touched each of them on a CPU
+/// of node `cpu`. Entry `256 * from + to` of the table has them; pages that stay stand on its
+/// diagonal. The time grows with the pages.
 ///
 /// # Errors
-/// `Refused` where a plan has no node `cpu` or lacks a page of the span; `Memory` where there was none for the table.
+/// `Refused` where a plan has no node `cpu` or lacks a page of the span; `Memory` where there was
+/// none for the table.
 pub fn span_moves(
     alloc: Global,
     before: &Plan,
@@ -139,8 +149,10 @@ pub fn span_moves(
     first: u64,
     pages: u64,
 ) -> Result<Vec<u64>, ReportFault>
-    ensures ok { (machine : Hardware) (old new : List Command) → PlanStandsFor machine before.now old → PlanStandsFor machine after.now new
-        → cpu < machine.nodes → IfOk result (λ table. AreMoves machine old new task cpu first pages table.items) }
+    ensures ok { (machine : Hardware) (old new : List Command)
+        → PlanStandsFor machine before.now old → PlanStandsFor machine after.now new
+        → cpu < machine.nodes
+        → IfOk result (λ table. AreMoves machine old new task cpu first pages table.items) }
     ensures entries { IfOk result (λ table. length table.items ≡ 65536) }
 {
     let mut table = empty_table(alloc, ENTRIES)?;

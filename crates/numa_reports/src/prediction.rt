@@ -14,18 +14,20 @@ use numa_space::{PlaceRefusal, RangeRecord, Run, Space};
 /// Where the pages of a range would go, if a task touched each of them now.
 #[derive(Clone, Copy, Debug)]
 pub struct RangePrediction {
-    /// The policy that serves the task there: the range's where that is live, else the task's where that is live. None is
-    /// local allocation.
+    /// The policy that serves the task there: the range's where that is live, else the task's where
+    /// that is live. None is local allocation.
     pub policy: Option<Record>,
     /// How many pages of the range have each node as the first on which memory is looked for.
     pub counts: [u64; 256],
 }
 
-/// Where the pages of a range would go, if the task touched each of them now on a CPU of node `cpu`. The plan is one of the
-/// space. The time grows with the cycle of the range's policy, and not with its pages.
+/// Where the pages of a range would go, if the task touched each of them now on a CPU of node
+/// `cpu`. The plan is one of the space. The time grows with the cycle of the range's policy, and
+/// not with its pages.
 ///
 /// # Errors
-/// `BadCpu` where the machine has no node `cpu`; else `Unmapped` where a page of the range isn't mapped.
+/// `BadCpu` where the machine has no node `cpu`; else `Unmapped` where a page of the range isn't
+/// mapped.
 pub fn predict_range(
     space: &Space,
     plan: &Plan,
@@ -33,10 +35,12 @@ pub fn predict_range(
     cpu: u32,
     range: &Run<RangeRecord>,
 ) -> Result<RangePrediction, PlaceRefusal>
-    ensures ok { (history : List Command) → StandsFor space.now history → PlanStandsFor space.now.machine plan.now history
+    ensures ok { (history : List Command) → StandsFor space.now history
+        → PlanStandsFor space.now.machine plan.now history
         → IfOk result (IsPrediction space.now.machine history task cpu range.now) }
     ensures err { (history : List Command) → PlanStandsFor space.now.machine plan.now history
-        → IfErr result (SpanIsRefused space.now.machine history range.now.first range.now.pages cpu) }
+        → IfErr result
+        (SpanIsRefused space.now.machine history range.now.first range.now.pages cpu) }
 {
     let counts = match plan.counts(task, cpu, range.first, range.pages) {
         Ok(counts) => counts,
@@ -48,8 +52,8 @@ pub fn predict_range(
     })
 }
 
-/// How many of all mapped pages would go to each node, if the task touched each of them now on a CPU of node `cpu`. The
-/// plan is one of the space.
+/// How many of all mapped pages would go to each node, if the task touched each of them now on a
+/// CPU of node `cpu`. The plan is one of the space.
 ///
 /// # Errors
 /// `BadCpu` where the machine has no node `cpu`. `Unmapped` where the plan isn't one of the space.
@@ -59,7 +63,8 @@ pub fn predict_all(
     task: u32,
     cpu: u32,
 ) -> Result<[u64; 256], PlaceRefusal>
-    ensures ok { (history : List Command) → StandsFor space.now history → PlanStandsFor space.now.machine plan.now history
+    ensures ok { (history : List Command) → StandsFor space.now history
+        → PlanStandsFor space.now.machine plan.now history
         → IfOk result (AreFirsts space.now.machine history task cpu 0 (2 ^ 35)) }
 {
     if cpu >= space.machine().nodes() {

@@ -3,12 +3,10 @@
 use crate::fault::ReportFault;
 use crate::moves::{ENTRIES, empty_table, span_moves};
 use crate::outlook::{Outlook, Span, common_spans};
-use crate::sheet::Sheet;
 use crate::sheet::fields::address;
 use numa_space::PlaceRefusal;
 use std::alloc::{AllocError, Global};
-use std::fmt::Write as _;
-use std::io::Write;
+use std::fmt::Write;
 
 /// How many pages go from a node to another.
 fn entry(table: &[u64], from: u32, to: u32) -> u64 {
@@ -94,41 +92,34 @@ fn add_table(total: &mut Vec<u64>, table: &[u64]) {
     }
 }
 
-/// Writes which pages go to another node, if the task touched each of them on a CPU of node `cpu` after and not before: a
-/// line for each span of pages of which some do, with how many go from which node to which, and a last line with all.
+/// Which pages go to another node, if the task touched each of them on a CPU of node `cpu` after
+/// and not before: a line for each span of pages of which some do, with how many go from which node to
+/// which, and a last line with all.
 ///
 /// # Errors
-/// `Refused` where the machine has no node `cpu`; `Write` where a write failed; `Memory` where there was none.
-pub fn write_difference<W: Write>(
+/// `Refused` where the machine has no node `cpu`; `Memory` where there was none.
+pub fn difference_text(
     alloc: Global,
     before: &Outlook,
     after: &Outlook,
     nodes: u32,
     task: u32,
     cpu: u32,
-    output: &mut W,
-) -> Result<(), ReportFault> {
+) -> Result<Vec<u8>, ReportFault> {
     if cpu >= nodes {
         return Err(ReportFault::Refused(PlaceRefusal::BadCpu));
     }
     let spans = common_spans(alloc, before.spans.as_slice(), after.spans.as_slice())?;
     let mut total = empty_table(alloc, ENTRIES)?;
-    let mut sheet = Sheet::new(alloc, output);
+    let mut text = Vec::new(alloc);
     for span in &spans {
-        let table = span_moves(
-            alloc,
-            &before.plan,
-            &after.plan,
-            task,
-            cpu,
-            span.first,
-            span.pages,
-        )?;
+        let Span { first, pages } = *span;
+        let table = span_moves(alloc, &before.plan, &after.plan, task, cpu, first, pages)?;
         let line = span_line(alloc, *span, table.as_slice(), nodes)?;
-        sheet.say(line.as_bytes())?;
+        text.extend_from_slice(line.as_bytes())?;
         add_table(&mut total, table.as_slice());
     }
     let line = total_line(alloc, total.as_slice(), nodes)?;
-    sheet.say(line.as_bytes())?;
-    sheet.hand_over()
+    text.extend_from_slice(line.as_bytes())?;
+    Ok(text)
 }

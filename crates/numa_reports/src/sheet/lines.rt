@@ -16,7 +16,8 @@ fn push_nodes(text: &mut String, counts: &[u64; 256]) -> Result<(), AllocError> 
     Ok(())
 }
 
-/// The line of a range: its first address and the one behind its last, the policy, and its pages by node.
+/// The line of a range: its first address and the one behind its last, the policy, and its pages by
+/// node.
 pub(crate) fn range(
     alloc: Global,
     range: &Run<RangeRecord>,

@@ -1,0 +1,36 @@
+//! Why a question about played scripts has no answer.
+use numa_files::Stop;
+use numa_reports::ReportFault;
+use std::alloc::AllocError;
+
+/// Why a question about played scripts has no answer. Then nothing of one was written, but for
+/// `Stopped(Write)`.
+#[derive(Clone, Copy, Debug, PartialEq, Eq)]
+pub enum Halt {
+    /// A read or a write failed, or there was no memory.
+    Stopped(Stop),
+    /// No line of the scripts made a machine.
+    NoMachine,
+    /// The machine has so many nodes, and not the one that is asked of.
+    NoNode(u32),
+}
+
+impl From<Stop> for Halt {
+    fn from(stop: Stop) -> Halt {
+        Halt::Stopped(stop)
+    }
+}
+
+impl From<AllocError> for Halt {
+    fn from(_error: AllocError) -> Halt {
+        Halt::Stopped(Stop::Memory)
+    }
+}
+
+/// Why there is no report on a machine of so many nodes.
+pub(crate) fn halt_of(fault: ReportFault, nodes: u32) -> Halt {
+    match fault {
+        ReportFault::Refused(_) => Halt::NoNode(nodes),
+        ReportFault::Memory => Halt::Stopped(Stop::Memory),
+    }
+}

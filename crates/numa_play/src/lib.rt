@@ -1,0 +1,16 @@
+//! Scripts that are played to their end, and what is asked of the state that they lead to.
+//!
+//! Lines that are faulty or refused are passed over, and what is wrong with each is told. [`check`]
+//! does no more; [`predict`] and [`diff`] answer by the lines that were accepted.
+#![tactic(auto)]
+
+mod asking;
+mod findings;
+mod halt;
+mod playing;
+
+pub use asking::{Asked, diff, predict};
+pub use findings::Findings;
+pub use halt::Halt;
+pub use numa_reports::Format;
+pub use playing::{check, play};

@@ -1,0 +1,59 @@
+//! Scripts that are played to their end.
+use crate::findings::Findings;
+use numa_files::{Lines, Stop, TakeText, read_all};
+use std::alloc::Global;
+use std::io::{Read, Write};
+
+/// The lines of scripts; what is found is written before the next read.
+#[derive(Drop)]
+struct Checking<W> {
+    lines: Lines<Findings<W>>,
+}
+
+impl<W: Write> TakeText for Checking<W> {
+    fn begin(&mut self, name: &str) -> Result<(), Stop> {
+        self.lines.begin(name)
+    }
+
+    fn take(&mut self, piece: &[u8]) -> Result<(), Stop> {
+        self.lines.take(piece)?;
+        self.lines.taker.flush()
+    }
+
+    fn end(&mut self) -> Result<(), Stop> {
+        self.lines.end()
+    }
+}
+
+/// Reads the texts in turn, as one script, plays their lines, and tells the writer what is wrong
+/// with them: the text's name, the line, for bad words the column, the answer, and its cause. How
+/// many lines weren't judged is left to be told by `end`.
+///
+/// # Errors
+/// Where a read or a write failed, or there was no memory.
+pub fn play<R: Read + Drop, W: Write + Drop>(
+    alloc: Global,
+    texts: Vec<(String, R)>,
+    output: W,
+) -> Result<Findings<W>, Stop> {
+    let mut checking = Checking {
+        lines: Lines::new(alloc, Findings::new(alloc, output)),
+    };
+    read_all(texts, &mut checking)?;
+    Ok(checking.lines.taker)
+}
+
+/// Reads the texts in turn, as one script, and tells the writer what is wrong with their lines.
+/// Whether nothing is.
+///
+/// # Errors
+/// Where a read or a write failed, or there was no memory.
+pub fn check<R: Read + Drop, W: Write + Drop>(
+    alloc: Global,
+    texts: Vec<(String, R)>,
+    output: W,
+) -> Result<bool, Stop> {
+    let mut findings = play(alloc, texts, output)?;
+    findings.end()?;
+    Ok(!findings.has_faults())
+}
