@@ -36,7 +36,8 @@ Chooses plan task page cpu (Err (refused.Place cause)) old new =
     HasNoList plan page cpu cause × (new ≡ old)
 
 -- the same of the first nodes of a span
-abbrev pub Fills : Option PlanData → ℕ → ℕ → ℕ → Result (Unit {0}) PlaceRefusal → List ℕ → List ℕ → Type 0
+abbrev pub Fills : Option PlanData → ℕ → ℕ → ℕ → Result (Unit {0}) PlaceRefusal → List ℕ → List ℕ
+    → Type 0
 Fills None task cpu first answer old new = Unit {0}
 Fills (Some plan) task cpu first (Ok done) old new = (cpu < plan.nodes)
     × EachIndex new (λ k. planned_first plan task (first + k) cpu ≡ Some (slice_index new k))

@@ -28,12 +28,14 @@ pub record IsStep (before : CoreState) (event : Event) (answer : Result CoreRepl
   pub setup : setup_of after ≡ setup_of before
 
 -- the same of what is kept: a core before and a core after
-abbrev pub Steps : Option CoreState → Event → Result CoreReply CoreRefusal → Option CoreState → Type 0
+abbrev pub Steps : Option CoreState → Event → Result CoreReply CoreRefusal → Option CoreState
+    → Type 0
 Steps old event answer new =
     (before : CoreState) → old ≡ Some before →
     (after : CoreState) × (new ≡ Some after) × IsStep before event answer after
 
--- the touch took the core from the one state to the other: the moments of a touch that is answered so
+-- the touch took the core from the one state to the other: each legal run that led to the first
+-- leads with the moments of a touch that is answered so to the second
 pub record IsTouched (before : CoreState) (worker : ℕ) (request : Request)
     (answer : Result CoreReply CoreRefusal) (after : CoreState) : Type 0 where
   pub runs : (run : List Moment) → LeadsTo run before → (moments : List Moment)

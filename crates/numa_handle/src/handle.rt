@@ -45,7 +45,8 @@ impl Handle {
 
     /// What it keeps, where it keeps something.
     fn into_kept(self, alloc: Global) -> Option<Box<Kept>>
-        ensures { MatchOption result (self.held.kept ≡ None) (λ kept. self.held.kept ≡ Some kept.value) }
+        ensures { MatchOption result (self.held.kept ≡ None)
+            (λ kept. self.held.kept ≡ Some kept.value) }
     {
         let Handle { is_open, held } = self;
         if is_open {

@@ -1,5 +1,5 @@
 //! A handle of a plan.
-ghost use Rattle.std.specs.Prelude.{◌≡◌, ◌<◌, Option, Some, None, MatchOption, IfSome, is_some, true};
+ghost use Rattle.std.specs.Prelude.{◌≡◌, Some, None, MatchOption, IfSome, is_some, true};
 ghost use Rattle.std.specs.Prelude.{OnOk, OnErr, IfOk, IfErr, length, take, drop};
 ghost use Rattle.numa_plan.specs.Meaning.{PlanData, place_refusal};
 ghost use Rattle.numa_plan.specs.Meaning.{CountsFirsts, RefusesSpan};
@@ -153,7 +153,8 @@ impl PlanHandle {
         ensures open { MatchOption result (plan_in self.old ≡ None)
             (λ answer. is_some (plan_in self.old) ≡ true) }
         ensures shared { MatchOption result (plan_in other.new ≡ None) (λ answer.
-            (OnOk answer (plan_in other.new ≡ plan_in self.old)) × (OnErr answer (plan_in other.new ≡ None))) }
+            (OnOk answer (plan_in other.new ≡ plan_in self.old))
+            × (OnErr answer (plan_in other.new ≡ None))) }
     {
         let kept = self.handle.take(alloc)?;
         let shared = share_kept(&kept, alloc);

@@ -1,10 +1,10 @@
 //! Opening and closing of cores, and their versions.
-ghost use Rattle.std.specs.Prelude.{◌≡◌, ◌≢◌, [], Some, None, IfOk, IfErr, IfSome, is_some, true};
-ghost use Rattle.std.specs.Prelude.{length};
+ghost use Rattle.std.specs.Prelude.{◌≡◌, ◌≢◌, ◌≤◌, [], Some, None, true, is_some};
+ghost use Rattle.std.specs.Prelude.{IfOk, IfErr, IfSome, MatchOption};
 ghost use Rattle.numa_core.specs.Standing.{CoreState, LeadsTo, setup_of};
-ghost use Rattle.numa_handle.specs.Steps.{core_in, HasVersions};
+ghost use Rattle.numa_handle.specs.Steps.{core_in};
 ghost use Rattle.numa_mask.specs.Lists.{list_of};
-ghost use Rattle.numaplan_c.specs.Border.{IsSetUp};
+ghost use Rattle.numaplan_c.specs.Border.{IsSetUp, bounds_of, limits_cause, opening_cause};
 
 use crate::codes::{CLOSED, NO_MEMORY, OPEN, list_code, machine_code};
 use numa_core::Core;
@@ -25,6 +25,22 @@ pub struct NpLimits {
 
 const _: () = prove!(size_of::<NpLimits>() == 12);
 
+/// Why limits, or a number of workers, are refused.
+fn limits_cause(limits: NpLimits, workers: u32) -> Option<u32>
+    ensures cause { result ≡ limits_cause (bounds_of limits) workers }
+    ensures workers { result ≡ None → (1 ≤ workers) × (workers ≤ 16) }
+    ensures limits { result ≡ None → (limits.max_ranges ≤ 65536) × (limits.max_tasks ≤ 1024) }
+    ensures refused { IfSome result (λ code. code ≢ 0) }
+{
+    if !(limits.max_ranges <= 65_536 && limits.max_tasks <= 1_024) {
+        return Some(54);
+    }
+    if !(1 <= workers && workers <= 16) {
+        return Some(55);
+    }
+    None
+}
+
 /// The core of a description, or the number of what is wrong with it.
 fn make(
     alloc: Global,
@@ -36,11 +52,12 @@ fn make(
 ) -> Result<Core, u32>
     ensures run { IfOk result (LeadsTo []) }
     ensures setup { IfOk result (λ core. IsSetUp (list_of memory.now) frames.now distances.now
-        (record {
-          max_ranges = limits.max_ranges;
-          max_tasks = limits.max_tasks;
-          max_commands = limits.max_commands;
-        }) workers (setup_of core)) }
+        (bounds_of limits) workers (setup_of core)) }
+    ensures cause { IfErr result (λ code. MatchOption (opening_cause (list_of memory.now)
+        frames.now distances.now
+        (bounds_of limits) workers) (code ≡ 3) (λ first. code ≡ first)) }
+    ensures none { IfOk result (λ core. opening_cause (list_of memory.now) frames.now
+        distances.now (bounds_of limits) workers ≡ None) }
     ensures refused { IfErr result (λ code. code ≢ 0) }
 {
     let memory = match read_list(memory) {
@@ -50,17 +67,17 @@ fn make(
     if frames.len() > 256 {
         return Err(50);
     }
+    if let Some(code) = limits_cause(limits, workers) {
+        return Err(code);
+    }
     let nodes = frames.len() as u32;
     let machine = match Machine::new(alloc, nodes, memory, distances, frames) {
         Ok(machine) => machine,
         Err(fault) => return Err(machine_code(fault)),
     };
     let Some(limits) = Limits::new(limits.max_ranges, limits.max_tasks, limits.max_commands) else {
-        return Err(54);
+        unreachable!()
     };
-    if workers == 0 || workers > 16 {
-        return Err(55);
-    }
     match Core::new(alloc, machine, limits, workers) {
         Ok(core) => Ok(core),
         Err(_) => Err(NO_MEMORY),
@@ -82,11 +99,11 @@ pub extern "C" fn np_core_open(
     ensures run { core_in core.old ≡ None → IfSome (core_in core.new) (LeadsTo []) }
     ensures setup { core_in core.old ≡ None → IfSome (core_in core.new) (λ made.
         IsSetUp (list_of memory.now) frames.now distances.now
-        (record {
-          max_ranges = limits.now.max_ranges;
-          max_tasks = limits.now.max_tasks;
-          max_commands = limits.now.max_commands;
-        }) workers (setup_of made)) }
+        (bounds_of limits.now) workers (setup_of made)) }
+    ensures cause { core_in core.old ≡ None → result ≢ 0 →
+        MatchOption (opening_cause (list_of memory.now) frames.now distances.now
+        (bounds_of limits.now) workers) (result ≡ 3) (λ first. result ≡ first) }
+    ensures open { is_some (core_in core.old) ≡ true → result ≡ 2 }
     ensures unchanged { result ≢ 0 → core_in core.new ≡ core_in core.old }
 {
     if core.is_open() {

@@ -1,6 +1,8 @@
 //! Plans.
 ghost use Rattle.std.specs.Prelude.{◌≡◌, ◌≢◌, Some, None, IfSome, is_some, true, Result, Ok, ℕ};
+ghost use Rattle.numa_core.specs.Standing.{CoreState};
 ghost use Rattle.numa_plan.specs.Meaning.{PlanData};
+ghost use Rattle.numaplan_c.specs.Border.{is_done};
 ghost use Rattle.numa_handle.specs.Steps.{core_in, Compiles};
 ghost use Rattle.numa_handle.specs.Plans.{plan_in, Chooses, Fills, Counts};
 ghost use Rattle.numa_handle.specs.declared.plan_handle.ChoiceRefusal.{ChoiceRefusal};
@@ -24,6 +26,10 @@ pub extern "C" fn np_core_compile(
     ensures compiled { plan_in plan.old ≡ None →
         IfSome (plan_in plan.new) (Compiles (core_in core.old)) }
     ensures unchanged { result ≢ 0 → plan_in plan.new ≡ plan_in plan.old }
+    ensures open { is_some (plan_in plan.old) ≡ true → result ≡ 2 }
+    ensures closed { plan_in plan.old ≡ None → core_in core.old ≡ None → result ≡ 1 }
+    ensures done { plan_in plan.old ≡ None → (kept : CoreState) → core_in core.old ≡ Some kept →
+        is_done result ≡ true }
 {
     if plan.is_open() {
         return OPEN;
@@ -46,6 +52,10 @@ pub extern "C" fn np_plan_share(alloc: Global, plan: &mut PlanHandle, other: &mu
     ensures shared { result ≡ 0 → (plan_in other.new ≡ plan_in plan.old)
         × (is_some (plan_in plan.old) ≡ true) }
     ensures unchanged { result ≢ 0 → plan_in other.new ≡ plan_in other.old }
+    ensures open { is_some (plan_in other.old) ≡ true → result ≡ 2 }
+    ensures closed { plan_in other.old ≡ None → plan_in plan.old ≡ None → result ≡ 1 }
+    ensures done { plan_in other.old ≡ None → (kept : PlanData) → plan_in plan.old ≡ Some kept →
+        is_done result ≡ true }
 {
     if other.is_open() {
         return OPEN;
