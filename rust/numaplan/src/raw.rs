@@ -1,0 +1,71 @@
+//! The declarations of numaplan.h that the wrapper calls.
+
+use std::ffi::c_void;
+use std::mem::size_of;
+
+#[repr(C)]
+pub(crate) struct Handle {
+    is_open: bool,
+    at: *mut c_void,
+}
+
+impl Handle {
+    pub(crate) fn closed() -> Handle {
+        Handle {
+            is_open: false,
+            at: std::ptr::null_mut(),
+        }
+    }
+}
+
+#[repr(C)]
+pub(crate) struct Limits {
+    pub max_ranges: u32,
+    pub max_tasks: u32,
+    pub max_commands: u32,
+}
+
+#[repr(C)]
+pub(crate) struct Counts {
+    pub pages: [u64; 256],
+}
+
+/// Where a page was placed: by this version, on this frame of this node, at this rank of its list.
+#[repr(C)]
+#[derive(Clone, Copy, Debug, Default, PartialEq, Eq)]
+pub struct Placement {
+    pub version: u64,
+    pub page: u64,
+    pub task: u32,
+    pub rank: u32,
+    pub frame: u16,
+    pub node: u8,
+}
+
+const _: () = assert!(size_of::<Handle>() == 16 && size_of::<Limits>() == 12);
+const _: () = assert!(size_of::<Placement>() == 32 && size_of::<Counts>() == 2048);
+
+#[rustfmt::skip]
+#[link(name = "numaplan", kind = "static")]
+extern "C" {
+    pub(crate) fn np_core_open(core: &mut Handle, memory: *const u8, memory_length: usize, frames: *const u32, nodes: usize, distances: *const u8, distances_count: usize, limits: &Limits, workers: u32) -> u32;
+    pub(crate) fn np_core_close(core: &mut Handle);
+    pub(crate) fn np_core_versions(core: &mut Handle, accepted: &mut u64, published: &mut u64) -> u32;
+    pub(crate) fn np_core_map(core: &mut Handle, start: u64, length: u64, offset: u64) -> u32;
+    pub(crate) fn np_core_unmap(core: &mut Handle, start: u64, length: u64) -> u32;
+    pub(crate) fn np_core_mbind(core: &mut Handle, start: u64, length: u64, policy: *const u8, policy_length: usize) -> u32;
+    pub(crate) fn np_core_set_task(core: &mut Handle, task: u32, policy: *const u8, policy_length: usize) -> u32;
+    pub(crate) fn np_core_set_home(core: &mut Handle, start: u64, length: u64, node: u32) -> u32;
+    pub(crate) fn np_core_set_weight(core: &mut Handle, node: u32, weight: u32) -> u32;
+    pub(crate) fn np_core_set_mems(core: &mut Handle, nodes: *const u8, nodes_length: usize) -> u32;
+    pub(crate) fn np_core_publish(core: &mut Handle) -> u32;
+    pub(crate) fn np_core_touch(core: &mut Handle, worker: u32, task: u32, page: u64, cpu: u32, placed: &mut Placement) -> u32;
+    pub(crate) fn np_core_give(core: &mut Handle, worker: u32, node: u8, frame: u16) -> u32;
+    pub(crate) fn np_core_compile(core: &mut Handle, plan: &mut Handle) -> u32;
+    pub(crate) fn np_plan_share(plan: &mut Handle, other: &mut Handle) -> u32;
+    pub(crate) fn np_plan_close(plan: &mut Handle);
+    pub(crate) fn np_plan_version(plan: &mut Handle, version: &mut u64) -> u32;
+    pub(crate) fn np_plan_choice(plan: &mut Handle, task: u32, page: u64, cpu: u32, nodes: *mut u8, room: usize, count: &mut usize) -> u32;
+    pub(crate) fn np_plan_fill(plan: &mut Handle, task: u32, cpu: u32, first: u64, nodes: *mut u8, pages: usize) -> u32;
+    pub(crate) fn np_plan_counts(plan: &mut Handle, task: u32, cpu: u32, first: u64, pages: u64, counts: &mut Counts) -> u32;
+}
