@@ -1,8 +1,34 @@
 //! How the program ends.
 use crate::jobs::JobFault;
 use numa_files::Stop;
+use numa_play::{Asked, Halt};
 use numa_script::RunFault;
+use std::io;
+use std::io::{ErrorKind, Write};
 use std::process::ExitCode;
+
+/// The status where the scripts make no machine.
+const NO_MACHINE: u8 = 3;
+
+/// Standard error, as a writer of UTF-8.
+#[derive(Drop)]
+pub struct Told<'a, R> {
+    pub rt: &'a R,
+}
+
+impl<R: Eprint> Write for Told<'_, R> {
+    fn write(&mut self, bytes: &[u8]) -> io::Result<usize> {
+        let Ok(text) = str::from_utf8(bytes) else {
+            return Err(io::Error::from(ErrorKind::InvalidData));
+        };
+        eprint!(self.rt; "{text}")?;
+        Ok(bytes.len())
+    }
+
+    fn flush(&mut self) -> io::Result<()> {
+        Ok(())
+    }
+}
 
 /// Ends with a fault's text on standard error, and status 1.
 pub fn fail(rt: &impl Eprint, fault: RunFault) -> ExitCode {
@@ -32,5 +58,23 @@ pub fn stop(rt: &impl Eprint, why: Stop) -> ExitCode {
         Stop::Read => fail(rt, RunFault::Read),
         Stop::Write => fail(rt, RunFault::Write),
         Stop::Memory => fail(rt, RunFault::Memory),
+    }
+}
+
+/// Ends with the answer to a question about played scripts, or with why there is none.
+pub fn answered(rt: &impl Eprint, asked: Asked, answer: Result<(), Halt>) -> ExitCode {
+    match answer {
+        Ok(()) => ExitCode::SUCCESS,
+        Err(Halt::Stopped(why)) => stop(rt, why),
+        Err(Halt::NoMachine) => {
+            let _ = eprintln!(rt; "error: no machine is ready after the scripts");
+            ExitCode::from(NO_MACHINE)
+        }
+        Err(Halt::NoNode(nodes)) => {
+            let cpu = asked.cpu;
+            let last = nodes.saturating_sub(1);
+            let _ = eprintln!(rt; "error: '--cpu {cpu}': the machine's nodes are 0 to {last}");
+            ExitCode::from(2)
+        }
     }
 }

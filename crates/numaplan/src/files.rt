@@ -34,13 +34,22 @@ pub fn argument<'a>(alloc: Global) -> Arg<'a> {
         .action(ArgAction::Append)
 }
 
+/// The values of an argument, as they were given.
+pub fn texts_of(
+    alloc: Global,
+    matches: &ArgMatches<'_>,
+    id: &str,
+) -> Result<Vec<String>, AllocError> {
+    let mut texts = Vec::new(alloc);
+    for text in matches.get_strs(id).unwrap_or(&[]) {
+        texts.push(String::from_str(alloc, text)?)?;
+    }
+    Ok(texts)
+}
+
 /// The files that are named.
 pub fn named(alloc: Global, matches: &ArgMatches<'_>) -> Result<Vec<String>, AllocError> {
-    let mut files = Vec::new(alloc);
-    for name in matches.get_strs("FILE").unwrap_or(&[]) {
-        files.push(String::from_str(alloc, name)?)?;
-    }
-    Ok(files)
+    texts_of(alloc, matches, "FILE")
 }
 
 /// Standard input. On a terminal a line says that a script is awaited.

@@ -1,4 +1,5 @@
 //! What the program is asked to do.
+use numa_play::{Asked, Format};
 use std::alloc::{AllocError, AllocFailed};
 
 /// What the program is asked to do, a variant for each word.
@@ -6,11 +7,27 @@ use std::alloc::{AllocError, AllocFailed};
 pub enum Job {
     /// To answer the scripts of these files in turn, `-` being standard input, which is read where
     /// none is named; each line beside its answer, where `echo` says so.
-    Run { files: Vec<String>, echo: bool },
+    Run {
+        files: Vec<String>,
+        echo: bool,
+    },
     /// To compare these worked scripts with what their lines are answered.
     Expect(Vec<String>),
     /// To tell what is wrong with the scripts of these files.
     Check(Vec<String>),
+    /// To tell where pages would go after the scripts of these files.
+    Predict {
+        files: Vec<String>,
+        asked: Asked,
+        format: Format,
+    },
+    /// To tell which pages would go elsewhere if these lines were added to the scripts of these
+    /// files.
+    Diff {
+        files: Vec<String>,
+        asked: Asked,
+        lines: Vec<String>,
+    },
     /// To let so many workers place pages while policies change.
     Storm(u32),
 }

@@ -1,5 +1,6 @@
-//! `numaplan run` answers scripts. `numaplan expect` compares the answers that scripts hold with those
-//! that they get. `numaplan storm` lets workers place pages while policies change.
+//! `numaplan run` answers scripts, and `numaplan expect` compares the answers that scripts hold with
+//! those that they get. `numaplan predict` and `numaplan diff` tell where pages would go after
+//! scripts. `numaplan storm` lets workers place pages while policies change.
 #![tactic(auto)]
 
 ghost use Rattle.std.specs.Prelude.{IfOk};
@@ -18,7 +19,7 @@ use jobs::{Job, JobFault};
 use std::env::Env;
 use std::process::ExitCode;
 use std::{env, io};
-use words::{check, expect, run, storm};
+use words::{check, diff, expect, predict, run, storm};
 
 /// What is told of an argument that isn't UTF-8.
 const NOT_UTF_8: &str = "error: an argument isn't UTF-8\n\nFor more information, try '--help'.\n";
@@ -45,6 +46,20 @@ fn main(rt: HostRuntime) -> ExitCode {
         Ok(Job::Run { files, echo }) => run::answer(&rt, &files, echo),
         Ok(Job::Check(files)) => check::check(&rt, &files),
         Ok(Job::Expect(files)) => expect::check(&rt, &files),
+        Ok(
+            Job::Predict {
+                files,
+                asked,
+                format,
+            },
+        ) => predict::answer(&rt, &files, asked, format),
+        Ok(
+            Job::Diff {
+                files,
+                asked,
+                lines,
+            },
+        ) => diff::answer(&rt, &files, asked, &lines),
         Ok(Job::Storm(workers)) => storm::show(&rt, workers),
         Err(fault) => tell_fault(&rt, fault),
     }

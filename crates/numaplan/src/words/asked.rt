@@ -1,0 +1,34 @@
+//! Who touches the pages that a word asks about: `--task T --cpu C`.
+use crate::jobs::JobFault;
+use clap::{Arg, ArgAction, ArgMatches, Command, value_parser};
+use numa_play::Asked;
+use std::alloc::{AllocError, Global};
+
+/// What is told where a number is missing.
+const MISSING: &str = "error: '--task <T>' and '--cpu <C>' are wanted\n";
+
+/// An option that takes a number, and has to be there.
+fn number<'a>(alloc: Global, name: &'a str, value: &'a str, help: &'a str) -> Arg<'a> {
+    Arg::new(alloc, name)
+        .long(name)
+        .value_name(value)
+        .help(help)
+        .value_parser(value_parser!(u32))
+        .required(true)
+        .action(ArgAction::Set)
+}
+
+/// The command with both options.
+pub fn with_options<'a>(alloc: Global, command: Command<'a>) -> Result<Command<'a>, AllocError> {
+    let task = number(alloc, "task", "T", "The task that touches the pages");
+    let cpu = number(alloc, "cpu", "C", "The node of the CPU on which it does");
+    command.arg(task)?.arg(cpu)
+}
+
+/// What the options say.
+pub fn asked(alloc: Global, matches: &ArgMatches<'_>) -> Result<Asked, JobFault> {
+    match (matches.get_one("task"), matches.get_one("cpu")) {
+        (Some(task), Some(cpu)) => Ok(Asked { task, cpu }),
+        _ => Err(JobFault::Usage(String::from_str(alloc, MISSING)?)),
+    }
+}

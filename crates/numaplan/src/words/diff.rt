@@ -1,0 +1,69 @@
+//! `numaplan diff --task T --cpu C --then LINE [FILE]..`: tells which pages would go elsewhere.
+ghost use Rattle.std.specs.Prelude.{IfOk};
+ghost use Rattle.numaplan.specs.Jobs.{CanBeDone};
+
+use crate::endings::{Told, answered, tell_fault};
+use crate::files;
+use crate::jobs::{Job, JobFault};
+use crate::words::asked;
+use clap::{Arg, ArgAction, ArgMatches, Command};
+use numa_play::Asked;
+use std::alloc::{AllocError, Global};
+use std::io;
+use std::io::IsTerminal;
+use std::process::ExitCode;
+use std::rt::Files;
+
+/// What the help says in full.
+const ABOUT: &str =
+    "Tells which pages would go to another node if script lines were added to the scripts, and a task touched each of them on a \
+CPU of one node: for each span of pages of which some do, how many from which node to which, and in all. Pages that are mapped \
+only before or only after are left out. Lines that are faulty or refused are told on standard error as by `check`, and passed \
+over. The status is 3 where no machine is ready after the scripts.";
+
+/// What stands at the end of the help.
+const MORE: &str =
+    "Example, from the top of the repository:\n  ./numaplan diff --task 1 --cpu 0 --then 'mems 0' examples/homes.numaplan";
+
+/// The command.
+pub fn command<'a>(alloc: Global) -> Result<Command<'a>, AllocError> {
+    let lines = Arg::new(alloc, "then")
+        .long("then")
+        .value_name("LINE")
+        .help("A script line that is added; several in turn")
+        .required(true)
+        .action(ArgAction::Append);
+    let word = Command::new(alloc, "diff")
+        .about("Tells which pages would go elsewhere if lines were added to scripts")
+        .long_about(ABOUT)
+        .after_help(MORE);
+    asked::with_options(alloc, word)?
+        .arg(lines)?
+        .arg(files::argument(alloc))
+}
+
+/// The job that its words ask for.
+pub fn job(alloc: Global, matches: &ArgMatches<'_>) -> Result<Job, JobFault>
+    ensures { IfOk result CanBeDone }
+{
+    Ok(Job::Diff {
+        files: files::named(alloc, matches)?,
+        asked: asked::asked(alloc, matches)?,
+        lines: files::texts_of(alloc, matches, "then")?,
+    })
+}
+
+/// Tells which pages would go elsewhere if the lines were added to the scripts of files.
+pub fn answer<R>(rt: &R, names: &[String], asked: Asked, lines: &[String]) -> ExitCode
+where
+    R: Files + Input + Print + Eprint + AllocGlobal,
+    R::Reader: IsTerminal,
+{
+    let texts = match files::open_all(rt, names) {
+        Ok(texts) => texts,
+        Err(fault) => return tell_fault(rt, fault),
+    };
+    let mut output = io::writer(rt);
+    let answer = numa_play::diff(rt.alloc(), texts, lines, asked, &mut output, Told { rt });
+    answered(rt, asked, answer)
+}

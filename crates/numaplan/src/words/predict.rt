@@ -1,0 +1,81 @@
+//! `numaplan predict --task T --cpu C [FILE]..`: tells where pages would go after scripts.
+ghost use Rattle.std.specs.Prelude.{IfOk};
+ghost use Rattle.numaplan.specs.Jobs.{CanBeDone};
+
+use crate::endings::{Told, answered, tell_fault};
+use crate::files;
+use crate::jobs::{Job, JobFault};
+use crate::words::asked;
+use clap::{Arg, ArgAction, ArgMatches, Command};
+use numa_play::{Asked, Format};
+use std::alloc::{AllocError, Global};
+use std::io;
+use std::io::IsTerminal;
+use std::process::ExitCode;
+use std::rt::Files;
+
+/// What the help says in full.
+const ABOUT: &str =
+    "Tells where all mapped pages would go after the scripts, if a task touched each of them now on a CPU of one node: the \
+first node of each page's list, range by range and in all. Lines that are faulty or refused are told on standard error as by \
+`check`, and passed over. The status is 3 where no machine is ready after the scripts.";
+
+/// What stands at the end of the help.
+const MORE: &str =
+    "Example, from the top of the repository:\n  ./numaplan predict --task 1 --cpu 0 examples/homes.numaplan";
+
+/// The names of the formats.
+const FORMATS: [&str; 3] = ["text", "json", "csv"];
+
+/// The command.
+pub fn command<'a>(alloc: Global) -> Result<Command<'a>, AllocError> {
+    let format = Arg::new(alloc, "format")
+        .long("format")
+        .value_name("FORMAT")
+        .help("How the answer is written")
+        .value_parser(FORMATS.as_slice())
+        .default_value("text")
+        .action(ArgAction::Set);
+    let word = Command::new(alloc, "predict")
+        .about("Tells where pages would go after scripts, if a task touched them")
+        .long_about(ABOUT)
+        .after_help(MORE);
+    asked::with_options(alloc, word)?
+        .arg(format)?
+        .arg(files::argument(alloc))
+}
+
+/// The format of this name.
+fn format_of(name: Option<&str>) -> Format {
+    match name {
+        Some("json") => Format::Json,
+        Some("csv") => Format::Csv,
+        _ => Format::Text,
+    }
+}
+
+/// The job that its words ask for.
+pub fn job(alloc: Global, matches: &ArgMatches<'_>) -> Result<Job, JobFault>
+    ensures { IfOk result CanBeDone }
+{
+    Ok(Job::Predict {
+        files: files::named(alloc, matches)?,
+        asked: asked::asked(alloc, matches)?,
+        format: format_of(matches.get_str("format")),
+    })
+}
+
+/// Tells where pages would go after the scripts of files.
+pub fn answer<R>(rt: &R, names: &[String], asked: Asked, format: Format) -> ExitCode
+where
+    R: Files + Input + Print + Eprint + AllocGlobal,
+    R::Reader: IsTerminal,
+{
+    let texts = match files::open_all(rt, names) {
+        Ok(texts) => texts,
+        Err(fault) => return tell_fault(rt, fault),
+    };
+    let mut output = io::writer(rt);
+    let answer = numa_play::predict(rt.alloc(), texts, asked, format, &mut output, Told { rt });
+    answered(rt, asked, answer)
+}
