@@ -1,5 +1,5 @@
 -- What a handle of a core keeps, and what an event does to it.
-use Rattle.std.specs.Prelude.{◌≡◌, ℕ, Option, Some, None, Result, List, ◌∷◌, ◌++◌, OnErr}
+use Rattle.std.specs.Prelude.{◌≡◌, ℕ, Option, Some, Result, List, ◌∷◌, ◌++◌, OnErr}
 use Rattle.numa_core.specs.Executions.{Moment}
 use Rattle.numa_core.specs.Standing.{CoreState, LeadsTo, moment_after, setup_of}
 use Rattle.numa_core.specs.Touching.{IsTouch}

@@ -1,16 +1,14 @@
 -- `into_box` makes the box again, of what the place owns.
 use Rattle.std.proofs.Common.{◌≡◌, List, [], ◌∷◌, ◌++◌, refl, sym, ap, subst}
 use lib.Dec.{T as Holds}
-use mir.Raw.{raw as bare}
 use mir.Syntax.{a_type, dcons, dnil}
-use mir.Val.{Val, vptr, has_ty, WT}
+use mir.Val.{Val, has_ty, WT}
 use mir.MapTy.{inst_fn}
 use base.Fraction.{full_share}
-use base.Logic.{SProp, ent, emp, id⊢, never, fst∗}
-use base.Fml.{Fml, ftrue, flft}
+use base.Logic.{SProp, ent, emp, id⊢}
+use base.Fml.{ftrue, flft}
 use prog.Wp.{WpFn}
-use types.Logic.{sem}
-use types.Kit.{Item, ‵, raw, ◌⊛◌, some, later, at_ret, ◌$◌, ◌∵◌, !, qed, by, move, keep, drop, split, split3, join, fsplit, fjoin, pick, rewrite, feq_i, feq_l, suffices, use0, use1, await}
+use types.Kit.{‵, raw, ◌⊛◌, some, later, at_ret, ◌$◌, ◌∵◌, !, qed, by, move, keep, drop, split, join, fsplit, fjoin, pick, rewrite, feq_i, suffices, use0, use1, await}
 use types.Run.{stop, fld, of_opd, no_more, and_then, first, blocks, exec, returns, enter}
 use types.ByLocal.{alloc_all, pass_all, free_all, look_at, get, get_in, sets, lands_last, env}
 use types.Part.{sub, whole}
@@ -18,8 +16,7 @@ use contract.Monad.{fact, fact_i}
 use contract.BorrowLft.{◌⊑◌, ⊑_refl}
 use contract.Running.{tables}
 use denote.RattleType.{RattleType, owns}
-use denote.RawPtr.{Ptr, block_ptr, null_ptr, ptr_val, in_a_block}
-use denote.Builtin.{RawPtr}
+use denote.RawPtr.{ptr_val}
 use denote.Signature.{types_at, plain}
 use denote.Steps.{nothing, only, heard}
 use denote.Exit.{no, yes}
@@ -41,7 +38,6 @@ use Rattle.std_alloc.proofs.BoxSteps.Steps.{box_out, box_in}
 use Rattle.std_alloc.specs.contracts.boxed.Box.from_raw as callee
 use Rattle.std_alloc.proofs.boxed.Box.from_raw.Met.{met}
 use Rattle.std.proofs.raw_atomic.Walks.{proved_at, leaves}
-use Rattle.numa_handle.specs.Ownership.{owns_at}
 use Rattle.numa_handle.proofs.Words.{Handle, handle_drop, handle_laws, Place, word, word_good, ptr_good, place_out}
 use Rattle.numa_handle.specs.contracts.place.Place.into_box.{ended, clauses}
 use Rattle.numa_handle.specs.contracts.place.Place.into_box.Key.{name as #self}

@@ -1,13 +1,13 @@
 -- `of` takes the box apart, and keeps what it owned.
 use Rattle.std.proofs.Common.{◌≡◌, List, [], ◌∷◌, ◌++◌, refl, sym, ap, subst}
-use mir.Syntax.{Dict, Dicts, a_type, impl, tcons, tnil, dcons, dnil}
+use mir.Syntax.{a_type, dcons, dnil}
 use mir.Val.{Val}
 use mir.MapTy.{inst_fn}
 use base.Fraction.{full_share}
 use base.Logic.{SProp, ent, emp, id⊢}
-use base.Fml.{Fml, ftrue, flft}
+use base.Fml.{ftrue, flft}
 use prog.Wp.{WpFn}
-use types.Kit.{Item, ‵, raw, ◌⊛◌, some, later, ◌$◌, ◌∵◌, !, qed, by, move, keep, drop, split, split3, join, fsplit, fjoin, pick, feq_l, suffices, use0, use1, await}
+use types.Kit.{‵, raw, ◌⊛◌, some, later, ◌$◌, ◌∵◌, !, qed, by, move, keep, drop, split, join, fsplit, fjoin, pick, feq_l, suffices, use0, use1, await}
 use types.Run.{of_opd, no_more, and_then, returns, enter}
 use types.ByLocal.{alloc_all, pass_all, free_all, look_at, get, sets, lands_as}
 use types.Part.{agg}
@@ -20,7 +20,7 @@ use denote.Builtin.{RawPtr}
 use denote.Signature.{types_at, plain}
 use denote.Steps.{nothing, only, heard}
 use denote.Exit.{no}
-use denote.Param.{param, layout, bounded}
+use denote.Param.{param, bounded}
 use denote.Param.NoDrop.{glues}
 use denote.Triple.Call.{calls_at}
 use denote.Triple.Clauses.{Lasts, lasts}
