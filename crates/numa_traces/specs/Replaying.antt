@@ -1,4 +1,5 @@
--- What a trace meets on a machine, by a plan. A trace is the list of its accesses, the newest first.
+-- What a trace meets on a machine, by a plan. A trace is the list of its accesses, the newest
+-- first.
 use Rattle.std.specs.Prelude.{◌≡◌, ℕ, ◌<◌, Bool, not, is_some, List, [], ◌∷◌, slice_index}
 use Rattle.std.specs.Prelude.{unwrap_or, if◌then◌else◌}
 use Rattle.numa_machine.specs.Machine.{Hardware, frames_of}

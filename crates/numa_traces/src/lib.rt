@@ -1,5 +1,5 @@
-//! Traces of accesses that are replayed: where each page is placed when it is first touched, and how
-//! many accesses go where.
+//! Traces of accesses that are replayed: where each page is placed when it is first touched, and
+//! how many accesses go where.
 //!
 //! A [`Memory`] has the frames of a machine and the pages that lie in them. A [`Replay`] takes the
 //! accesses of a trace in turn: the first touch of a page places it on the first node of its list

@@ -75,9 +75,9 @@ impl Memory {
         None
     }
 
-    /// Places a page that isn't placed yet on the first node of its list that has a frame left. None
-    /// where no node of the list has one, and then nothing has changed, as where there was no memory
-    /// for the page's place.
+    /// Places a page that isn't placed yet on the first node of its list that has a frame left.
+    /// None where no node of the list has one, and then nothing has changed, as where there was no
+    /// memory for the page's place.
     pub fn place(&mut self, page: u64, nodes: &[u8]) -> Result<Option<u8>, AllocError>
         requires { node_of self.old.pages page ≡ None }
         ensures node { IfOk result (λ node. node ≡ first_free self.old.free nodes.now) }

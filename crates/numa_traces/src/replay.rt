@@ -52,8 +52,8 @@ impl Replay {
     /// Takes an access: where its page isn't placed, its first touch places it by the plan.
     ///
     /// # Errors
-    /// `Refused` where the plan has no such node, else where the page isn't mapped; `TooMany` where a
-    /// count would pass 2^64 - 1; `NoMemory` where there was none. The replay has ended then.
+    /// `Refused` where the plan has no such node, else where the page isn't mapped; `TooMany` where
+    /// a count would pass 2^64 - 1; `NoMemory` where there was none. The replay has ended then.
     pub fn take(&mut self, plan: &Plan, access: Access) -> Result<(), ReplayFault>
         ensures ok { (machine : Hardware) (trace : List Access)
             → IsReplay machine plan.now trace self.old

@@ -176,9 +176,9 @@ fn distance(machine: &Machine, cpu: u32, node: u8) -> u8 {
     255
 }
 
-/// What a replayed trace met, by task and in all: the accesses by the page's node and by its distance
-/// from the CPU's, the faults that placed a page and those that found no frame, and the accesses that
-/// went nowhere for that. The machine is that of the replay.
+/// What a replayed trace met, by task and in all: the accesses by the page's node and by its
+/// distance from the CPU's, the faults that placed a page and those that found no frame, and the
+/// accesses that went nowhere for that. The machine is that of the replay.
 pub fn report_text(
     alloc: Global,
     machine: &Machine,

@@ -8,16 +8,16 @@ use std::collections::BTreeMap;
 use std::collections::btree_map::Iter;
 use std::marker::Model;
 
-/// How many accesses went one way, and how many of them were the fault that placed the page, or that
-/// found no frame.
+/// How many accesses went one way, and how many of them were the fault that placed the page, or
+/// that found no frame.
 #[derive(Clone, Copy, Debug, PartialEq, Eq, Drop)]
 pub struct Tally {
     pub accesses: u64,
     pub faults: u64,
 }
 
-/// Which way an access went: the task, the CPU's node, and the node of the page; None where the page
-/// found no frame.
+/// Which way an access went: the task, the CPU's node, and the node of the page; None where the
+/// page found no frame.
 pub type Way = (u32, u32, Option<u8>);
 
 /// How many accesses went which way.
