@@ -1,4 +1,4 @@
-//! How long the calls of the lower crates take: sets of nodes, lanes, machines, rows, ranges. Without arguments
+//! How long the calls of the lower crates take: sets of nodes, lanes, machines, ranges. Without arguments
 //! it prints checksums of what they answer, the same in each run. With `measure` it prints ratios, each
 //! beside its baseline in the same run, of all parts or of the one that is named: `measure ranges`.
 #![tactic(auto)]
@@ -7,7 +7,6 @@ mod lanes;
 mod machine;
 mod mask;
 mod ranges;
-mod rows;
 mod times;
 
 use std::rt::Clock;
@@ -21,8 +20,6 @@ fn checksums<R: Print + AllocGlobal>(rt: &R) -> io::Result<()> {
     lanes::checksums(rt, rt.alloc())?;
     println!(rt; "== machine")?;
     machine::checksums(rt)?;
-    println!(rt; "== rows")?;
-    rows::checksums(rt, rt.alloc())?;
     println!(rt; "== ranges")?;
     ranges::checksums(rt, rt.alloc())
 }
@@ -38,9 +35,6 @@ fn measure<R: Print + Clock + AllocGlobal>(rt: &R, part: &str) -> io::Result<()>
     if part == "machine" || part.is_empty() {
         machine::measure(rt)?;
     }
-    if part == "rows" || part.is_empty() {
-        rows::measure(rt, rt.alloc())?;
-    }
     if part == "ranges" || part.is_empty() {
         ranges::measure(rt, rt.alloc())?;
     }
@@ -53,7 +47,7 @@ fn main(rt: HostRuntime) -> io::Result<()> {
         return checksums(&rt);
     };
     if word.as_str() != "measure" {
-        return println!(rt; "usage: bench_low [measure [mask|lanes|machine|rows|ranges]]");
+        return println!(rt; "usage: bench_low [measure [mask|lanes|machine|ranges]]");
     }
     match words.next() {
         Some(part) => measure(&rt, part.as_str()),

@@ -146,36 +146,6 @@ fn time_partition_point<R: Clock>(rt: &R, rows: &[Row]) -> io::Result<(u64, u64)
     Ok((best, sum))
 }
 
-/// How long it takes to map as many ranges as `spread` does, the lowest first or the highest first, and how many there then are.
-fn time_maps<R: Clock>(rt: &R, alloc: Global, is_rising: bool) -> io::Result<(u64, u64)> {
-    let mut best = u64::MAX;
-    let mut sum = 0u64;
-    for _ in 0..5 {
-        let mut map = RangeMap::new(alloc, MAX_RANGES);
-        let start = Instant::now(rt)?;
-        for i in 0..RANGES {
-            let place = if is_rising { i } else { RANGES - 1 - i };
-            let _ = map.map_span(4 * place, 3, 4 * place, 1u64);
-        }
-        best = best.min(nanos(start.elapsed(rt)?));
-        sum = sum.wrapping_add(map.len() as u64);
-    }
-    Ok((best, sum))
-}
-
-/// Prints how the order in which ranges are mapped counts.
-fn measure_orders<R: Clock + Print>(rt: &R, alloc: Global) -> io::Result<()> {
-    let (rising, risen) = time_maps(rt, alloc, true)?;
-    let (falling, fallen) = time_maps(rt, alloc, false)?;
-    print_ratio(
-        rt,
-        "map_span of 65,536 ranges from the highest down over from the lowest up",
-        falling,
-        rising,
-    )?;
-    println!(rt; "sums {risen} {fallen}")
-}
-
 fn measure_calls<R: Clock + Print>(
     rt: &R,
     map: &mut RangeMap<u64>,
@@ -205,6 +175,5 @@ pub fn checksums(rt: &impl Print, alloc: Global) -> io::Result<()> {
 pub fn measure<R: Print + Clock>(rt: &R, alloc: Global) -> io::Result<()> {
     let mut map = spread(alloc);
     let mut rows = rows_of(alloc)?;
-    measure_calls(rt, &mut map, &mut rows)?;
-    measure_orders(rt, alloc)
+    measure_calls(rt, &mut map, &mut rows)
 }
