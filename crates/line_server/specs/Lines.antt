@@ -2,7 +2,8 @@
 use Rattle.std.specs.Prelude.{ℕ, ◌==◌, List, [], ◌∷◌, take}
 use Rattle.std.specs.List.{slice_split}
 
--- the lines of a script: what stands between line feeds, so that the last is empty where the script ends in one
+-- the lines of a script: what stands between line feeds, so that the last is empty where the script
+-- ends in one
 abbrev pub lines_of : List ℕ → List (List ℕ)
 lines_of script = slice_split (λ b. b == 10) script
 

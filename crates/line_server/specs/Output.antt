@@ -1,27 +1,35 @@
--- The bytes that a script is answered, by what each line is answered in a state and which state it leads to.
+-- The bytes that a script is answered, by what each line is answered in a state and which state it
+-- leads to.
 use Rattle.std.specs.Prelude.{◌≡◌, ℕ, Bool, List, [], ◌∷◌, ◌++◌}
 use Prim.Native.Nat.{suc}
 use Rattle.line_server.specs.Lines.{lines_of, seen}
 
-module _ {State : Type 0} (answer_of : Bool → State → List ℕ → List ℕ) (after : Bool → State → List ℕ → State) where
-  -- the answers of the lines from a state on, where `refused k` says whether a growth was refused at the line with k lines before it
+module _ {State : Type 0} (answer_of : Bool → State → List ℕ → List ℕ)
+    (after : Bool → State → List ℕ → State) where
+  -- the answers of the lines from a state on, where `refused k` says whether a growth was refused
+  -- at the line with k lines before it
   unfoldable pub answers : (ℕ → Bool) → State → List (List ℕ) → List ℕ
   answers refused state [] = []
-  answers refused state (line ∷ lines) = answer_of (refused 0) state line ++ answers (λ k. refused (suc k)) (after (refused 0) state line) lines
+  answers refused state (line ∷ lines) =
+      answer_of (refused 0) state line
+      ++ answers (λ k. refused (suc k)) (after (refused 0) state line) lines
 
   -- the state after the lines
   unfoldable pub state_after : (ℕ → Bool) → State → List (List ℕ) → State
   state_after refused state [] = state
-  state_after refused state (line ∷ lines) = state_after (λ k. refused (suc k)) (after (refused 0) state line) lines
+  state_after refused state (line ∷ lines) =
+      state_after (λ k. refused (suc k)) (after (refused 0) state line) lines
 
-  -- the output of a script from a state on: the answers of its lines, where `refused` says at which of them a growth was refused
+  -- the output of a script from a state on: the answers of its lines, where `refused` says at which
+  -- of them a growth was refused
   abbrev pub output_of : State → (ℕ → Bool) → List ℕ → List ℕ
   output_of start refused script = answers refused start (lines_of script)
 
   -- what a server is given of a line says as much as the whole line
   abbrev pub SeesEnough : Type 0
   SeesEnough = (refused : Bool) (state : State) (line : List ℕ)
-      → (answer_of refused state (seen line) ≡ answer_of refused state line) × (after refused state (seen line) ≡ after refused state line)
+      → (answer_of refused state (seen line) ≡ answer_of refused state line)
+      × (after refused state (seen line) ≡ after refused state line)
 
 -- the same for what a server is given of a line
 abbrev pub on_seen : {State T : Type 0} → (Bool → State → List ℕ → T) → Bool → State → List ℕ → T

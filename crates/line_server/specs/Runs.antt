@@ -1,5 +1,5 @@
--- How a run over a reader and a writer ends. `remaining` gives the bytes that a reader has left and `contents` those that a writer has
--- taken, where they are known.
+-- How a run over a reader and a writer ends. `remaining` gives the bytes that a reader has left and
+-- `contents` those that a writer has taken, where they are known.
 use Rattle.std.specs.Prelude.{◌≡◌, ℕ, ◌+◌, ◌⊎◌, Bool, true, false, Option, List}
 use Rattle.std.specs.Io.KnownBytes.{Consumes, IsAtEnd, Keeps}
 use Rattle.line_server.specs.Lines.{ended}
@@ -13,7 +13,8 @@ abbrev pub most_reads : ℕ
 most_reads = 4294967295
 
 module _ {State R W : Type 0} (remaining : R → Option (List ℕ)) (contents : W → Option (List ℕ))
-    (answer_of : Bool → State → List ℕ → List ℕ) (after : Bool → State → List ℕ → State) (start : State)
+    (answer_of : Bool → State → List ℕ → List ℕ) (after : Bool → State → List ℕ → State)
+    (start : State)
     (input input_then : Watched R) (output output_then : Watched W) where
   -- The script was read to its end, and its output was written. No call failed.
   pub record AnswersAll : Type 0 where
@@ -25,28 +26,35 @@ module _ {State R W : Type 0} (remaining : R → Option (List ℕ)) (contents : 
     pub input_is_sound : has_failed input_then ≡ false
     pub output_is_sound : has_failed output_then ≡ false
 
-  -- A read failed, or one more was needed than a run makes. The answers of the lines that had ended were written.
+  -- A read failed, or one more was needed than a run makes. The answers of the lines that had ended
+  -- were written.
   pub record StopsAtRead : Type 0 where
     pub front : List ℕ
     pub refused : ℕ → Bool
     pub read : Consumes (remaining input.inner) (remaining input_then.inner) front
-    pub written : Wrote contents output output_then (answers answer_of after refused start (ended front))
-    pub cause : (has_failed input_then ≡ true) ⊎ (read_count input_then ≡ read_count input + most_reads)
+    pub written : Wrote contents output output_then
+        (answers answer_of after refused start (ended front))
+    pub cause : (has_failed input_then ≡ true)
+        ⊎ (read_count input_then ≡ read_count input + most_reads)
     pub output_is_sound : has_failed output_then ≡ false
 
-  -- A write failed. Some first part was written of the answers of the lines that had ended or, where the script had been read to its end,
-  -- of its output.
+  -- A write failed. Some first part was written of the answers of the lines that had ended or,
+  -- where the script had been read to its end, of its output.
   pub record StopsAtWrite : Type 0 where
     pub front : List ℕ
     pub refused : ℕ → Bool
     pub read : Consumes (remaining input.inner) (remaining input_then.inner) front
-    pub written : WroteFront contents output output_then (answers answer_of after refused start (ended front))
-        ⊎ (IsAtEnd (remaining input_then.inner) × WroteFront contents output output_then (output_of answer_of after start refused front))
+    pub written : WroteFront contents output output_then
+        (answers answer_of after refused start (ended front))
+        ⊎ (IsAtEnd (remaining input_then.inner) × WroteFront contents output output_then
+        (output_of answer_of after start refused front))
     pub input_is_sound : has_failed input_then ≡ false
     pub output_failed : has_failed output_then ≡ true
 
 -- Nothing was read or written.
-pub record NeverBegins {R W : Type 0} (remaining : R → Option (List ℕ)) (contents : W → Option (List ℕ)) (input input_then : Watched R) (output output_then : Watched W) : Type 0 where
+pub record NeverBegins {R W : Type 0} (remaining : R → Option (List ℕ))
+    (contents : W → Option (List ℕ)) (input input_then : Watched R)
+    (output output_then : Watched W) : Type 0 where
   pub unread : Keeps (remaining input.inner) (remaining input_then.inner)
   pub unwritten : Keeps (contents output.inner) (contents output_then.inner)
   pub same_input : has_failed input_then ≡ has_failed input

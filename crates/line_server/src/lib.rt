@@ -1,5 +1,5 @@
-//! Lines in, bytes out, for any server: reads the lines of a script from a reader, has a server answer each, and hands the
-//! answers to a writer. It knows nothing of what a line says.
+//! Lines in, bytes out, for any server: reads the lines of a script from a reader, has a server
+//! answer each, and hands the answers to a writer. It knows nothing of what a line says.
 #![tactic(auto)]
 
 mod engine;

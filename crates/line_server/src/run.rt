@@ -1,7 +1,8 @@
 //! A script from a reader, and its answers to a writer.
 ghost use Rattle.std.specs.Prelude.{◌≤◌, ◌+◌, OnOk, IsErrOf};
 ghost use Rattle.line_server.specs.Output.{SeesEnough};
-ghost use Rattle.line_server.specs.Runs.{AnswersAll, NeverBegins, StopsAtRead, StopsAtWrite, most_reads};
+ghost use Rattle.line_server.specs.Runs.{AnswersAll, NeverBegins, StopsAtRead, StopsAtWrite};
+ghost use Rattle.line_server.specs.Runs.{most_reads};
 ghost use Rattle.line_server.specs.Watching.{read_count};
 
 use crate::engine::Engine;
@@ -25,13 +26,15 @@ pub enum RunFault {
     Memory,
 }
 
-/// Answers the script that a reader gives, and hands the answers to a writer. Whatever is answered is handed over before the
-/// next read. At most 4,294,967,295 reads are made. That a call on either failed before is forgotten. The server stands for its
-/// first state, and says the same of a line as of its first 4,097 bytes.
+/// Answers the script that a reader gives, and hands the answers to a writer. Whatever is answered
+/// is handed over before the next read. At most 4,294,967,295 reads are made. That a call on either
+/// failed before is forgotten. The server stands for its first state, and says the same of a line
+/// as of its first 4,097 bytes.
 ///
 /// # Errors
-/// `Read` where a read failed, or one more was needed; `Write` where a write failed or took no byte, after which nothing more is
-/// read or written; `Memory` where there was none for the open line and the answers, before anything is read.
+/// `Read` where a read failed, or one more was needed; `Write` where a write failed or took no
+/// byte, after which nothing more is read or written; `Memory` where there was none for the open
+/// line and the answers, before anything is read.
 pub fn serve_script<S: Serve + Drop, R: Read, W: Write>(
     alloc: Global,
     server: S,

@@ -1,8 +1,10 @@
 //! What is said to a writer.
-ghost use Rattle.std.specs.Prelude.{◌≡◌, ◌++◌, [], length, decimal, OnOk, OnErr, true, false, if◌then◌else◌};
+ghost use Rattle.std.specs.Prelude.{◌≡◌, ◌++◌, [], length, decimal, OnOk, OnErr, true, false};
+ghost use Rattle.std.specs.Prelude.{if◌then◌else◌};
 ghost use Rattle.std.specs.Io.KnownBytes.{Appends};
 ghost use Rattle.line_server.specs.Watching.{has_failed, held_in};
-ghost use Rattle.line_server.specs.Written.{AppendsFront, IsSent, Said, SaidNothing, Wrote, WroteFront};
+ghost use Rattle.line_server.specs.Written.{AppendsFront, IsSent, Said, SaidNothing, Wrote};
+ghost use Rattle.line_server.specs.Written.{WroteFront};
 
 use crate::held::Held;
 use crate::watched::{CallFailed, Watched};
@@ -10,11 +12,12 @@ use itoa::Buffer;
 use std::alloc::{AllocError, Global};
 use std::io::Write;
 
-/// Writes all the bytes. A call of the writer that takes no byte has failed; after an error the first part of the bytes was
-/// written.
+/// Writes all the bytes. A call of the writer that takes no byte has failed; after an error the
+/// first part of the bytes was written.
 fn write_all<W: Write>(writer: &mut W, bytes: &[u8]) -> Result<(), CallFailed>
     ensures ok { OnOk result (Appends (W.contents writer.old) (W.contents writer.new) bytes.now) }
-    ensures front { OnErr result (AppendsFront (W.contents writer.old) (W.contents writer.new) bytes.now) }
+    ensures front { OnErr result
+        (AppendsFront (W.contents writer.old) (W.contents writer.new) bytes.now) }
 {
     let mut rest = bytes;
     while !rest.is_empty() {
@@ -27,7 +30,8 @@ fn write_all<W: Write>(writer: &mut W, bytes: &[u8]) -> Result<(), CallFailed>
 }
 
 impl<W: Write> Watched<W> {
-    /// Makes room for 4,096 bytes of texts, which go to the writer together. Without it each text goes to the writer at once.
+    /// Makes room for 4,096 bytes of texts, which go to the writer together. Without it each text
+    /// goes to the writer at once.
     pub fn gather(&mut self, alloc: Global) -> Result<(), AllocError>
         ensures inner { self.new.inner ≡ self.old.inner }
         ensures failed { has_failed self.new ≡ has_failed self.old }
@@ -44,7 +48,8 @@ impl<W: Write> Watched<W> {
     fn keep(&mut self, text: &[u8]) -> bool
         ensures inner { self.new.inner ≡ self.old.inner }
         ensures failed { has_failed self.new ≡ has_failed self.old }
-        ensures held { held_in self.new ≡ (if result then held_in self.old ++ text.now else held_in self.old) }
+        ensures held { held_in self.new
+            ≡ (if result then held_in self.old ++ text.now else held_in self.old) }
     {
         match &mut self.held {
             Some(held) => held.keep(text),
@@ -98,8 +103,8 @@ impl<W: Write> Watched<W> {
     /// Writes a text after what was said before, and holds nothing back.
     ///
     /// # Errors
-    /// `CallFailed` where this or an earlier write failed: the first part of the text was written, or nothing where the writer
-    /// had failed before.
+    /// `CallFailed` where this or an earlier write failed: the first part of the text was written,
+    /// or nothing where the writer had failed before.
     pub fn put(&mut self, text: &[u8]) -> Result<(), CallFailed>
         ensures says { Said W.contents self.old self.new text.now }
         ensures empty { held_in self.new ≡ [] }
@@ -114,8 +119,9 @@ impl<W: Write> Watched<W> {
         Ok(())
     }
 
-    /// Says a text after what was said before: it is held back, and where there is no room for it, what is held back goes to
-    /// the writer first. A text of more than 4,096 bytes goes to the writer too.
+    /// Says a text after what was said before: it is held back, and where there is no room for it,
+    /// what is held back goes to the writer first. A text of more than 4,096 bytes goes to the
+    /// writer too.
     pub fn say(&mut self, text: &[u8])
         ensures { Said W.contents self.old self.new text.now }
     {

@@ -17,14 +17,15 @@ pub trait Serve {
     /// That a server stands for a state.
     ghost stands_for: { Self → State → Type 0 };
 
-    /// What a line is answered in a state; the flag says whether a growth was refused while it was served.
+    /// What a line is answered in a state; the flag says whether a growth was refused while it was
+    /// served.
     ghost answer_of: { Bool → State → List ℕ → List ℕ };
 
     /// The state after a line.
     ghost after: { Bool → State → List ℕ → State };
 
-    /// Serves a line, which comes without its line feed, and says its answer. A line of more than 4,097 bytes comes as its
-    /// first 4,097.
+    /// Serves a line, which comes without its line feed, and says its answer. A line of more than
+    /// 4,097 bytes comes as its first 4,097.
     fn serve<W: Write>(&mut self, alloc: Global, line: &[u8], output: &mut Watched<W>)
         ensures { (state : State) → stands_for self.old state
             → (refused : Bool) × stands_for self.new (after refused state line.now)

@@ -8,8 +8,8 @@ use crate::held::Held;
 use numa_count::Count;
 use std::io::Read;
 
-/// A reader or a writer, and whether a call on it has failed. Contracts see how often it was read. A writer can hold back
-/// texts that are said to it, once there is room for them.
+/// A reader or a writer, and whether a call on it has failed. Contracts see how often it was read.
+/// A writer can hold back texts that are said to it, once there is room for them.
 #[derive(Drop)]
 pub struct Watched<S> {
     /// The reader or the writer.
@@ -24,7 +24,8 @@ pub struct Watched<S> {
 pub struct CallFailed;
 
 impl<S> Watched<S> {
-    /// Watches a reader or a writer, on which no call is known to have failed. It holds nothing back.
+    /// Watches a reader or a writer, on which no call is known to have failed. It holds nothing
+    /// back.
     pub fn new(inner: S) -> Watched<S>
         ensures inner { result.inner ≡ inner }
         ensures well { has_failed result ≡ false }
@@ -64,11 +65,12 @@ impl<S> Watched<S> {
 }
 
 impl<R: Read> Watched<R> {
-    /// Reads some bytes into the buffer, and says how many. At the end of the input, and only there or where the buffer has
-    /// no room, that is 0.
+    /// Reads some bytes into the buffer, and says how many. At the end of the input, and only there
+    /// or where the buffer has no room, that is 0.
     pub fn read(&mut self, buffer: &mut [u8]) -> Result<usize, CallFailed>
         ensures bound { ReadsAtMost result buffer.new }
-        ensures bytes { ReadConsumes (R.remaining self.old.inner) (R.remaining self.new.inner) result buffer.new }
+        ensures bytes { ReadConsumes (R.remaining self.old.inner) (R.remaining self.new.inner)
+            result buffer.new }
         ensures ok { OnOk result (has_failed self.new ≡ has_failed self.old) }
         ensures err { OnErr result (has_failed self.new ≡ true) }
         ensures counted { read_count self.new ≡ read_count self.old + 1 }

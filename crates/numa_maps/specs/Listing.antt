@@ -1,5 +1,8 @@
--- The listing of a space's ranges: one line a range, with the pages that are placed in it (numa(7), /proc/PID/numa_maps).
-use Rattle.std.specs.Prelude.{◌≡◌, ℕ, ◌*◌, ◌-◌, ◌==◌, Bool, Option, Some, None, List, [], ◌++◌, Contains, ◌↔◌, codes, count_by, decimal, filter, length, replicate, if◌then◌else◌, false}
+-- The listing of a space's ranges: one line a range, with the pages that are placed in it (numa(7),
+-- /proc/PID/numa_maps).
+use Rattle.std.specs.Prelude.{◌≡◌, ℕ, ◌*◌, ◌-◌, ◌==◌, Bool, Option, Some, None, List, [], ◌++◌}
+use Rattle.std.specs.Prelude.{Contains, ◌↔◌, codes, count_by, decimal, filter, length, replicate}
+use Rattle.std.specs.Prelude.{if◌then◌else◌, false}
 use Rattle.std.specs.Fmt.{digits}
 use Rattle.std.specs.List.{flat_map, range_with_len}
 use Rattle.numa_machine.specs.Machine.{Hardware}
@@ -31,21 +34,26 @@ is_on node (Some placement) = placement.node == node
 
 -- a node with its pages, where it has some
 abbrev pub node_text : ℕ → ℕ → List ℕ
-node_text node pages = if pages == 0 then [] else codes " N" ++ decimal node ++ codes "=" ++ decimal pages
+node_text node pages =
+    if pages == 0 then [] else codes " N" ++ decimal node ++ codes "=" ++ decimal pages
 
 -- each node that has pages, the lowest first
 unfoldable pub nodes_text : (ℕ → ℕ) → List ℕ
 nodes_text pages = flat_map (λ node. node_text node (pages node)) (range_with_len 0 256)
 
--- the placed pages of a range, where there are some: how many, how many on each node, and the size of a page
+-- the placed pages of a range, where there are some: how many, how many on each node, and the size
+-- of a page
 abbrev pub placed_text : Kept → List ℕ
-placed_text placed = if length placed == 0 then [] else codes " anon=" ++ decimal (length placed) ++ nodes_text (pages_on placed) ++ codes " kernelpagesize_kB=4"
+placed_text placed =
+    if length placed == 0 then [] else codes " anon=" ++ decimal (length placed)
+    ++ nodes_text (pages_on placed) ++ codes " kernelpagesize_kB=4"
 
 -- ---- a line
 
 -- a number in lower-case hexadecimal, after zeros where that has fewer digits than `least`
 abbrev pub hex_text : ℕ → ℕ → List ℕ
-hex_text least number = replicate (least - length (digits 16 false number)) 48 ++ digits 16 false number
+hex_text least number =
+    replicate (least - length (digits 16 false number)) 48 ++ digits 16 false number
 
 -- the address of a page in at least eight digits; a page has 4096 bytes
 abbrev pub address_text : ℕ → List ℕ
@@ -57,23 +65,31 @@ policy_or_default (Some policy) = policy_text policy
 
 -- the line of a range whose pages have this policy
 abbrev pub range_line : Option PolicyRecord → Kept → Run (Option PolicyRecord) → List ℕ
-range_line policy kept range = address_text range.first ++ codes " " ++ policy_or_default policy ++ placed_text (placed_in kept range) ++ codes "\n"
+range_line policy kept range =
+    address_text range.first ++ codes " " ++ policy_or_default policy
+    ++ placed_text (placed_in kept range) ++ codes "\n"
 
 -- ---- the listing
 
 -- the lines of ranges, where each page has this policy
 abbrev pub listing : (ℕ → Option PolicyRecord) → Kept → List (Run (Option PolicyRecord)) → List ℕ
-listing policy_at kept ranges = flat_map (λ range. range_line (policy_at range.first) kept range) ranges
+listing policy_at kept ranges =
+    flat_map (λ range. range_line (policy_at range.first) kept range) ranges
 
 -- the listing of what a space holds, for a task
 abbrev pub listing_in : SpaceState → ℕ → Kept → List ℕ
 listing_in space task kept = listing (policy_in space task) kept space.ranges
 
 -- these are the ranges of the pages that the commands have mapped, rising
-pub record AreRangesOf (machine : Hardware) (history : List Command) (ranges : List (Run (Option PolicyRecord))) : Type 0 where
+pub record AreRangesOf (machine : Hardware) (history : List Command)
+    (ranges : List (Run (Option PolicyRecord))) : Type 0 where
   pub rising : AreApart 0 ranges
-  pub each : (range : Run (Option PolicyRecord)) → Contains ranges range ↔ IsRange same_record (page_in machine history) range
+  pub each : (range : Run (Option PolicyRecord))
+      → Contains ranges range ↔ IsRange same_record (page_in machine history) range
 
--- the text lists the ranges of the pages that the commands have mapped, each with the policy that serves the task there
+-- the text lists the ranges of the pages that the commands have mapped, each with the policy that
+-- serves the task there
 abbrev pub IsListing : Hardware → List Command → ℕ → Kept → List ℕ → Type 0
-IsListing machine history task kept text = (ranges : List (Run (Option PolicyRecord))) × AreRangesOf machine history ranges × (text ≡ listing (resolved_policy machine history task) kept ranges)
+IsListing machine history task kept text =
+    (ranges : List (Run (Option PolicyRecord))) × AreRangesOf machine history ranges
+    × (text ≡ listing (resolved_policy machine history task) kept ranges)

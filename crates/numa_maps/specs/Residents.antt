@@ -37,4 +37,5 @@ pub record AreKept (kept : Kept) : Type 0 where
 -- a refusal hands a placement back: its page has one, or there was no memory for it
 abbrev pub IsRefusal : Kept → Placement → RecordRefusal → Type 0
 IsRefusal kept placement (Taken back) = (back ≡ placement) × IsSome (placed_at kept placement.page)
-IsRefusal kept placement (NoMemory back) = (back ≡ placement) × (placed_at kept placement.page ≡ None)
+IsRefusal kept placement (NoMemory back) =
+    (back ≡ placement) × (placed_at kept placement.page ≡ None)

@@ -6,10 +6,13 @@ ghost use Rattle.numa_mode.specs.Policy.{PolicyRecord};
 ghost use Rattle.numa_ranges.specs.Counts.{count_pages};
 ghost use Rattle.numa_ranges.specs.declared.run.Run.{Run};
 
-/// The counts of a range's line are counts of its pages: of those that have a placement, and of those that have one on a node.
+/// The counts of a range's line are counts of its pages: of those that have a placement, and of
+/// those that have one on a node.
 pub fn counts_are_of_pages()
-    ensures placed { (kept : Kept) (range : Run (Option PolicyRecord)) → IsRising kept →
-        length (placed_in kept range) ≡ count_pages (λ page. is_some (placed_at kept page)) range.first range.pages }
-    ensures on_node { (kept : Kept) (range : Run (Option PolicyRecord)) (node : ℕ) → IsRising kept →
-        pages_on (placed_in kept range) node ≡ count_pages (λ page. is_on node (placed_at kept page)) range.first range.pages }
+    ensures placed { (kept : Kept) (range : Run (Option PolicyRecord)) → IsRising kept
+        → length (placed_in kept range)
+        ≡ count_pages (λ page. is_some (placed_at kept page)) range.first range.pages }
+    ensures on_node { (kept : Kept) (range : Run (Option PolicyRecord)) (node : ℕ)
+        → IsRising kept → pages_on (placed_in kept range) node
+        ≡ count_pages (λ page. is_on node (placed_at kept page)) range.first range.pages }
 {}

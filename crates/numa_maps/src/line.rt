@@ -1,7 +1,9 @@
 //! One line of the listing.
-ghost use Rattle.std.specs.Prelude.{◌≡◌, ℕ, ◌+◌, ◌<◌, ◌≤◌, ◌^◌, ◌++◌, [], decimal, length, slice_index};
+ghost use Rattle.std.specs.Prelude.{◌≡◌, ℕ, ◌+◌, ◌<◌, ◌≤◌, ◌^◌, ◌++◌, [], decimal, length};
+ghost use Rattle.std.specs.Prelude.{slice_index};
 ghost use Rattle.arrayvec.specs.ArrayString.{array_string_len};
-ghost use Rattle.numa_maps.specs.Listing.{address_text, node_text, nodes_text, placed_in, placed_text, policy_or_default, range_line};
+ghost use Rattle.numa_maps.specs.Listing.{address_text, node_text, nodes_text, placed_in};
+ghost use Rattle.numa_maps.specs.Listing.{placed_text, policy_or_default, range_line};
 ghost use Rattle.numa_ranges.specs.Runs.{end_of};
 
 use crate::hex::push_hex;
@@ -14,8 +16,9 @@ use numa_space::{RangeRecord, Run};
 /// How many bytes a page has.
 const PAGE_BYTES: u64 = 4096;
 
-/// The text of a line. It has room for an address of 16 digits, a space, a policy of 1024 bytes, the number of placed pages in
-/// 26 bytes, 256 nodes of 26 bytes each, the size of a page in 20 bytes, and a line feed.
+/// The text of a line. It has room for an address of 16 digits, a space, a policy of 1024 bytes,
+/// the number of placed pages in 26 bytes, 256 nodes of 26 bytes each, the size of a page in 20
+/// bytes, and a line feed.
 pub(crate) type LineText = ArrayString<8192>;
 
 /// Appends a word and a number.
@@ -65,7 +68,8 @@ fn push_node(text: &mut LineText, node: usize, pages: u64)
 /// Appends each node that has pages, the lowest first.
 fn push_nodes(text: &mut LineText, pages: &[u64; 256])
     requires room { array_string_len text.old + 6656 ≤ 8192 }
-    ensures bytes { text.new.bytes ≡ text.old.bytes ++ nodes_text (λ node. slice_index pages.now node) }
+    ensures bytes { text.new.bytes ≡ text.old.bytes
+        ++ nodes_text (λ node. slice_index pages.now node) }
     ensures short { array_string_len text.new ≤ array_string_len text.old + 6656 }
 {
     for node in 0..256 {
@@ -77,7 +81,8 @@ fn push_nodes(text: &mut LineText, pages: &[u64; 256])
 fn push_placed(text: &mut LineText, resident: &Resident, range: &Run<RangeRecord>)
     requires range { end_of range.now ≤ 2 ^ 35 }
     requires room { array_string_len text.old + 6702 ≤ 8192 }
-    ensures bytes { text.new.bytes ≡ text.old.bytes ++ placed_text (placed_in resident.now range.now) }
+    ensures bytes { text.new.bytes ≡ text.old.bytes
+        ++ placed_text (placed_in resident.now range.now) }
     ensures short { array_string_len text.new ≤ array_string_len text.old + 6702 }
 {
     let count = resident.count_in(range);

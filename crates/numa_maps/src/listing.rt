@@ -16,21 +16,26 @@ use std::io::Write;
 #[derive(Clone, Copy, Debug, PartialEq, Eq)]
 pub struct WriteFault;
 
-/// Writes one line for each range of the space, rising, in the form of numa_maps (numa(7), /proc/PID/numa_maps):
+/// Writes one line for each range of the space, rising, in the form of numa_maps (numa(7),
+/// /proc/PID/numa_maps):
 ///
-/// - the address of the range's first page in lower-case hexadecimal, with leading zeros to at least eight digits;
-/// - a space, and the policy by which a fault of the task there is served: the range's where it has one that is live, else the
-///   task's where it has one that is live, with the nodes that it has at present; else `default`;
-/// - where the range has placed pages, ` anon=` and how many; for each node that has some of them, rising, ` N<node>=` and how
-///   many; and ` kernelpagesize_kB=4`. Whichever task had them placed, they are shown. Placements on pages that no range has
-///   are not;
+/// - the address of the range's first page in lower-case hexadecimal, with leading zeros to at
+///   least eight digits;
+/// - a space, and the policy by which a fault of the task there is served: the range's where it has
+///   one that is live, else the task's where it has one that is live, with the nodes that it has at
+///   present; else `default`;
+/// - where the range has placed pages, ` anon=` and how many; for each node that has some of them,
+///   rising, ` N<node>=` and how many; and ` kernelpagesize_kB=4`. Whichever task had them placed,
+///   they are shown. Placements on pages that no range has are not;
 /// - a line feed.
 ///
-/// The choice of these fields, of those that numa_maps has, is this crate's. Takes no memory. Each line is handed to the writer
-/// whole, after what was said to it before. The time grows with the ranges and the placements, and not with the pages.
+/// The choice of these fields, of those that numa_maps has, is this crate's. Takes no memory. Each
+/// line is handed to the writer whole, after what was said to it before. The time grows with the
+/// ranges and the placements, and not with the pages.
 ///
 /// # Errors
-/// `WriteFault` where this or an earlier write failed; the first part of the listing went out, or nothing after an earlier fault.
+/// `WriteFault` where this or an earlier write failed; the first part of the listing went out, or
+/// nothing after an earlier fault.
 pub fn write_maps<W: Write>(
     space: &Space,
     task: u32,

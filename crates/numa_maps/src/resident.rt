@@ -1,8 +1,10 @@
 //! Which pages are placed, and where.
-ghost use Rattle.std.specs.Prelude.{◌≡◌, ◌≢◌, ◌<◌, ◌≤◌, ◌^◌, ℕ, [], length, None, Some, IfSome, IfErr, OnOk, OnErr, MatchOption, slice_index};
+ghost use Rattle.std.specs.Prelude.{◌≡◌, ◌≢◌, ◌<◌, ◌≤◌, ◌^◌, ℕ, [], length, None, Some, IfSome};
+ghost use Rattle.std.specs.Prelude.{IfErr, OnOk, OnErr, MatchOption, slice_index};
 ghost use Rattle.numa_maps.specs.Listing.{pages_on, placed_in};
 ghost use Rattle.numa_ranges.specs.Runs.{end_of};
-ghost use Rattle.numa_maps.specs.Residents.{placed_at, with_placement, without_page, IsRefusal, IsRising};
+ghost use Rattle.numa_maps.specs.Residents.{placed_at, with_placement, without_page, IsRefusal};
+ghost use Rattle.numa_maps.specs.Residents.{IsRising};
 
 use numa_space::{Placement, RangeRecord, Run};
 use std::alloc::Global;
@@ -10,8 +12,8 @@ use std::collections::BTreeMap;
 use std::collections::btree_map::Range;
 use std::marker::Model;
 
-/// The placements of pages that hold memory, at most one a page. They are kept by page alone: a page is placed for all tasks,
-/// whichever of them touched it first.
+/// The placements of pages that hold memory, at most one a page. They are kept by page alone: a
+/// page is placed for all tasks, whichever of them touched it first.
 #[derive(Drop)]
 pub struct Resident {
     placements: BTreeMap<u64, Placement>,
@@ -51,12 +53,14 @@ impl Resident {
     /// Keeps a placement as that of its page.
     ///
     /// # Errors
-    /// `Taken` where the page has a placement already, else `NoMemory` where there is none for one more; nothing has changed.
+    /// `Taken` where the page has a placement already, else `NoMemory` where there is none for one
+    /// more; nothing has changed.
     pub fn record(&mut self, placement: Placement) -> Result<(), RecordRefusal>
         ensures ok { OnOk result (self.new ≡ with_placement self.old placement) }
         ensures free { OnOk result (placed_at self.old placement.page ≡ None) }
         ensures kept { OnOk result (placed_at self.new placement.page ≡ Some placement) }
-        ensures others { OnOk result ((page : ℕ) → page ≢ placement.page → placed_at self.new page ≡ placed_at self.old page) }
+        ensures others { OnOk result ((page : ℕ) → page ≢ placement.page
+            → placed_at self.new page ≡ placed_at self.old page) }
         ensures err { IfErr result (λ refusal. IsRefusal self.old placement refusal) }
         ensures unchanged { OnErr result (self.new ≡ self.old) }
         ensures rising { IsRising self.new }
@@ -73,7 +77,8 @@ impl Resident {
 
     /// The placement of a page, where it is placed.
     pub fn at(&self, page: u64) -> Option<&Placement>
-        ensures kept { MatchOption result (placed_at self.now page ≡ None) (λ placement. placed_at self.now page ≡ Some placement.now) }
+        ensures kept { MatchOption result (placed_at self.now page ≡ None)
+            (λ placement. placed_at self.now page ≡ Some placement.now) }
         ensures page { IfSome result (λ placement. placement.now.page ≡ page) }
     {
         self.placements.get(&page)
@@ -85,7 +90,8 @@ impl Resident {
         ensures rest { self.new ≡ without_page self.old page }
         ensures page { IfSome result (λ placement. placement.page ≡ page) }
         ensures gone { placed_at self.new page ≡ None }
-        ensures others { (other : ℕ) → other ≢ page → placed_at self.new other ≡ placed_at self.old other }
+        ensures others { (other : ℕ) → other ≢ page
+            → placed_at self.new other ≡ placed_at self.old other }
         ensures rising { IsRising self.new }
     {
         self.placements.remove(&page)
@@ -112,7 +118,8 @@ impl Resident {
     /// How many pages of a range are placed on each node.
     pub(crate) fn pages_by_node(&self, range: &Run<RangeRecord>) -> [u64; 256]
         requires { end_of range.now ≤ 2 ^ 35 }
-        ensures { (node : ℕ) → node < 256 → slice_index result node ≡ pages_on (placed_in self.now range.now) node }
+        ensures { (node : ℕ) → node < 256 → slice_index result node
+            ≡ pages_on (placed_in self.now range.now) node }
     {
         let mut pages = [0u64; 256];
         for (_, placement) in self.placed_in(range) {

@@ -1,4 +1,5 @@
--- Which lines are answered by a fault or a refusal. `refused` says whether a growth was refused while the line was served.
+-- Which lines are answered by a fault or a refusal. `refused` says whether a growth was refused
+-- while the line was served.
 use Rattle.std.specs.Prelude.{ℕ, Bool, true, false, Option, Some, None, List, length, if◌then◌else◌}
 use Rattle.std.specs.Option.{option_map}
 use Rattle.numa_machine.specs.Machine.{Hardware}
@@ -65,24 +66,29 @@ unless_wanting_memory refused cause = if refused then Some core.NoMemory else ca
 abbrev pub question_cause : Bool → Hardware → List Command → Question → Option CoreRefusal
 question_cause refused machine history (question.Place task address cpu) =
     unless_wanting_memory refused
-    (option_map (cause_at (length history)) (question_refusal machine history (question.Place task address cpu)))
+    (option_map (cause_at (length history))
+    (question_refusal machine history (question.Place task address cpu)))
 question_cause refused machine history (question.Span task address pages cpu) =
     unless_wanting_memory refused
-    (option_map (cause_at (length history)) (question_refusal machine history (question.Span task address pages cpu)))
+    (option_map (cause_at (length history))
+    (question_refusal machine history (question.Span task address pages cpu)))
 question_cause refused machine history (question.Counts task address pages cpu) =
     unless_wanting_memory refused
-    (option_map (cause_at (length history)) (question_refusal machine history (question.Counts task address pages cpu)))
+    (option_map (cause_at (length history))
+    (question_refusal machine history (question.Counts task address pages cpu)))
 question_cause refused machine history question.Ranges = None
 
 -- ---- lines
 
 abbrev pub asked_by : Option Hardware → Bool → List Command → Question → Option Reply
 asked_by None refused history asked = None
-asked_by (Some machine) refused history asked = option_map reply.Refused (question_cause refused machine history asked)
+asked_by (Some machine) refused history asked =
+    option_map reply.Refused (question_cause refused machine history asked)
 
 -- the refusal of a question to a machine that is ready
 abbrev pub asked_fault : Bool → State → Line → Option Reply
-asked_fault refused state (line.Question asked) = asked_by state.machine refused state.world.history asked
+asked_fault refused state (line.Question asked) =
+    asked_by state.machine refused state.world.history asked
 asked_fault refused state line.Silent = None
 asked_fault refused state line.Malformed = None
 asked_fault refused state (line.Limits ranges tasks commands) = None
@@ -97,4 +103,5 @@ fault_or None asked = asked
 
 -- the fault or the refusal that a line is answered; none where its answer is neither
 abbrev pub fault_of : Bool → State → Line → Option Reply
-fault_of refused state said = fault_or (reply_of refused state said) (asked_fault refused state said)
+fault_of refused state said =
+    fault_or (reply_of refused state said) (asked_fault refused state said)

@@ -24,6 +24,8 @@ singles at first (suc pages) = single first (at first) ++ singles at (first + 1)
 unfoldable pub ranges_of : Hardware → List Command → List (Run (Option PolicyRecord))
 ranges_of machine history = joined same_record (singles (page_in machine history) 0 (2 ^ 35))
 
--- one line for each range, with the policy that serves the task there and the pages that are placed there
+-- one line for each range, with the policy that serves the task there and the pages that are placed
+-- there
 abbrev pub listing_of : Hardware → List Command → ℕ → Kept → List ℕ
-listing_of machine history task kept = listing (resolved_policy machine history task) kept (ranges_of machine history)
+listing_of machine history task kept =
+    listing (resolved_policy machine history task) kept (ranges_of machine history)

@@ -10,8 +10,8 @@ use Rattle.numa_run.specs.States.{State}
 use Rattle.numa_run.specs.declared.reply.Reply.{Reply}
 use Rattle.numa_run.specs.declared.script.Script.{Script}
 
--- the script stands for the state that its lines so far have led to: its machine is ready where the state's is, and stands for it; else
--- its limits are the state's
+-- the script stands for the state that its lines so far have led to: its machine is ready where the
+-- state's is, and stands for it; else its limits are the state's
 abbrev pub ScriptStandsFor : Script → State → Type 0
 ScriptStandsFor script state = Stands script.limits script.running state
 
@@ -19,14 +19,18 @@ ScriptStandsFor script state = Stands script.limits script.running state
 abbrev pub IsResidentIn : Kept → State → Type 0
 IsResidentIn kept state = IsSome state.machine × (kept ≡ state.resident)
 
--- the line has the reply that the definition says, or none where it says none, and the state that it says is reached
+-- the line has the reply that the definition says, or none where it says none, and the state that
+-- it says is reached
 abbrev pub ScriptReplies : Script → Line → Option Reply → Script → Type 0
 ScriptReplies old said answer new =
     (state : State) → ScriptStandsFor old state
-    → (refused : Bool) × (answer ≡ reply_of refused state said) × ScriptStandsFor new (after refused state said)
+    → (refused : Bool) × (answer ≡ reply_of refused state said)
+    × ScriptStandsFor new (after refused state said)
 
--- the fault or the refusal that the definition says is given, or none where it says none, and the state that it says is reached
+-- the fault or the refusal that the definition says is given, or none where it says none, and the
+-- state that it says is reached
 abbrev pub ScriptJudges : Script → Line → Option Reply → Script → Type 0
 ScriptJudges old said fault new =
     (state : State) → ScriptStandsFor old state
-    → (refused : Bool) × (fault ≡ fault_of refused state said) × ScriptStandsFor new (after refused state said)
+    → (refused : Bool) × (fault ≡ fault_of refused state said)
+    × ScriptStandsFor new (after refused state said)

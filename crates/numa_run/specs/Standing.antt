@@ -17,8 +17,8 @@ use Rattle.numa_run.specs.declared.running.Running.{Running}
 use Rattle.numa_run.specs.declared.serving.Taken.{Taken}
 use Rattle.numa_run.specs.declared.serving.Taken.TheVariants as taken
 
--- the core of the machine that is ready in the state: its machine and limits are the state's, it has 4 workers, and it stands for the
--- state's world
+-- the core of the machine that is ready in the state: its machine and limits are the state's, it
+-- has 4 workers, and it stands for the state's world
 pub record IsCoreIn (core : CoreState) (state : State) : Type 0 where
   pub bounds : state.bounds ≡ (setup_of core).bounds
   pub machine : state.machine ≡ Some (setup_of core).machine
@@ -33,8 +33,8 @@ most_resolved = 65536
 abbrev pub PlansFor : Hardware → Option PlanData → List Command → Type 0
 PlansFor machine plan history = ForSome plan (λ plan. PlanStandsFor machine plan history)
 
--- a running machine stands for the state: its core is the state's, the same pages are placed, and a plan that is kept stands for all
--- accepted commands
+-- a running machine stands for the state: its core is the state's, the same pages are placed, and a
+-- plan that is kept stands for all accepted commands
 pub record RunsAs (running : Running) (state : State) : Type 0 where
   pub core : IsCoreIn running.core state
   pub resident : running.resident ≡ state.resident
@@ -53,18 +53,22 @@ state_with state outcome = record state { world = outcome.world; resident = outc
 abbrev pub Does : Running → Reply → Running → (Bool → State → Outcome) → Type 0
 Does old answer new outcome =
     (state : State) → RunsAs old state
-    → (refused : Bool) × (answer ≡ (outcome refused state).reply) × RunsAs new (state_with state (outcome refused state))
+    → (refused : Bool) × (answer ≡ (outcome refused state).reply)
+    × RunsAs new (state_with state (outcome refused state))
 
 -- the line has the reply that the definition says, and the state that it says is reached
-abbrev pub Replies : Bounds → Option Running → Line → Option Reply → Bounds → Option Running → Type 0
+abbrev pub Replies : Bounds → Option Running → Line → Option Reply → Bounds → Option Running
+    → Type 0
 Replies limits running said answer limits_then running_then =
     (state : State) → Stands limits running state
-    → (refused : Bool) × (answer ≡ reply_of refused state said) × Stands limits_then running_then (after refused state said)
+    → (refused : Bool) × (answer ≡ reply_of refused state said)
+    × Stands limits_then running_then (after refused state said)
 
 -- the same where a machine is ready; a question and a line `maps` are passed on, and change nothing
 abbrev pub Takes : Running → Line → Taken → Running → Type 0
 Takes old said (taken.Reply answer) new =
     (state : State) → RunsAs old state
-    → (refused : Bool) × (Some answer ≡ reply_of refused state said) × RunsAs new (after refused state said)
+    → (refused : Bool) × (Some answer ≡ reply_of refused state said)
+    × RunsAs new (after refused state said)
 Takes old said (taken.Question asked) new = (said ≡ line.Question asked) × (new ≡ old)
 Takes old said (taken.Maps task) new = (said ≡ line.Maps task) × (new ≡ old)

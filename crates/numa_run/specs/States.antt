@@ -5,7 +5,8 @@ use Rattle.numa_space.specs.Limited.{Bounds}
 use Rattle.numa_core.specs.World.{Setup, World, opening}
 use Rattle.numa_maps.specs.Residents.{Kept}
 
--- the limits; the machine, once it is ready; the core's world, with the accepted commands; and the pages that `touch` has placed
+-- the limits; the machine, once it is ready; the core's world, with the accepted commands; and the
+-- pages that `touch` has placed
 pub record State : Type 0 where
   pub bounds : Bounds
   pub machine : Option Hardware

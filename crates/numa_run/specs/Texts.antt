@@ -101,7 +101,9 @@ abbrev pub frame_text : ℕ → ℕ → List ℕ
 frame_text node number = codes " node " ++ decimal node ++ codes " frame " ++ decimal number
 
 abbrev pub win_line : Win → List ℕ
-win_line win = codes "won v" ++ decimal win.version ++ frame_text win.node win.frame ++ codes " rank " ++ decimal win.rank ++ codes "\n"
+win_line win =
+    codes "won v" ++ decimal win.version ++ frame_text win.node win.frame ++ codes " rank "
+    ++ decimal win.rank ++ codes "\n"
 
 -- the line that a reply is written as
 unfoldable pub text_of : Reply → List ℕ

@@ -1,9 +1,11 @@
--- What commands and the lines of workers are answered, and what they do. `refused` says whether a growth was refused while the line
--- was served.
-use Rattle.std.specs.Prelude.{ℕ, ◌==◌, Bool, true, false, not, Option, Some, None, Result, Ok, Err, is_some, is_ok, if◌then◌else◌}
+-- What commands and the lines of workers are answered, and what they do. `refused` says whether a
+-- growth was refused while the line was served.
+use Rattle.std.specs.Prelude.{ℕ, ◌==◌, Bool, true, false, not, Option, Some, None, Result, Ok, Err}
+use Rattle.std.specs.Prelude.{is_some, is_ok, if◌then◌else◌}
 use Rattle.numa_mode.specs.Policy.{is_default}
 use Rattle.numa_space.specs.declared.command.Command.{Command}
-use Rattle.numa_space.specs.declared.command.Command.TheVariants.{Map, Unmap, Mbind, SetTask, SetHome, SetWeight, SetMems}
+use Rattle.numa_space.specs.declared.command.Command.TheVariants.{Map, Unmap, Mbind, SetTask}
+use Rattle.numa_space.specs.declared.command.Command.TheVariants.{SetHome, SetWeight, SetMems}
 use Rattle.numa_space.specs.declared.refusal.Refusal.TheVariants.{NoMemory as NoRoom}
 use Rattle.numa_core.specs.World.{Setup, World, newest_published}
 use Rattle.numa_core.specs.Steps.{answer_of, world_after}
@@ -11,11 +13,13 @@ use Rattle.numa_core.specs.Touching.{touched}
 use Rattle.numa_space.specs.declared.placement.Placement.{Placement}
 use Rattle.numa_space.specs.declared.request.Request.{Request}
 use Rattle.numa_space.specs.declared.event.Event.{Event}
-use Rattle.numa_space.specs.declared.event.Event.TheVariants.{Accept, Publish, Begin, Look, Try, Give}
+use Rattle.numa_space.specs.declared.event.Event.TheVariants.{Accept, Publish, Begin, Look, Try}
+use Rattle.numa_space.specs.declared.event.Event.TheVariants.{Give}
 use Rattle.numa_space.specs.declared.event.CoreReply.{CoreReply}
 use Rattle.numa_space.specs.declared.event.CoreReply.TheVariants as done
 use Rattle.numa_space.specs.declared.event.CoreRefusal.{CoreRefusal}
-use Rattle.numa_space.specs.declared.event.CoreRefusal.TheVariants.{Command as Because, NotOwned, NoMemory}
+use Rattle.numa_space.specs.declared.event.CoreRefusal.TheVariants.{Command as Because, NotOwned}
+use Rattle.numa_space.specs.declared.event.CoreRefusal.TheVariants.{NoMemory}
 use Rattle.numa_maps.specs.Residents.{Kept, placed_at, with_placement, without_page}
 use Rattle.numa_script.specs.declared.work.Work.{Work}
 use Rattle.numa_script.specs.declared.work.Work.TheVariants as work
@@ -23,7 +27,8 @@ use Rattle.numa_run.specs.declared.reply.Win.{Win}
 use Rattle.numa_run.specs.declared.reply.Reply.{Reply}
 use Rattle.numa_run.specs.declared.reply.Reply.TheVariants as reply
 
--- what a line with a machine comes to: its reply, and the core's world and the placed pages after it
+-- what a line with a machine comes to: its reply, and the core's world and the placed pages after
+-- it
 pub record Outcome : Type 0 where
   pub reply : Reply
   pub world : World
@@ -33,7 +38,12 @@ pub record Outcome : Type 0 where
 
 -- what is told of a placement that was won
 abbrev pub win_of : Placement → Win
-win_of placement = record { version = placement.version; node = placement.node; frame = placement.frame.number; rank = placement.rank }
+win_of placement = record {
+  version = placement.version;
+  node = placement.node;
+  frame = placement.frame.number;
+  rank = placement.rank;
+}
 
 abbrev pub done_reply : CoreReply → Reply
 done_reply (done.Accepted version) = reply.Accepted version
@@ -97,7 +107,8 @@ want_of (Try w frame) = None
 want_of (Give w frame) = None
 
 -- want of memory shows only where nothing else refuses the event
-abbrev pub unless_wanting : Option CoreRefusal → Result CoreReply CoreRefusal → Result CoreReply CoreRefusal
+abbrev pub unless_wanting : Option CoreRefusal → Result CoreReply CoreRefusal
+    → Result CoreReply CoreRefusal
 unless_wanting None answer = answer
 unless_wanting (Some want) (Ok answer) = Err want
 unless_wanting (Some want) (Err cause) = Err cause
@@ -105,47 +116,69 @@ unless_wanting (Some want) (Err cause) = Err cause
 module _ (refused : Bool) (s : Setup) where
   -- the core's answer to an event; a Begin takes the newest published version
   abbrev pub event_answer : World → Event → Result CoreReply CoreRefusal
-  event_answer world event = unless_wanting (if refused then want_of event else None) (answer_of s world (newest_published world) event)
+  event_answer world event =
+      unless_wanting (if refused then want_of event else None)
+      (answer_of s world (newest_published world) event)
 
   -- the world after it
   abbrev pub event_world : World → Event → World
-  event_world world event = world_after s world (newest_published world) event (event_answer world event)
+  event_world world event =
+      world_after s world (newest_published world) event (event_answer world event)
 
   -- map, unmap, mbind, home, task, weight, mems, which are Accepts; publish, begin, look, try, give
   abbrev pub event_outcome : World → Kept → Event → Outcome
-  event_outcome world resident event = record { reply = told (event_answer world event); world = event_world world event; resident = resident }
+  event_outcome world resident event = record {
+    reply = told (event_answer world event);
+    world = event_world world event;
+    resident = resident;
+  }
 
   -- ---- touch W TASK ADDR CPU
 
   -- a frame that was won and isn't kept is given back
   abbrev pub not_kept : World → Kept → ℕ → Placement → Reply → Outcome
-  not_kept world resident w placement answer = record { reply = answer; world = event_world world (Give w placement.frame); resident = resident }
+  not_kept world resident w placement answer = record {
+    reply = answer;
+    world = event_world world (Give w placement.frame);
+    resident = resident;
+  }
 
-  -- a placement that was won is kept as that of its page, unless the page has one or there is no memory for it
+  -- a placement that was won is kept as that of its page, unless the page has one or there is no
+  -- memory for it
   abbrev pub kept_outcome : World → Kept → ℕ → Placement → Outcome
   kept_outcome world resident w placement =
-      if is_some (placed_at resident placement.page) then not_kept world resident w placement (reply.Back placement.frame)
+      if is_some (placed_at resident placement.page)
+      then not_kept world resident w placement (reply.Back placement.frame)
       else if refused then not_kept world resident w placement (reply.Refused NoMemory)
-      else record { reply = reply.Won (win_of placement); world = world; resident = with_placement resident placement }
+      else record {
+        reply = reply.Won (win_of placement);
+        world = world;
+        resident = with_placement resident placement;
+      }
 
   -- what a touch comes to, by the core's answer and the world after it
   abbrev pub touch_by : Option Placement → Result CoreReply CoreRefusal → World → Kept → ℕ → Outcome
   touch_by (Some placement) answer world resident w = kept_outcome world resident w placement
-  touch_by None answer world resident w = record { reply = told answer; world = world; resident = resident }
+  touch_by None answer world resident w =
+      record { reply = told answer; world = world; resident = resident }
 
   abbrev pub touch_outcome : World → Kept → ℕ → Request → Outcome
   touch_outcome world resident w request =
-      touch_by (won_by (touched s world w request).answer) (touched s world w request).answer (touched s world w request).world resident w
+      touch_by (won_by (touched s world w request).answer) (touched s world w request).answer
+      (touched s world w request).world resident w
 
   -- ---- release W ADDR
 
   -- the worker gives back the frame that is kept for the page; where it may not, the page keeps it
   abbrev pub release_by : Option Placement → World → Kept → ℕ → ℕ → Outcome
-  release_by None world resident w page = record { reply = reply.Refused NotOwned; world = world; resident = resident }
+  release_by None world resident w page =
+      record { reply = reply.Refused NotOwned; world = world; resident = resident }
   release_by (Some placement) world resident w page = record {
     reply = told (event_answer world (Give w placement.frame));
     world = event_world world (Give w placement.frame);
-    resident = if is_ok (event_answer world (Give w placement.frame)) then without_page resident page else resident;
+    resident =
+        if is_ok (event_answer world (Give w placement.frame)) then without_page resident page
+        else resident;
   }
 
   abbrev pub release_outcome : World → Kept → ℕ → ℕ → Outcome

@@ -32,7 +32,8 @@ pub(crate) fn say_place<W: Write>(
     }
 }
 
-/// Says the first node of each page's list, for the pages from one on, as many as there is room for.
+/// Says the first node of each page's list, for the pages from one on, as many as there is room
+/// for.
 fn say_firsts<W: Write>(
     plan: &Plan,
     task: u32,
@@ -42,7 +43,8 @@ fn say_firsts<W: Write>(
     output: &mut Watched<W>,
 )
     ensures { (machine : Hardware) (history : List Command) → PlanStandsFor machine plan.now history
-        → Said W.contents output.old output.new (span_text machine history task first (length nodes.old) cpu) }
+        → Said W.contents output.old output.new
+        (span_text machine history task first (length nodes.old) cpu) }
 {
     match plan.fill(task, cpu, first, nodes) {
         Ok(()) => say_nodes(output, plan.version(), nodes),
@@ -61,7 +63,8 @@ pub(crate) fn say_span<W: Write>(
     output: &mut Watched<W>,
 )
     ensures { (machine : Hardware) (history : List Command) → PlanStandsFor machine plan.now history
-        → (refused : Bool) × Said W.contents output.old output.new (unless_starved refused (span_text machine history task first pages cpu)) }
+        → (refused : Bool) × Said W.contents output.old output.new
+        (unless_starved refused (span_text machine history task first pages cpu)) }
 {
     let Ok(mut nodes) = vec![in alloc; 0u8; pages as usize] else {
         say_starved(output);

@@ -10,8 +10,9 @@ use std::alloc::Global;
 /// The most nodes that a machine has.
 const MOST_NODES: u32 = 256;
 
-/// The machine of so many nodes, these of them with memory, with these frames and distances. The number of nodes is judged
-/// first; then the tables are made, for which there may be no memory; then all is judged.
+/// The machine of so many nodes, these of them with memory, with these frames and distances. The
+/// number of nodes is judged first; then the tables are made, for which there may be no memory;
+/// then all is judged.
 pub(crate) fn build(
     alloc: Global,
     nodes: u32,
@@ -19,8 +20,11 @@ pub(crate) fn build(
     frames: &Frames<'_>,
     distances: &Distances<'_>,
 ) -> Result<Machine, MachineFault>
-    ensures ok { IfOk result (λ machine. (machine ≡ hardware_from nodes memory frames.now distances.now) × (first_fault false machine ≡ None)) }
-    ensures err { IfErr result (λ fault. (refused : Bool) × (first_fault refused (hardware_from nodes memory frames.now distances.now) ≡ Some fault)) }
+    ensures ok { IfOk result (λ machine.
+        (machine ≡ hardware_from nodes memory frames.now distances.now)
+        × (first_fault false machine ≡ None)) }
+    ensures err { IfErr result (λ fault. (refused : Bool) × (first_fault refused
+        (hardware_from nodes memory frames.now distances.now) ≡ Some fault)) }
 {
     if nodes == 0 || nodes > MOST_NODES {
         return Err(MachineFault::NodeCount);

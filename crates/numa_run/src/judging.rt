@@ -90,7 +90,8 @@ impl Running {
     /// The first cause that refuses a question.
     fn question_cause(&mut self, alloc: Global, question: Question) -> Option<CoreRefusal>
         ensures { (state : State) → RunsAs self.old state → (refused : Bool) × RunsAs self.new state
-            × (result ≡ question_cause refused self.old.core.space.machine state.world.history question) }
+            × (result ≡ question_cause refused self.old.core.space.machine state.world.history
+            question) }
     {
         if let Question::Ranges = question {
             return None;
@@ -109,8 +110,8 @@ impl Running {
 }
 
 impl Script {
-    /// Does what a line says, as `reply` does, and gives the fault or the refusal that it is answered; None where the answer
-    /// is neither. A question is judged and not answered.
+    /// Does what a line says, as `reply` does, and gives the fault or the refusal that it is
+    /// answered; None where the answer is neither. A question is judged and not answered.
     pub fn judge(&mut self, alloc: Global, line: &Line<'_>) -> Option<Reply>
         ensures { ScriptJudges self.old line.now result self.new }
     {

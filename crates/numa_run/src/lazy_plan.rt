@@ -16,8 +16,9 @@ const LEAST_PAGES: u64 = 40;
 /// How many ranges are compiled in the time in which a space answers for a page.
 const RANGES_A_PAGE: u64 = 8;
 
-/// For how many pages in all a space answers before a plan is compiled: for as many as take the time
-/// in which it is compiled. So no row of questions takes more than twice the time of the better way.
+/// For how many pages in all a space answers before a plan is compiled: for as many as take the
+/// time in which it is compiled. So no row of questions takes more than twice the time of the
+/// better way.
 fn pages_worth(space: &Space) -> u64
     ensures { result ≤ most_resolved }
 {

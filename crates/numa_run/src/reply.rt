@@ -3,8 +3,8 @@ use numa_core::{CoreRefusal, Frame};
 use numa_machine::MachineFault;
 use numa_script::WordFault;
 
-/// A frame that was won: the version of the list of nodes that led to it, its node, its number on that node, and the node's
-/// place in the list, from 0.
+/// A frame that was won: the version of the list of nodes that led to it, its node, its number on
+/// that node, and the node's place in the list, from 0.
 #[derive(Clone, Copy, Debug, PartialEq, Eq)]
 pub struct Win {
     pub version: u64,
@@ -38,7 +38,8 @@ pub enum Reply {
     Published(u64),
     /// The worker has a current node, and goes on.
     Still,
-    /// The worker has met every frame of every listed node, and is idle. The version is that of its Begin.
+    /// The worker has met every frame of every listed node, and is idle. The version is that of its
+    /// Begin.
     Exhausted(u64),
     /// The frame was free and is the worker's now.
     Won(Win),

@@ -7,7 +7,8 @@ ghost use Rattle.numa_space.specs.Standing.{StandsFor};
 ghost use Rattle.numa_space.specs.declared.command.Command.{Command};
 ghost use Rattle.line_server.specs.Written.{Said};
 ghost use Rattle.numa_run.specs.Questions.{AreFirsts, count_text, pages_asked, place_text};
-ghost use Rattle.numa_run.specs.Questions.{question_text, span_refusal_of, span_text, unless_starved};
+ghost use Rattle.numa_run.specs.Questions.{question_text, span_refusal_of, span_text};
+ghost use Rattle.numa_run.specs.Questions.{unless_starved};
 ghost use Rattle.numa_run.specs.Judged.{question_refusal};
 ghost use Rattle.numa_run.specs.Standing.{most_resolved};
 

@@ -2,7 +2,8 @@
 ghost use Rattle.std.specs.Prelude.{◌≡◌, [], None};
 ghost use Rattle.numa_core.specs.Standing.{setup_of};
 ghost use Rattle.numa_run.specs.Standing.{Does};
-ghost use Rattle.numa_run.specs.Work.{event_outcome, kept_outcome, release_outcome, touch_outcome, work_outcome};
+ghost use Rattle.numa_run.specs.Work.{event_outcome, kept_outcome, release_outcome, touch_outcome};
+ghost use Rattle.numa_run.specs.Work.{work_outcome};
 
 use crate::lazy_plan::LazyPlan;
 use crate::reply::Reply;
@@ -36,7 +37,8 @@ impl Running {
 
     /// One event of the core. The plan is kept unless a command was accepted.
     pub fn step(&mut self, event: Event) -> Reply
-        ensures { Does self.old result self.new (λ refused state. event_outcome refused (setup_of self.old.core) state.world state.resident event) }
+        ensures { Does self.old result self.new (λ refused state.
+            event_outcome refused (setup_of self.old.core) state.world state.resident event) }
     {
         let answer = self.core.step(event);
         if is_accepted(&answer) {
@@ -46,9 +48,12 @@ impl Running {
         told(&answer)
     }
 
-    /// Keeps a placement that a worker won, unless its page has one or there is no memory for it: then its frame is given back.
+    /// Keeps a placement that a worker won, unless its page has one or there is no memory for it:
+    /// then its frame is given back.
     fn keep(&mut self, worker: u32, placement: Placement) -> Reply
-        ensures { Does self.old result self.new (λ refused state. kept_outcome refused (setup_of self.old.core) state.world state.resident worker placement) }
+        ensures { Does self.old result self.new (λ refused state.
+            kept_outcome refused (setup_of self.old.core) state.world state.resident worker
+            placement) }
     {
         let win = win_of(&placement);
         let frame = placement.frame;
@@ -67,7 +72,9 @@ impl Running {
 
     /// A worker looks for a frame for a page, and the page keeps it.
     fn touch(&mut self, worker: u32, request: Request) -> Reply
-        ensures { Does self.old result self.new (λ refused state. touch_outcome refused (setup_of self.old.core) state.world state.resident worker request) }
+        ensures { Does self.old result self.new (λ refused state.
+            touch_outcome refused (setup_of self.old.core) state.world state.resident worker
+            request) }
     {
         match won_by(self.core.touch(worker, request)) {
             Ok(placement) => self.keep(worker, placement),
@@ -77,7 +84,9 @@ impl Running {
 
     /// A worker gives back the frame that is kept for a page. Where it may not, the page keeps it.
     fn release(&mut self, worker: u32, page: u64) -> Reply
-        ensures { Does self.old result self.new (λ refused state. release_outcome refused (setup_of self.old.core) state.world state.resident worker page) }
+        ensures { Does self.old result self.new (λ refused state.
+            release_outcome refused (setup_of self.old.core) state.world state.resident worker
+            page) }
     {
         let Some(placement) = self.resident.at(page) else {
             return Reply::Refused(CoreRefusal::NotOwned);
@@ -93,7 +102,8 @@ impl Running {
 
     /// What a line of workers asks for.
     pub fn work(&mut self, work: Work) -> Reply
-        ensures { Does self.old result self.new (λ refused state. work_outcome refused (setup_of self.old.core) state.world state.resident work) }
+        ensures { Does self.old result self.new (λ refused state.
+            work_outcome refused (setup_of self.old.core) state.world state.resident work) }
     {
         match work {
             Work::Event(event) => self.step(event),

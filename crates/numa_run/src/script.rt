@@ -1,5 +1,6 @@
 //! A script that is being answered.
-ghost use Rattle.std.specs.Prelude.{◌≡◌, ℕ, ◌+◌, Bool, List, Option, None, Some, Ok, MatchOption, length};
+ghost use Rattle.std.specs.Prelude.{◌≡◌, ℕ, ◌+◌, Bool, List, Option, None, Some, Ok, MatchOption};
+ghost use Rattle.std.specs.Prelude.{length};
 ghost use Rattle.line_server.specs.Written.{Said};
 ghost use Rattle.numa_run.specs.Answers.{State, after, answer_of, start};
 ghost use Rattle.numa_run.specs.Scripts.{IsCoreIn, IsResidentIn, ScriptReplies, ScriptStandsFor};
@@ -23,7 +24,8 @@ use std::io::Write;
 /// How many workers a machine has.
 const WORKERS: u32 = 4;
 
-/// A script that is being answered: the limits of the machine to come, and the machine that is ready.
+/// A script that is being answered: the limits of the machine to come, and the machine that is
+/// ready.
 #[derive(Drop)]
 pub struct Script {
     pub(crate) limits: Limits,
@@ -31,7 +33,8 @@ pub struct Script {
 }
 
 impl Script {
-    /// Before the first line: no machine, and the limits that hold where no line gives others. Takes no memory.
+    /// Before the first line: no machine, and the limits that hold where no line gives others.
+    /// Takes no memory.
     pub fn new() -> Script
         ensures { ScriptStandsFor result start }
     {
@@ -63,8 +66,9 @@ impl Script {
         }
     }
 
-    /// Does what a line says, and gives its reply. A question to a machine that is ready, and a line `maps`, have none: their
-    /// answers are texts, which `serve` says; for them nothing changes.
+    /// Does what a line says, and gives its reply. A question to a machine that is ready, and a
+    /// line `maps`, have none: their answers are texts, which `serve` says; for them nothing
+    /// changes.
     pub fn reply(&mut self, alloc: Global, line: &Line<'_>) -> Option<Reply>
         ensures { ScriptReplies self.old line.now result self.new }
     {
@@ -81,7 +85,8 @@ impl Script {
     /// Takes limits, where no machine is ready.
     fn limit(&mut self, ranges: u32, tasks: u32, commands: u32) -> Reply
         requires { self.old.running ≡ None }
-        ensures { Replies self.old.limits None (Line.Limits ranges tasks commands) (Some result) self.new.limits self.new.running }
+        ensures { Replies self.old.limits None (Line.Limits ranges tasks commands)
+            (Some result) self.new.limits self.new.running }
     {
         match Limits::new(ranges, tasks, commands) {
             Some(limits) => {
@@ -95,7 +100,8 @@ impl Script {
     /// Makes the machine that a line describes, where none is ready.
     fn describe(&mut self, alloc: Global, said: &MachineLine<'_>) -> Reply
         requires { self.old.running ≡ None }
-        ensures { Replies self.old.limits None (Line.Machine said.now) (Some result) self.new.limits self.new.running }
+        ensures { Replies self.old.limits None (Line.Machine said.now)
+            (Some result) self.new.limits self.new.running }
     {
         let MachineLine {
             nodes,
@@ -137,7 +143,8 @@ impl Script {
     /// Does what a line says where no machine is ready.
     pub(crate) fn reply_first(&mut self, alloc: Global, line: &Line<'_>) -> Reply
         requires { self.old.running ≡ None }
-        ensures { Replies self.old.limits None line.now (Some result) self.new.limits self.new.running }
+        ensures { Replies self.old.limits None line.now
+            (Some result) self.new.limits self.new.running }
     {
         match line {
             Line::Silent => Reply::Silent,

@@ -83,7 +83,8 @@ impl Running {
     /// Lists the ranges, with their policies for a task and the pages that are placed there.
     fn list<W: Write>(&self, task: u32, output: &mut Watched<W>)
         ensures { (state : State) → RunsAs self.now state
-            → Said W.contents output.old output.new (listing_of self.now.core.space.machine state.world.history task state.resident) }
+            → Said W.contents output.old output.new (listing_of self.now.core.space.machine
+            state.world.history task state.resident) }
     {
         let space = self.core.space();
         // Tells the proof that the ranges rise and are maximal.
@@ -119,7 +120,8 @@ impl Running {
 
     /// Serves a line, and says its answer.
     pub fn serve<W: Write>(&mut self, alloc: Global, line: &Line<'_>, output: &mut Watched<W>)
-        ensures { (state : State) → RunsAs self.old state → (refused : Bool) × RunsAs self.new (after refused state line.now)
+        ensures { (state : State) → RunsAs self.old state
+            → (refused : Bool) × RunsAs self.new (after refused state line.now)
             × Said W.contents output.old output.new (answer_of refused state line.now) }
     {
         match self.take(line) {

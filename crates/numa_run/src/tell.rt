@@ -1,10 +1,12 @@
 //! Replies and answers as text.
-ghost use Rattle.std.specs.Prelude.{◌≡◌, ℕ, ◌+◌, ◌≤◌, ◌++◌, List, Option, length, decimal, codes, flat_map, slice_index};
+ghost use Rattle.std.specs.Prelude.{◌≡◌, ℕ, ◌+◌, ◌≤◌, ◌++◌, List, Option, length, decimal, codes};
+ghost use Rattle.std.specs.Prelude.{flat_map, slice_index};
 ghost use Rattle.line_server.specs.Written.{Said};
 ghost use Rattle.numa_space.specs.Errors.{errno_of};
 ghost use Rattle.numa_maps.specs.Listing.{node_text as count_of_node, nodes_text as counts_text};
 ghost use Rattle.numa_run.specs.Questions.{counts_line, nodes_line};
-ghost use Rattle.numa_run.specs.Texts.{text_of, nodes_text, refused_text, cause_name, place_name, refusal_name, errno_name, frame_text, win_line, word_text};
+ghost use Rattle.numa_run.specs.Texts.{text_of, nodes_text, refused_text, cause_name, place_name};
+ghost use Rattle.numa_run.specs.Texts.{refusal_name, errno_name, frame_text, win_line, word_text};
 
 use crate::names::{errno_name, list_name, machine_name, place_name, policy_name, refusal_name};
 use crate::nodes::say_each_node;
@@ -74,7 +76,9 @@ pub(crate) fn say_place_refusal<W: Write>(output: &mut Watched<W>, refusal: Plac
 
 /// Says a command's refusal.
 fn say_refusal<W: Write>(output: &mut Watched<W>, refusal: Refusal)
-    ensures { Said W.contents output.old output.new (codes "refused " ++ refusal_name refusal ++ codes " " ++ errno_name (errno_of refusal) ++ codes "\n") }
+    ensures { Said W.contents output.old output.new
+        (codes "refused " ++ refusal_name refusal ++ codes " " ++ errno_name (errno_of refusal)
+        ++ codes "\n") }
 {
     output.say(b"refused ");
     output.say(refusal_name(refusal));
@@ -117,7 +121,8 @@ fn say_win<W: Write>(output: &mut Watched<W>, win: &Win)
 
 /// Says a frame that was given back.
 fn say_back<W: Write>(output: &mut Watched<W>, frame: Frame)
-    ensures { Said W.contents output.old output.new (codes "back" ++ frame_text frame.node frame.number ++ codes "\n") }
+    ensures { Said W.contents output.old output.new
+        (codes "back" ++ frame_text frame.node frame.number ++ codes "\n") }
 {
     output.say(b"back");
     say_frame(output, frame.node, frame.number);
@@ -153,7 +158,8 @@ fn say_count_of<W: Write>(output: &mut Watched<W>, node: usize, pages: u64)
 
 /// Says each node that has pages, the lowest first.
 fn say_each_count<W: Write>(output: &mut Watched<W>, pages: &[u64; 256])
-    ensures { Said W.contents output.old output.new (counts_text (λ node. slice_index pages.now node)) }
+    ensures { Said W.contents output.old output.new
+        (counts_text (λ node. slice_index pages.now node)) }
 {
     for node in 0..256 {
         say_count_of(output, node, pages[node]);
@@ -162,7 +168,8 @@ fn say_each_count<W: Write>(output: &mut Watched<W>, pages: &[u64; 256])
 
 /// Says how many pages each node has, where it has some.
 pub(crate) fn say_counts<W: Write>(output: &mut Watched<W>, version: u64, pages: &[u64; 256])
-    ensures { Said W.contents output.old output.new (counts_line version (λ node. slice_index pages.now node)) }
+    ensures { Said W.contents output.old output.new
+        (counts_line version (λ node. slice_index pages.now node)) }
 {
     say_version(output, version);
     say_each_count(output, pages);

@@ -58,7 +58,8 @@ pub(crate) fn is_accepted(answer: &Result<CoreReply, CoreRefusal>) -> bool
 
 /// The placement that was won, or the reply where none was.
 pub(crate) fn won_by(answer: Result<CoreReply, CoreRefusal>) -> Result<Placement, Reply>
-    ensures { MatchResult result (λ placement. won_by answer ≡ Some placement) (λ reply. (won_by answer ≡ None) × (reply ≡ told answer)) }
+    ensures { MatchResult result (λ placement. won_by answer ≡ Some placement)
+        (λ reply. (won_by answer ≡ None) × (reply ≡ told answer)) }
 {
     match answer {
         Ok(CoreReply::Won(placement)) => Ok(placement),

@@ -1,5 +1,7 @@
 -- Why a line is malformed, and where.
-use Rattle.std.specs.Prelude.{ℕ, ◌+◌, ◌==◌, ◌||◌, Bool, true, false, List, [], ◌∷◌, length, take, position, slice_index, nat_lt, is_some, if◌then◌else◌, Option, Some, None}
+use Rattle.std.specs.Prelude.{ℕ, ◌+◌, ◌==◌, ◌||◌, Bool, true, false, List, [], ◌∷◌, length, take}
+use Rattle.std.specs.Prelude.{position, slice_index, nat_lt, is_some, if◌then◌else◌, Option, Some}
+use Rattle.std.specs.Prelude.{None}
 use Rattle.std.specs.Option.{option_map}
 use Rattle.numa_script.specs.Lines.{keyword_of, is_silent}
 use Rattle.numa_script.specs.Machines.{frames_of, distances_of}
@@ -24,7 +26,8 @@ use Rattle.numa_script.specs.declared.parameter.Parameter.TheVariants as paramet
 -- the table of lines: what each keyword wants behind it
 abbrev pub parameters_of : Keyword → List Parameter
 parameters_of keyword.Limits = parameter.Ranges ∷ parameter.Tasks ∷ parameter.Commands ∷ []
-parameters_of keyword.Machine = parameter.Nodes ∷ parameter.Memory ∷ parameter.Frames ∷ parameter.Distances ∷ []
+parameters_of keyword.Machine =
+    parameter.Nodes ∷ parameter.Memory ∷ parameter.Frames ∷ parameter.Distances ∷ []
 parameters_of keyword.Map = parameter.Start ∷ parameter.Length ∷ parameter.Offset ∷ []
 parameters_of keyword.Unmap = parameter.Start ∷ parameter.Length ∷ []
 parameters_of keyword.Mbind = parameter.Start ∷ parameter.Length ∷ parameter.Policy ∷ []
@@ -33,16 +36,20 @@ parameters_of keyword.Task = parameter.Task ∷ parameter.Policy ∷ []
 parameters_of keyword.Weight = parameter.Node ∷ parameter.Weight ∷ []
 parameters_of keyword.Mems = parameter.List ∷ []
 parameters_of keyword.Place = parameter.Task ∷ parameter.Address ∷ parameter.Cpu ∷ []
-parameters_of keyword.Span = parameter.Task ∷ parameter.Address ∷ parameter.SpanPages ∷ parameter.Cpu ∷ []
-parameters_of keyword.Counts = parameter.Task ∷ parameter.Address ∷ parameter.Pages ∷ parameter.Cpu ∷ []
+parameters_of keyword.Span =
+    parameter.Task ∷ parameter.Address ∷ parameter.SpanPages ∷ parameter.Cpu ∷ []
+parameters_of keyword.Counts =
+    parameter.Task ∷ parameter.Address ∷ parameter.Pages ∷ parameter.Cpu ∷ []
 parameters_of keyword.Ranges = []
 parameters_of keyword.Maps = parameter.Task ∷ []
 parameters_of keyword.Publish = []
-parameters_of keyword.Begin = parameter.Worker ∷ parameter.Task ∷ parameter.Address ∷ parameter.Cpu ∷ []
+parameters_of keyword.Begin =
+    parameter.Worker ∷ parameter.Task ∷ parameter.Address ∷ parameter.Cpu ∷ []
 parameters_of keyword.Look = parameter.Worker ∷ parameter.Word ∷ []
 parameters_of keyword.Try = parameter.Worker ∷ parameter.FrameNode ∷ parameter.Frame ∷ []
 parameters_of keyword.Give = parameter.Worker ∷ parameter.FrameNode ∷ parameter.Frame ∷ []
-parameters_of keyword.Touch = parameter.Worker ∷ parameter.Task ∷ parameter.Address ∷ parameter.Cpu ∷ []
+parameters_of keyword.Touch =
+    parameter.Worker ∷ parameter.Task ∷ parameter.Address ∷ parameter.Cpu ∷ []
 parameters_of keyword.Release = parameter.Worker ∷ parameter.Address ∷ []
 
 -- what each has to be: a number has a greatest, and for lists and policies anything may stand there
@@ -87,30 +94,38 @@ misfit_of form.Frames word = unless_readable (is_some (frames_of word))
 misfit_of form.Distances word = unless_readable (is_some (distances_of word))
 misfit_of form.Any word = None
 
--- the words in turn, the first of them at this column: the first that isn't of its form, and where it begins
-abbrev pub misfit_else : Keyword → Parameter → ℕ → Option Misfit → Option Malformed → Option Malformed
-misfit_else k p column (Some misfit) later = Some (record { cause = cause.BadWord k p misfit; column = column })
+-- the words in turn, the first of them at this column: the first that isn't of its form, and where
+-- it begins
+abbrev pub misfit_else : Keyword → Parameter → ℕ → Option Misfit → Option Malformed
+    → Option Malformed
+misfit_else k p column (Some misfit) later =
+    Some (record { cause = cause.BadWord k p misfit; column = column })
 misfit_else k p column None later = later
 
 abbrev pub first_misfit : Keyword → List Parameter → ℕ → List (List ℕ) → Option Malformed
 first_misfit k [] column words = None
 first_misfit k (p ∷ ps) column [] = None
 first_misfit k (p ∷ ps) column (word ∷ words) =
-    misfit_else k p column (misfit_of (form_of p) word) (first_misfit k ps (column + length word + 1) words)
+    misfit_else k p column (misfit_of (form_of p) word)
+    (first_misfit k ps (column + length word + 1) words)
 
 -- the bytes of words, each with the space behind it
 abbrev pub width_of : List (List ℕ) → ℕ
 width_of [] = 0
 width_of (word ∷ words) = length word + 1 + width_of words
 
--- Their number is judged first. Of too few the column is where the next word would begin, of too many where the first of
--- these begins.
+-- Their number is judged first. Of too few the column is where the next word would begin, of too
+-- many where the first of these begins.
 abbrev pub fault_behind : Keyword → ℕ → List (List ℕ) → Option Malformed
 fault_behind k column words =
     let wanted = length (parameters_of k) in
-    if nat_lt (length words) wanted then Some (record { cause = cause.TooFewWords k; column = column + width_of words })
+    if nat_lt (length words) wanted
+    then Some (record { cause = cause.TooFewWords k; column = column + width_of words })
     else if nat_lt wanted (length words)
-    then Some (record { cause = cause.TooManyWords k; column = column + width_of (take wanted words) })
+    then Some (record {
+      cause = cause.TooManyWords k;
+      column = column + width_of (take wanted words);
+    })
     else first_misfit k (parameters_of k) column words
 
 -- ---- the line
@@ -127,15 +142,19 @@ words_fault (first ∷ words) = keyword_fault (keyword_of first) (length first +
 -- where the first empty word begins, where the first word begins at this column
 abbrev pub empty_word : ℕ → List (List ℕ) → Option ℕ
 empty_word column [] = None
-empty_word column (word ∷ words) = if length word == 0 then Some column else empty_word (column + length word + 1) words
+empty_word column (word ∷ words) =
+    if length word == 0 then Some column else empty_word (column + length word + 1) words
 
 -- what an empty word at this column means in a line of this length
 abbrev pub spare_space : ℕ → ℕ → Cause
 spare_space size column =
-    if column == 1 then cause.LeadingSpace else if nat_lt size column then cause.TrailingSpace else cause.TwoSpaces
+    if column == 1 then cause.LeadingSpace
+    else if nat_lt size column then cause.TrailingSpace
+    else cause.TwoSpaces
 
 abbrev pub empty_else : ℕ → Option ℕ → Option Malformed → Option Malformed
-empty_else size (Some column) later = Some (record { cause = spare_space size column; column = column })
+empty_else size (Some column) later =
+    Some (record { cause = spare_space size column; column = column })
 empty_else size None later = later
 
 -- a byte that is neither a space nor a character that ASCII prints, as a tab or a carriage return
@@ -144,10 +163,12 @@ is_stray b = nat_lt b 32 || nat_lt 126 b
 
 -- what is wrong with a line is first of all such a byte
 abbrev pub stray_else : List ℕ → Option ℕ → Malformed → Malformed
-stray_else bytes (Some place) fault = record { cause = cause.StrayByte (slice_index bytes place); column = place + 1 }
+stray_else bytes (Some place) fault =
+    record { cause = cause.StrayByte (slice_index bytes place); column = place + 1 }
 stray_else bytes None fault = fault
 
--- why the line is malformed, and at which column what is wrong begins; none where it isn't malformed
+-- why the line is malformed, and at which column what is wrong begins; none where it isn't
+-- malformed
 unfoldable pub fault_of : List ℕ → Option Malformed
 fault_of bytes =
     if is_silent bytes then None

@@ -1,5 +1,7 @@
 -- What a line of a script says.
-use Rattle.std.specs.Prelude.{ℕ, ◌==◌, Bool, true, List, [], ◌∷◌, length, codes, nat_lt, if◌then◌else◌, Option, Some, None, Result, Ok, Err, unwrap_or, option_and_then}
+use Rattle.std.specs.Prelude.{ℕ, ◌==◌, Bool, true, List, [], ◌∷◌, length, codes, nat_lt}
+use Rattle.std.specs.Prelude.{if◌then◌else◌, Option, Some, None, Result, Ok, Err, unwrap_or}
+use Rattle.std.specs.Prelude.{option_and_then}
 use Rattle.std.specs.List.{list_any}
 use Rattle.std.specs.Option.{option_map, option_or}
 use Rattle.std.specs.Str.{bytes_eq}
@@ -13,7 +15,8 @@ use Rattle.numa_script.specs.Present.{with_two, with_three, with_four}
 use Rattle.numa_script.specs.Numbers.{number_of, small_of, span_pages_of}
 use Rattle.numa_script.specs.Machines.{frames_of, distances_of}
 use Rattle.numa_script.specs.Policies.{policy_of}
-use Rattle.numa_script.specs.Workers.{publish_work, begin_work, look_work, try_work, give_work, touch_work, release_work}
+use Rattle.numa_script.specs.Workers.{publish_work, begin_work, look_work, try_work, give_work}
+use Rattle.numa_script.specs.Workers.{touch_work, release_work}
 use Rattle.numa_script.specs.declared.policy.WordFault.{WordFault}
 use Rattle.numa_script.specs.declared.policy.WordFault.TheVariants as fault
 use Rattle.numa_script.specs.declared.keyword.Keyword.{Keyword}
@@ -63,7 +66,9 @@ work_keyword first =
 
 -- what a first word asks for
 unfoldable pub keyword_of : List ℕ → Option Keyword
-keyword_of first = option_or (work_keyword first) (option_or (question_keyword first) (option_or (command_keyword first) (setting_keyword first)))
+keyword_of first =
+    option_or (work_keyword first)
+    (option_or (question_keyword first) (option_or (command_keyword first) (setting_keyword first)))
 
 -- ---- the words after the first
 
@@ -78,43 +83,58 @@ with_nodes f (Err wrong) = line.Command (Err (fault.List wrong))
 
 -- limits R T C
 abbrev pub limits_line : List (List ℕ) → Option Line
-limits_line (ranges ∷ tasks ∷ commands ∷ []) = with_three line.Limits (small_of ranges) (small_of tasks) (small_of commands)
+limits_line (ranges ∷ tasks ∷ commands ∷ []) =
+    with_three line.Limits (small_of ranges) (small_of tasks) (small_of commands)
 limits_line _ = None
 
 -- machine NODES MEM FRAMES DIST
 abbrev pub machine_line : List (List ℕ) → Option Line
 machine_line (nodes ∷ memory ∷ frames ∷ distances ∷ []) =
-    with_three (λ n f d. line.Machine (record { nodes = n; memory = list_of memory; frames = f; distances = d })) (small_of nodes) (frames_of frames) (distances_of distances)
+    with_three (λ n f d. line.Machine (record {
+      nodes = n;
+      memory = list_of memory;
+      frames = f;
+      distances = d;
+    })) (small_of nodes) (frames_of frames) (distances_of distances)
 machine_line _ = None
 
 -- map START LENGTH OFFSET
 abbrev pub map_line : List (List ℕ) → Option Line
-map_line (start ∷ size ∷ offset ∷ []) = with_three (λ s l o. line.Command (Ok (command.Map s l o))) (number_of start) (number_of size) (number_of offset)
+map_line (start ∷ size ∷ offset ∷ []) =
+    with_three (λ s l o. line.Command (Ok (command.Map s l o))) (number_of start) (number_of size)
+    (number_of offset)
 map_line _ = None
 
 -- unmap START LENGTH
 abbrev pub unmap_line : List (List ℕ) → Option Line
-unmap_line (start ∷ size ∷ []) = with_two (λ s l. line.Command (Ok (command.Unmap s l))) (number_of start) (number_of size)
+unmap_line (start ∷ size ∷ []) =
+    with_two (λ s l. line.Command (Ok (command.Unmap s l))) (number_of start) (number_of size)
 unmap_line _ = None
 
 -- mbind START LENGTH POLICY
 abbrev pub mbind_line : List (List ℕ) → Option Line
-mbind_line (start ∷ size ∷ policy ∷ []) = with_two (λ s l. with_policy (command.Mbind s l) (policy_of policy)) (number_of start) (number_of size)
+mbind_line (start ∷ size ∷ policy ∷ []) =
+    with_two (λ s l. with_policy (command.Mbind s l) (policy_of policy)) (number_of start)
+    (number_of size)
 mbind_line _ = None
 
 -- home START LENGTH NODE
 abbrev pub home_line : List (List ℕ) → Option Line
-home_line (start ∷ size ∷ node ∷ []) = with_three (λ s l n. line.Command (Ok (command.SetHome s l n))) (number_of start) (number_of size) (small_of node)
+home_line (start ∷ size ∷ node ∷ []) =
+    with_three (λ s l n. line.Command (Ok (command.SetHome s l n))) (number_of start)
+    (number_of size) (small_of node)
 home_line _ = None
 
 -- task TASK POLICY
 abbrev pub task_line : List (List ℕ) → Option Line
-task_line (task ∷ policy ∷ []) = option_map (λ t. with_policy (command.SetTask t) (policy_of policy)) (small_of task)
+task_line (task ∷ policy ∷ []) =
+    option_map (λ t. with_policy (command.SetTask t) (policy_of policy)) (small_of task)
 task_line _ = None
 
 -- weight NODE W
 abbrev pub weight_line : List (List ℕ) → Option Line
-weight_line (node ∷ weight ∷ []) = with_two (λ n w. line.Command (Ok (command.SetWeight n w))) (small_of node) (small_of weight)
+weight_line (node ∷ weight ∷ []) =
+    with_two (λ n w. line.Command (Ok (command.SetWeight n w))) (small_of node) (small_of weight)
 weight_line _ = None
 
 -- mems LIST
@@ -124,19 +144,23 @@ mems_line _ = None
 
 -- place TASK ADDR CPU
 abbrev pub place_line : List (List ℕ) → Option Line
-place_line (task ∷ address ∷ cpu ∷ []) = with_three (λ t a c. line.Question (question.Place t a c)) (small_of task) (number_of address) (small_of cpu)
+place_line (task ∷ address ∷ cpu ∷ []) =
+    with_three (λ t a c. line.Question (question.Place t a c)) (small_of task) (number_of address)
+    (small_of cpu)
 place_line _ = None
 
 -- span TASK ADDR PAGES CPU
 abbrev pub span_line : List (List ℕ) → Option Line
 span_line (task ∷ address ∷ pages ∷ cpu ∷ []) =
-    with_four (λ t a p c. line.Question (question.Span t a p c)) (small_of task) (number_of address) (span_pages_of pages) (small_of cpu)
+    with_four (λ t a p c. line.Question (question.Span t a p c)) (small_of task) (number_of address)
+    (span_pages_of pages) (small_of cpu)
 span_line _ = None
 
 -- counts TASK ADDR PAGES CPU
 abbrev pub counts_line : List (List ℕ) → Option Line
 counts_line (task ∷ address ∷ pages ∷ cpu ∷ []) =
-    with_four (λ t a p c. line.Question (question.Counts t a p c)) (small_of task) (number_of address) (number_of pages) (small_of cpu)
+    with_four (λ t a p c. line.Question (question.Counts t a p c)) (small_of task)
+    (number_of address) (number_of pages) (small_of cpu)
 counts_line _ = None
 
 -- ranges
@@ -188,7 +212,8 @@ is_silent (b ∷ bs) = b == 35
 abbrev pub has_empty_word : List ℕ → Bool
 has_empty_word bytes = list_any (λ word. length word == 0) (words_of bytes)
 
--- what a line says, whatever its length: more than 4,096 bytes say nothing that is understood, and neither do words of which one is empty
+-- what a line says, whatever its length: more than 4,096 bytes say nothing that is understood, and
+-- neither do words of which one is empty
 unfoldable pub line_of : List ℕ → Line
 line_of bytes =
     if is_silent bytes then line.Silent

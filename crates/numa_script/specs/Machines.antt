@@ -28,13 +28,15 @@ table_of word = each_of distance_of (entries_of word)
 
 -- the distances of a DIST word
 unfoldable pub distances_of : List ℕ → Option Distances
-distances_of word = if bytes_eq word (codes "flat") then Some Flat else option_map Table (table_of word)
+distances_of word =
+    if bytes_eq word (codes "flat") then Some Flat else option_map Table (table_of word)
 
 -- the frames of a node, where each node with memory has so many
 abbrev pub frames_at : ℕ → ℕ → ℕ → ℕ
 frames_at memory frames node = if has memory node then frames else 0
 
--- the frames of each node: one number is that of each node with memory, and more than one are those of the nodes in turn
+-- the frames of each node: one number is that of each node with memory, and more than one are those
+-- of the nodes in turn
 abbrev pub frames_for : ℕ → ℕ → List ℕ → List ℕ
 frames_for nodes memory (frames ∷ []) = map (frames_at memory frames) (range_with_len 0 nodes)
 frames_for nodes memory frames = frames

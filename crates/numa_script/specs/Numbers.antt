@@ -1,5 +1,6 @@
 -- Numbers, as words of a script.
-use Rattle.std.specs.Prelude.{◌≡◌, ℕ, ◌^◌, ◌/◌, ◌<◌, ◌≤◌, ◌⊎◌, ◌++◌, ◌==◌, true, List, length, take, drop, codes, nat_lt, if◌then◌else◌, Option, Some, None}
+use Rattle.std.specs.Prelude.{◌≡◌, ℕ, ◌^◌, ◌/◌, ◌<◌, ◌≤◌, ◌⊎◌, ◌++◌, ◌==◌, true, List, length, take}
+use Rattle.std.specs.Prelude.{drop, codes, nat_lt, if◌then◌else◌, Option, Some, None}
 use Rattle.std.specs.Char.{is_digit, digit_value}
 use Rattle.std.specs.List.{list_all}
 use Rattle.std.specs.Str.{bytes_eq}
@@ -8,11 +9,15 @@ use Rattle.std.specs.Option.{option_map}
 
 -- 1 to `most` digits in the radix, and the number that they write
 abbrev pub IsNumeral : ℕ → ℕ → List ℕ → ℕ → Type 0
-IsNumeral radix most digits n = (0 < length digits) × (length digits ≤ most) × (list_all (λ c. is_digit c radix) digits ≡ true) × (n ≡ digits_value radix digits)
+IsNumeral radix most digits n =
+    (0 < length digits) × (length digits ≤ most) × (list_all (λ c. is_digit c radix) digits ≡ true)
+    × (n ≡ digits_value radix digits)
 
 -- the texts of numbers: 0x and 1 to 16 hexadecimal digits, or 1 to 20 decimal digits, below 2^64
 abbrev pub IsNumber : List ℕ → ℕ → Type 0
-IsNumber word n = (n < 2 ^ 64) × (((digits : List ℕ) × (word ≡ codes "0x" ++ digits) × IsNumeral 16 16 digits n) ⊎ IsNumeral 10 20 word n)
+IsNumber word n =
+    (n < 2 ^ 64) × (((digits : List ℕ) × (word ≡ codes "0x" ++ digits) × IsNumeral 16 16 digits n)
+    ⊎ IsNumeral 10 20 word n)
 
 -- the digit that a byte is in the radix
 unfoldable pub digit_of : ℕ → ℕ → Option ℕ
@@ -32,7 +37,9 @@ numeral_of radix most digits =
 
 -- the number of a word, where it is one
 unfoldable pub number_of : List ℕ → Option ℕ
-number_of word = if bytes_eq (take 2 word) (codes "0x") then numeral_of 16 16 (drop 2 word) else numeral_of 10 20 word
+number_of word =
+    if bytes_eq (take 2 word) (codes "0x") then numeral_of 16 16 (drop 2 word)
+    else numeral_of 10 20 word
 
 -- the number, where it is below the bound
 abbrev pub below : ℕ → Option ℕ → Option ℕ

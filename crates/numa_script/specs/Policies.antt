@@ -1,5 +1,7 @@
--- Policy words: NAME, then =static or not, then =relative or not, then : and a list of nodes or nothing.
-use Rattle.std.specs.Prelude.{ℕ, ◌+◌, ◌==◌, ◌&&◌, Bool, true, false, List, [], ◌∷◌, take, drop, position, codes, if◌then◌else◌, Option, Some, None, Result, Ok, Err}
+-- Policy words: NAME, then =static or not, then =relative or not, then : and a list of nodes or
+-- nothing.
+use Rattle.std.specs.Prelude.{ℕ, ◌+◌, ◌==◌, ◌&&◌, Bool, true, false, List, [], ◌∷◌, take, drop}
+use Rattle.std.specs.Prelude.{position, codes, if◌then◌else◌, Option, Some, None, Result, Ok, Err}
 use Rattle.std.specs.Str.{bytes_eq}
 use Rattle.std.specs.Option.{option_map}
 use Rattle.numa_mask.specs.Lists.{list_of}
@@ -28,7 +30,8 @@ mode_of name =
 
 -- the mode of a name, with these flags
 abbrev pub form_with : Bool → Bool → List ℕ → Option PolicyForm
-form_with static relative name = option_map (λ m. record { mode = m; is_static = static; is_relative = relative }) (mode_of name)
+form_with static relative name =
+    option_map (λ m. record { mode = m; is_static = static; is_relative = relative }) (mode_of name)
 
 -- a name and one flag
 unfoldable pub form_of_two : List ℕ → List ℕ → Option PolicyForm
@@ -40,7 +43,8 @@ form_of_two name flag =
 -- a name and both flags, in this order
 unfoldable pub form_of_three : List ℕ → List ℕ → List ℕ → Option PolicyForm
 form_of_three name first second =
-    if bytes_eq first (codes "static") && bytes_eq second (codes "relative") then form_with true true name else None
+    if bytes_eq first (codes "static") && bytes_eq second (codes "relative")
+    then form_with true true name else None
 
 -- what stands between `=`: a name, and then the flags
 abbrev pub form_of_parts : List (List ℕ) → Option PolicyForm
@@ -61,12 +65,14 @@ specified (Err f) = Err (fault.Policy f)
 abbrev pub policy_from : Option PolicyForm → Result ℕ ListFault → Result Specification WordFault
 policy_from None nodes = Err (fault.Policy UnknownMode)
 policy_from (Some form) (Err f) = Err (fault.List f)
-policy_from (Some form) (Ok mask) = specified (specification_of form.mode form.is_static form.is_relative mask)
+policy_from (Some form) (Ok mask) =
+    specified (specification_of form.mode form.is_static form.is_relative mask)
 
 -- a word without a colon names no nodes
 abbrev pub policy_cut : List ℕ → Option ℕ → Result Specification WordFault
 policy_cut word None = policy_from (form_of word) (Ok 0)
-policy_cut word (Some colon) = policy_from (form_of (take colon word)) (list_of (drop (colon + 1) word))
+policy_cut word (Some colon) =
+    policy_from (form_of (take colon word)) (list_of (drop (colon + 1) word))
 
 -- the policy of a word, which is cut at its first colon
 unfoldable pub policy_of : List ℕ → Result Specification WordFault

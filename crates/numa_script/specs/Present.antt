@@ -7,13 +7,15 @@ with_two f None b = None
 with_two f (Some a) None = None
 with_two f (Some a) (Some b) = Some (f a b)
 
-abbrev pub with_three : {A B C D : Type 0} → (A → B → C → D) → Option A → Option B → Option C → Option D
+abbrev pub with_three : {A B C D : Type 0} → (A → B → C → D) → Option A → Option B → Option C
+    → Option D
 with_three f None b c = None
 with_three f (Some a) None c = None
 with_three f (Some a) (Some b) None = None
 with_three f (Some a) (Some b) (Some c) = Some (f a b c)
 
-abbrev pub with_four : {A B C D E : Type 0} → (A → B → C → D → E) → Option A → Option B → Option C → Option D → Option E
+abbrev pub with_four : {A B C D E : Type 0} → (A → B → C → D → E) → Option A → Option B → Option C
+    → Option D → Option E
 with_four f None b c d = None
 with_four f (Some a) None c d = None
 with_four f (Some a) (Some b) None d = None

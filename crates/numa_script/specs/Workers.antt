@@ -10,12 +10,15 @@ use Rattle.numa_script.specs.declared.work.Work.TheVariants as work
 
 -- TASK ADDR CPU: a fault of the task on the page of the address
 abbrev pub request_of : List (List ℕ) → Option Request
-request_of (task ∷ address ∷ cpu ∷ []) = with_three (λ t p c. record { task = t; page = p; cpu = c }) (small_of task) (page_of address) (small_of cpu)
+request_of (task ∷ address ∷ cpu ∷ []) =
+    with_three (λ t p c. record { task = t; page = p; cpu = c }) (small_of task) (page_of address)
+    (small_of cpu)
 request_of _ = None
 
 -- NODE FRAME
 abbrev pub frame_of : List (List ℕ) → Option Frame
-frame_of (node ∷ number ∷ []) = with_two (λ n k. record { node = n; number = k }) (node_of node) (frame_number_of number)
+frame_of (node ∷ number ∷ []) =
+    with_two (λ n k. record { node = n; number = k }) (node_of node) (frame_number_of number)
 frame_of _ = None
 
 -- publish
@@ -25,22 +28,26 @@ publish_work _ = None
 
 -- begin W TASK ADDR CPU
 abbrev pub begin_work : List (List ℕ) → Option Work
-begin_work (worker ∷ words) = with_two (λ w r. work.Event (event.Begin w r)) (small_of worker) (request_of words)
+begin_work (worker ∷ words) =
+    with_two (λ w r. work.Event (event.Begin w r)) (small_of worker) (request_of words)
 begin_work _ = None
 
 -- look W WORD
 abbrev pub look_work : List (List ℕ) → Option Work
-look_work (worker ∷ word ∷ []) = with_two (λ w b. work.Event (event.Look w b)) (small_of worker) (small_of word)
+look_work (worker ∷ word ∷ []) =
+    with_two (λ w b. work.Event (event.Look w b)) (small_of worker) (small_of word)
 look_work _ = None
 
 -- try W NODE FRAME
 abbrev pub try_work : List (List ℕ) → Option Work
-try_work (worker ∷ words) = with_two (λ w f. work.Event (event.Try w f)) (small_of worker) (frame_of words)
+try_work (worker ∷ words) =
+    with_two (λ w f. work.Event (event.Try w f)) (small_of worker) (frame_of words)
 try_work _ = None
 
 -- give W NODE FRAME
 abbrev pub give_work : List (List ℕ) → Option Work
-give_work (worker ∷ words) = with_two (λ w f. work.Event (event.Give w f)) (small_of worker) (frame_of words)
+give_work (worker ∷ words) =
+    with_two (λ w f. work.Event (event.Give w f)) (small_of worker) (frame_of words)
 give_work _ = None
 
 -- touch W TASK ADDR CPU

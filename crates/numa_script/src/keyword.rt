@@ -1,6 +1,7 @@
 //! The first words of lines.
 ghost use Rattle.std.specs.Prelude.{◌≡◌, ℕ, Option, Some};
-ghost use Rattle.numa_script.specs.Lines.{setting_keyword, command_keyword, question_keyword, work_keyword, keyword_of};
+ghost use Rattle.numa_script.specs.Lines.{setting_keyword, command_keyword, question_keyword};
+ghost use Rattle.numa_script.specs.Lines.{work_keyword, keyword_of};
 
 /// What the first word of a line asks for.
 #[derive(Clone, Copy, Debug, PartialEq, Eq)]

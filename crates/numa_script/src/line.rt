@@ -1,6 +1,10 @@
 //! What a line of a script says.
 ghost use Rattle.std.specs.Prelude.{◌≡◌, ◌==◌, ◌+◌, ◌≤◌, ◌<◌, ℕ, List, length, Option};
-ghost use Rattle.numa_script.specs.Lines.{limits_line, machine_line, map_line, unmap_line, mbind_line, home_line, task_line, weight_line, mems_line, place_line, span_line, counts_line, ranges_line, maps_line, line_after, words_line, is_silent, has_empty_word, line_of};
+ghost use Rattle.numa_script.specs.Lines.{limits_line, machine_line, map_line, unmap_line};
+ghost use Rattle.numa_script.specs.Lines.{mbind_line, home_line, task_line, weight_line, mems_line};
+ghost use Rattle.numa_script.specs.Lines.{place_line, span_line, counts_line, ranges_line};
+ghost use Rattle.numa_script.specs.Lines.{maps_line, line_after, words_line, is_silent};
+ghost use Rattle.numa_script.specs.Lines.{has_empty_word, line_of};
 
 use crate::keyword::{Keyword, read_keyword};
 use crate::machine::{Distances, Frames};
@@ -30,21 +34,24 @@ pub struct MachineLine<'a> {
 /// What a line asks of a machine.
 #[derive(Clone, Copy, Debug, PartialEq, Eq)]
 pub enum Question {
-    /// The nodes for the page of an address, in bytes, that the task first touches on a CPU of the node `cpu`.
+    /// The nodes for the page of an address, in bytes, that the task first touches on a CPU of the
+    /// node `cpu`.
     Place {
         task: u32,
         address: u64,
         cpu: u32,
     },
-    /// The node for each page of a span, its first, when the task first touches it on a CPU of the node `cpu`. The span
-    /// begins at the page of an address, in bytes, and has so many pages, at most 65,536.
+    /// The node for each page of a span, its first, when the task first touches it on a CPU of the
+    /// node `cpu`. The span begins at the page of an address, in bytes, and has so many pages, at
+    /// most 65,536.
     Span {
         task: u32,
         address: u64,
         pages: u32,
         cpu: u32,
     },
-    /// How many pages of a span each node would get. The span is as that of `Span`, but of any length, in pages.
+    /// How many pages of a span each node would get. The span is as that of `Span`, but of any
+    /// length, in pages.
     Counts {
         task: u32,
         address: u64,
@@ -60,10 +67,11 @@ pub enum Question {
 pub enum Line<'a> {
     /// Nothing, or a comment.
     Silent,
-    /// No line of a script: it is too long, its first word is unknown, it has another number of words, or one of its
-    /// numbers is malformed or out of its bounds.
+    /// No line of a script: it is too long, its first word is unknown, it has another number of
+    /// words, or one of its numbers is malformed or out of its bounds.
     Malformed,
-    /// The limits of the machine to come: at most so many ranges, tasks with a policy and accepted commands.
+    /// The limits of the machine to come: at most so many ranges, tasks with a policy and accepted
+    /// commands.
     Limits {
         ranges: u32,
         tasks: u32,

@@ -1,9 +1,12 @@
 //! The words of a machine line that are lists of numbers: its frames and its distances.
-ghost use Rattle.std.specs.Prelude.{◌≡◌, ◌==◌, ◌≤◌, ◌<◌, ◌^◌, ℕ, List, Option, map, unwrap_or, IfOk, OnOk, ◌++◌, is_some};
+ghost use Rattle.std.specs.Prelude.{◌≡◌, ◌==◌, ◌≤◌, ◌<◌, ◌^◌, ℕ, List, Option, map, unwrap_or};
+ghost use Rattle.std.specs.Prelude.{IfOk, OnOk, ◌++◌, is_some};
 ghost use Rattle.std.specs.List.{list_all, flat_map, range_with_len};
 ghost use Rattle.numa_script.specs.Numbers.{item_of};
 ghost use Rattle.numa_script.specs.Parts.{items_of, rows_of};
-ghost use Rattle.numa_script.specs.Machines.{entries_of, distance_of, frames_of, table_of, distances_of, frames_at, flat_distance, flat_row, frames_for, distances_for};
+ghost use Rattle.numa_script.specs.Machines.{entries_of, distance_of, frames_of, table_of};
+ghost use Rattle.numa_script.specs.Machines.{distances_of, frames_at, flat_distance, flat_row};
+ghost use Rattle.numa_script.specs.Machines.{frames_for, distances_for};
 
 use crate::number::{distance, small_item};
 use crate::parts::{items, rows};
@@ -27,8 +30,8 @@ impl<'a> Model for Frames<'a> {
     ghost view = { λ a. map (λ item. unwrap_or (item_of item) 0) (items_of a.word.now) };
 }
 
-/// A distance table, as a word: rows with semicolons between them, of decimal numbers of at most 255 with commas between
-/// them.
+/// A distance table, as a word: rows with semicolons between them, of decimal numbers of at most
+/// 255 with commas between them.
 #[derive(Drop)]
 pub struct Entries<'a> {
     word: &'a [u8],
@@ -42,7 +45,8 @@ impl<'a> Model for Entries<'a> {
 
     ghost Value = { List ℕ };
 
-    ghost view = { λ a. map (λ item. unwrap_or (below 256 (item_of item)) 0) (flat_map items_of (rows_of a.word.now)) };
+    ghost view = { λ a. map (λ item. unwrap_or (below 256 (item_of item)) 0)
+        (flat_map items_of (rows_of a.word.now)) };
 }
 
 /// The distances of a machine's nodes, as a word.
@@ -74,8 +78,9 @@ impl<'a> Frames<'a> {
         }
     }
 
-    /// The frames of each of so many nodes: one number is that of each node with memory, where the others have none, and
-    /// more than one are those of the nodes in turn, as many as were written. `Err` is want of memory.
+    /// The frames of each of so many nodes: one number is that of each node with memory, where the
+    /// others have none, and more than one are those of the nodes in turn, as many as were written.
+    /// `Err` is want of memory.
     pub fn for_nodes(
         &self,
         alloc: Global,
@@ -110,7 +115,8 @@ fn frames_with_memory(
     frames: u32,
 ) -> Result<Vec<u32>, AllocError>
     requires { nodes ≤ 256 }
-    ensures { IfOk result (λ v. v.items ≡ map (frames_at memory.now frames) (range_with_len 0 nodes)) }
+    ensures { IfOk result (λ v. v.items
+        ≡ map (frames_at memory.now frames) (range_with_len 0 nodes)) }
 {
     let mut each = Vec::new(alloc);
     for node in 0..nodes {
@@ -138,14 +144,16 @@ fn is_row(row: &[u8]) -> bool
 
 /// Whether each item of a table is a distance.
 fn is_table(word: &[u8]) -> bool
-    ensures { result ≡ list_all (λ row. list_all (λ item. is_some (distance_of item)) (items_of row)) (rows_of word.now) }
+    ensures { result ≡ list_all (λ row. list_all (λ item. is_some (distance_of item))
+        (items_of row)) (rows_of word.now) }
 {
     rows(word).all(|row| is_row(row))
 }
 
 /// Appends the entries of a row.
 fn add_row(table: &mut Vec<u8>, row: &[u8]) -> Result<(), AllocError>
-    ensures { OnOk result (table.new.items ≡ table.old.items ++ map (λ item. unwrap_or (distance_of item) 0) (items_of row.now)) }
+    ensures { OnOk result (table.new.items
+        ≡ table.old.items ++ map (λ item. unwrap_or (distance_of item) 0) (items_of row.now)) }
 {
     for item in items(row) {
         table.push(distance(item).unwrap_or(0))?;
@@ -190,8 +198,9 @@ impl<'a> Distances<'a> {
         Some(Distances::Table(Entries::read(word)?))
     }
 
-    /// The entries of the distance table of so many nodes, row after row: `flat` makes one for each two nodes, and a table
-    /// is as it was written, whatever the number of nodes. `Err` is want of memory.
+    /// The entries of the distance table of so many nodes, row after row: `flat` makes one for each
+    /// two nodes, and a table is as it was written, whatever the number of nodes. `Err` is want of
+    /// memory.
     pub fn for_nodes(&self, alloc: Global, nodes: u32) -> Result<Vec<u8>, AllocError>
         requires { nodes ≤ 256 }
         ensures { IfOk result (λ v. v.items ≡ distances_for nodes self.now) }

@@ -1,6 +1,9 @@
 //! Why a line is malformed.
-ghost use Rattle.std.specs.Prelude.{◌≡◌, ℕ, ◌+◌, ◌<◌, ◌≤◌, ◌^◌, length, drop, is_some, position, take};
-ghost use Rattle.numa_script.specs.Causes.{empty_else, empty_word, fault_behind, fault_of, first_misfit, is_malformed, is_stray, spare_space, stray_else, width_of, words_fault};
+ghost use Rattle.std.specs.Prelude.{◌≡◌, ℕ, ◌+◌, ◌<◌, ◌≤◌, ◌^◌, length, drop, is_some, position};
+ghost use Rattle.std.specs.Prelude.{take};
+ghost use Rattle.numa_script.specs.Causes.{empty_else, empty_word, fault_behind, fault_of};
+ghost use Rattle.numa_script.specs.Causes.{first_misfit, is_malformed, is_stray, spare_space};
+ghost use Rattle.numa_script.specs.Causes.{stray_else, width_of, words_fault};
 ghost use Rattle.numa_script.specs.Lines.{line_of};
 ghost use Rattle.numa_script.specs.Parts.{words_of};
 
@@ -206,8 +209,9 @@ fn with_stray(line: &[u8], fault: Malformed) -> Malformed
 }
 
 /// Why a line, without its line feed, is malformed, and where; None where it isn't. Of several
-/// things that are wrong it is the first in the order of [`Cause`], and of several words that aren't
-/// what they have to be the first. A line of more than 4,096 bytes may be cut behind the 4,097th.
+/// things that are wrong it is the first in the order of [`Cause`], and of several words that
+/// aren't what they have to be the first. A line of more than 4,096 bytes may be cut behind the
+/// 4,097th.
 pub fn why_malformed(line: &[u8]) -> Option<Malformed>
     ensures fault { result ≡ fault_of line.now }
     ensures malformed { is_some result ≡ is_malformed (line_of line.now) }

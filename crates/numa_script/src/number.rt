@@ -1,6 +1,8 @@
 //! Numbers, as words of a script.
 ghost use Rattle.std.specs.Prelude.{◌≡◌, ℕ, ◌+◌, ◌*◌, ◌^◌, ◌<◌, ◌≤◌, List, MatchOption, IfSome};
-ghost use Rattle.numa_script.specs.Numbers.{digit_of, fitting, numeral_of, number_of, small_of, item_of, page_of, node_of, frame_number_of, span_pages_of, below, IsNumber};
+ghost use Rattle.numa_script.specs.Numbers.{digit_of, fitting, numeral_of, number_of, small_of};
+ghost use Rattle.numa_script.specs.Numbers.{item_of, page_of, node_of, frame_number_of};
+ghost use Rattle.numa_script.specs.Numbers.{span_pages_of, below, IsNumber};
 
 /// The digit that a byte is in the radix.
 #[tactic(auto, unfolding(crate::specs::Numbers::digit_of))]
@@ -43,11 +45,13 @@ fn numeral(digits: &[u8], radix: u32, most: usize) -> Option<u64>
     Some(value)
 }
 
-/// The number of a word: `0x` and 1 to 16 hexadecimal digits, or 1 to 20 decimal digits, in 64 bits.
+/// The number of a word: `0x` and 1 to 16 hexadecimal digits, or 1 to 20 decimal digits, in 64
+/// bits.
 #[tactic(auto, using(crate::proofs::Numerals::number_steps))]
 pub fn number(word: &[u8]) -> Option<u64>
     ensures value { result ≡ number_of word.now }
-    ensures grammar { MatchOption result ((n : ℕ) → IsNumber word.now n → ⊥) (λ n. IsNumber word.now n) }
+    ensures grammar { MatchOption result
+        ((n : ℕ) → IsNumber word.now n → ⊥) (λ n. IsNumber word.now n) }
 {
     match word.strip_prefix(b"0x") {
         Some(digits) => numeral(digits, 16, 16),

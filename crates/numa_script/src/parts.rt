@@ -32,7 +32,8 @@ pub(crate) fn first_separator(text: &[u8], separator: u8) -> Option<usize>
 /// What stands before the first separator, and what stands after it.
 #[tactic(auto, using(crate::proofs::Splits::cut_at, crate::proofs::Splits::cut_nowhere))]
 fn cut(text: &[u8], separator: u8) -> Option<(&[u8], &[u8])>
-    ensures { MatchOption result (parts_of separator text.now ≡ text.now ∷ []) (λ parts. parts_of separator text.now ≡ parts.0.now ∷ parts_of separator parts.1.now) }
+    ensures { MatchOption result (parts_of separator text.now ≡ text.now ∷ [])
+        (λ parts. parts_of separator text.now ≡ parts.0.now ∷ parts_of separator parts.1.now) }
 {
     let end = first_separator(text, separator)?;
     Some((&text[..end], &text[end + 1..]))
@@ -60,7 +61,8 @@ pub fn rows(word: &[u8]) -> Parts<'_>
 }
 
 impl<'a> Parts<'a> {
-    /// The parts of a text between separators. There is always one: the text, where it has no separator.
+    /// The parts of a text between separators. There is always one: the text, where it has no
+    /// separator.
     pub fn new(text: &'a [u8], separator: u8) -> Parts<'a>
         ensures { result ≡ parts_of separator text.now }
     {
@@ -73,7 +75,9 @@ impl<'a> Parts<'a> {
 
     /// The one part that is left, where just one is.
     pub fn only(mut self) -> Option<&'a [u8]>
-        ensures { MatchOption result ((part : List ℕ) → self.entry ≡ (part ∷ []) → ⊥) (λ part. self.entry ≡ (part.now ∷ [])) }
+        ensures { MatchOption result
+            ((part : List ℕ) → self.entry ≡ (part ∷ []) → ⊥)
+            (λ part. self.entry ≡ (part.now ∷ [])) }
     {
         let part = self.next()?;
         match self.next() {

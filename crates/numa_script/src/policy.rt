@@ -1,7 +1,8 @@
 //! Policy words: NAME, then `=static` or not, then `=relative` or not, then `:LIST` or not.
 ghost use Rattle.std.specs.Prelude.{◌≡◌, ◌==◌, ℕ, true, Ok};
 ghost use Rattle.numa_mode.specs.Flags.{has_static, has_relative};
-ghost use Rattle.numa_script.specs.Policies.{mode_of, form_with, form_of, form_of_two, form_of_three, policy_from, policy_of};
+ghost use Rattle.numa_script.specs.Policies.{mode_of, form_with, form_of, form_of_two};
+ghost use Rattle.numa_script.specs.Policies.{form_of_three, policy_from, policy_of};
 
 use crate::parts::{Parts, first_separator};
 use bitflags::Flags;
@@ -122,7 +123,8 @@ fn flags(is_static: bool, is_relative: bool) -> PolicyFlags
     }
 }
 
-/// The policy of a form and its nodes. The form is judged first, then the list, and then the two together.
+/// The policy of a form and its nodes. The form is judged first, then the list, and then the two
+/// together.
 fn policy(
     form: Option<PolicyForm>,
     nodes: Result<NodeMask, ListFault>,
@@ -142,8 +144,9 @@ fn policy(
     }
 }
 
-/// The policy of a word, which is cut at its first colon. A part before it that is not of the form is `UnknownMode`; then a
-/// fault of the list is answered; then those of [`PolicySpec::new`]. Without a colon there are no nodes.
+/// The policy of a word, which is cut at its first colon. A part before it that is not of the form
+/// is `UnknownMode`; then a fault of the list is answered; then those of [`PolicySpec::new`].
+/// Without a colon there are no nodes.
 #[tactic(auto, unfolding(crate::specs::Policies::policy_of))]
 pub fn read_policy(word: &[u8]) -> Result<PolicySpec, WordFault>
     ensures { result ≡ policy_of word.now }

@@ -1,6 +1,8 @@
 //! What the lines of workers ask for.
 ghost use Rattle.std.specs.Prelude.{◌≡◌, ℕ, List, Option};
-ghost use Rattle.numa_script.specs.Workers.{request_of, frame_of, publish_work, begin_work, look_work, try_work, give_work, touch_work, release_work};
+ghost use Rattle.numa_script.specs.Workers.{request_of, frame_of, publish_work, begin_work};
+ghost use Rattle.numa_script.specs.Workers.{look_work, try_work, give_work, touch_work};
+ghost use Rattle.numa_script.specs.Workers.{release_work};
 
 use crate::number::{frame_number, node, page, small};
 use crate::parts::Parts;
@@ -10,7 +12,8 @@ use numa_space::{Event, Request};
 /// Work for a worker, or the publication of the commands so far. Workers are numbered from 0.
 #[derive(Clone, Copy, Debug, PartialEq, Eq)]
 pub enum Work {
-    /// One event of the core: `publish`, `begin`, `look`, `try` and `give` ask for one. A command is none of them.
+    /// One event of the core: `publish`, `begin`, `look`, `try` and `give` ask for one. A command
+    /// is none of them.
     Event(Event),
     /// The worker is to find a frame for the request, and the page is to keep it.
     Touch(u32, Request),
