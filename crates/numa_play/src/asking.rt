@@ -21,7 +21,7 @@ pub struct Asked {
 }
 
 /// The space that a script has led to.
-fn space_of(script: &Script) -> Result<&Space, Halt> {
+pub(crate) fn space_of(script: &Script) -> Result<&Space, Halt> {
     match script.core() {
         Some(core) => Ok(core.space()),
         None => Err(Halt::NoMachine),
@@ -38,7 +38,7 @@ fn outlook_in(alloc: Global, script: &Script) -> Result<Outlook, Halt> {
 }
 
 /// Writes an answer.
-fn write<W: Write>(text: &[u8], output: &mut W) -> Result<(), Halt> {
+pub(crate) fn write<W: Write>(text: &[u8], output: &mut W) -> Result<(), Halt> {
     match output.write_all(text) {
         Ok(()) => Ok(()),
         Err(_) => Err(Halt::Stopped(Stop::Write)),

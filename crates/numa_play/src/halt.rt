@@ -1,6 +1,7 @@
 //! Why a question about played scripts has no answer.
 use numa_files::Stop;
 use numa_reports::ReportFault;
+use numa_traces::ReplayFault;
 use std::alloc::AllocError;
 
 /// Why a question about played scripts has no answer. Then nothing of one was written, but for
@@ -13,6 +14,10 @@ pub enum Halt {
     NoMachine,
     /// The machine has so many nodes, and not the one that is asked of.
     NoNode(u32),
+    /// The page that is asked of isn't mapped.
+    Unmapped,
+    /// A line of the trace, from 1, can't be replayed.
+    BadAccess(u64, ReplayFault),
 }
 
 impl From<Stop> for Halt {

@@ -7,8 +7,8 @@ use std::io;
 use std::io::{ErrorKind, Write};
 use std::process::ExitCode;
 
-/// The status where the scripts make no machine.
-const NO_MACHINE: u8 = 3;
+/// The status where the scripts make no machine, or a line of the trace can't be replayed.
+const NOT_AS_ASKED: u8 = 3;
 
 /// Standard error, as a writer of UTF-8.
 #[derive(Drop)]
@@ -63,18 +63,33 @@ pub fn stop(rt: &impl Eprint, why: Stop) -> ExitCode {
 
 /// Ends with the answer to a question about played scripts, or with why there is none.
 pub fn answered(rt: &impl Eprint, asked: Asked, answer: Result<(), Halt>) -> ExitCode {
+    if let Err(Halt::NoNode(nodes)) = answer {
+        let cpu = asked.cpu;
+        let last = nodes.saturating_sub(1);
+        let _ = eprintln!(rt; "error: '--cpu {cpu}': the machine's nodes are 0 to {last}");
+        return ExitCode::from(2);
+    }
+    ended(rt, "", answer)
+}
+
+/// Ends with an answer about played scripts and the trace of this name, or with why there is none.
+pub fn ended(rt: &impl Eprint, trace: &str, answer: Result<(), Halt>) -> ExitCode {
     match answer {
         Ok(()) => ExitCode::SUCCESS,
         Err(Halt::Stopped(why)) => stop(rt, why),
         Err(Halt::NoMachine) => {
             let _ = eprintln!(rt; "error: no machine is ready after the scripts");
-            ExitCode::from(NO_MACHINE)
+            ExitCode::from(NOT_AS_ASKED)
         }
-        Err(Halt::NoNode(nodes)) => {
-            let cpu = asked.cpu;
-            let last = nodes.saturating_sub(1);
-            let _ = eprintln!(rt; "error: '--cpu {cpu}': the machine's nodes are 0 to {last}");
+        Err(Halt::NoNode(_)) => ExitCode::from(2),
+        Err(Halt::Unmapped) => {
+            let _ = eprintln!(rt; "error: the page of '<ADDRESS>' isn't mapped after the scripts");
             ExitCode::from(2)
+        }
+        Err(Halt::BadAccess(place, fault)) => {
+            let why = fault.text();
+            let _ = eprintln!(rt; "{trace}:{place}: {why}");
+            ExitCode::from(NOT_AS_ASKED)
         }
     }
 }

@@ -3,6 +3,8 @@ pub mod asked;
 pub mod check;
 pub mod diff;
 pub mod expect;
+pub mod explain;
 pub mod predict;
+pub mod replay;
 pub mod run;
 pub mod storm;
