@@ -28,7 +28,7 @@ ghost use Rattle.numa_hunts.specs.Moments.{IsPublishedIn, after_moment, moment_o
 
 /// A new desk is that of the opening world. A command that it accepts is the world's Accept, and a
 /// publish of something pending is the world's Publish, each a legal moment with the same number as
-/// its answer. A refusal with a cause is the world's refusal of the Accept, and want of memory for
+/// its answer. A refusal with a cause is the world's refusal of the Accept, and lack of memory for
 /// a publish is one that the world allows. With nothing pending a publish changes nothing: it is no
 /// moment, and a Publish would lead to a world that isn't the desk's.
 pub fn a_desk_is_the_worlds()

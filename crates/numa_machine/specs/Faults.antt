@@ -42,7 +42,7 @@ has_bad_frames nodes memory frames =
     some_node nodes (λ node. are_bad_frames memory node (slice_index frames node))
     || nat_lt 65536 (sum frames)
 
--- the first fault of the description of a machine, want of memory apart
+-- the first fault of the description of a machine, lack of memory apart
 unfoldable pub machine_fault : ℕ → ℕ → List ℕ → List ℕ → Option MachineFault
 machine_fault nodes memory distances frames =
     if has_bad_count nodes distances frames then Some NodeCount

@@ -136,7 +136,7 @@ fn has_bad_frames(nodes: u32, memory: &NodeMask, frames: &[u32]) -> bool
     has_bad_node(memory, frames) || frames_in_all(frames) > MOST_FRAMES_IN_ALL
 }
 
-/// The first fault of the description of a machine, want of memory apart.
+/// The first fault of the description of a machine, lack of memory apart.
 #[tactic(auto, unfolding(crate::specs::Faults::machine_fault))]
 pub(crate) fn fault_of(
     nodes: u32,

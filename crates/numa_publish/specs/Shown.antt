@@ -46,7 +46,7 @@ pub record ViewState : Type 0 where
 abbrev pub accepted : DeskState → List Command
 accepted desk = desk.pending ++ desk.published
 
--- a desk refuses a command: for want of memory, or as the accepted history does
+-- a desk refuses a command: for lack of memory, or as the accepted history does
 abbrev pub Refuses : DeskState → Command → Refusal → Type 0
 Refuses desk command refusal =
     (refusal ≡ Refusal.NoMemory)

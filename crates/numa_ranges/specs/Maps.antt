@@ -56,7 +56,7 @@ set_refusal same max_ranges at first pages value =
     if any_page (λ page. not (is_some (at page))) first pages then Some Hole
     else count_refusal same max_ranges (changed_span first pages (λ old. value) at)
 
--- how a call is refused: by the first cause that holds, or for want of memory where none does
+-- how a call is refused: by the first cause that holds, or for lack of memory where none does
 abbrev pub IsRefusal : Option RangeFault → RangeFault → Type 0
 IsRefusal None refusal = refusal ≡ NoMemory
 IsRefusal (Some cause) refusal = refusal ≡ cause

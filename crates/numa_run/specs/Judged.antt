@@ -44,7 +44,7 @@ fault_in told = if is_fault told then Some told else None
 
 -- ---- questions
 
--- the first cause that refuses a question, want of memory apart
+-- the first cause that refuses a question, lack of memory apart
 abbrev pub question_refusal : Hardware → List Command → Question → Option PlaceRefusal
 question_refusal machine history (question.Place task address cpu) =
     place_refusal_of machine history (page_of address) cpu

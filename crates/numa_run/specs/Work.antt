@@ -97,7 +97,7 @@ needs_room (SetTask task spec) = not (is_default spec)
 needs_room (SetWeight node weight) = false
 needs_room (SetMems mask) = false
 
--- the refusal by which an event tells want of memory, where it may want any
+-- the refusal by which an event tells lack of memory, where it may need any
 abbrev pub want_of : Event → Option CoreRefusal
 want_of (Accept command) = if needs_room command then Some (Because NoRoom) else None
 want_of Publish = Some NoMemory
@@ -106,7 +106,7 @@ want_of (Look w word) = None
 want_of (Try w frame) = None
 want_of (Give w frame) = None
 
--- want of memory shows only where nothing else refuses the event
+-- lack of memory shows only where nothing else refuses the event
 abbrev pub unless_wanting : Option CoreRefusal → Result CoreReply CoreRefusal
     → Result CoreReply CoreRefusal
 unless_wanting None answer = answer

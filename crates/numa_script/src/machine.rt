@@ -80,7 +80,7 @@ impl<'a> Frames<'a> {
 
     /// The frames of each of so many nodes: one number is that of each node with memory, where the
     /// others have none, and more than one are those of the nodes in turn, as many as were written.
-    /// `Err` is want of memory.
+    /// `Err` is lack of memory.
     pub fn for_nodes(
         &self,
         alloc: Global,

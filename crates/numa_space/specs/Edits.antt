@@ -35,7 +35,7 @@ overlap_cause pages first count = when (any_page (λ page. is_some (pages page))
 abbrev pub hole_cause : PageMap → ℕ → ℕ → Option Refusal
 hole_cause pages first count = when (any_page (λ page. not (is_some (pages page))) first count) Hole
 
--- the first cause, or the pages afterwards; want of memory where there is no cause; unchanged where
+-- the first cause, or the pages afterwards; lack of memory where there is no cause; unchanged where
 -- it is refused
 abbrev pub IsEdit : Option Refusal → PageMap → PageRanges → Result (Unit {0}) Refusal → PageRanges
     → Type 0

@@ -128,7 +128,7 @@ scene_of machine bounds history command = record {
   task_count = length (tasks_of history);
 }
 
--- the first cause that refuses the command after this history, want of memory apart
+-- the first cause that refuses the command after this history, lack of memory apart
 abbrev pub refusal_of : Hardware → Bounds → List Command → Command → Option Refusal
 refusal_of machine bounds history command = refusal_in
     (scene_of machine bounds history command) command

@@ -106,7 +106,7 @@ impl Space {
         })
     }
 
-    /// Carries out a command, or refuses it by the first cause that applies; want of memory is the
+    /// Carries out a command, or refuses it by the first cause that applies; lack of memory is the
     /// last. A refusal leaves the space as it was.
     pub fn apply(&mut self, command: &Command) -> Result<(), Refusal>
         ensures ok { (history : List Command) → StandsFor self.old history
@@ -187,8 +187,8 @@ impl Space {
     }
 
     /// How many ranges there are: mapped pages whose predecessor isn't mapped, or has another
-    /// policy of its own or an index that isn't one less. Linux keeps as many areas for such an
-    /// address space (mbind(2) splits and merges them).
+    /// policy of its own or an index that isn't one less. Linux can keep more areas, since it does
+    /// not always merge equal neighbours again, or fewer (docs/KERNEL.md).
     pub fn ranges(&self) -> usize
         ensures ranges { result ≡ length self.now.ranges }
         ensures count { result ≡ range_count same_record (page_at self.now.ranges) }
