@@ -5,6 +5,5 @@ pub mod diff;
 pub mod expect;
 pub mod explain;
 pub mod predict;
-pub mod replay;
 pub mod run;
 pub mod storm;
