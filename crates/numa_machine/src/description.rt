@@ -1,7 +1,7 @@
 //! Whether the description of a machine holds together.
 ghost use Rattle.std.specs.Prelude.{◌≡◌, ◌+◌, ◌*◌, ◌≤◌, ◌<◌, ℕ, length, sum, slice_index, nat_le};
 ghost use Rattle.std.specs.List.{list_any};
-ghost use Rattle.numa_mask.specs.NodeSet.{has, members};
+ghost use Rattle.numa_mask.specs.NodeSet.{members};
 ghost use Rattle.numa_machine.specs.Faults.{some_node, has_bad_count, has_bad_memory};
 ghost use Rattle.numa_machine.specs.Faults.{is_bad_distance, has_bad_distance, are_bad_frames};
 ghost use Rattle.numa_machine.specs.Faults.{has_bad_frames, machine_fault};
@@ -9,7 +9,7 @@ ghost use Rattle.numa_machine.specs.Machine.{table_entry};
 
 use crate::fault::MachineFault;
 use crate::orders::entry;
-use numa_mask::{NodeId, NodeMask};
+use numa_mask::NodeMask;
 
 /// The most nodes of a machine.
 const MOST_NODES: u32 = 256;
@@ -90,18 +90,11 @@ fn has_bad_distance(nodes: u32, distances: &[u8]) -> bool
     false
 }
 
-/// Whether a node is a member of the nodes with memory.
-fn has_memory(memory: &NodeMask, node: u8) -> bool
-    ensures { result ≡ has memory.now node }
-{
-    NodeId::new(node).is_some_and(|node| memory.contains(node))
-}
-
 /// Whether a node has more than 4,096 frames, or has frames without memory.
 fn are_bad_frames(memory: &NodeMask, node: u8, count: u32) -> bool
     ensures { result ≡ are_bad_frames memory.now node count }
 {
-    count > MOST_FRAMES || (!has_memory(memory, node) && count != 0)
+    count > MOST_FRAMES || (!memory.has(node) && count != 0)
 }
 
 /// Whether some node has too many frames.

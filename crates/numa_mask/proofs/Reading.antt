@@ -1,38 +1,16 @@
--- Reading a list: its items, and what an item is.
-use Rattle.std.proofs.Common.{◌≡◌, ℕ, zero, suc, ◌+◌, ◌-◌, ◌*◌, ◌^◌, ◌<◌, ◌≤◌, ◌==◌, Bool, true, false, not, ◌&&◌, ◌||◌, cond, leb, List, [], ◌∷◌, ◌++◌, length, take, drop, get_or, slice_get, position, Option, Some, None, Result, Ok, Err, refl, sym, ap, ◌∙◌, arith}
+-- Reading a list: what an item is.
+use Rattle.std.proofs.Common.{◌≡◌, ℕ, zero, suc, ◌+◌, ◌-◌, ◌*◌, ◌^◌, ◌<◌, ◌≤◌, ◌==◌, Bool, true, false, ◌&&◌, ◌||◌, cond, leb, List, [], ◌∷◌, ◌++◌, length, take, drop, get_or, slice_get, position, Option, Some, None, Result, Ok, Err, refl, sym, ap, ◌∙◌, arith}
 use Rattle.std.specs.Char.{is_digit, digit_value}
-use Rattle.std.specs.List.{list_all, position_or_len, fold, flat_map, range_with_len}
+use Rattle.std.specs.List.{list_all, fold, flat_map, range_with_len}
 use Rattle.std.specs.Str.Parse.{digits_value}
 use Rattle.std.proofs.lemmas.List.Folds.{list_all_at, list_all_more}
-use Rattle.std.proofs.lemmas.List.Splits.{slice_split_first, slice_split_none}
-use Rattle.std.proofs.lemmas.List.Elements.{All-from_get_or}
-use Rattle.std.proofs.lemmas.List.Sums.{prefix_len_passes, fold-append}
+use Rattle.std.proofs.lemmas.List.Sums.{fold-append}
 use Rattle.std.proofs.lemmas.Bool.Decides.{nat_tests}
 use Rattle.std.proofs.lemmas.Bool.{ltb-true, lt-ltb, le-ltb, le-leb, lt-leb}
 use Rattle.numa_mask.specs.declared.list.ListFault.{ListFault}
 use Rattle.numa_mask.specs.declared.list.ListFault.TheVariants.{Empty, BackRange, NodeTooHigh}
 use Rattle.numa_mask.specs.NodeSet.{with_node}
-use Rattle.numa_mask.specs.Lists.{items_of, digit_of, numeral_of, both_of, ends_at, ends_of, judged, item_of, nodes_between, nodes_in, faults_of, unless}
-
--- ---- items
-
--- what has a comma at n is the item before it and the items after it
-pub cut_at : (text : List ℕ) (n : ℕ) → position (λ b. b == 44) text ≡ Some n → items_of text ≡ take n text ∷ items_of (drop (n + 1) text)
-cut_at text n h =
-    let lt : position_or_len (λ b. b == 44) text < length text = grind (arith, nat_tests) in
-    let at : position_or_len (λ b. b == 44) text ≡ n = grind (arith, nat_tests) in
-    slice_split_first (λ b. b == 44) text 0 lt ∙ ap (λ k. take k text ∷ items_of (drop (k + 1) text)) at
-
-not_true : (b : Bool) → not b ≡ true → b ≡ false
-not_true true h = cc
-not_true false h = refl
-
--- what has no comma is one item
-pub cut_nowhere : (text : List ℕ) → position (λ b. b == 44) text ≡ None → items_of text ≡ text ∷ []
-cut_nowhere text h =
-    let all : length text ≤ position_or_len (λ b. b == 44) text = grind (arith, nat_tests) in
-    let no_comma : (i : ℕ) → i < length text → (get_or text i 0 == 44) ≡ false = λ i lt. not_true _ (prefix_len_passes (λ b. not (b == 44)) text i 0 (omega arith)) in
-    slice_split_none (λ b. b == 44) text (All-from_get_or (λ b. (b == 44) ≡ false) text 0 (λ i lt. no_comma i lt))
+use Rattle.numa_mask.specs.Lists.{digit_of, numeral_of, both_of, ends_at, ends_of, judged, item_of, nodes_between, nodes_in, faults_of, unless}
 
 -- ---- numerals
 

@@ -1,3 +1,4 @@
 pub mod Lists
 pub mod NodeSet
+pub mod Parts
 pub mod Words

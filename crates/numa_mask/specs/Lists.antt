@@ -3,7 +3,7 @@ use Rattle.std.specs.Prelude.{ℕ, ◌+◌, ◌-◌, ◌==◌, ◌++◌, ◌&&�
 use Rattle.std.specs.Prelude.{map, filter, codes, decimal, nat_le, nat_lt, if◌then◌else◌, Option}
 use Rattle.std.specs.Prelude.{Some, None, Result, Ok, Err, slice_get, take, drop, position}
 use Rattle.std.specs.Char.{is_digit, digit_value}
-use Rattle.std.specs.List.{list_all, slice_split, filter_map, flat_map}
+use Rattle.std.specs.List.{list_all, filter_map, flat_map}
 use Rattle.std.specs.List.{range_with_len, prefix_len, join_with_byte}
 use Rattle.std.specs.Result.{result_err}
 use Rattle.std.specs.Str.Parse.{digits_value}
@@ -11,12 +11,13 @@ use Rattle.numa_mask.specs.declared.list.ListFault.{ListFault}
 use Rattle.numa_mask.specs.declared.list.ListFault.TheVariants.{Empty, BadDigit, BackRange}
 use Rattle.numa_mask.specs.declared.list.ListFault.TheVariants.{NodeTooHigh}
 use Rattle.numa_mask.specs.NodeSet.{has, members, set_of}
+use Rattle.numa_mask.specs.Parts.{parts_of}
 
 -- ---- reading
 
 -- the items of a text: what lies between its commas
 abbrev pub items_of : List ℕ → List (List ℕ)
-items_of text = slice_split (λ b. b == 44) text
+items_of text = parts_of 44 text
 
 -- the value of a decimal digit
 unfoldable pub digit_of : ℕ → Option ℕ

@@ -7,9 +7,9 @@ ghost use Rattle.std.specs.List.{fold};
 ghost use Rattle.numa_mask.specs.Lists.{list_of, item_of, ends_of, digit_of, numeral_of};
 ghost use Rattle.numa_mask.specs.Lists.{nodes_between, starts_run, run_end, run_text, text_of};
 
-use crate::items::{Items, first_place};
 use crate::mask::NodeMask;
 use crate::node::NodeId;
+use crate::parts::{Parts, first_place};
 
 /// Why a text is no list of nodes.
 #[derive(Clone, Copy, Debug, PartialEq, Eq, Drop)]
@@ -100,7 +100,7 @@ pub fn read_list(text: &[u8]) -> Result<NodeMask, ListFault>
     ensures { result ≡ list_of text.now }
 {
     let mut set = NodeMask::empty();
-    for item in Items::new(text) {
+    for item in Parts::new(text, b',') {
         let (first, last) = read_item(item)?;
         insert_between(&mut set, first, last);
     }

@@ -19,7 +19,7 @@
 //!   policy over to another set of allowed nodes.
 //!
 //! No call takes memory.
-ghost use Rattle.std.specs.Prelude.{count_ones, ◌≡◌, ◌≢◌, ◌==◌, ◌+◌, ◌-◌, ◌<◌, ◌≤◌, ◌%◌};
+ghost use Rattle.std.specs.Prelude.{count_ones, ◌≡◌, ◌≢◌, ◌==◌, ◌+◌, ◌-◌, ◌<◌, ◌≤◌};
 ghost use Rattle.std.specs.Prelude.{◌^◌, ◌↔◌, ℕ, true, false, IsTrue, IsSome, IfSome, List};
 ghost use Rattle.std.specs.Prelude.{[], length, nat_lt, Some, None, if◌then◌else◌};
 ghost use Rattle.std.specs.List.{sum_by};
@@ -28,7 +28,7 @@ ghost use Rattle.std.specs.Hash as fed;
 ghost use Rattle.std.proofs.Common.{rules};
 ghost use Rattle.numa_mask.specs.Words.{words_of};
 ghost use Rattle.numa_mask.specs.NodeSet.{has, members, weight_of, nth_member, ordinal_of};
-ghost use Rattle.numa_mask.specs.NodeSet.{with_node, both, fold_set, onto_set, moved, remap_set};
+ghost use Rattle.numa_mask.specs.NodeSet.{with_node, both, fold_set, onto_set, remap_set};
 
 use crate::node::NodeId;
 use crate::nodes::Nodes;
@@ -122,6 +122,13 @@ impl NodeMask {
     {
         let number = node.number();
         (self.words[number as usize / 64] >> (number % 64)) & 1 == 1
+    }
+
+    /// Whether the node of this number is a member. Every byte is the number of a node.
+    pub fn has(&self, number: u8) -> bool
+        ensures { result ≡ has self.now number }
+    {
+        self.contains(NodeId::of(number))
     }
 
     /// The nodes that both sets have.
@@ -255,30 +262,8 @@ impl NodeMask {
         ensures members { result ≡ self.now }
         ensures within { self.now < 2 ^ 256 }
     {
+        // Tells the proof that the words are four, each below 2^64.
         let _ = &self.words;
         Nodes::of(*self)
-    }
-}
-
-impl NodeId {
-    /// Its number modulo the size.
-    fn modulo(self, size: u32) -> NodeId
-        requires { 1 ≤ size }
-        ensures { result ≡ self % size }
-    {
-        NodeId::of(((u32::from(self.number())) % size) as u8)
-    }
-
-    /// Where `remap` takes it.
-    fn moved(self, old: &NodeMask, new: &Ranked) -> NodeId
-        ensures { result ≡ moved old.now new.now self }
-    {
-        if new.is_empty() {
-            return self;
-        }
-        match old.ordinal(self) {
-            Some(n) => new.nth(n % new.weight()).unwrap(),
-            None => self,
-        }
     }
 }

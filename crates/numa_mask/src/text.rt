@@ -13,7 +13,7 @@ fn starts_run(set: &NodeMask, node: NodeId) -> bool
     ensures { result ≡ starts_run set.now node }
 {
     match node.number().checked_sub(1) {
-        Some(before) => !set.contains(NodeId::of(before)),
+        Some(before) => !set.has(before),
         None => true,
     }
 }
@@ -23,7 +23,7 @@ fn run_end(set: &NodeMask, first: NodeId) -> NodeId
     ensures { result ≡ run_end set.now first }
 {
     let mut last = first.number();
-    while last < 255 && set.contains(NodeId::of(last + 1)) {
+    while last < 255 && set.has(last + 1) {
         last += 1;
     }
     NodeId::of(last)

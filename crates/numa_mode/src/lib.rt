@@ -36,7 +36,6 @@ pub mod flags;
 pub mod modes;
 pub mod records;
 pub mod specification;
-mod text;
 
 pub use flags::PolicyFlags;
 pub use modes::{Mode, NodeFlag};

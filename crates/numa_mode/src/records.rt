@@ -3,12 +3,14 @@ ghost use Rattle.std.specs.Prelude.{◌≡◌, ◌≢◌, true, false, is_ok, is
 ghost use Rattle.std.specs.Prelude.{IfOk, IfSome, IsTrue, ◌↔◌};
 ghost use Rattle.numa_mode.specs.Policy.{is_default, is_preferred, is_local, is_live};
 ghost use Rattle.numa_mode.specs.Policy.{record_when_set, record_after, takes_home, with_home};
+ghost use Rattle.numa_mode.specs.Policy.{policy_text};
 ghost use Rattle.numa_mode.specs.Within.{IsWithin, IsAtMostOne};
 
 use crate::effects::effect;
 use crate::modes::{Mode, NodeFlag};
 use crate::specification::PolicySpec;
-use numa_mask::NodeMask;
+use arrayvec::ArrayString;
+use numa_mask::{NodeMask, list_text};
 use std::marker::Model;
 
 /// None of the nodes that a policy asks for is allowed: `EINVAL` of set_mempolicy(2) and mbind(2).
@@ -145,5 +147,22 @@ impl Record {
         ensures local { is_local self.now.spec ≡ true → result ≡ 0 }
     {
         self.effective
+    }
+
+    /// The policy as numa_maps shows it, `interleave=static:0,2-3`: the mode's name, the flag, and
+    /// after a colon the nodes that the policy has at present, where it has any. The nodes that
+    /// were asked for and the home node aren't shown.
+    pub fn policy_text(&self) -> ArrayString<1024>
+        ensures { result.bytes ≡ policy_text self.now }
+    {
+        let mut text = ArrayString::new();
+        text.push_str(self.spec().mode().text());
+        text.push_str(self.spec().flag().text());
+        let nodes = self.effective();
+        if !nodes.is_empty() {
+            text.push(':');
+            text.push_str(list_text(&nodes).as_str());
+        }
+        text
     }
 }

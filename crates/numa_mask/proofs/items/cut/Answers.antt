@@ -1,7 +1,0 @@
-use Rattle.std.proofs.Common.{sym, ◌∙◌}
-use Rattle.std.proofs.lemmas.List.{take_rest}
-use Rattle.numa_mask.proofs.Reading.{cut_at}
-use Rattle.numa_mask.proofs.items.cut.Goals as goal
-
-pub returns : goal.returns
-returns c = rw take_rest (cut_at c.args.text.now c.in_ok-comma.comma (sym c.first_place.ensures ∙ c.in_ok-comma.was))
