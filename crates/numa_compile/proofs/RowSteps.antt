@@ -1,22 +1,11 @@
 -- Rows that grow, one behind another.
-use Rattle.std.proofs.Common.{◌≡◌, ℕ, ◌+◌, ◌<◌, ◌&&◌, not, List, [], ◌∷◌, ◌++◌, append_assoc, filter, replicate, map-id, All, subst, sym, ap, ◌∙◌, arith}
+use Rattle.std.proofs.Common.{◌≡◌, ℕ, ◌+◌, ◌<◌, List, [], ◌∷◌, ◌++◌, append_assoc, replicate, map-id, All, subst, sym, ap, ◌∙◌, arith}
 use Rattle.std.specs.List.{range_with_len}
 use Rattle.std.proofs.lemmas.List.FromFn.{map-range_with_len_more}
 use Rattle.std.proofs.lemmas.List.Elements.{All-head, All-tail}
-use Rattle.numa_mask.specs.NodeSet.{has}
-use Rattle.numa_machine.specs.Machine.{distance_order}
-use Rattle.numa_space.specs.Lists.{Setting, within}
+use Rattle.numa_space.specs.Lists.{Setting}
 use Rattle.numa_compile.specs.Rules.{row_from, rows_from, places_from}
 use Rattle.numa_compile.specs.declared.reach.Reach.{Reach}
-use Rattle.numa_compile.specs.declared.reach.Reach.TheVariants.{First}
-
--- the nodes of a set, and then the others
-pub first-row : (setting : Setting) (set from : ℕ) (old middle new order : List ℕ) (allowed : ℕ) → order ≡ distance_order setting.machine from → allowed ≡ setting.allowed → middle ≡ old ++ within set order → new ≡ middle ++ filter (λ node. has allowed node && not (has set node)) order
-    → new ≡ old ++ row_from setting (First set) from
-first-row setting set from old middle new order allowed is same one two =
-    let nodes : List ℕ = filter (λ node. has allowed node && not (has set node)) order in
-    two ∙ ap (λ (xs : List ℕ). xs ++ nodes) one ∙ append_assoc old (within set order) nodes
-    ∙ (λ i. old ++ (within set (is i) ++ filter (λ node. has (same i) node && not (has set node)) (is i)))
 
 -- the row of the first node that is left
 pub row-moved : (setting : Setting) (reach : Reach) (node : ℕ) (left rest : List ℕ) (old new whole : List ℕ) → left ≡ node ∷ rest → new ≡ old ++ row_from setting reach node → old ++ rows_from setting reach left ≡ whole → new ++ rows_from setting reach rest ≡ whole

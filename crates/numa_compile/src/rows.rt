@@ -1,53 +1,27 @@
 //! Rows of nodes, one behind another.
-ghost use Rattle.std.specs.Prelude.{◌≡◌, ◌<◌, ◌++◌, ◌&&◌, not, filter, OnOk, IfOk, All};
+ghost use Rattle.std.specs.Prelude.{◌≡◌, ◌<◌, ◌++◌, OnOk, IfOk, All};
 ghost use Rattle.std.specs.List.{range_with_len};
-ghost use Rattle.numa_mask.specs.NodeSet.{has, members};
-ghost use Rattle.numa_space.specs.Lists.{within};
+ghost use Rattle.numa_mask.specs.NodeSet.{members};
 ghost use Rattle.numa_space.specs.Standing.{setting_in};
 ghost use Rattle.numa_compile.specs.Rules.{row_from, rows_from};
 ghost use Rattle.numa_compile.specs.declared.reach.Reach.TheVariants.{Only};
 
 use crate::reach::Reach;
-use numa_mask::{NodeId, NodeMask};
+use arrayvec::ArrayVec;
+use numa_mask::NodeMask;
 use numa_plan::NoMemory;
 use numa_space::Space;
 use std::alloc::Global;
 
-/// Whether a set has the node of this number.
-fn has(set: &NodeMask, node: u8) -> bool
-    ensures { result ≡ has set.now node }
+/// The nodes of the row for a fault on a node.
+fn row_from(space: &Space, reach: &Reach, from: u32) -> ArrayVec<u8, 256>
+    requires { from < space.now.machine.nodes }
+    ensures { result.items ≡ row_from (setting_in space.now) reach.now from }
 {
-    NodeId::new(node).is_some_and(|node| set.contains(node))
-}
-
-/// Appends those nodes of an order that a set has.
-fn push_within(rows: &mut Vec<u8>, order: &[u8], set: &NodeMask) -> Result<(), NoMemory>
-    ensures { OnOk result (rows.new.items ≡ rows.old.items ++ within set.now order.now) }
-{
-    for node in order {
-        if has(set, *node) {
-            rows.push(*node)?;
-        }
+    match reach {
+        Reach::Only(set) => space.nearest(set, from),
+        Reach::First(set) => space.nearest_before_others(set, from),
     }
-    Ok(())
-}
-
-/// Appends those nodes of an order that are allowed and that a set lacks.
-fn push_others(
-    rows: &mut Vec<u8>,
-    order: &[u8],
-    allowed: &NodeMask,
-    set: &NodeMask,
-) -> Result<(), NoMemory>
-    ensures { OnOk result (rows.new.items ≡ rows.old.items
-        ++ filter (λ node. has allowed.now node && not (has set.now node)) order.now) }
-{
-    for node in order {
-        if has(allowed, *node) && !has(set, *node) {
-            rows.push(*node)?;
-        }
-    }
-    Ok(())
 }
 
 /// Appends the row for a fault on a node.
@@ -61,14 +35,9 @@ pub(crate) fn push_row(
     ensures { OnOk result (rows.new.items ≡ rows.old.items
         ++ row_from (setting_in space.now) reach.now from) }
 {
-    let order = space.machine().order(from);
-    match reach {
-        Reach::Only(set) => push_within(rows, order, set),
-        Reach::First(set) => {
-            push_within(rows, order, set)?;
-            push_others(rows, order, &space.allowed(), set)
-        }
-    }
+    let row = row_from(space, reach, from);
+    rows.extend_from_slice(row.as_slice())?;
+    Ok(())
 }
 
 /// The rows for faults on each node of the machine, from node 0 on.

@@ -5,11 +5,9 @@ use crate::scope::Scope;
 use numa_machine::Machine;
 use numa_mask::{NodeMask, list_text};
 use numa_mode::Record;
+use numa_space::PAGE_BYTES;
 use std::alloc::AllocError;
 use std::fmt::Write;
-
-/// How many bytes a page has.
-const PAGE_BYTES: u64 = 4096;
 
 /// The first line: the question, and the nodes in order.
 fn push_question(text: &mut String, said: &Explanation) -> Result<(), AllocError> {

@@ -8,14 +8,7 @@ ghost use Rattle.numa_space.specs.Lists.{within};
 
 use arrayvec::ArrayVec;
 use numa_machine::Weights;
-use numa_mask::{NodeId, NodeMask};
-
-/// Whether a set has the node of this number.
-fn has(set: &NodeMask, node: u8) -> bool
-    ensures { result ≡ has set.now node }
-{
-    NodeId::new(node).is_some_and(|node| set.contains(node))
-}
+use numa_mask::NodeMask;
 
 /// Appends those nodes of an order that a set has.
 pub(crate) fn push_within(list: &mut ArrayVec<u8, 256>, order: &[u8], set: &NodeMask)
@@ -23,7 +16,7 @@ pub(crate) fn push_within(list: &mut ArrayVec<u8, 256>, order: &[u8], set: &Node
     ensures { list.new.items ≡ list.old.items ++ within set.now order.now }
 {
     for node in order {
-        if has(set, *node) {
+        if set.has(*node) {
             list.push(*node);
         }
     }
@@ -42,7 +35,7 @@ pub(crate) fn push_others(
         (λ node. has allowed.now node && not (has set.now node)) order.now }
 {
     for node in order {
-        if has(allowed, *node) && !has(set, *node) {
+        if allowed.has(*node) && !set.has(*node) {
             list.push(*node);
         }
     }

@@ -2,6 +2,9 @@
 use numa_mask::NodeMask;
 use numa_mode::PolicySpec;
 
+/// How many bytes a page has.
+pub const PAGE_BYTES: u64 = 4096;
+
 /// What a user asks of a space. Starts and lengths are in bytes; a span is the pages of 4,096 bytes
 /// from `start / 4096` on, as many as the length rounded up to whole pages. Offsets are in pages.
 #[derive(Clone, Copy, Debug, PartialEq, Eq)]

@@ -87,7 +87,7 @@ pub mod request;
 pub mod space;
 mod task_policies;
 
-pub use command::Command;
+pub use command::{Command, PAGE_BYTES};
 pub use event::{CoreRefusal, CoreReply, Event};
 pub use limits::Limits;
 pub use numa_ranges::Run;

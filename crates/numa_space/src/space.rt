@@ -197,6 +197,7 @@ impl Space {
         ensures limit { result ≤ self.now.bounds.max_ranges }
         ensures at_most { result ≤ 65536 }
     {
+        // Tells the proof that the limit is at most 65,536.
         let _ = self.limits.max_ranges();
         self.pages.len()
     }
@@ -225,6 +226,7 @@ impl Space {
         ensures at_most { result ≤ 1024 }
         ensures each_once { AllPairs (λ earlier later. earlier.0 ≢ later.0) self.now.tasks }
     {
+        // Tells the proof that the limit is at most 1,024.
         let _ = self.limits.max_tasks();
         self.tasks.len()
     }

@@ -10,7 +10,7 @@ ghost use Rattle.numa_space.specs.Refusals.{bad_span, has_no_node};
 ghost use Rattle.numa_space.specs.Standing.{SpaceState, record_of};
 ghost use Rattle.numa_space.specs.Steps.{IsAnswer, MayNeedRoom, record_now};
 
-use crate::command::Command;
+use crate::command::{Command, PAGE_BYTES};
 use crate::refusal::Refusal;
 use crate::space::Space;
 use numa_machine::WeightFault;
@@ -24,14 +24,14 @@ fn span_of(start: u64, length: u64) -> Result<(u64, u64), Refusal>
         (λ refusal. bad_span start length ≡ Some refusal) }
     ensures within { MatchResult result (λ span. span.0 + span.1 ≤ 2 ^ 35) (λ refusal. Unit {0}) }
 {
-    if start % 4096 != 0 {
+    if start % PAGE_BYTES != 0 {
         return Err(Refusal::Unaligned);
     }
-    let pages = length / 4096 + u64::from(length % 4096 != 0);
-    if start > 1 << 47 || pages > (1 << 35) - start / 4096 {
+    let pages = length / PAGE_BYTES + u64::from(length % PAGE_BYTES != 0);
+    if start > 1 << 47 || pages > (1 << 35) - start / PAGE_BYTES {
         return Err(Refusal::OutOfSpace);
     }
-    Ok((start / 4096, pages))
+    Ok((start / PAGE_BYTES, pages))
 }
 
 /// Whether a set has a node of this number or above.

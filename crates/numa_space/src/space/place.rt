@@ -51,6 +51,7 @@ impl Space {
         ensures in_force { IfSome result (λ policy. IsInForce self.now.machine self.now.allowed
             policy × (is_live policy ≡ true)) }
     {
+        // Tells the proof that every policy of the space is in force.
         let _ = &self.allowed;
         self.policy_of_page(task, page)
     }
@@ -84,6 +85,7 @@ impl Space {
             (λ refusal. place_refusal_of self.now.machine history page cpu ≡ Some refusal) }
         ensures sound { IfOk result (λ list. IsNodeList self.now.allowed list.items) }
     {
+        // Tells the proof that the machine, the allowed nodes and the weights are sound.
         let _ = &self.allowed;
         self.list_of_page(task, page, cpu)
     }
@@ -155,8 +157,8 @@ impl Space {
         self.nearest(&self.allowed, from)
     }
 
-    /// The nodes of a set, the nearest to a node first.
-    fn nearest(&self, set: &NodeMask, from: u32) -> ArrayVec<u8, 256>
+    /// The nodes of a set that have memory, the nearest to a node first. Takes no memory.
+    pub fn nearest(&self, set: &NodeMask, from: u32) -> ArrayVec<u8, 256>
         requires { from < self.now.machine.nodes }
         ensures { result.items ≡ within set.now (distance_order self.now.machine from) }
     {
@@ -165,9 +167,9 @@ impl Space {
         list
     }
 
-    /// The nodes of a set, the nearest to a node first, and behind them the other allowed nodes in
-    /// the same order.
-    fn nearest_before_others(&self, set: &NodeMask, from: u32) -> ArrayVec<u8, 256>
+    /// The nodes of a set that have memory, the nearest to a node first, and behind them the other
+    /// allowed nodes in the same order. Takes no memory.
+    pub fn nearest_before_others(&self, set: &NodeMask, from: u32) -> ArrayVec<u8, 256>
         requires { from < self.now.machine.nodes }
         ensures { result.items ≡ within set.now (distance_order self.now.machine from)
             ++ filter (λ node. has self.now.allowed node && not (has set.now node))
