@@ -18,7 +18,7 @@ use Rattle.numa_plan.specs.Building.{with_rule}
 use Rattle.numa_plan.specs.Sound.{IsPlan, uses_of}
 use Rattle.numa_plan.specs.declared.slots.Slot.{Slot}
 use Rattle.numa_plan.specs.declared.slots.Slot.TheVariants.{Free, Taken}
-use Rattle.numa_plan.proofs.SlotLemmas.{same_or_not, put-same, put-other, length-put, rule_in-used, rule_in-unused, length-used, length-unused, uses_in-used, uses_in-unused}
+use Rattle.numa_plan.proofs.SlotLemmas.{same_or_not, put-same, put-other, length-put, ends-put, rule_in-used, rule_in-unused, length-used, length-unused, uses_in-used, uses_in-unused}
 
 -- a free slot counts no use
 free-unused : (slot : Slot) → rule_of_slot slot ≡ None → uses_of_slot slot ≡ 0
@@ -46,6 +46,7 @@ keeps_with_rule nodes runs slots low tasks local number rule plan lowest has = r
     | inl e ↦ rw e (ap (λ s. is_some (rule_of_slot s)) here)
     | inr ne ↦ ap (λ s. is_some (rule_of_slot s)) (there k ne) ∙ lowest.taken_below k (omega arith)
   ];
+  ends = ends-put slots number 0 rule lowest.within plan.ends;
 }
   where
     here : slot_at (put_slot slots number (Taken 0 rule)) number ≡ Taken 0 rule
@@ -55,7 +56,7 @@ keeps_with_rule nodes runs slots low tasks local number rule plan lowest has = r
     there k ne = put-other slots number k (Taken 0 rule) lowest.within ne
 
 -- the rules stay, and the uses are counted anew
-keeps : (nodes : ℕ) (runs runs' : List (Run (Option ℕ))) (slots slots' : List Slot) (low : ℕ) (tasks tasks' : List (ℕ × ℕ)) (local : RuleData) → IsPlan nodes runs slots low tasks local
+pub keeps : (nodes : ℕ) (runs runs' : List (Run (Option ℕ))) (slots slots' : List Slot) (low : ℕ) (tasks tasks' : List (ℕ × ℕ)) (local : RuleData) → IsPlan nodes runs slots low tasks local
     → ((k : ℕ) → rule_in slots' k ≡ rule_in slots k) → length slots' ≡ length slots → ((k : ℕ) → uses_in slots' k ≡ uses_of runs' tasks' k) → IsPlan nodes runs' slots' low tasks' local
 keeps nodes runs runs' slots slots' low tasks tasks' local plan same long counts = record {
   counted = counts;
@@ -63,6 +64,7 @@ keeps nodes runs runs' slots slots' low tasks tasks' local plan same long counts
   local_rows = plan.local_rows;
   within = omega (arith, plan.within);
   taken_below = λ k lt. ap is_some (same k) ∙ plan.taken_below k lt;
+  ends = λ last is. ap is_some (same last) ∙ plan.ends last (sym long ∙ is);
 }
 
 -- ---- how many runs and tasks name a number
@@ -148,24 +150,26 @@ served-uses : (runs : List (Run (Option ℕ))) (tasks : List (ℕ × ℕ)) (task
 served-uses runs tasks task page index number None is named = task-uses runs tasks task number (sym named)
 served-uses runs tasks task page index number (Some own) is named = omega (arith, page_at-names runs page index number (is ∙ ap (λ (v : Option ℕ). Some (index, v)) named))
 
--- the lowest free slot serves no page, so that a rule written there changes no list
-pub lists-with_rule : (plan : PlanData) (low number : ℕ) (rule : RuleData) → IsPlan plan.nodes plan.runs plan.slots low plan.tasks plan.local → IsLowestFree plan.slots number
-    → (task page cpu : ℕ) → planned_list (with_rule plan number rule) task page cpu ≡ planned_list plan task page cpu
-lists-with_rule plan low number rule sound lowest task page cpu = go (page_at plan.runs page) refl
+-- a plan whose used rules are in other slots as in its own has the same lists
+pub lists-kept : (plan : PlanData) (slots : List Slot) → ((named : ℕ) → 0 < uses_of plan.runs plan.tasks named → rule_in slots named ≡ rule_in plan.slots named)
+    → (task page cpu : ℕ) → planned_list (record plan { slots = slots }) task page cpu ≡ planned_list plan task page cpu
+lists-kept plan slots kept task page cpu = go (page_at plan.runs page) refl
   where
-    kept : (named : ℕ) → 0 < uses_of plan.runs plan.tasks named → rule_in (put_slot plan.slots number (Taken 0 rule)) named ≡ rule_in plan.slots named
-    kept named some =
-        ap rule_of_slot (put-other plan.slots number named (Taken 0 rule) lowest.within (λ is.
-        let none : uses_in plan.slots named ≡ 0 = ap (uses_in plan.slots) is ∙ free-unused (slot_at plan.slots number) lowest.free in
-        absurd (omega (arith, sound.counted named, none))))
-
-    serves : (o : Option ℕ) → ((named : ℕ) → o ≡ Some named → 0 < uses_of plan.runs plan.tasks named) → option_and_then (rule_in (put_slot plan.slots number (Taken 0 rule))) o ≡ option_and_then (rule_in plan.slots) o
+    serves : (o : Option ℕ) → ((named : ℕ) → o ≡ Some named → 0 < uses_of plan.runs plan.tasks named) → option_and_then (rule_in slots) o ≡ option_and_then (rule_in plan.slots) o
     serves None some = refl
     serves (Some named) some = kept named (some named refl)
 
     go : (o : Option (ℕ × Option ℕ)) → page_at plan.runs page ≡ o
-        → option_map (λ at. row_of (rule_for (with_rule plan number rule) task at.1) cpu at.0) o ≡ option_map (λ at. row_of (rule_for plan task at.1) cpu at.0) o
+        → option_map (λ at. row_of (rule_for (record plan { slots = slots }) task at.1) cpu at.0) o ≡ option_map (λ at. row_of (rule_for plan task at.1) cpu at.0) o
     go None is = refl
     go (Some at) is =
         ap (λ (o : Option RuleData). Some (row_of (unwrap_or o plan.local) cpu at.0))
         (serves (number_for plan.tasks task at.1) (λ named here. served-uses plan.runs plan.tasks task page at.0 named at.1 is here))
+
+-- the lowest free slot serves no page, so that a rule written there changes no list
+pub lists-with_rule : (plan : PlanData) (low number : ℕ) (rule : RuleData) → IsPlan plan.nodes plan.runs plan.slots low plan.tasks plan.local → IsLowestFree plan.slots number
+    → (task page cpu : ℕ) → planned_list (with_rule plan number rule) task page cpu ≡ planned_list plan task page cpu
+lists-with_rule plan low number rule sound lowest = lists-kept plan (put_slot plan.slots number (Taken 0 rule)) (λ named some.
+    ap rule_of_slot (put-other plan.slots number named (Taken 0 rule) lowest.within (λ is.
+    let none : uses_in plan.slots named ≡ 0 = ap (uses_in plan.slots) is ∙ free-unused (slot_at plan.slots number) lowest.free in
+    absurd (omega (arith, sound.counted named, none)))))

@@ -1,5 +1,6 @@
 pub mod BuildLemmas
 pub mod CountLemmas
+pub mod EditLemmas
 pub mod FillLemmas
 pub mod RowLemmas
 pub mod RuleLemmas

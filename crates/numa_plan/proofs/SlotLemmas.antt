@@ -5,7 +5,7 @@ use Rattle.std.proofs.lemmas.Bool.{cases_lt, lt-ltb, le-ltb, ne_eqb}
 use Rattle.std.proofs.lemmas.List.{get_or_default, get_or-set_same, get_or-set_other}
 use Rattle.std.proofs.Math.ListN.{length-set}
 use Rattle.numa_plan.specs.Rows.{RuleData}
-use Rattle.numa_plan.specs.Slots.{slot_at, rule_of_slot, uses_of_slot, rule_in, uses_in, put_slot, one_use_more, one_use_less, used, unused, IsLowestFree}
+use Rattle.numa_plan.specs.Slots.{slot_at, rule_of_slot, uses_of_slot, rule_in, uses_in, put_slot, one_use_more, one_use_less, used, unused, IsLowestFree, EndsTaken}
 use Rattle.numa_plan.specs.declared.slots.Slot.{Slot}
 use Rattle.numa_plan.specs.declared.slots.Slot.TheVariants.{Free, Taken}
 
@@ -63,6 +63,24 @@ put-sized slots number slot =
       | inr ge ↦ rw (le-ltb number (length slots) ge) (omega (arith, length-append slots (slot ∷ [])))
     ]
 
+-- the last slot is taken still
+pub ends-put : (slots : List Slot) (number uses : ℕ) (rule : RuleData) → number ≤ length slots → EndsTaken slots → EndsTaken (put_slot slots number (Taken uses rule))
+ends-put slots number uses rule le ends last is =
+    elim (same_or_not last number) [
+      | inl e ↦ rw e (ap (λ (s : Slot). is_some (rule_of_slot s)) (put-same slots number (Taken uses rule) le))
+      | inr ne ↦ ap (λ (s : Slot). is_some (rule_of_slot s)) (put-other slots number last (Taken uses rule) le ne) ∙ ends last (long ne)
+    ]
+  where
+    long : (last ≡ number → ⊥) → length slots ≡ last + 1
+    long ne = elim (cases_lt number (length slots)) [
+      | inl lt ↦
+          let same : length (put_slot slots number (Taken uses rule)) ≡ length slots = rw (lt-ltb number (length slots) lt) (length-set slots number (Taken uses rule)) in
+          omega (arith, same, is)
+      | inr ge ↦
+          let more : length (put_slot slots number (Taken uses rule)) ≡ length slots + 1 = rw (le-ltb number (length slots) ge) (omega (arith, length-append slots (Taken uses rule ∷ []))) in
+          absurd (ne (omega (arith, more, is)))
+    ]
+
 -- the rule that was written is there, and each that was there is there still
 pub rule_in-put : (slots : List Slot) (number : ℕ) (rule : RuleData) → number ≤ length slots → rule_in (put_slot slots number (Taken 0 rule)) number ≡ Some rule
 rule_in-put slots number rule le = ap rule_of_slot (put-same slots number (Taken 0 rule) le)
@@ -93,7 +111,7 @@ uses-less Free = omega arith
 uses-less (Taken uses rule) = refl
 
 -- a slot changed, where a free one stays free
-change-same : (change : Slot → Slot) → change Free ≡ Free → (slots : List Slot) (number : ℕ) → slot_at (set slots number (change (slot_at slots number))) number ≡ change (slot_at slots number)
+pub change-same : (change : Slot → Slot) → change Free ≡ Free → (slots : List Slot) (number : ℕ) → slot_at (set slots number (change (slot_at slots number))) number ≡ change (slot_at slots number)
 change-same change free [] number = sym free
 change-same change free (s ∷ slots) zero = refl
 change-same change free (s ∷ slots) (suc number) = change-same change free slots number

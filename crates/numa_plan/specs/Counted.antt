@@ -17,6 +17,9 @@ one_comparison steps = record steps { comparisons = steps.comparisons + 1 }
 abbrev pub one_run : Counted → Counted
 one_run steps = record steps { runs = steps.runs + 1 }
 
+abbrev pub more_runs : ℕ → Counted → Counted
+more_runs runs steps = record steps { runs = steps.runs + runs }
+
 abbrev pub one_rule : Counted → Counted
 one_rule steps = record steps { rules = steps.rules + 1 }
 

@@ -1,5 +1,6 @@
 pub mod Building
 pub mod Counted
+pub mod Editing
 pub mod Found
 pub mod Meaning
 pub mod Rows

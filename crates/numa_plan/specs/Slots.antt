@@ -29,6 +29,10 @@ uses_in slots number = uses_of_slot (slot_at slots number)
 abbrev pub AreTaken : List Slot → ℕ → Type 0
 AreTaken slots number = (lower : ℕ) → lower < number → IsSome (rule_in slots lower)
 
+-- the last slot, if there are any, is taken
+abbrev pub EndsTaken : List Slot → Type 0
+EndsTaken slots = (last : ℕ) → length slots ≡ last + 1 → IsSome (rule_in slots last)
+
 -- the lowest free slot, which is the one behind the last where no other is free
 pub record IsLowestFree (slots : List Slot) (number : ℕ) : Type 0 where
   pub within : number ≤ length slots

@@ -4,7 +4,7 @@ use Rattle.std.specs.Map.{values_of}
 use Rattle.numa_ranges.specs.declared.run.Run.{Run}
 use Rattle.numa_plan.specs.Rows.{RuleData, HasRows}
 use Rattle.numa_plan.specs.Meaning.{is_number}
-use Rattle.numa_plan.specs.Slots.{rule_in, uses_in, AreTaken}
+use Rattle.numa_plan.specs.Slots.{rule_in, uses_in, AreTaken, EndsTaken}
 use Rattle.numa_plan.specs.declared.slots.Slot.{Slot}
 
 -- how many runs and tasks name a slot
@@ -23,3 +23,4 @@ pub record IsPlan (nodes : ℕ) (runs : List (Run (Option ℕ))) (slots : List S
   -- no slot is free below the one at which the search for a free one begins
   pub within : lowest_free ≤ length slots
   pub taken_below : AreTaken slots lowest_free
+  pub ends : EndsTaken slots

@@ -10,6 +10,7 @@ ghost use Rattle.numa_plan.specs.Meaning.{PlanData, planned_list, place_refusal,
 ghost use Rattle.numa_plan.specs.Meaning.{number_for, planned_first, CountsFirsts, RefusesSpan};
 
 mod build;
+mod edit;
 
 use crate::rule::Rule;
 use crate::runs::Runs;
@@ -30,6 +31,7 @@ use std::marker::Model;
 /// list.
 #[derive(Drop)]
 pub struct Plan {
+    alloc: Global,
     version: u64,
     nodes: u32,
     runs: Runs,
@@ -60,18 +62,21 @@ impl Model for Plan {
 }
 
 impl Plan {
-    /// The same plan once more, with its version, runs, rules and tasks.
+    /// The same plan once more, with its version, runs, rules and tasks. The two share the chunks
+    /// of their runs and the rules in slots, until one of them is edited.
     ///
     /// # Errors
-    /// `NoMemory` where there is none for the runs, the rules and the tasks.
+    /// `NoMemory` where there is none for the table of chunks, the slots, the tasks and the local
+    /// rule.
     pub fn copy(&self, alloc: Global) -> Result<Plan, NoMemory>
         ensures { IfOk result (λ copy. copy ≡ self.now) }
     {
-        let runs = self.runs.copy(alloc)?;
+        let runs = self.runs.copy()?;
         let slots = copies(alloc, &self.slots)?;
         let tasks = self.tasks.clone()?;
         let local = self.local.copy(alloc)?;
         Ok(Plan {
+            alloc,
             version: self.version,
             nodes: self.nodes,
             runs,
@@ -213,7 +218,7 @@ impl Plan {
             return None;
         }
         match &self.slots[number as usize] {
-            Slot::Taken { rule, .. } => Some(rule),
+            Slot::Taken { rule, .. } => Some(rule.get()),
             Slot::Free => None,
         }
     }
@@ -247,4 +252,4 @@ const _: () = prove!(size_of::<numa_ranges::Run<Option<u32>>>() == 32);
 
 const _: () = prove!(size_of::<Steps>() == 0);
 
-const _: () = prove!(size_of::<Slot>() == 96);
+const _: () = prove!(size_of::<Slot>() == 16);

@@ -5,12 +5,14 @@ ghost use Rattle.std.specs.Prelude.{IfOk, OnOk, OnErr, Some, None, IsSome};
 ghost use Rattle.std.specs.Bool.{OnTrue, OnFalse};
 ghost use Rattle.numa_ranges.specs.Runs.{AreApart, end_of, page_at};
 ghost use Rattle.numa_ranges.specs.declared.run.Run.{Run};
-ghost use Rattle.numa_plan.specs.Counted.{one_comparison, one_run, FindsQuickly};
+ghost use Rattle.std.specs.List.{slice_range, splice};
+ghost use Rattle.numa_plan.specs.Counted.{one_comparison, one_run, more_runs, FindsQuickly};
 ghost use Rattle.numa_plan.specs.Found.{IsFound, IsPartOf, IsMapped, HasHole};
 
 use crate::steps::Steps;
 use numa_machine::NoMemory;
 use numa_ranges::Run;
+use numa_rows::{Near, Rows, Shared};
 use std::alloc::{AllocError, Global};
 use std::marker::Model;
 
@@ -23,10 +25,11 @@ pub(crate) struct Found {
     pub(crate) left: u64,
 }
 
-/// Runs of pages, in rising order and apart, each with the number of its rule or none.
+/// Runs of pages, in rising order and apart, each with the number of its rule or none. They stand
+/// in chunks, which copies share.
 #[derive(Drop)]
 pub(crate) struct Runs {
-    items: Vec<Run<Option<u32>>>,
+    items: Rows<Run<Option<u32>>, Shared<Run<Option<u32>>>>,
 }
 
 impl Model for Runs {
@@ -36,9 +39,9 @@ impl Model for Runs {
 
     ghost Value = { List (Run (Option ℕ)) };
 
-    ghost view = { λ a. a.items.items };
+    ghost view = { λ a. a.items };
 
-    ghost invariant = { λ a. AreApart 0 a.items.items };
+    ghost invariant = { λ a. AreApart 0 a.items };
 }
 
 impl Runs {
@@ -47,15 +50,15 @@ impl Runs {
         ensures { result ≡ [] }
     {
         Runs {
-            items: Vec::new(alloc),
+            items: Rows::new(alloc),
         }
     }
 
-    /// The same runs once more.
-    pub(crate) fn copy(&self, alloc: Global) -> Result<Runs, AllocError>
+    /// The same runs once more, in the same chunks.
+    pub(crate) fn copy(&self) -> Result<Runs, AllocError>
         ensures { IfOk result (λ copy. copy ≡ self.now) }
     {
-        let items = Vec::from_slice(alloc, &self.items)?;
+        let items = self.items.copy()?;
         Ok(Runs { items })
     }
 
@@ -68,8 +71,14 @@ impl Runs {
     }
 
     /// How far a page lies behind the first page of a run; none where it lies before it. Nothing
-    /// else reads a run's first page.
-    fn behind_first(&self, place: usize, page: u64, steps: &mut Steps) -> Option<u64>
+    /// else reads a run's first page. `near` is where the search for a run has come.
+    fn behind_first(
+        &self,
+        place: usize,
+        page: u64,
+        near: &mut Near,
+        steps: &mut Steps,
+    ) -> Option<u64>
         requires { place < length self.now }
         ensures counted { steps.new ≡ one_comparison steps.old }
         ensures far { (d : Run (Option ℕ)) →
@@ -77,23 +86,23 @@ impl Runs {
             (λ far. (slice_index_or self.now place d).first + far ≡ page) }
     {
         steps.compared();
-        let first = self.items[place].first;
-        if page < first {
+        let run = self.items.get_near(place, near);
+        if page < run.first {
             None
         } else {
-            Some(page - first)
+            Some(page - run.first)
         }
     }
 
     /// What a run says of the page that lies so far behind its first page; none where the run is
     /// shorter.
-    fn found_at(&self, place: usize, far: u64) -> Option<Found>
+    fn found_at(&self, place: usize, far: u64, near: &mut Near) -> Option<Found>
         requires { place < length self.now }
         ensures { (d : Run (Option ℕ)) →
             MatchOption result ((slice_index_or self.now place d).pages ≤ far)
             (λ found. IsPartOf (slice_index_or self.now place d) far found) }
     {
-        let run = &self.items[place];
+        let run = self.items.get_near(place, near);
         if far < run.pages {
             Some(Found {
                 index: run.index + far,
@@ -110,12 +119,13 @@ impl Runs {
         ensures found { IsFound self.now page result }
         ensures quick { FindsQuickly steps.old steps.new (length self.now) }
     {
+        let mut near = self.items.near();
         let mut low = 0usize;
         let mut high = self.len();
         let mut far = 0u64;
         while low < high {
             let middle = low + (high - low) / 2;
-            match self.behind_first(middle, page, steps) {
+            match self.behind_first(middle, page, &mut near, steps) {
                 Some(distance) => {
                     far = distance;
                     low = middle + 1;
@@ -126,7 +136,7 @@ impl Runs {
         if low == 0 {
             return None;
         }
-        self.found_at(low - 1, far)
+        self.found_at(low - 1, far, &mut near)
     }
 
     /// Whether each page of the span is mapped.
@@ -170,5 +180,27 @@ impl Runs {
         })?;
         steps.run_written();
         Ok(())
+    }
+
+    /// Puts runs in the place of those from one place to another, which it hands back.
+    pub(crate) fn splice(
+        &mut self,
+        from: usize,
+        to: usize,
+        runs: &[Run<Option<u32>>],
+        steps: &mut Steps,
+    ) -> Result<Vec<Run<Option<u32>>>, NoMemory>
+        requires rises { from ≤ to }
+        requires within { to ≤ length self.old }
+        requires apart { AreApart 0 (splice self.old from to runs.now) }
+        ensures ok { IfOk result (λ gone. (gone.items ≡ slice_range self.old from to)
+            × (self.new ≡ splice self.old from to runs.now)
+            × (steps.new ≡ more_runs (length runs.now) steps.old)) }
+        ensures err { OnErr result ((self.new ≡ self.old) × (steps.new ≡ steps.old)) }
+    {
+        let gone = self.items.gather(from, to)?;
+        self.items.splice(from, to, runs)?;
+        steps.runs_written(runs.len());
+        Ok(gone)
     }
 }

@@ -1,13 +1,17 @@
 //! Rules in numbered slots, which count the runs and tasks that use them. A free slot is used
 //! again.
-ghost use Rattle.std.specs.Prelude.{◌≡◌, ◌+◌, ◌-◌, ◌<◌, ◌≤◌, ◌^◌, length};
-ghost use Rattle.std.specs.Prelude.{Some, IsSome, IfOk, OnOk, OnErr};
-ghost use Rattle.numa_plan.specs.Slots.{rule_in, uses_in, AreTaken, IsLowestFree};
-ghost use Rattle.numa_plan.specs.Slots.{put_slot, used, unused};
-ghost use Rattle.numa_plan.specs.declared.slots.Slot.TheVariants.{Taken};
+ghost use Rattle.std.specs.Prelude.{◌≡◌, ℕ, ◌+◌, ◌-◌, ◌<◌, ◌≤◌, ◌^◌, length, All, count_by};
+ghost use Rattle.std.specs.Prelude.{Some, IsSome, is_some, IfOk, OnOk, OnErr, slice_set, take, not};
+ghost use Rattle.std.specs.Option.{ForSome};
+ghost use Rattle.numa_plan.specs.Slots.{rule_in, rule_of_slot, uses_in, AreTaken, IsLowestFree};
+ghost use Rattle.numa_plan.specs.Slots.{put_slot, slot_at, used, unused};
+ghost use Rattle.numa_plan.specs.Editing.{all_used, all_unused, trimmed, with_other};
+ghost use Rattle.numa_plan.specs.Meaning.{is_number};
+ghost use Rattle.numa_plan.specs.declared.slots.Slot.TheVariants.{Free, Taken};
 
-use crate::rule::Rule;
+use crate::shared_rule::SharedRule;
 use numa_machine::NoMemory;
+use numa_ranges::Run;
 use std::alloc::Global;
 
 /// A place for a rule.
@@ -16,29 +20,29 @@ pub(crate) enum Slot {
     /// There is no rule.
     Free,
     /// A rule, and how many runs and tasks use it.
-    Taken { uses: u32, rule: Rule },
+    Taken { uses: u32, rule: SharedRule },
 }
 
-/// The same slot once more.
-fn slot_copy(alloc: Global, slot: &Slot) -> Result<Slot, NoMemory>
+/// The same slot once more, with the same rule.
+fn slot_copy(slot: &Slot) -> Result<Slot, NoMemory>
     ensures { IfOk result (λ copy. copy ≡ slot.now) }
 {
     match slot {
         Slot::Free => Ok(Slot::Free),
         Slot::Taken { uses, rule } => {
-            let rule = rule.copy(alloc)?;
+            let rule = rule.share()?;
             Ok(Slot::Taken { uses: *uses, rule })
         }
     }
 }
 
-/// The same slots once more.
+/// The same slots once more, with the same rules.
 pub(crate) fn copies(alloc: Global, slots: &[Slot]) -> Result<Vec<Slot>, NoMemory>
     ensures { IfOk result (λ others. others.items ≡ slots.now) }
 {
     let mut others = Vec::with_capacity(alloc, slots.len())?;
     for slot in slots {
-        others.push(slot_copy(alloc, slot)?)?;
+        others.push(slot_copy(slot)?)?;
     }
     Ok(others)
 }
@@ -58,7 +62,11 @@ pub(crate) fn lowest_free(slots: &Vec<Slot>, from: usize) -> usize
 }
 
 /// Writes a rule that nothing uses yet.
-pub(crate) fn put_rule(slots: &mut Vec<Slot>, number: usize, rule: Rule) -> Result<(), NoMemory>
+pub(crate) fn put_rule(
+    slots: &mut Vec<Slot>,
+    number: usize,
+    rule: SharedRule,
+) -> Result<(), NoMemory>
     requires { number ≤ length slots.old.items }
     ensures ok { OnOk result (slots.new.items ≡ put_slot slots.old.items number (Taken 0 rule)) }
     ensures err { OnErr result (slots.new.items ≡ slots.old.items) }
@@ -93,4 +101,95 @@ pub(crate) fn leave_rule(slots: &mut Vec<Slot>, number: u32)
     if let Slot::Taken { uses, .. } = slot {
         *uses -= 1;
     }
+}
+
+/// Counts one more use of a rule, if one is named.
+fn use_named(slots: &mut Vec<Slot>, named: Option<u32>)
+    requires there { ForSome named (λ number. IsSome (rule_in slots.old.items number)) }
+    requires few { ForSome named (λ number. uses_in slots.old.items number < 2 ^ 32 - 1) }
+    ensures { slots.new.items ≡ used slots.old.items named }
+{
+    if let Some(number) = named {
+        use_rule(slots, number);
+    }
+}
+
+/// Counts one use of a rule less, if one is named.
+fn leave_named(slots: &mut Vec<Slot>, named: Option<u32>)
+    requires { ForSome named (λ number. 0 < uses_in slots.old.items number) }
+    ensures { slots.new.items ≡ unused slots.old.items named }
+{
+    if let Some(number) = named {
+        leave_rule(slots, number);
+    }
+}
+
+/// Counts one more use of a rule for each run that names it.
+pub(crate) fn use_all(slots: &mut Vec<Slot>, runs: &[Run<Option<u32>>])
+    requires there { All (λ run. ForSome run.value (λ number.
+        IsSome (rule_in slots.old.items number))) runs.now }
+    requires few { (number : ℕ) → uses_in slots.old.items number + length runs.now < 2 ^ 32 }
+    ensures { slots.new.items ≡ all_used slots.old.items runs.now }
+{
+    for run in runs {
+        use_named(slots, run.value);
+    }
+}
+
+/// Counts one use of a rule less for each run that names it.
+pub(crate) fn leave_all(slots: &mut Vec<Slot>, runs: &[Run<Option<u32>>])
+    requires { (number : ℕ) →
+        count_by (λ run. is_number number run.value) runs.now ≤ uses_in slots.old.items number }
+    ensures { slots.new.items ≡ all_unused slots.old.items runs.now }
+{
+    for run in runs {
+        leave_named(slots, run.value);
+    }
+}
+
+/// Writes a rule in the place of another, whose uses it keeps.
+pub(crate) fn write_other(slots: &mut Vec<Slot>, number: u32, other: SharedRule)
+    requires { IsSome (rule_in slots.old.items number) }
+    ensures { slots.new.items
+        ≡ slice_set slots.old.items number (with_other (slot_at slots.old.items number) other) }
+{
+    let slot = &mut slots[number as usize];
+    if let Slot::Taken { rule, .. } = slot {
+        *rule = other;
+    }
+}
+
+/// Whether a slot is free.
+fn is_free(slot: &Slot) -> bool
+    ensures { result ≡ not (is_some (rule_of_slot slot.now)) }
+{
+    match slot {
+        Slot::Free => true,
+        Slot::Taken { .. } => false,
+    }
+}
+
+/// How many slots there are up to the last that is taken.
+fn taken_length(slots: &[Slot]) -> usize
+    ensures within { result ≤ length slots.now }
+    ensures kept { take result slots.now ≡ trimmed slots.now }
+{
+    let mut kept = slots.len();
+    while kept > 0 {
+        if !is_free(&slots[kept - 1]) {
+            return kept;
+        }
+        kept -= 1;
+    }
+    0
+}
+
+/// Frees a slot, and takes out the free slots behind the last that is taken.
+pub(crate) fn free_slot(slots: &mut Vec<Slot>, number: usize)
+    requires { number < length slots.old.items }
+    ensures { slots.new.items ≡ trimmed (slice_set slots.old.items number Free) }
+{
+    slots[number] = Slot::Free;
+    let kept = taken_length(slots.as_slice());
+    slots.truncate(kept);
 }

@@ -1,6 +1,7 @@
 //! Steps that contracts alone count.
 ghost use Rattle.std.specs.Prelude.{◌≡◌};
-ghost use Rattle.numa_plan.specs.Counted.{no_steps, one_comparison, one_run, one_rule};
+ghost use Rattle.numa_plan.specs.Counted.{no_steps, one_comparison, one_run, more_runs};
+ghost use Rattle.numa_plan.specs.Counted.{one_rule};
 
 use numa_count::Count;
 use std::marker::Model;
@@ -46,6 +47,15 @@ impl Steps {
         ensures { self.new ≡ one_run self.old }
     {
         self.runs = self.runs.next();
+    }
+
+    /// So many runs were written.
+    pub(crate) fn runs_written(&mut self, runs: usize)
+        ensures { self.new ≡ more_runs runs self.old }
+    {
+        for _ in 0..runs {
+            self.run_written();
+        }
     }
 
     /// A rule was written.

@@ -12,6 +12,7 @@ ghost use Rattle.numa_plan.specs.Building.{empty_plan, with_rule, with_run, with
 use crate::plan::Plan;
 use crate::rule::Rule;
 use crate::runs::Runs;
+use crate::shared_rule::SharedRule;
 use crate::slots::{leave_rule, lowest_free, put_rule, use_rule};
 use crate::steps::Steps;
 use numa_machine::NoMemory;
@@ -27,6 +28,7 @@ impl Plan {
         ensures { result ≡ empty_plan nodes local }
     {
         Plan {
+            alloc,
             version: 0,
             nodes,
             runs: Runs::new(alloc),
@@ -42,7 +44,7 @@ impl Plan {
     /// uses the rule yet, so that no list changes.
     ///
     /// # Errors
-    /// `NoMemory` where there is none for a slot more; the plan is as it was.
+    /// `NoMemory` where there is none for the rule's place or a slot more; the plan is as it was.
     pub fn add_rule(&mut self, rule: Rule, steps: &mut Steps) -> Result<u32, NoMemory>
         requires rows { HasRows self.old.nodes rule }
         requires few { length self.old.slots < 2 ^ 32 }
@@ -54,7 +56,8 @@ impl Plan {
         ensures err { OnErr result ((self.new ≡ self.old) × (steps.new ≡ steps.old)) }
     {
         let place = lowest_free(&self.slots, self.lowest_free);
-        put_rule(&mut self.slots, place, rule)?;
+        let shared = SharedRule::new(self.alloc, rule)?;
+        put_rule(&mut self.slots, place, shared)?;
         self.lowest_free = place + 1;
         steps.rule_written();
         Ok(place as u32)

@@ -1,6 +1,8 @@
-use Rattle.std.proofs.Common.{◌≡◌, ◌++◌, length, reverse, slice_index, sym, ◌∙◌, ap}
+use Rattle.std.proofs.Common.{◌≡◌, ℕ, ◌++◌, length, reverse, slice_index, sym, subst, ◌∙◌, ap}
 use Rattle.std.specs.Arc.{arc_value}
+use Rattle.numa_space.specs.Policies.{allowed_nodes}
 use Rattle.numa_space.specs.Refusals.{range_count_of}
+use Rattle.numa_space.specs.Standing.{IsNodeList}
 use Rattle.numa_publish.specs.Batches.{history_of}
 use Rattle.numa_publish.specs.declared.issue.Issue.{Issue}
 use Rattle.numa_publish.proofs.Lists.{prefix_trans}
@@ -26,3 +28,10 @@ pub invariant_of-issue-clause-newest : goal.invariant_of-issue-clause-newest
 invariant_of-issue-clause-newest c =
     let all : history_of c.again.result.log ≡ reverse c.args.pending.now.commands.items ++ history_of c.args.shown.now.front.log = ap (λ s. history_of s.log) c.again.ensures ∙ (c.if-not-add.ensures.added ∙ c.requires.accepted) in
     ap (λ versions. slice_index versions 0) c.and.ensures ∙ (c.version-2.ensures.version ∙ (c.requires.stands.version ∙ sym (ap length all)))
+
+pub invariant_of-issue-clause-sound : goal.invariant_of-issue-clause-sound
+invariant_of-issue-clause-sound c task page cpu low nodes is =
+    let all : history_of c.again.result.log ≡ reverse c.args.pending.now.commands.items ++ history_of c.args.shown.now.front.log = ap (λ s. history_of s.log) c.again.ensures ∙ (c.if-not-add.ensures.added ∙ c.requires.accepted) in
+    let machine = c.of.ensures ∙ c.machine.ensures in
+    let allowed : c.args.space.now.allowed ≡ allowed_nodes c.of.result (history_of c.again.result.log) = c.requires.stands.allowed ∙ sym (λ i. allowed_nodes (machine i) (all i)) in
+    subst (λ (set : ℕ). IsNodeList set nodes) allowed (c.in_ok-plan.ensures.sound task page cpu low nodes is)

@@ -9,16 +9,16 @@ use Rattle.numa_plan.proofs.plan.Plan.add_rule.Goals as goal
 pub invariant_of-self-2 : goal.invariant_of-self-2
 invariant_of-self-2 c =
     rw c.in_ok-put_rule.ensures.ok
-    (keeps_with_rule c.self.inside.nodes c.self.inside.runs c.self.inside.slots.items c.self.inside.lowest_free c.self.inside.tasks.entries c.self.inside.local c.lowest_free-place.result c.args.rule c.self.invariant c.lowest_free-place.ensures
-    (rw (ap (λ (p : PlanData). p.nodes) c.self.view_is) c.requires.rows))
+    (keeps_with_rule c.self.inside.nodes c.self.inside.runs c.self.inside.slots.items c.self.inside.lowest_free c.self.inside.tasks.entries c.self.inside.local c.lowest_free-place.result c.in_ok-shared.shared c.self.invariant c.lowest_free-place.ensures
+    (rw (c.in_ok-shared.ensures, ap (λ (p : PlanData). p.nodes) c.self.view_is) c.requires.rows))
 
 pub returns-clause-sized : goal.returns-clause-sized
 returns-clause-sized c =
-    omega (arith, put-sized c.self.inside.slots.items c.lowest_free-place.result (Taken 0 c.args.rule), ap length c.in_ok-put_rule.ensures.ok, ap (λ (p : PlanData). length p.slots) c.self.view_is)
+    omega (arith, put-sized c.self.inside.slots.items c.lowest_free-place.result (Taken 0 c.in_ok-shared.shared), ap length c.in_ok-put_rule.ensures.ok, ap (λ (p : PlanData). length p.slots) c.self.view_is)
 
 pub returns-clause-lists : goal.returns-clause-lists
 returns-clause-lists c task page cpu =
     let plan : PlanData = record { version = c.self.inside.version; nodes = c.self.inside.nodes; runs = c.self.inside.runs; slots = c.self.inside.slots.items; tasks = c.self.inside.tasks.entries; local = c.self.inside.local } in
     ap (λ (slots : List Slot). planned_list (record plan { slots = slots }) task page cpu) c.in_ok-put_rule.ensures.ok
-    ∙ lists-with_rule plan c.self.inside.lowest_free c.lowest_free-place.result c.args.rule c.self.invariant c.lowest_free-place.ensures task page cpu
+    ∙ lists-with_rule plan c.self.inside.lowest_free c.lowest_free-place.result c.in_ok-shared.shared c.self.invariant c.lowest_free-place.ensures task page cpu
     ∙ ap (λ (p : PlanData). planned_list p task page cpu) c.self.view_is

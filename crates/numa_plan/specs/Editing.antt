@@ -1,0 +1,52 @@
+-- What the editing calls make of a plan's data.
+use Rattle.std.specs.Prelude.{ℕ, Option, List, [], ◌∷◌, slice_set}
+use Rattle.std.specs.List.{slice_range, splice}
+use Rattle.numa_ranges.specs.declared.run.Run.{Run}
+use Rattle.numa_plan.specs.Rows.{RuleData}
+use Rattle.numa_plan.specs.Meaning.{PlanData}
+use Rattle.numa_plan.specs.Slots.{slot_at, used, unused}
+use Rattle.numa_plan.specs.declared.slots.Slot.{Slot}
+use Rattle.numa_plan.specs.declared.slots.Slot.TheVariants.{Free, Taken}
+
+-- the slots with one use more of a number for each run that names it
+abbrev pub all_used : List Slot → List (Run (Option ℕ)) → List Slot
+all_used slots [] = slots
+all_used slots (run ∷ runs) = all_used (used slots run.value) runs
+
+-- the slots with one use less of a number for each run that names it
+abbrev pub all_unused : List Slot → List (Run (Option ℕ)) → List Slot
+all_unused slots [] = slots
+all_unused slots (run ∷ runs) = all_unused (unused slots run.value) runs
+
+-- the plan with runs in the place of those from one place to another
+abbrev pub with_runs : PlanData → ℕ → ℕ → List (Run (Option ℕ)) → PlanData
+with_runs plan from to runs = record plan {
+  runs = splice plan.runs from to runs;
+  slots = all_unused (all_used plan.slots runs) (slice_range plan.runs from to);
+}
+
+-- a taken slot with another rule, and its uses
+abbrev pub with_other : Slot → RuleData → Slot
+with_other Free rule = Free
+with_other (Taken uses old) rule = Taken uses rule
+
+-- the plan with another rule in a slot
+abbrev pub with_written : PlanData → ℕ → RuleData → PlanData
+with_written plan number rule = record plan {
+  slots = slice_set plan.slots number (with_other (slot_at plan.slots number) rule);
+}
+
+-- a slot before others, but none where it is free and there are no others
+abbrev pub before_others : Slot → List Slot → List Slot
+before_others Free [] = []
+before_others Free (slot ∷ slots) = Free ∷ slot ∷ slots
+before_others (Taken uses rule) slots = Taken uses rule ∷ slots
+
+-- the slots up to the last that is taken
+abbrev pub trimmed : List Slot → List Slot
+trimmed [] = []
+trimmed (slot ∷ slots) = before_others slot (trimmed slots)
+
+-- the plan without the rule in a slot
+abbrev pub without_rule : PlanData → ℕ → PlanData
+without_rule plan number = record plan { slots = trimmed (slice_set plan.slots number Free) }
