@@ -2,7 +2,7 @@
 use Rattle.std.proofs.Common.{◌≡◌, ℕ, false, Option, Some, None, Ok, Err, is_some, is_none, unwrap_or, List, [], nat_le, refl, sym, ap, subst, ◌∙◌}
 use Rattle.numa_space.specs.declared.request.Request.{Request}
 use Rattle.numa_core.specs.declared.state.State.{State}
-use Rattle.numa_core.specs.declared.touching.Spot.{Spot}
+use Rattle.numa_core.specs.declared.free_frames.Spot.{Spot}
 use Rattle.numa_space.specs.declared.event.CoreReply.TheVariants.{Exhausted, Won}
 use Rattle.numa_space.specs.declared.event.CoreRefusal.{CoreRefusal}
 use Rattle.numa_space.specs.declared.event.CoreRefusal.TheVariants.{NoSuchWorker, Busy, BadCpu, Unmapped}

@@ -9,7 +9,7 @@ use Rattle.numa_space.specs.declared.event.Event.TheVariants.{Try}
 use Rattle.numa_space.specs.declared.event.CoreReply.TheVariants.{Still, Exhausted, Won}
 use Rattle.numa_space.specs.declared.event.CoreRefusal.{CoreRefusal}
 use Rattle.numa_space.specs.declared.event.CoreRefusal.TheVariants.{NoSuchWorker, Busy, BadCpu, Unmapped}
-use Rattle.numa_core.specs.declared.touching.Spot.{Spot}
+use Rattle.numa_core.specs.declared.free_frames.Spot.{Spot}
 use Rattle.numa_core.specs.World.{Setup, Hunt, World, newest_published, hunt_of, last_of, list_at, is_frame, current_rank, has_unmet, may_try, missed, begun}
 use Rattle.numa_core.specs.Steps.{goes_on, going_on, with_worker, with_owner}
 use Rattle.numa_core.specs.Touching.{Answered, lowest_unmet, next_frame, next_try, answered_with, tried_on, touched, lowest_free, first_free, touch_reply, touch_effect, touch_refusal, touch_answer, touch_world}

@@ -8,7 +8,7 @@ use Rattle.std.specs.Option.{option_map, option_map_or, option_or}
 use Rattle.numa_machine.specs.Machine.{frames_of}
 use Rattle.numa_machine.specs.declared.frame.Frame.{Frame}
 use Rattle.numa_space.specs.declared.request.Request.{Request}
-use Rattle.numa_core.specs.declared.touching.Spot.{Spot}
+use Rattle.numa_core.specs.declared.free_frames.Spot.{Spot}
 use Rattle.numa_space.specs.declared.event.Event.{Event}
 use Rattle.numa_space.specs.declared.event.Event.TheVariants.{Begin, Try}
 use Rattle.numa_space.specs.declared.event.CoreReply.{CoreReply}

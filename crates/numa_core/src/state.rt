@@ -1,23 +1,26 @@
 //! What a core keeps, and its steps.
-ghost use Rattle.std.specs.Prelude.{◌≡◌, ℕ, ◌≤◌, IfOk, OnErr, None, Some, slice_get, vec_len};
+ghost use Rattle.std.specs.Prelude.{◌≡◌, ℕ, ◌<◌, ◌≤◌, IfOk, OnErr, None, Some, slice_get, vec_len};
 ghost use Rattle.std.specs.List.{AllZip};
-ghost use Rattle.numa_core.specs.World.{opening};
-ghost use Rattle.numa_core.specs.Standing.{CoreStandsFor, setup_of};
+ghost use Rattle.numa_core.specs.World.{World, opening};
+ghost use Rattle.numa_core.specs.Steps.{put_frame};
+ghost use Rattle.numa_core.specs.Standing.{CoreStandsFor, owner_at, place_in, setup_of};
 ghost use Rattle.numa_core.specs.Kept.{shown, IsKept, Follows};
+ghost use Rattle.numa_core.specs.Hints.{IsLow};
 ghost use Rattle.numa_core.specs.Seats.{SeatFits, IsSeatCopy};
+ghost use Rattle.numa_core.specs.Touching.{touch_answer, touch_world};
 ghost use Rattle.numa_core.specs.declared.seat.Seat.{Seat};
 ghost use Rattle.numa_space.specs.declared.event.Event.{Event};
 
+use crate::free_frames::{first_free, lower, none_taken};
 use crate::judging::row_for;
 use crate::places::Places;
 use crate::seat::Seat;
 use crate::tables::none_owned;
-use crate::touching::{lower, none_taken};
 use numa_compile::compile;
 use numa_machine::{Frame, Machine, NoMemory};
 use numa_plan::Plan;
 use numa_space::event::{CoreRefusal, CoreReply};
-use numa_space::{Command, Limits, Request, Space};
+use numa_space::{Command, Limits, Placement, Request, Space};
 use std::alloc::Global;
 
 /// The space of all accepted commands, the plan of those that are published, the workers' seats,
@@ -226,5 +229,53 @@ impl State {
         self.owners[place as usize] = None;
         lower(&mut self.taken, frame);
         Ok(CoreReply::Given)
+    }
+
+    /// A touch of a page by a worker.
+    pub(crate) fn touch(&mut self, worker: u32, request: Request) -> Result<CoreReply, CoreRefusal>
+        requires kept { IsKept self.old }
+        ensures kept { IsKept self.new }
+        ensures touches { (world : World) → CoreStandsFor (shown self.old) world →
+            (result ≡ touch_answer (setup_of (shown self.old)) world worker request)
+            × CoreStandsFor (shown self.new) (touch_world (setup_of (shown self.old))
+            world worker request) }
+        ensures unchanged { OnErr result (shown self.new ≡ shown self.old) }
+        ensures setup { setup_of (shown self.new) ≡ setup_of (shown self.old) }
+    {
+        let row = row_for(&self.plan, &self.seats, worker, request)?;
+        let found = first_free(&self.places, &self.owners, &self.taken, row);
+        let newest = self.plan.version();
+        let Some(spot) = found else {
+            return Ok(CoreReply::Exhausted(newest));
+        };
+        let frame = spot.frame;
+        self.own(frame, worker);
+        Ok(CoreReply::Won(Placement {
+            version: newest,
+            task: request.task,
+            page: request.page,
+            node: frame.node,
+            frame,
+            rank: spot.rank,
+        }))
+    }
+
+    /// A frame of the machine becomes a worker's. Each lower frame of its node has an owner.
+    fn own(&mut self, frame: Frame, worker: u32)
+        requires kept { IsKept self.old }
+        requires some { worker < vec_len self.old.seats }
+        requires low { IsLow self.old.places self.old.owners.items frame }
+        ensures kept { IsKept self.new }
+        ensures owner { (n k : ℕ) → owner_at self.new.owners.items (place_in self.old.places n k)
+            ≡ put_frame (λ n k. owner_at self.old.owners.items (place_in self.old.places n k))
+            frame (Some worker) n k }
+        ensures others { self.new
+            ≡ record self.old { owners = self.new.owners; taken = self.new.taken } }
+    {
+        let Some(place) = self.places.place(frame.node, frame.number) else {
+            unreachable!()
+        };
+        self.owners[place as usize] = Some(worker as u8);
+        self.taken[frame.node as usize] = frame.number as u32 + 1;
     }
 }

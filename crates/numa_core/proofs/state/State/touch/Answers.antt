@@ -18,7 +18,7 @@ returns-in_default-clause-touches c world stands =
     let shows = tables-show c.args.self.now world c.requires.kept stands in
     let found = sym (c.first_free-found.ensures.first (setup_of (shown c.args.self.now)) world shows) ∙ c.in_default.is in
     let ends = exhausts (shown c.args.self.now) c.args.worker c.args.request c.in_ok-row.row.now world stands (c.in_ok-row.ensures.allowed c.args.self.now.space c.args.self.now.owners.items) (c.in_ok-row.ensures.listed c.args.self.now.space c.args.self.now.owners.items) found in
-    (ap (λ v. Ok (Exhausted v)) c.version-version.ensures ∙ ends.0, ends.1)
+    (ap (λ v. Ok (Exhausted v)) c.version-newest.ensures ∙ ends.0, ends.1)
 
 pub returns-clause-touches : goal.returns-clause-touches
 returns-clause-touches c world stands =
@@ -28,6 +28,6 @@ returns-clause-touches c world stands =
     let each : (n k : ℕ) → owner_at c.own.new.self.owners.items (place_in c.args.self.now.space.machine.frames n k) ≡ put_frame (λ n k. owner_at c.args.self.now.owners.items (place_in c.args.self.now.space.machine.frames n k)) spot.frame (Some c.args.worker) n k =
     subst (λ frames. (n k : ℕ) → owner_at c.own.new.self.owners.items (place_in frames n k) ≡ put_frame (λ n k. owner_at c.args.self.now.owners.items (place_in frames n k)) spot.frame (Some c.args.worker) n k) c.requires.kept.places c.own.ensures.owner in
     let ends = wins (shown c.args.self.now) c.own.new.self.owners.items c.args.worker c.args.request c.in_ok-row.row.now spot world stands (c.in_ok-row.ensures.allowed c.args.self.now.space c.args.self.now.owners.items) (c.in_ok-row.ensures.listed c.args.self.now.space c.args.self.now.owners.items) found each in (
-      ap (λ v. Ok (Won (record { version = v; task = c.args.request.task; page = c.args.request.page; node = spot.frame.node; frame = spot.frame; rank = spot.rank }))) c.version-version.ensures ∙ ends.0,
+      ap (λ v. Ok (Won (record { version = v; task = c.args.request.task; page = c.args.request.page; node = spot.frame.node; frame = spot.frame; rank = spot.rank }))) c.version-newest.ensures ∙ ends.0,
       subst (λ state. CoreStandsFor (shown state) (touch_world (setup_of (shown c.args.self.now)) world c.args.worker c.args.request)) (sym c.own.ensures.others) ends.1,
     )

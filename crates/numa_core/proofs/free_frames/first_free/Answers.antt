@@ -1,6 +1,6 @@
 use Rattle.std.proofs.Common.{sym, ◌∙◌, arith}
 use Rattle.numa_core.proofs.TouchSteps.{free-none, free-some}
-use Rattle.numa_core.proofs.touching.first_free.Goals as goal
+use Rattle.numa_core.proofs.free_frames.first_free.Goals as goal
 
 pub returns-in-Some-clause-first : goal.returns-in-Some-clause-first
 returns-in-Some-clause-first c s world shows =

@@ -1,7 +1,7 @@
 use Rattle.std.proofs.Common.{◌≡◌, ◌<◌, arith, slice_index, length, ◌∙◌}
 use Rattle.numa_core.proofs.InARow.{any_default}
 use Rattle.numa_core.proofs.TouchTaken.{taken-lower}
-use Rattle.numa_core.proofs.touching.lower.Goals as goal
+use Rattle.numa_core.proofs.free_frames.lower.Goals as goal
 
 pub returns : goal.returns
 returns c frames old new are each =

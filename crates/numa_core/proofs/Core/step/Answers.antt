@@ -8,7 +8,7 @@ use Rattle.numa_space.specs.declared.event.Event.TheVariants.{Accept, Publish, B
 use Rattle.std.proofs.Common.{◌≡◌, Result}
 use Rattle.numa_core.specs.Kept.{shown, Follows}
 use Rattle.numa_core.proofs.CoreSteps.{leads_on}
-use Rattle.numa_core.proofs.running.Core.step.Goals as goal
+use Rattle.numa_core.proofs.Core.step.Goals as goal
 
 ran : (old new : CoreState) (event : Event) (answer : Result CoreReply CoreRefusal) → setup_of new ≡ setup_of old → Follows old event answer new → HasPast old → HasPast new
 ran old new event answer same follows had = record {

@@ -6,7 +6,7 @@ use Rattle.numa_core.specs.Standing.{CoreStandsFor, HasPast, setup_of}
 use Rattle.numa_core.specs.Touching.{Answered, IsTouch, touched, touch_answer, touch_world}
 use Rattle.numa_core.proofs.TouchLaw.{touch_law}
 use Rattle.numa_core.proofs.TouchExecutions.{touches}
-use Rattle.numa_core.proofs.running.Core.touch.Goals as goal
+use Rattle.numa_core.proofs.Core.touch.Goals as goal
 
 ends : (c : goal.After-touch) (world : World) → CoreStandsFor c.args.self.now world → (c.touch.result ≡ (touched (setup_of c.args.self.now) world c.args.worker c.args.request).answer) × CoreStandsFor (shown c.touch.new.self) (touched (setup_of c.args.self.now) world c.args.worker c.args.request).world
 ends c world stands =

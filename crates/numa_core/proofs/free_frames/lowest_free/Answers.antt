@@ -2,9 +2,8 @@ use Rattle.std.proofs.Common.{◌≡◌, inl, inr, ◌<◌, true, is_some, vec_l
 use Rattle.std.proofs.lemmas.Bool.Decides.{eqb_tells}
 use Rattle.numa_core.specs.Standing.{owner_at, place_in}
 use Rattle.numa_core.proofs.TouchFinds.{finds-none, finds-frame, owner-read, none-of}
-use Rattle.numa_core.proofs.touching.lowest_free.Goals as goal
+use Rattle.numa_core.proofs.free_frames.lowest_free.Goals as goal
 
--- src/touching.rt:35:13
 pub returns-then-is_none-clause-lowest : goal.returns-then-is_none-clause-lowest
 returns-then-is_none-clause-lowest c s world shows =
     let low : c.loop-number.number < slice_index c.args.places.now c.args.node = subst (λ n. c.loop-number.number < n) c.frames-frames.ensures.frames c.loop-number-test.true in
@@ -12,7 +11,6 @@ returns-then-is_none-clause-lowest c s world shows =
     (omega (arith, c.first-first.ensures.within, c.requires.owners)) c.index.ensures in
     sym (finds-frame s c.args.places.now c.args.owners.now.items world c.args.node c.loop-number.number shows low (owner ∙ none-of c.index.result.now c.is_none.result c.is_none.ensures c.if-is_none.true) (λ j less. c.loop-number.invariant j less (omega arith)))
 
--- src/touching.rt:33:5
 pub loop-number-preserved : goal.loop-number-preserved
 loop-number-preserved c k low fits = elim (eqb_tells k c.loop-number.number) [
   | inl e ↦
@@ -23,7 +21,6 @@ loop-number-preserved c k low fits = elim (eqb_tells k c.loop-number.number) [
   | inr e ↦ c.loop-number.invariant k (omega arith) fits
 ]
 
--- src/touching.rt:24:1
 pub returns-clause-lowest : goal.returns-clause-lowest
 returns-clause-lowest c s world shows = sym (finds-none s c.args.places.now c.args.owners.now.items world c.args.node shows (λ k low. c.loop-number.invariant k (omega (arith, c.frames-frames.ensures.frames, c.loop-number-test.false)) low))
 

@@ -1,0 +1,99 @@
+//! Frames without an owner. The frames that a touch would try in vain are owned, so it is found at
+//! once where it ends: at the lowest frame without an owner of the first listed node that has one,
+//! or at the end of the list.
+ghost use Rattle.std.specs.Prelude.{◌≡◌, ℕ, ◌<◌, ◌≤◌, true, Option, None, is_some, List};
+ghost use Rattle.std.specs.Prelude.{IfOk, IfSome, length, vec_len, slice_index};
+ghost use Rattle.numa_core.specs.World.{Setup, World};
+ghost use Rattle.numa_core.specs.Steps.{put_frame};
+ghost use Rattle.numa_core.specs.Standing.{frames_before, owner_at, place_in};
+ghost use Rattle.numa_core.specs.Hints.{AreTaken, IsLow};
+ghost use Rattle.numa_core.specs.Touching.{lowest_free, first_free, Shows};
+
+use crate::places::Places;
+use numa_machine::Frame;
+use std::alloc::{AllocError, Global};
+
+/// A frame without an owner on a node of a list, and the place of that node in the list, from 0.
+#[derive(Clone, Copy, Debug, PartialEq, Eq)]
+pub(crate) struct Spot {
+    pub frame: Frame,
+    pub rank: u32,
+}
+
+/// Of each node no frame is known to be owned.
+pub(crate) fn none_taken(alloc: Global, places: &Places) -> Result<Vec<u32>, AllocError>
+    ensures { IfOk result (λ taken. (owners : List (Option ℕ)) →
+        AreTaken places.now owners taken.items) }
+{
+    vec![in alloc; 0; places.nodes()]
+}
+
+/// How many of a node's lowest frames are known to be owned.
+fn known(taken: &Vec<u32>, node: u8) -> u32
+    ensures { result ≡ slice_index taken.now.items node }
+{
+    taken.get(node as usize).copied().unwrap_or(0)
+}
+
+/// A frame is given back: of its node no more than the frames below it are known to be owned.
+pub(crate) fn lower(taken: &mut Vec<u32>, frame: Frame)
+    requires { frame.node < vec_len taken.old }
+    ensures { (frames : List ℕ) (old new : List (Option ℕ)) → AreTaken frames old taken.old.items →
+        ((n k : ℕ) → owner_at new (place_in frames n k)
+        ≡ put_frame (λ n k. owner_at old (place_in frames n k)) frame None n k)
+        → AreTaken frames new taken.new.items }
+{
+    let node = frame.node as usize;
+    taken[node] = taken[node].min(frame.number as u32);
+}
+
+/// The lowest frame of a node that has no owner, where each one below `from` has an owner.
+fn lowest_free(places: &Places, owners: &Vec<Option<u8>>, node: u8, from: u32) -> Option<Frame>
+    requires owners { vec_len owners.now ≡ frames_before places.now (length places.now) }
+    requires taken { (k : ℕ) → k < from → k < slice_index places.now node →
+        is_some (owner_at owners.now.items (place_in places.now node k)) ≡ true }
+    ensures lowest { (s : Setup) (world : World) → Shows s places.now owners.now.items world →
+        result ≡ lowest_free s world node }
+    ensures low { IfSome result (IsLow places.now owners.now.items) }
+{
+    let frames = places.frames(node);
+    if from >= frames {
+        return None;
+    }
+    let first = places.first(node);
+    for number in from..frames {
+        if owners[(first + number) as usize].is_none() {
+            return Some(Frame {
+                node,
+                number: number as u16,
+            });
+        }
+    }
+    None
+}
+
+/// The lowest frame without an owner of the first listed node that has one.
+pub(crate) fn first_free(
+    places: &Places,
+    owners: &Vec<Option<u8>>,
+    taken: &Vec<u32>,
+    nodes: &[u8],
+) -> Option<Spot>
+    requires owners { vec_len owners.now ≡ frames_before places.now (length places.now) }
+    requires taken { AreTaken places.now owners.now.items taken.now.items }
+    requires few { length nodes.now ≤ 256 }
+    ensures first { (s : Setup) (world : World) → Shows s places.now owners.now.items world →
+        result ≡ first_free s world nodes.now }
+    ensures low { IfSome result (λ spot. IsLow places.now owners.now.items spot.frame) }
+{
+    for rank in 0..nodes.len() {
+        let node = nodes[rank];
+        if let Some(frame) = lowest_free(places, owners, node, known(taken, node)) {
+            return Some(Spot {
+                frame,
+                rank: rank as u32,
+            });
+        }
+    }
+    None
+}
