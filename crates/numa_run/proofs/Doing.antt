@@ -20,7 +20,7 @@ use Rattle.numa_space.specs.declared.event.CoreRefusal.TheVariants.{NoMemory}
 use Rattle.numa_maps.specs.Residents.{Kept, placed_at, with_placement, without_page}
 use Rattle.numa_run.specs.States.{State}
 use Rattle.numa_run.specs.Standing.{RunsAs, Does, state_with}
-use Rattle.numa_run.specs.Work.{told, win_of, is_accepted, won_by, event_answer, event_world, event_outcome, not_kept, kept_outcome, touch_by, touch_outcome, release_by, release_outcome}
+use Rattle.numa_run.specs.Work.{reply_to, win_of, is_accepted, won_by, event_answer, event_world, event_outcome, not_kept, kept_outcome, touch_by, touch_outcome, release_by, release_outcome}
 use Rattle.numa_run.specs.declared.running.Running.{Running}
 use Rattle.numa_run.specs.declared.reply.Reply.{Reply}
 use Rattle.numa_run.specs.declared.reply.Reply.TheVariants as reply
@@ -63,7 +63,7 @@ same-plan old new state world stands plan history = subst (λ h. Plans (setup_of
 
 pub does-event : (old new : Running) (event : Event) (answer : Result CoreReply CoreRefusal) → Steps old.core event answer new.core → setup_of new.core ≡ setup_of old.core → new.resident ≡ old.resident
     → ((new.plan ≡ None) ⊎ ((is_accepted answer ≡ false) × (new.plan ≡ old.plan)))
-    → Does old (told answer) new (λ refused state. event_outcome refused (setup_of old.core) state.world state.resident event)
+    → Does old (reply_to answer) new (λ refused state. event_outcome refused (setup_of old.core) state.world state.resident event)
 does-event old new event answer steps same resident plan =
     λ state stands.
     let s = setup_of old.core in
@@ -76,7 +76,7 @@ does-event old new event answer steps same resident plan =
       | inr kept ↦ same-plan old new state after stands kept.1 (kept-unless_accepted s state.world (newest_published state.world) event answer step.0 kept.0)
     ] in (
       right.0,
-      ap told right.1,
+      ap reply_to right.1,
       subst (λ (w : World). RunsAs new (record { bounds = state.bounds; machine = state.machine; world = w; resident = state.resident })) there
           (moved old new state after state.resident stands same step.1 (resident ∙ stands.resident) plans),
     )
@@ -148,7 +148,7 @@ touched-there old mid w request answer touches same plan resident state stands =
     (same-plan old mid state (touched s state.world w request).world stands plan (touched-kept s state.world w request))
 
 pub touches-nothing : (old new : Running) (w : ℕ) (request : Request) (answer : Result CoreReply CoreRefusal) → Touches old.core w request answer new.core → setup_of new.core ≡ setup_of old.core → new.plan ≡ old.plan
-    → new.resident ≡ old.resident → won_by answer ≡ None → Does old (told answer) new (λ refused state. touch_outcome refused (setup_of old.core) state.world state.resident w request)
+    → new.resident ≡ old.resident → won_by answer ≡ None → Does old (reply_to answer) new (λ refused state. touch_outcome refused (setup_of old.core) state.world state.resident w request)
 touches-nothing old new w request answer touches same plan resident lost =
     λ state stands.
     let s = setup_of old.core in
@@ -157,7 +157,7 @@ touches-nothing old new w request answer touches same plan resident lost =
     let none : won_by t.answer ≡ None = ap won_by (sym touch.0) ∙ lost in
     let out : touch_by false s None t.answer t.world state.resident w ≡ touch_outcome false s state.world state.resident w request = ap (λ o. touch_by false s o t.answer t.world state.resident w) (sym none) in (
       false,
-      ap told touch.0 ∙ ap (λ o. o.reply) out,
+      ap reply_to touch.0 ∙ ap (λ o. o.reply) out,
       subst (λ o. RunsAs new (state_with state o)) out (touched-there old new w request answer touches same plan resident state stands),
     )
 
@@ -183,7 +183,7 @@ touches-won old mid new w request answer placement said touches same plan reside
 
 pub releases : (old new : Running) (w page : ℕ) (placement : Placement) (answer : Result CoreReply CoreRefusal) → Steps old.core (Give w placement.frame) answer new.core → setup_of new.core ≡ setup_of old.core
     → new.plan ≡ old.plan → placed_at old.resident page ≡ Some placement → new.resident ≡ (if is_ok answer then without_page old.resident page else old.resident)
-    → Does old (told answer) new (λ refused state. release_outcome refused (setup_of old.core) state.world state.resident w page)
+    → Does old (reply_to answer) new (λ refused state. release_outcome refused (setup_of old.core) state.world state.resident w page)
 releases old new w page placement answer steps same plan there resident =
     λ state stands.
     let s = setup_of old.core in
@@ -196,7 +196,7 @@ releases old new w page placement answer steps same plan there resident =
     let out : release_by false s (Some placement) state.world state.resident w page ≡ release_outcome false s state.world state.resident w page =
     ap (λ o. release_by false s o state.world state.resident w page) (sym some) in (
       false,
-      ap told right ∙ ap (λ o. o.reply) out,
+      ap reply_to right ∙ ap (λ o. o.reply) out,
       subst (λ o. RunsAs new (state_with state o)) out (given old new false w placement.frame answer kept steps same plan is state stands),
     )
 

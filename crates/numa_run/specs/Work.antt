@@ -36,7 +36,7 @@ pub record Outcome : Type 0 where
 
 -- ---- the core's answers as replies
 
--- what is told of a placement that was won
+-- what a line says of a placement that was won
 abbrev pub win_of : Placement → Win
 win_of placement = record {
   version = placement.version;
@@ -53,9 +53,9 @@ done_reply (done.Exhausted version) = reply.Exhausted version
 done_reply (done.Won placement) = reply.Won (win_of placement)
 done_reply done.Given = reply.Given
 
-abbrev pub told : Result CoreReply CoreRefusal → Reply
-told (Ok answer) = done_reply answer
-told (Err cause) = reply.Refused cause
+abbrev pub reply_to : Result CoreReply CoreRefusal → Reply
+reply_to (Ok answer) = done_reply answer
+reply_to (Err cause) = reply.Refused cause
 
 -- a command was accepted
 abbrev pub is_accepted : Result CoreReply CoreRefusal → Bool
@@ -128,7 +128,7 @@ module _ (refused : Bool) (s : Setup) where
   -- map, unmap, mbind, home, task, weight, mems, which are Accepts; publish, begin, look, try, give
   abbrev pub event_outcome : World → Kept → Event → Outcome
   event_outcome world resident event = record {
-    reply = told (event_answer world event);
+    reply = reply_to (event_answer world event);
     world = event_world world event;
     resident = resident;
   }
@@ -160,7 +160,7 @@ module _ (refused : Bool) (s : Setup) where
   abbrev pub touch_by : Option Placement → Result CoreReply CoreRefusal → World → Kept → ℕ → Outcome
   touch_by (Some placement) answer world resident w = kept_outcome world resident w placement
   touch_by None answer world resident w =
-      record { reply = told answer; world = world; resident = resident }
+      record { reply = reply_to answer; world = world; resident = resident }
 
   abbrev pub touch_outcome : World → Kept → ℕ → Request → Outcome
   touch_outcome world resident w request =
@@ -174,7 +174,7 @@ module _ (refused : Bool) (s : Setup) where
   release_by None world resident w page =
       record { reply = reply.Refused NotOwned; world = world; resident = resident }
   release_by (Some placement) world resident w page = record {
-    reply = told (event_answer world (Give w placement.frame));
+    reply = reply_to (event_answer world (Give w placement.frame));
     world = event_world world (Give w placement.frame);
     resident =
         if is_ok (event_answer world (Give w placement.frame)) then without_page resident page

@@ -7,11 +7,11 @@ ghost use Rattle.line_server.specs.Written.{Said};
 ghost use Rattle.numa_run.specs.Questions.{count_text, place_text, question_text};
 ghost use Rattle.numa_run.specs.Questions.{span_text, unless_starved};
 
-use crate::serving::PAGE;
 use crate::tell::{say_counts, say_nodes, say_place_refusal, say_starved};
 use line_server::Watched;
 use numa_plan::{Plan, Steps};
 use numa_script::Question;
+use numa_space::PAGE_BYTES;
 use std::alloc::Global;
 use std::io::Write;
 
@@ -105,20 +105,20 @@ pub(crate) fn answer_by_plan<W: Write>(
 {
     match question {
         Question::Place { task, address, cpu } => {
-            say_place(plan, task, address / PAGE, cpu, output)
+            say_place(plan, task, address / PAGE_BYTES, cpu, output)
         }
         Question::Span {
             task,
             address,
             pages,
             cpu,
-        } => say_span(alloc, plan, task, address / PAGE, pages, cpu, output),
+        } => say_span(alloc, plan, task, address / PAGE_BYTES, pages, cpu, output),
         Question::Counts {
             task,
             address,
             pages,
             cpu,
-        } => say_pages(plan, task, address / PAGE, pages, cpu, output),
+        } => say_pages(plan, task, address / PAGE_BYTES, pages, cpu, output),
         Question::Ranges => unreachable!(),
     }
 }

@@ -13,11 +13,11 @@ use crate::reply::Reply;
 use crate::resolve::refusal_by_space;
 use crate::running::Running;
 use crate::script::Script;
-use crate::serving::{PAGE, Taken};
+use crate::serving::Taken;
 use numa_core::CoreRefusal;
 use numa_plan::{Plan, Steps};
 use numa_script::{Line, Question};
-use numa_space::PlaceRefusal;
+use numa_space::{PAGE_BYTES, PlaceRefusal};
 use std::alloc::Global;
 
 /// The reply, where it tells a fault or a refusal.
@@ -53,7 +53,7 @@ fn plan_refusal(plan: &Plan, question: Question) -> Option<PlaceRefusal>
 {
     match question {
         Question::Place { task, address, cpu } => {
-            match plan.choice(task, address / PAGE, cpu, &mut Steps::new()) {
+            match plan.choice(task, address / PAGE_BYTES, cpu, &mut Steps::new()) {
                 Ok(_) => None,
                 Err(refusal) => Some(refusal),
             }
@@ -63,13 +63,13 @@ fn plan_refusal(plan: &Plan, question: Question) -> Option<PlaceRefusal>
             address,
             pages,
             cpu,
-        } => span_refusal(plan, task, address / PAGE, u64::from(pages), cpu),
+        } => span_refusal(plan, task, address / PAGE_BYTES, u64::from(pages), cpu),
         Question::Counts {
             task,
             address,
             pages,
             cpu,
-        } => span_refusal(plan, task, address / PAGE, pages, cpu),
+        } => span_refusal(plan, task, address / PAGE_BYTES, pages, cpu),
         Question::Ranges => None,
     }
 }

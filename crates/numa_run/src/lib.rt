@@ -14,7 +14,6 @@ pub mod script;
 mod serving;
 pub mod streams;
 mod tell;
-mod told;
 
 pub use reply::{Reply, Win};
 pub use script::Script;

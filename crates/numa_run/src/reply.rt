@@ -1,5 +1,8 @@
 //! What a line is answered.
-use numa_core::{CoreRefusal, Frame};
+ghost use Rattle.std.specs.Prelude.{◌≡◌};
+ghost use Rattle.numa_run.specs.Work.{done_reply, reply_to, win_of};
+
+use numa_core::{CoreRefusal, CoreReply, Frame, Placement};
 use numa_machine::MachineFault;
 use numa_script::WordFault;
 
@@ -11,6 +14,20 @@ pub struct Win {
     pub node: u8,
     pub frame: u16,
     pub rank: u32,
+}
+
+impl Win {
+    /// What a line says of a placement that was won.
+    pub(crate) fn of(placement: &Placement) -> Win
+        ensures { result ≡ win_of placement.now }
+    {
+        Win {
+            version: placement.version,
+            node: placement.node,
+            frame: placement.frame.number,
+            rank: placement.rank,
+        }
+    }
 }
 
 /// What a line is answered that is neither a question nor `maps`.
@@ -49,4 +66,30 @@ pub enum Reply {
     Back(Frame),
     /// The command or the worker's step is refused.
     Refused(CoreRefusal),
+}
+
+/// The reply to an event that isn't refused.
+fn done_reply(done: &CoreReply) -> Reply
+    ensures { result ≡ done_reply done.now }
+{
+    match done {
+        CoreReply::Accepted(version) => Reply::Accepted(*version),
+        CoreReply::Published(version) => Reply::Published(*version),
+        CoreReply::Still => Reply::Still,
+        CoreReply::Exhausted(version) => Reply::Exhausted(*version),
+        CoreReply::Won(placement) => Reply::Won(Win::of(placement)),
+        CoreReply::Given => Reply::Given,
+    }
+}
+
+impl Reply {
+    /// The reply to an event, by the core's answer.
+    pub(crate) fn to_event(answer: &Result<CoreReply, CoreRefusal>) -> Reply
+        ensures { result ≡ reply_to answer.now }
+    {
+        match answer {
+            Ok(done) => done_reply(done),
+            Err(cause) => Reply::Refused(*cause),
+        }
+    }
 }

@@ -12,12 +12,11 @@ ghost use Rattle.numa_run.specs.Questions.{unless_starved};
 ghost use Rattle.numa_run.specs.Judged.{question_refusal};
 ghost use Rattle.numa_run.specs.Standing.{most_resolved};
 
-use crate::serving::PAGE;
 use crate::tell::{say_counts, say_nodes, say_place_refusal, say_starved};
 use line_server::Watched;
 use numa_lanes::count_all;
 use numa_script::Question;
-use numa_space::{PlaceRefusal, Space};
+use numa_space::{PAGE_BYTES, PlaceRefusal, Space};
 use std::alloc::Global;
 use std::io::Write;
 
@@ -204,20 +203,20 @@ pub(crate) fn answer_by_space<W: Write>(
 {
     match question {
         Question::Place { task, address, cpu } => {
-            resolve_place(space, task, address / PAGE, cpu, output)
+            resolve_place(space, task, address / PAGE_BYTES, cpu, output)
         }
         Question::Span {
             task,
             address,
             pages,
             cpu,
-        } => resolve_span(alloc, space, task, address / PAGE, pages, cpu, output),
+        } => resolve_span(alloc, space, task, address / PAGE_BYTES, pages, cpu, output),
         Question::Counts {
             task,
             address,
             pages,
             cpu,
-        } => resolve_counts(alloc, space, task, address / PAGE, pages, cpu, output),
+        } => resolve_counts(alloc, space, task, address / PAGE_BYTES, pages, cpu, output),
         Question::Ranges => unreachable!(),
     }
 }
@@ -230,7 +229,7 @@ pub(crate) fn refusal_by_space(space: &Space, question: Question) -> Option<Plac
 {
     match question {
         Question::Place { task, address, cpu } => {
-            match space.list_at(task, address / PAGE, cpu) {
+            match space.list_at(task, address / PAGE_BYTES, cpu) {
                 Ok(_) => None,
                 Err(refusal) => Some(refusal),
             }
@@ -240,13 +239,13 @@ pub(crate) fn refusal_by_space(space: &Space, question: Question) -> Option<Plac
             address,
             pages,
             cpu,
-        } => resolve_refusal(space, task, address / PAGE, u64::from(pages), cpu),
+        } => resolve_refusal(space, task, address / PAGE_BYTES, u64::from(pages), cpu),
         Question::Counts {
             task,
             address,
             pages,
             cpu,
-        } => resolve_refusal(space, task, address / PAGE, pages, cpu),
+        } => resolve_refusal(space, task, address / PAGE_BYTES, pages, cpu),
         Question::Ranges => None,
     }
 }

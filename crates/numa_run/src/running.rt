@@ -1,17 +1,47 @@
 //! A machine that is running.
-ghost use Rattle.std.specs.Prelude.{◌≡◌, [], None};
+ghost use Rattle.std.specs.Prelude.{◌≡◌, [], None, Some, MatchResult};
 ghost use Rattle.numa_core.specs.Standing.{setup_of};
 ghost use Rattle.numa_run.specs.Standing.{Does};
 ghost use Rattle.numa_run.specs.Work.{event_outcome, kept_outcome, release_outcome, touch_outcome};
-ghost use Rattle.numa_run.specs.Work.{work_outcome};
+ghost use Rattle.numa_run.specs.Work.{work_outcome, is_accepted, reply_to, won_by};
 
 use crate::lazy_plan::LazyPlan;
-use crate::reply::Reply;
-use crate::told::{is_accepted, told, win_of, won_by};
-use numa_core::{Core, CoreRefusal, Event, Frame, Placement, Request};
+use crate::reply::{Reply, Win};
+use numa_core::{Core, CoreRefusal, CoreReply, Event, Frame, Placement, Request};
 use numa_maps::{RecordRefusal, Resident};
 use numa_script::Work;
 use std::alloc::Global;
+
+/// Whether a command was accepted.
+fn is_accepted(answer: &Result<CoreReply, CoreRefusal>) -> bool
+    ensures { result ≡ is_accepted answer.now }
+{
+    match answer {
+        Ok(CoreReply::Accepted(_)) => true,
+        Ok(CoreReply::Published(_)) => false,
+        Ok(CoreReply::Still) => false,
+        Ok(CoreReply::Exhausted(_)) => false,
+        Ok(CoreReply::Won(_)) => false,
+        Ok(CoreReply::Given) => false,
+        Err(_) => false,
+    }
+}
+
+/// The placement that was won, or the reply where none was.
+fn won_by(answer: Result<CoreReply, CoreRefusal>) -> Result<Placement, Reply>
+    ensures { MatchResult result (λ placement. won_by answer ≡ Some placement)
+        (λ reply. (won_by answer ≡ None) × (reply ≡ reply_to answer)) }
+{
+    match answer {
+        Ok(CoreReply::Won(placement)) => Ok(placement),
+        Ok(CoreReply::Accepted(version)) => Err(Reply::Accepted(version)),
+        Ok(CoreReply::Published(version)) => Err(Reply::Published(version)),
+        Ok(CoreReply::Still) => Err(Reply::Still),
+        Ok(CoreReply::Exhausted(version)) => Err(Reply::Exhausted(version)),
+        Ok(CoreReply::Given) => Err(Reply::Given),
+        Err(cause) => Err(Reply::Refused(cause)),
+    }
+}
 
 /// A machine that is running: its core, the pages that are placed, and the plan that is kept.
 #[derive(Drop)]
@@ -43,9 +73,9 @@ impl Running {
         let answer = self.core.step(event);
         if is_accepted(&answer) {
             self.plan.clear();
-            return told(&answer);
+            return Reply::to_event(&answer);
         }
-        told(&answer)
+        Reply::to_event(&answer)
     }
 
     /// Keeps a placement that a worker won, unless its page has one or there is no memory for it:
@@ -55,7 +85,7 @@ impl Running {
             kept_outcome refused (setup_of self.old.core) state.world state.resident worker
             placement) }
     {
-        let win = win_of(&placement);
+        let win = Win::of(&placement);
         let frame = placement.frame;
         match self.resident.record(placement) {
             Ok(()) => Reply::Won(win),
@@ -94,10 +124,10 @@ impl Running {
         let frame = placement.frame;
         let answer = self.core.step(Event::Give(worker, frame));
         if answer.is_err() {
-            return told(&answer);
+            return Reply::to_event(&answer);
         }
         let _ = self.resident.remove(page);
-        told(&answer)
+        Reply::to_event(&answer)
     }
 
     /// What a line of workers asks for.

@@ -20,9 +20,6 @@ use numa_space::Command;
 use std::alloc::Global;
 use std::io::Write;
 
-/// How many bytes a page has.
-pub(crate) const PAGE: u64 = 4096;
-
 /// What a line comes to where a machine is ready.
 #[derive(Drop)]
 pub(crate) enum Taken {

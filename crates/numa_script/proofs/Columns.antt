@@ -6,7 +6,8 @@ use Rattle.std.specs.List.{onto_first}
 use Rattle.numa_script.specs.Causes.{first_misfit, width_of}
 use Rattle.numa_script.specs.declared.keyword.Keyword.{Keyword}
 use Rattle.numa_script.specs.declared.parameter.Parameter.{Parameter}
-use Rattle.numa_script.specs.Parts.{parts_of, words_of}
+use Rattle.numa_mask.specs.Parts.{parts_of}
+use Rattle.numa_script.specs.Parts.{words_of}
 
 pub width_of-take-le : (count : ℕ) (words : List (List ℕ)) → width_of (take count words) ≤ width_of words
 width_of-take-le zero words = omega arith

@@ -3,6 +3,5 @@ pub mod Eaches
 pub mod Malformations
 pub mod Numerals
 pub mod Seeing
-pub mod Splits
 pub mod Worked
 pub mod WorkedCauses

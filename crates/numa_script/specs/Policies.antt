@@ -11,7 +11,7 @@ use Rattle.numa_mode.specs.declared.modes.Mode.{Mode}
 use Rattle.numa_mode.specs.declared.modes.Mode.TheVariants as mode
 use Rattle.numa_mode.specs.declared.specification.SpecFault.{SpecFault}
 use Rattle.numa_mode.specs.declared.specification.SpecFault.TheVariants.{UnknownMode}
-use Rattle.numa_script.specs.Parts.{parts_of}
+use Rattle.numa_mask.specs.Parts.{parts_of}
 use Rattle.numa_script.specs.declared.policy.PolicyForm.{PolicyForm}
 use Rattle.numa_script.specs.declared.policy.WordFault.{WordFault}
 use Rattle.numa_script.specs.declared.policy.WordFault.TheVariants as fault

@@ -10,7 +10,7 @@ ghost use Rattle.numa_script.specs.Machines.{frames_for, distances_for};
 
 use crate::number::{distance, small_item};
 use crate::parts::{items, rows};
-use numa_mask::{NodeId, NodeMask};
+use numa_mask::NodeMask;
 use std::alloc::{AllocError, Global};
 use std::marker::Model;
 
@@ -129,10 +129,7 @@ fn frames_with_memory(
 fn frames_at(memory: &NodeMask, frames: u32, node: u8) -> u32
     ensures { result ≡ frames_at memory.now frames node }
 {
-    match NodeId::new(node) {
-        Some(node) if memory.contains(node) => frames,
-        _ => 0,
-    }
+    if memory.has(node) { frames } else { 0 }
 }
 
 /// Whether each item of a row is a distance.

@@ -4,6 +4,8 @@ ghost use Rattle.numa_script.specs.Numbers.{digit_of, fitting, numeral_of, numbe
 ghost use Rattle.numa_script.specs.Numbers.{item_of, page_of, node_of, frame_number_of};
 ghost use Rattle.numa_script.specs.Numbers.{span_pages_of, below, IsNumber};
 
+use numa_space::PAGE_BYTES;
+
 /// The digit that a byte is in the radix.
 #[tactic(auto, unfolding(crate::specs::Numbers::digit_of))]
 fn digit_in(byte: u8, radix: u32) -> Option<u32>
@@ -88,7 +90,7 @@ pub fn page(word: &[u8]) -> Option<u64>
     ensures { result ≡ page_of word.now }
 {
     let address = number(word)?;
-    Some(address / 4096)
+    Some(address / PAGE_BYTES)
 }
 
 /// The number of a node, where it is below 256.

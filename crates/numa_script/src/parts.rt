@@ -1,43 +1,8 @@
-//! The parts of a text, which single bytes part.
-ghost use Rattle.std.specs.Prelude.{◌≡◌, ℕ, ◌==◌, [], ◌∷◌, List, MatchOption, position};
-ghost use Rattle.std.specs.Iterator.{YieldsFirstRef, item_count};
-ghost use Rattle.numa_script.specs.Parts.{parts_of, words_of, items_of, rows_of};
+//! The parts of a line: its words, the items of a list, the rows of a table.
+ghost use Rattle.std.specs.Prelude.{◌≡◌};
+ghost use Rattle.numa_script.specs.Parts.{words_of, items_of, rows_of};
 
-use std::marker::Model;
-
-/// The parts that are left of a text, from the front.
-#[derive(Drop)]
-pub struct Parts<'a> {
-    rest: &'a [u8],
-    separator: u8,
-    ended: bool,
-}
-
-impl<'a> Model for Parts<'a> {
-    ghost use Rattle.std.specs.Prelude.{ℕ, List, if◌then◌else◌, []};
-    ghost use Rattle.numa_script.specs.Parts.{parts_of};
-
-    ghost Value = { List (List ℕ) };
-
-    ghost view = { λ p. if p.ended then [] else parts_of p.separator p.rest.now };
-}
-
-/// Where the first separator is.
-pub(crate) fn first_separator(text: &[u8], separator: u8) -> Option<usize>
-    ensures { result ≡ position (λ b. b == separator) text.now }
-{
-    text.iter().position(|byte| *byte == separator)
-}
-
-/// What stands before the first separator, and what stands after it.
-#[tactic(auto, using(crate::proofs::Splits::cut_at, crate::proofs::Splits::cut_nowhere))]
-fn cut(text: &[u8], separator: u8) -> Option<(&[u8], &[u8])>
-    ensures { MatchOption result (parts_of separator text.now ≡ text.now ∷ [])
-        (λ parts. parts_of separator text.now ≡ parts.0.now ∷ parts_of separator parts.1.now) }
-{
-    let end = first_separator(text, separator)?;
-    Some((&text[..end], &text[end + 1..]))
-}
+pub use numa_mask::Parts;
 
 /// The words of a line, between single spaces: two spaces in a row have an empty word between them.
 pub fn words(line: &[u8]) -> Parts<'_>
@@ -58,55 +23,4 @@ pub fn rows(word: &[u8]) -> Parts<'_>
     ensures { result ≡ rows_of word.now }
 {
     Parts::new(word, b';')
-}
-
-impl<'a> Parts<'a> {
-    /// The parts of a text between separators. There is always one: the text, where it has no
-    /// separator.
-    pub fn new(text: &'a [u8], separator: u8) -> Parts<'a>
-        ensures { result ≡ parts_of separator text.now }
-    {
-        Parts {
-            rest: text,
-            separator,
-            ended: false,
-        }
-    }
-
-    /// The one part that is left, where just one is.
-    pub fn only(mut self) -> Option<&'a [u8]>
-        ensures { MatchOption result
-            ((part : List ℕ) → self.entry ≡ (part ∷ []) → ⊥)
-            (λ part. self.entry ≡ (part.now ∷ [])) }
-    {
-        let part = self.next()?;
-        match self.next() {
-            None => Some(part),
-            Some(_) => None,
-        }
-    }
-}
-
-impl<'a> Iterator for Parts<'a> {
-    type Item = &'a [u8];
-
-    ghost next_gives = { YieldsFirstRef (λ p. p) };
-
-    ghost remaining = { item_count (λ p. p) };
-
-    fn next(&mut self) -> Option<&'a [u8]> {
-        if self.ended {
-            return None;
-        }
-        match cut(self.rest, self.separator) {
-            Some((part, rest)) => {
-                self.rest = rest;
-                Some(part)
-            }
-            None => {
-                self.ended = true;
-                Some(self.rest)
-            }
-        }
-    }
 }

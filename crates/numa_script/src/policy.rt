@@ -4,8 +4,9 @@ ghost use Rattle.numa_mode.specs.Flags.{has_static, has_relative};
 ghost use Rattle.numa_script.specs.Policies.{mode_of, form_with, form_of, form_of_two};
 ghost use Rattle.numa_script.specs.Policies.{form_of_three, policy_from, policy_of};
 
-use crate::parts::{Parts, first_separator};
+use crate::parts::Parts;
 use bitflags::Flags;
+use numa_mask::parts::first_place;
 use numa_mask::{ListFault, NodeMask, read_list};
 use numa_mode::{Mode, PolicyFlags, PolicySpec, SpecFault};
 
@@ -151,7 +152,7 @@ fn policy(
 pub fn read_policy(word: &[u8]) -> Result<PolicySpec, WordFault>
     ensures { result ≡ policy_of word.now }
 {
-    match first_separator(word, b':') {
+    match first_place(word, b':') {
         None => policy(read_form(word), Ok(NodeMask::empty())),
         Some(colon) => policy(read_form(&word[..colon]), read_list(&word[colon + 1..])),
     }

@@ -5,7 +5,7 @@ use Rattle.numa_run.proofs.running.Running.keep.Goals as goal
 
 pub returns-in-Ok : goal.returns-in-Ok
 returns-in-Ok c =
-    rw c.win_of-win.ensures
+    rw c.of-win.ensures
     (keeps c.args.self.now (record { core = c.args.self.now.core; resident = c.record.new.self; plan = c.args.self.now.plan }) c.args.worker c.args.placement refl refl c.in-Ok.ensures.free c.in-Ok.ensures.ok)
 
 pub returns-in-Err-Taken : goal.returns-in-Err-Taken
