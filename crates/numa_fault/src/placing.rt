@@ -12,6 +12,7 @@ use numa_publish::{PlanReader, PlanView};
 use numa_space::{PlaceRefusal, Placement, Request};
 
 /// Serves a request by the view: takes a frame of the first node of the page's list that has one.
+#[inline(always)]
 fn place(
     view: &PlanView,
     pools: &Pools,
@@ -50,6 +51,7 @@ fn place(
 }
 
 /// A fault: looks at what is published now, and serves the request by it.
+#[inline(always)]
 pub(crate) fn fault_by(
     reader: PlanReader,
     pools: &Pools,

@@ -78,6 +78,8 @@ impl FaultWorker {
     /// # Errors
     /// `NoView` where the entry was refused; then `BadCpu`, `Unmapped` and `Exhausted`, with the
     /// plan's version. In none of them a frame is taken.
+    // (in its caller the answer needs no way through memory, on which each atomic step would wait)
+    #[inline(always)]
     pub fn fault(&mut self, pools: &Pools, request: Request) -> Result<Placement, FaultRefusal>
         requires { self.old.seat.table ≡ pools.now.table }
         ensures fault { Faults pools.now.frames request
