@@ -112,11 +112,27 @@ impl<A: Respond, W: Write> Expect<A, W> {
         Ok(())
     }
 
-    /// Tells some bytes.
+    /// Tells some bytes. Those of a line that is begun take no memory where they are at most 4,096.
     fn tell(&mut self, text: &[u8]) -> Result<(), Stop> {
         self.told.extend_from_slice(text)?;
         if self.told.len() >= GATHERED {
             self.flush()?;
+        }
+        Ok(())
+    }
+
+    /// Tells the line of the answer that is next, piece by piece.
+    fn tell_next(&mut self) -> Result<(), Stop> {
+        let answer = mem::replace(&mut self.answer, Vec::new(self.alloc));
+        let told = self.tell_pieces(line_from(answer.as_slice(), self.next));
+        self.answer = answer;
+        told
+    }
+
+    /// Tells many bytes.
+    fn tell_pieces(&mut self, text: &[u8]) -> Result<(), Stop> {
+        for piece in text.chunks(GATHERED) {
+            self.tell(piece)?;
         }
         Ok(())
     }
@@ -140,11 +156,9 @@ impl<A: Respond, W: Write> Expect<A, W> {
         if self.next >= self.answer.len() {
             return self.tell(b", got nothing\n");
         }
-        let mut text = Vec::new(self.alloc);
-        text.extend_from_slice(b", got ")?;
-        text.extend_from_slice(line_from(self.answer.as_slice(), self.next))?;
-        text.push(b'\n')?;
-        self.tell(text.as_slice())
+        self.tell(b", got ")?;
+        self.tell_next()?;
+        self.tell(b"\n")
     }
 
     /// Goes on to the next line of the answer.
@@ -291,6 +305,7 @@ impl<A: Respond, W: Write> Expect<A, W> {
 impl<A: Respond, W: Write> TakeText for Expect<A, W> {
     fn begin(&mut self, name: &str) -> Result<(), Stop> {
         self.name = String::from_str(self.alloc, name)?;
+        self.told.reserve(2 * GATHERED)?;
         self.place = 1;
         self.answerer.begin();
         Ok(())

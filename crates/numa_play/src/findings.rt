@@ -1,5 +1,5 @@
 //! What is wrong with the lines of scripts, told as they are played.
-use numa_check::{Detail, Finding, judge, say};
+use numa_check::{Detail, Finding, judge, lacks_memory, say};
 use numa_files::{Stop, TakeLine};
 use numa_run::Script;
 use std::alloc::{AllocError, Global};
@@ -97,6 +97,7 @@ impl<W: Write> TakeLine for Findings<W> {
     fn take(&mut self, name: &str, place: u64, line: &[u8]) -> Result<(), Stop> {
         match judge(self.alloc, &mut self.script, line) {
             None => Ok(()),
+            Some(finding) if lacks_memory(finding.fault) => Err(Stop::Memory),
             Some(finding) if finding.detail == Detail::NoMachine => {
                 self.unjudged = self.unjudged.saturating_add(1);
                 Ok(())

@@ -1,6 +1,7 @@
 //! Why a question about played scripts has no answer.
 use numa_files::Stop;
 use numa_reports::ReportFault;
+use numa_traces::ReplayFault;
 use std::alloc::AllocError;
 
 /// Why a question about played scripts has no answer. Then nothing of one was written, but for
@@ -15,6 +16,8 @@ pub enum Halt {
     NoNode(u32),
     /// The page that is asked of isn't mapped.
     Unmapped,
+    /// A line of the trace, from 1, can't be replayed.
+    BadAccess(u64, ReplayFault),
 }
 
 impl From<Stop> for Halt {

@@ -1,7 +1,8 @@
 //! Scripts that are played to their end, and what is asked of the state that they lead to.
 //!
 //! Lines that are faulty or refused are passed over, and what is wrong with each is told. [`check`]
-//! does no more; [`predict`], [`diff`] and [`explain`] answer by the lines that were accepted.
+//! does no more; [`predict`], [`diff`], [`explain`] and [`replay`] answer by the lines that were
+//! accepted.
 #![tactic(auto)]
 
 mod asking;
@@ -9,10 +10,14 @@ mod explaining;
 mod findings;
 mod halt;
 mod playing;
+mod replaying;
 
 pub use asking::{Asked, diff, predict};
 pub use explaining::explain;
 pub use findings::Findings;
 pub use halt::Halt;
+pub use numa_check::tells_lack;
 pub use numa_reports::Format;
+pub use numa_traces::Shape;
 pub use playing::{check, play};
+pub use replaying::replay;

@@ -14,5 +14,5 @@ mod tally;
 pub use fault::ReportFault;
 pub use moves::span_moves;
 pub use outlook::{Outlook, Span, common_spans, outlook_of};
-pub use prediction::{RangePrediction, predict_all, predict_range};
+pub use prediction::{RangePrediction, TakeRange, predict_all, predict_range};
 pub use sheet::{Format, difference_text, prediction_text};

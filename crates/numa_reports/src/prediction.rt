@@ -6,10 +6,12 @@ ghost use Rattle.numa_space.specs.Standing.{StandsFor};
 ghost use Rattle.numa_space.specs.declared.command.Command.{Command};
 ghost use Rattle.numa_reports.specs.Predicted.{AreFirsts, IsPrediction};
 
+use crate::fault::ReportFault;
 use crate::tally::add_counts;
 use numa_mode::Record;
 use numa_plan::Plan;
 use numa_space::{PlaceRefusal, RangeRecord, Run, Space};
+use std::alloc::AllocError;
 
 /// Where the pages of a range would go, if a task touched each of them now.
 #[derive(Clone, Copy, Debug)]
@@ -52,28 +54,55 @@ pub fn predict_range(
     })
 }
 
+/// What is told of each range, as it is predicted.
+pub trait TakeRange {
+    /// Takes the policy that serves at a range, and how many of its pages have each node as the
+    /// first of their list; ranges of lower addresses come first.
+    fn take(
+        &mut self,
+        range: &Run<RangeRecord>,
+        policy: Option<Record>,
+        counts: &[u64; 256],
+    ) -> Result<(), AllocError>;
+}
+
+impl TakeRange for () {
+    fn take(
+        &mut self,
+        _range: &Run<RangeRecord>,
+        _policy: Option<Record>,
+        _counts: &[u64; 256],
+    ) -> Result<(), AllocError> {
+        Ok(())
+    }
+}
+
 /// How many of all mapped pages would go to each node, if the task touched each of them now on a
-/// CPU of node `cpu`. The plan is one of the space.
+/// CPU of node `cpu`; what [`predict_range`] says of each range is told to the taker on the way
+/// (`&mut ()` takes nothing). The plan is one of the space.
 ///
 /// # Errors
-/// `BadCpu` where the machine has no node `cpu`. `Unmapped` where the plan isn't one of the space.
-pub fn predict_all(
+/// `Refused(BadCpu)` where the machine has no node `cpu`; `Refused(Unmapped)` where the plan isn't
+/// one of the space; `Memory` where the taker had none.
+pub fn predict_all<T: TakeRange>(
     space: &Space,
     plan: &Plan,
     task: u32,
     cpu: u32,
-) -> Result<[u64; 256], PlaceRefusal>
+    taker: &mut T,
+) -> Result<[u64; 256], ReportFault>
     ensures ok { (history : List Command) → StandsFor space.now history
         → PlanStandsFor space.now.machine plan.now history
         → IfOk result (AreFirsts space.now.machine history task cpu 0 (2 ^ 35)) }
 {
     if cpu >= space.machine().nodes() {
-        return Err(PlaceRefusal::BadCpu);
+        return Err(ReportFault::Refused(PlaceRefusal::BadCpu));
     }
     let mut counts = [0u64; 256];
     for range in space.range_iter() {
         let more = plan.counts(task, cpu, range.first, range.pages)?;
         add_counts(&mut counts, &more);
+        taker.take(range, space.policy_at(task, range.first), &more)?;
     }
     Ok(counts)
 }

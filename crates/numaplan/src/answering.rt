@@ -1,5 +1,6 @@
 //! A script that is answered line by line, into texts.
 use numa_files::Respond;
+use numa_play::tells_lack;
 use numa_run::Script;
 use numa_script::{Serve, Watched};
 use std::alloc::{AllocError, Global};
@@ -33,8 +34,8 @@ impl Respond for Answering {
         let handed_over = output.hand_over();
         *answer = output.inner;
         match handed_over {
-            Ok(()) => Ok(()),
-            Err(_) => Err(AllocError),
+            Ok(()) if !tells_lack(answer.as_slice()) => Ok(()),
+            _ => Err(AllocError),
         }
     }
 }

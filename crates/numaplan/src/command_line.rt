@@ -3,7 +3,7 @@ ghost use Rattle.std.specs.Prelude.{IfOk};
 ghost use Rattle.numaplan.specs.Jobs.{CanBeDone};
 
 use crate::jobs::{Job, JobFault};
-use crate::words::{check, diff, expect, explain, predict, run, storm};
+use crate::words::{check, diff, expect, explain, predict, replay, run, storm};
 use clap::error::ErrorKind;
 use clap::{ArgMatches, Command, Error};
 use std::alloc::{AllocError, Global};
@@ -39,6 +39,7 @@ fn command<'a>(alloc: Global) -> Result<Command<'a>, AllocError> {
         .subcommand(predict::command(alloc)?)?
         .subcommand(diff::command(alloc)?)?
         .subcommand(explain::command(alloc)?)?
+        .subcommand(replay::command(alloc)?)?
         .subcommand(storm::command(alloc)?)
 }
 
@@ -66,6 +67,7 @@ fn known_job(alloc: Global, matches: &ArgMatches<'_>) -> Result<Job, JobFault>
         Some(("predict", words)) => predict::job(alloc, words),
         Some(("diff", words)) => diff::job(alloc, words),
         Some(("explain", words)) => explain::job(alloc, words),
+        Some(("replay", words)) => replay::job(alloc, words),
         Some(("storm", words)) => storm::job(alloc, words),
         _ => Err(JobFault::Usage(String::from_str(alloc, NO_COMMAND)?)),
     }

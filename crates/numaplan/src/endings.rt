@@ -7,7 +7,7 @@ use std::io;
 use std::io::{ErrorKind, Write};
 use std::process::ExitCode;
 
-/// The status where the scripts make no machine.
+/// The status where the scripts make no machine, or a line of the trace can't be replayed.
 const NOT_AS_ASKED: u8 = 3;
 
 /// Standard error, as a writer of UTF-8.
@@ -69,11 +69,11 @@ pub fn answered(rt: &impl Eprint, asked: Asked, answer: Result<(), Halt>) -> Exi
         let _ = eprintln!(rt; "error: '--cpu {cpu}': the machine's nodes are 0 to {last}");
         return ExitCode::from(2);
     }
-    ended(rt, answer)
+    ended(rt, "", answer)
 }
 
-/// Ends with an answer about played scripts, or with why there is none.
-fn ended(rt: &impl Eprint, answer: Result<(), Halt>) -> ExitCode {
+/// Ends with an answer about played scripts and the trace of this name, or with why there is none.
+pub fn ended(rt: &impl Eprint, trace: &str, answer: Result<(), Halt>) -> ExitCode {
     match answer {
         Ok(()) => ExitCode::SUCCESS,
         Err(Halt::Stopped(why)) => stop(rt, why),
@@ -85,6 +85,11 @@ fn ended(rt: &impl Eprint, answer: Result<(), Halt>) -> ExitCode {
         Err(Halt::Unmapped) => {
             let _ = eprintln!(rt; "error: the page of '<ADDRESS>' isn't mapped after the scripts");
             ExitCode::from(2)
+        }
+        Err(Halt::BadAccess(place, fault)) => {
+            let why = fault.text();
+            let _ = eprintln!(rt; "{trace}:{place}: {why}");
+            ExitCode::from(NOT_AS_ASKED)
         }
     }
 }

@@ -1,5 +1,5 @@
 //! What the program is asked to do.
-use numa_play::{Asked, Format};
+use numa_play::{Asked, Format, Shape};
 use std::alloc::{AllocError, AllocFailed};
 
 /// What the program is asked to do, a variant for each word.
@@ -33,6 +33,12 @@ pub enum Job {
         files: Vec<String>,
         asked: Asked,
         address: u64,
+    },
+    /// To replay the trace of the one file that `trace` names after the scripts of these files.
+    Replay {
+        files: Vec<String>,
+        trace: Vec<String>,
+        format: Shape,
     },
     /// To let so many workers place pages while policies change.
     Storm(u32),

@@ -1,6 +1,6 @@
 //! `numaplan run` answers scripts, and `numaplan expect` compares the answers that scripts hold with
 //! those that they get. `numaplan predict` and `numaplan diff` tell where pages would go after
-//! scripts, `numaplan explain` tells why.
+//! scripts, `numaplan explain` tells why, and `numaplan replay` what a trace of accesses meets.
 //! `numaplan storm` lets workers place pages while policies change.
 #![tactic(auto)]
 
@@ -20,7 +20,7 @@ use jobs::{Job, JobFault};
 use std::env::Env;
 use std::process::ExitCode;
 use std::{env, io};
-use words::{check, diff, expect, explain, predict, run, storm};
+use words::{check, diff, expect, explain, predict, replay, run, storm};
 
 /// What is told of an argument that isn't UTF-8.
 const NOT_UTF_8: &str = "error: an argument isn't UTF-8\n\nFor more information, try '--help'.\n";
@@ -68,6 +68,13 @@ fn main(rt: HostRuntime) -> ExitCode {
                 address,
             },
         ) => explain::answer(&rt, &files, asked, address),
+        Ok(
+            Job::Replay {
+                files,
+                trace,
+                format,
+            },
+        ) => replay::answer(&rt, &files, &trace, format),
         Ok(Job::Storm(workers)) => storm::show(&rt, workers),
         Err(fault) => tell_fault(&rt, fault),
     }

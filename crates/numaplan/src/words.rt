@@ -5,5 +5,6 @@ pub mod diff;
 pub mod expect;
 pub mod explain;
 pub mod predict;
+pub mod replay;
 pub mod run;
 pub mod storm;

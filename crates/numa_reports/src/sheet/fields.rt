@@ -1,10 +1,9 @@
-//! The parts of a prediction, in the format that was asked for.
+//! The fields of a prediction.
 
-use crate::prediction::RangePrediction;
-use crate::sheet::{Format, lines, objects, records};
 use numa_mode::Record;
 use numa_space::{RangeRecord, Run};
 use std::alloc::{AllocError, Global};
+use std::collections::HashMap;
 
 /// How many bytes a page has.
 const PAGE_BYTES: u64 = 4096;
@@ -19,16 +18,13 @@ pub(crate) fn end(range: &Run<RangeRecord>) -> u64 {
     address(range.first.saturating_add(range.pages))
 }
 
-/// The policy as numa_maps shows it; `default` where there is none.
-pub(crate) fn policy(alloc: Global, policy: Option<Record>) -> Result<String, AllocError> {
-    match policy {
-        Some(policy) => String::from_str(alloc, policy.policy_text().as_str()),
-        None => String::from_str(alloc, "default"),
-    }
+/// How many bytes so many pages have.
+pub(crate) fn bytes(pages: u64) -> u64 {
+    pages.saturating_mul(PAGE_BYTES)
 }
 
 /// How many pages all nodes have together.
-pub(crate) fn sum(counts: &[u64; 256]) -> u64 {
+pub(crate) fn sum(counts: &[u64]) -> u64 {
     let mut sum = 0u64;
     for count in counts {
         sum = sum.saturating_add(*count);
@@ -36,45 +32,44 @@ pub(crate) fn sum(counts: &[u64; 256]) -> u64 {
     sum
 }
 
-/// What stands before the first range.
-pub(crate) fn head(
+/// The texts of policies; each is made once, since making one takes longer than all else that is
+/// said of a range.
+#[derive(Drop)]
+pub(crate) struct PolicyTexts {
     alloc: Global,
-    format: Format,
-    version: u64,
-    task: u32,
-    cpu: u32,
-) -> Result<Vec<u8>, AllocError> {
-    match format {
-        Format::Text => Ok(Vec::new(alloc)),
-        Format::Json => objects::head(alloc, version, task, cpu),
-        Format::Csv => records::head(alloc),
-    }
+    texts: HashMap<Record, String>,
 }
 
-/// What is said of a range.
-pub(crate) fn range(
-    alloc: Global,
-    format: Format,
-    range: &Run<RangeRecord>,
-    said: &RangePrediction,
-    is_first: bool,
-) -> Result<Vec<u8>, AllocError> {
-    match format {
-        Format::Text => lines::range(alloc, range, said),
-        Format::Json => objects::range(alloc, range, said, is_first),
-        Format::Csv => records::range(alloc, range, said),
+impl PolicyTexts {
+    /// No texts.
+    pub(crate) fn new(alloc: Global) -> PolicyTexts {
+        PolicyTexts {
+            alloc,
+            texts: HashMap::new(alloc),
+        }
     }
-}
 
-/// What stands behind the last range: how many pages each node gets in all.
-pub(crate) fn total(
-    alloc: Global,
-    format: Format,
-    counts: &[u64; 256],
-) -> Result<Vec<u8>, AllocError> {
-    match format {
-        Format::Text => lines::total(alloc, counts),
-        Format::Json => objects::total(alloc, counts),
-        Format::Csv => records::total(alloc, counts),
+    /// Makes a policy's text, where there is none yet.
+    fn learn(&mut self, policy: Record) -> Result<(), AllocError> {
+        if self.texts.get(&policy).is_some() {
+            return Ok(());
+        }
+        let text = String::from_str(self.alloc, policy.policy_text().as_str())?;
+        match self.texts.insert(policy, text) {
+            Ok(_) => Ok(()),
+            Err(_) => Err(AllocError),
+        }
+    }
+
+    /// The policy as numa_maps shows it; `default` where there is none.
+    pub(crate) fn text(&mut self, policy: Option<Record>) -> Result<&str, AllocError> {
+        let Some(policy) = policy else {
+            return Ok("default");
+        };
+        self.learn(policy)?;
+        match self.texts.get(&policy) {
+            Some(text) => Ok(text.as_str()),
+            None => Err(AllocError),
+        }
     }
 }

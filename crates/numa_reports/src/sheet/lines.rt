@@ -1,48 +1,68 @@
 //! Reports as lines in the form of numa_maps.
 
-use crate::prediction::RangePrediction;
-use crate::sheet::fields::{address, end, policy, sum};
+use crate::sheet::fields::{address, end, sum};
+use itoa::Buffer;
 use numa_space::{RangeRecord, Run};
-use std::alloc::{AllocError, Global};
-use std::fmt::Write;
+use std::alloc::AllocError;
 
-/// The node and its pages, for each node that has some, the lowest first.
-fn push_nodes(text: &mut String, counts: &[u64; 256]) -> Result<(), AllocError> {
-    for node in 0..256 {
-        if counts[node] > 0 {
-            write!(text, " N{}={}", node, counts[node])?;
+/// The digits of hexadecimal numbers.
+const DIGITS: [u8; 16] = *b"0123456789abcdef";
+
+/// A number in hexadecimal digits, eight at least.
+fn push_hexadecimal(text: &mut Vec<u8>, number: u64) -> Result<(), AllocError> {
+    for place in 0..16u32 {
+        let high = number >> (60 - 4 * place);
+        if place >= 8 || high > 0 {
+            text.push(DIGITS[(high & 15) as usize])?;
         }
     }
     Ok(())
 }
 
+/// A number in decimal digits.
+fn push_number(text: &mut Vec<u8>, number: u64) -> Result<(), AllocError> {
+    let mut buffer = Buffer::new();
+    text.extend_from_slice(buffer.format(number).as_bytes())
+}
+
+/// A node and its pages.
+fn push_node(text: &mut Vec<u8>, node: usize, pages: u64) -> Result<(), AllocError> {
+    text.extend_from_slice(b" N")?;
+    push_number(text, node as u64)?;
+    text.push(b'=')?;
+    push_number(text, pages)
+}
+
+/// All pages, and each node that has some with them, the lowest first.
+fn push_pages(text: &mut Vec<u8>, pages: u64, counts: &[u64]) -> Result<(), AllocError> {
+    text.extend_from_slice(b" anon=")?;
+    push_number(text, pages)?;
+    for node in 0..counts.len() {
+        if counts[node] > 0 {
+            push_node(text, node, counts[node])?;
+        }
+    }
+    text.extend_from_slice(b" kernelpagesize_kB=4\n")
+}
+
 /// The line of a range: its first address and the one behind its last, the policy, and its pages by
 /// node.
-pub(crate) fn range(
-    alloc: Global,
+pub(crate) fn push_range(
+    text: &mut Vec<u8>,
     range: &Run<RangeRecord>,
-    said: &RangePrediction,
-) -> Result<Vec<u8>, AllocError> {
-    let mut text = String::new(alloc);
-    let policy = policy(alloc, said.policy)?;
-    write!(
-        text,
-        "{:08x}-{:08x} {}",
-        address(range.first),
-        end(range),
-        policy
-    )?;
-    write!(text, " anon={}", range.pages)?;
-    push_nodes(&mut text, &said.counts)?;
-    text.push_str(" kernelpagesize_kB=4\n")?;
-    Ok(text.into_bytes())
+    policy: &str,
+    counts: &[u64],
+) -> Result<(), AllocError> {
+    push_hexadecimal(text, address(range.first))?;
+    text.push(b'-')?;
+    push_hexadecimal(text, end(range))?;
+    text.push(b' ')?;
+    text.extend_from_slice(policy.as_bytes())?;
+    push_pages(text, range.pages, counts)
 }
 
 /// The last line: all pages by node.
-pub(crate) fn total(alloc: Global, counts: &[u64; 256]) -> Result<Vec<u8>, AllocError> {
-    let mut text = String::new(alloc);
-    write!(text, "total anon={}", sum(counts))?;
-    push_nodes(&mut text, counts)?;
-    text.push_str(" kernelpagesize_kB=4\n")?;
-    Ok(text.into_bytes())
+pub(crate) fn push_total(text: &mut Vec<u8>, counts: &[u64]) -> Result<(), AllocError> {
+    text.extend_from_slice(b"total")?;
+    push_pages(text, sum(counts), counts)
 }

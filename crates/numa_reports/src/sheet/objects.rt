@@ -1,18 +1,17 @@
 //! Reports as JSON.
 
-use crate::prediction::RangePrediction;
-use crate::sheet::fields::{address, end, policy, sum};
+use crate::sheet::fields::{address, end, sum};
 use numa_space::{RangeRecord, Run};
 use serde_json::{Value, json};
 use std::alloc::{AllocError, Global};
 use std::fmt::Write;
 
 /// Each node that has pages, the lowest first.
-fn nodes(alloc: Global, counts: &[u64; 256]) -> Result<Value, AllocError> {
+fn nodes(alloc: Global, counts: &[u64]) -> Result<Value, AllocError> {
     let mut items = Vec::new(alloc);
-    for node in 0..256 {
+    for node in 0..counts.len() {
         if counts[node] > 0 {
-            let item = json!(in alloc; {"node": node as u32, "pages": counts[node]})?;
+            let item = json!(in alloc; {"node": node as u64, "pages": counts[node]})?;
             items.push(item)?;
         }
     }
@@ -40,11 +39,11 @@ pub(crate) fn head(
 pub(crate) fn range(
     alloc: Global,
     range: &Run<RangeRecord>,
-    said: &RangePrediction,
+    policy: &str,
+    counts: &[u64],
     is_first: bool,
 ) -> Result<Vec<u8>, AllocError> {
-    let policy = policy(alloc, said.policy)?;
-    let nodes = nodes(alloc, &said.counts)?;
+    let nodes = nodes(alloc, counts)?;
     let value = json!(in alloc; {
         "start": address(range.first),
         "end": end(range),
@@ -59,7 +58,7 @@ pub(crate) fn range(
 }
 
 /// The list of ranges ends, and the object with all pages by node.
-pub(crate) fn total(alloc: Global, counts: &[u64; 256]) -> Result<Vec<u8>, AllocError> {
+pub(crate) fn total(alloc: Global, counts: &[u64]) -> Result<Vec<u8>, AllocError> {
     let nodes = nodes(alloc, counts)?;
     let value = json!(in alloc; {"anon": sum(counts), "nodes": nodes})?;
     let item = value.to_string(alloc)?;

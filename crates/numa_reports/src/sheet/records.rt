@@ -1,7 +1,6 @@
 //! Reports as CSV: one record for each node of each range, and one for each node of all.
 
-use crate::prediction::RangePrediction;
-use crate::sheet::fields::{address, end, policy, sum};
+use crate::sheet::fields::{address, end, sum};
 use csv::{Writer, WriterBuilder};
 use itoa::Buffer;
 use numa_space::{RangeRecord, Run};
@@ -49,9 +48,9 @@ fn put(
 }
 
 /// One record for each node that has pages, the lowest first.
-fn records(alloc: Global, front: &Front<'_>, counts: &[u64; 256]) -> Result<Vec<u8>, AllocError> {
+fn records(alloc: Global, front: &Front<'_>, counts: &[u64]) -> Result<Vec<u8>, AllocError> {
     let mut writer = WriterBuilder::new().from_writer(Vec::new(alloc));
-    for node in 0..256 {
+    for node in 0..counts.len() {
         if counts[node] > 0 {
             put(&mut writer, front, node, counts[node])?;
         }
@@ -66,22 +65,22 @@ fn records(alloc: Global, front: &Front<'_>, counts: &[u64; 256]) -> Result<Vec<
 pub(crate) fn range(
     alloc: Global,
     range: &Run<RangeRecord>,
-    said: &RangePrediction,
+    policy: &str,
+    counts: &[u64],
 ) -> Result<Vec<u8>, AllocError> {
-    let policy = policy(alloc, said.policy)?;
     let mut first = Buffer::new();
     let mut last = Buffer::new();
     let front = Front {
         start: first.format(address(range.first)),
         end: last.format(end(range)),
-        policy: policy.as_str(),
+        policy,
         pages: range.pages,
     };
-    records(alloc, &front, &said.counts)
+    records(alloc, &front, counts)
 }
 
 /// The records of all pages: their policy is `total`, and they have no addresses.
-pub(crate) fn total(alloc: Global, counts: &[u64; 256]) -> Result<Vec<u8>, AllocError> {
+pub(crate) fn total(alloc: Global, counts: &[u64]) -> Result<Vec<u8>, AllocError> {
     let front = Front {
         start: "",
         end: "",

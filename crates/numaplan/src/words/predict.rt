@@ -25,7 +25,7 @@ const MORE: &str =
     "Example, from the top of the repository:\n  ./numaplan predict --task 1 --cpu 0 examples/homes.numaplan";
 
 /// The names of the formats.
-const FORMATS: [&str; 3] = ["text", "json", "csv"];
+const FORMATS: [&str; 4] = ["text", "json", "csv", "svg"];
 
 /// The command.
 pub fn command<'a>(alloc: Global) -> Result<Command<'a>, AllocError> {
@@ -50,6 +50,7 @@ fn format_of(name: Option<&str>) -> Format {
     match name {
         Some("json") => Format::Json,
         Some("csv") => Format::Csv,
+        Some("svg") => Format::Svg,
         _ => Format::Text,
     }
 }

@@ -10,7 +10,7 @@ use Rattle.numa_reports.proofs.Tiling.{count_runs, runs-most, runs-none, counted
 use Rattle.numa_reports.proofs.prediction.predict_all.Goals as goal
 
 pub loop-range-init : goal.loop-range-init
-loop-range-init c = record {
+loop-range-init g c = record {
   counts = λ node small.
       let test : ℕ → Bool = λ page. is_number node (planned_first c.args.plan.now c.args.task page c.args.cpu) in
       let runs : c.into_iter-range-iterator.result ≡ c.args.space.now.ranges = c.into_iter-range-iterator.ensures.into_iter_gives ∙ c.range_iter-range-items.ensures.runs in
@@ -20,14 +20,14 @@ loop-range-init c = record {
 }
 
 pub add_counts-requires : goal.add_counts-requires
-add_counts-requires c node small =
+add_counts-requires g c node small =
     let test : ℕ → Bool = λ page. is_number node (planned_first c.args.plan.now c.args.task page c.args.cpu) in
     let more = c.in_ok-more.ensures.ok.2 node small in
     let step = ap (λ (runs : List (Run (Option PolicyRecord))). count_runs test runs) c.in-Some.ensures.steps in
     omega (arith, more, step, c.loop-range.invariant.counts node small, runs-most test 0 c.args.space.now.ranges c.loop-range.invariant.apart, sum_by-cons (λ run. count_pages test run.first run.pages) c.in-Some.range.now c.next.new.self)
 
 pub returns : goal.returns
-returns c = record {
+returns g c = record {
   ok = λ history stands planned node small.
       let lt : c.args.cpu < c.args.plan.now.nodes = omega (arith, planned.nodes, ap (λ (m : Hardware). m.nodes) c.machine.ensures) in
       let test : ℕ → Bool = λ page. is_number node (planned_first c.args.plan.now c.args.task page c.args.cpu) in

@@ -1,0 +1,79 @@
+//! Traces that are read, line by line.
+use crate::access::read_access;
+use crate::fault::ReplayFault;
+use crate::replay::Replay;
+use numa_files::{Lines, Stop, TakeLine, read_all};
+use numa_machine::Machine;
+use numa_plan::Plan;
+use std::alloc::{AllocError, Global};
+use std::io::Read;
+
+/// The lines of a trace, replayed by a plan up to the first one that can't be.
+#[derive(Drop)]
+pub struct Replaying {
+    plan: Plan,
+    replay: Replay,
+    // The first line that can't be replayed, and why.
+    fault: Option<(u64, ReplayFault)>,
+}
+
+impl Replaying {
+    /// Before the first line: no page of the machine is placed. The plan is the machine's.
+    pub fn new(alloc: Global, machine: &Machine, plan: Plan) -> Result<Replaying, AllocError> {
+        let replay = Replay::new(alloc, machine)?;
+        Ok(Replaying {
+            plan,
+            replay,
+            fault: None,
+        })
+    }
+
+    /// The replay of the lines so far, or of those before the first fault.
+    pub fn replay(&self) -> &Replay {
+        &self.replay
+    }
+
+    /// The first line that can't be replayed, from 1, and why.
+    pub fn fault(&self) -> Option<(u64, ReplayFault)> {
+        self.fault
+    }
+
+    /// Takes the access of a line.
+    fn take_access(&mut self, line: &[u8]) -> Result<(), ReplayFault> {
+        match read_access(line) {
+            Err(fault) => Err(ReplayFault::Malformed(fault)),
+            Ok(None) => Ok(()),
+            Ok(Some(access)) => self.replay.take(&self.plan, access),
+        }
+    }
+}
+
+impl TakeLine for Replaying {
+    fn take(&mut self, _name: &str, place: u64, line: &[u8]) -> Result<(), Stop> {
+        if self.fault.is_some() {
+            return Ok(());
+        }
+        match self.take_access(line) {
+            Ok(()) => Ok(()),
+            Err(ReplayFault::NoMemory) => Err(Stop::Memory),
+            Err(fault) => {
+                self.fault = Some((place, fault));
+                Ok(())
+            }
+        }
+    }
+}
+
+/// Reads a trace and replays its lines, up to the first one that can't be.
+///
+/// # Errors
+/// Where a read failed, or there was no memory.
+pub fn replay_lines<R: Read + Drop>(
+    alloc: Global,
+    trace: Vec<(String, R)>,
+    replaying: Replaying,
+) -> Result<Replaying, Stop> {
+    let mut lines = Lines::new(alloc, replaying);
+    read_all(trace, &mut lines)?;
+    Ok(lines.taker)
+}
