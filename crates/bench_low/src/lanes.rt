@@ -5,27 +5,14 @@ mod mixes;
 mod work;
 
 use crate::lanes::work::{Tools, Work, time_beside};
+use numa_examples::first_nodes;
 use numa_lanes::Cycle;
-use numa_mask::{NodeId, NodeMask};
 use std::alloc::Global;
 use std::io;
 use std::rt::Clock;
 
 /// The sizes of the spans: 4 KiB, 1 MiB and 64 MiB.
 const SIZES: [usize; 3] = [4_096, 1_048_576, 67_108_864];
-
-/// The set of the first so many nodes.
-fn first_nodes(count: u16) -> NodeMask {
-    let mut set = NodeMask::empty();
-    for number in 0..=255u8 {
-        if u16::from(number) < count
-            && let Some(node) = NodeId::new(number)
-        {
-            set.insert(node);
-        }
-    }
-    set
-}
 
 /// Measures the fills and the count of one node over a span of each size.
 fn measure_spans<R: Print + Clock>(

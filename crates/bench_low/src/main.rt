@@ -7,10 +7,10 @@ mod lanes;
 mod machine;
 mod mask;
 mod ranges;
-mod times;
 
+use numa_examples::wanted::{Wanted, read_wanted};
+use std::io;
 use std::rt::Clock;
-use std::{env, io};
 
 /// Prints the checksums of each part.
 fn checksums<R: Print + AllocGlobal>(rt: &R) -> io::Result<()> {
@@ -42,15 +42,9 @@ fn measure<R: Print + Clock + AllocGlobal>(rt: &R, part: &str) -> io::Result<()>
 }
 
 fn main(rt: HostRuntime) -> io::Result<()> {
-    let mut words = env::args(&rt)?.skip(1);
-    let Some(word) = words.next() else {
-        return checksums(&rt);
-    };
-    if word.as_str() != "measure" {
-        return println!(rt; "usage: bench_low [measure [mask|lanes|machine|ranges]]");
-    }
-    match words.next() {
-        Some(part) => measure(&rt, part.as_str()),
-        None => measure(&rt, ""),
+    match read_wanted(&rt, "bench_low [measure [mask|lanes|machine|ranges]]")? {
+        Wanted::Checksums => checksums(&rt),
+        Wanted::Ratios(part) => measure(&rt, part.as_str()),
+        Wanted::Nothing => Ok(()),
     }
 }

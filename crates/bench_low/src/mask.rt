@@ -3,11 +3,11 @@
 //! of the plain copy in the same run.
 ghost use Rattle.std.specs.Prelude.{◌<◌};
 
+use numa_examples::times::best_of;
 use numa_mask::{NodeId, NodeMask, list_text};
 use std::hint::black_box;
 use std::io;
 use std::rt::Clock;
-use std::time::Instant;
 
 /// How many calls a round times.
 const CALLS: u32 = 2_000;
@@ -39,68 +39,53 @@ fn copied(set: &NodeMask) -> NodeMask {
     copy
 }
 
-fn nanoseconds(rt: &impl Clock, start: &Instant) -> io::Result<u64> {
-    let spent = start.elapsed(rt)?;
-    Ok(u64::try_from(spent.as_nanos()).unwrap_or(u64::MAX))
-}
-
 /// The best time of a round of plain copies, in nanoseconds.
-fn time_copies(rt: &impl Clock, full: &NodeMask) -> io::Result<u64> {
-    let mut best = u64::MAX;
-    for _ in 0..ROUNDS {
-        let start = Instant::now(rt)?;
+fn time_copies<R: Clock>(rt: &R, full: &NodeMask) -> io::Result<u64> {
+    let (best, _) = best_of(rt, ROUNDS, || {
         let mut set = *full;
         for _ in 0..CALLS {
             set = black_box(copied(&set));
         }
-        best = best.min(nanoseconds(rt, &start)?);
-    }
+        u64::from(set.weight())
+    })?;
     Ok(best)
 }
 
 /// The same of `remap` from one set to another.
-fn time_remaps(
-    rt: &impl Clock,
+fn time_remaps<R: Clock>(
+    rt: &R,
     full: &NodeMask,
     old: &NodeMask,
     new: &NodeMask,
 ) -> io::Result<u64> {
-    let mut best = u64::MAX;
-    for _ in 0..ROUNDS {
-        let start = Instant::now(rt)?;
+    let (best, _) = best_of(rt, ROUNDS, || {
         for _ in 0..CALLS {
             let _ = black_box(black_box(full).remap(old, new));
         }
-        best = best.min(nanoseconds(rt, &start)?);
-    }
+        0
+    })?;
     Ok(best)
 }
 
 /// The same of `onto` another set.
-fn time_ontos(rt: &impl Clock, full: &NodeMask, other: &NodeMask) -> io::Result<u64> {
-    let mut best = u64::MAX;
-    for _ in 0..ROUNDS {
-        let start = Instant::now(rt)?;
+fn time_ontos<R: Clock>(rt: &R, full: &NodeMask, other: &NodeMask) -> io::Result<u64> {
+    let (best, _) = best_of(rt, ROUNDS, || {
         for _ in 0..CALLS {
             let _ = black_box(black_box(full).onto(other));
         }
-        best = best.min(nanoseconds(rt, &start)?);
-    }
+        0
+    })?;
     Ok(best)
 }
 
-/// The same of `fold` by a size.
-fn time_folds(rt: &impl Clock, full: &NodeMask, size: u32) -> io::Result<u64>
-    requires { 0 < size }
-{
-    let mut best = u64::MAX;
-    for _ in 0..ROUNDS {
-        let start = Instant::now(rt)?;
+/// The same of `fold` by 10.
+fn time_folds<R: Clock>(rt: &R, full: &NodeMask) -> io::Result<u64> {
+    let (best, _) = best_of(rt, ROUNDS, || {
         for _ in 0..CALLS {
-            let _ = black_box(black_box(full).fold(size));
+            let _ = black_box(black_box(full).fold(10));
         }
-        best = best.min(nanoseconds(rt, &start)?);
-    }
+        0
+    })?;
     Ok(best)
 }
 
@@ -113,7 +98,7 @@ fn print_ratio(rt: &impl Print, name: &str, spent: u64, baseline: u64) -> io::Re
 }
 
 /// Prints ratios.
-pub fn measure(rt: &(impl Print + Clock)) -> io::Result<()> {
+pub fn measure<R: Print + Clock>(rt: &R) -> io::Result<()> {
     let full = stepped(1, 0);
     let baseline = time_copies(rt, &full)?;
     let each = baseline / u64::from(CALLS);
@@ -133,7 +118,7 @@ pub fn measure(rt: &(impl Print + Clock)) -> io::Result<()> {
     )?;
     print_ratio(rt, "onto full", time_ontos(rt, &full, &full)?, baseline)?;
     print_ratio(rt, "onto even", time_ontos(rt, &full, &even)?, baseline)?;
-    print_ratio(rt, "fold by 10", time_folds(rt, &full, 10)?, baseline)
+    print_ratio(rt, "fold by 10", time_folds(rt, &full)?, baseline)
 }
 
 /// Prints the texts of sets.

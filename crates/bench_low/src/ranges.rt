@@ -4,13 +4,12 @@
 //! any sorted vector needs for it. Times alone say little about another machine.
 ghost use Rattle.std.specs.Prelude.{◌<◌, ◌^◌};
 
-use crate::times::{nanos, print_ratio};
+use numa_examples::times::{best_of, print_ratio};
 use numa_ranges::RangeMap;
 use std::alloc::{AllocError, Global};
 use std::hint::black_box;
 use std::io;
 use std::rt::Clock;
-use std::time::Instant;
 
 /// How many ranges stand.
 const RANGES: u64 = 65_536;
@@ -90,60 +89,45 @@ fn page_of(i: u64) -> u64
 
 /// The best time of a split of the middle range and the join that undoes it.
 fn time_edits<R: Clock>(rt: &R, map: &mut RangeMap<u64>) -> io::Result<u64> {
-    let mut best = u64::MAX;
-    for _ in 0..400 {
-        let start = Instant::now(rt)?;
+    let (best, _) = best_of(rt, 400, || {
         let _ = black_box(map.set_span(MIDDLE, 1, 2));
         let _ = black_box(map.set_span(MIDDLE, 1, 1));
-        best = best.min(nanos(start.elapsed(rt)?));
-    }
+        0
+    })?;
     Ok(best)
 }
 
 /// The best time of moving half of a vector one row up and down again.
 fn time_moves<R: Clock>(rt: &R, rows: &mut Vec<Row>) -> io::Result<u64> {
-    let mut best = u64::MAX;
-    for _ in 0..400 {
+    let (best, _) = best_of(rt, 400, || {
         let middle = rows.len() / 2;
-        let start = Instant::now(rt)?;
         if black_box(rows.insert(middle, [0; 4])).is_ok() {
             black_box(rows.remove(middle));
         }
-        best = best.min(nanos(start.elapsed(rt)?));
-    }
+        0
+    })?;
     Ok(best)
 }
 
-/// The best time of a round of `at`, and the sum of what all rounds found, so that no round is left out.
-fn time_at<R: Clock>(rt: &R, map: &RangeMap<u64>) -> io::Result<(u64, u64)> {
-    let mut best = u64::MAX;
+/// The sum of what a round of `at` finds.
+fn found(map: &RangeMap<u64>) -> u64 {
     let mut sum = 0u64;
-    for _ in 0..40 {
-        let start = Instant::now(rt)?;
-        for i in 0..ROUND {
-            if let Some((index, value)) = map.at(black_box(page_of(i))) {
-                sum = sum.wrapping_add(index).wrapping_add(value);
-            }
+    for i in 0..ROUND {
+        if let Some((index, value)) = map.at(black_box(page_of(i))) {
+            sum = sum.wrapping_add(index).wrapping_add(value);
         }
-        best = best.min(nanos(start.elapsed(rt)?));
     }
-    Ok((best, sum))
+    sum
 }
 
-/// The same of std's partition point over rows as large.
-fn time_partition_point<R: Clock>(rt: &R, rows: &[Row]) -> io::Result<(u64, u64)> {
-    let mut best = u64::MAX;
+/// The sum of the places that a round of std's partition point finds among rows as large.
+fn places_by_rows(rows: &[Row]) -> u64 {
     let mut sum = 0u64;
-    for _ in 0..40 {
-        let start = Instant::now(rt)?;
-        for i in 0..ROUND {
-            let page = black_box(page_of(i));
-            let place = rows.partition_point(|row| row[0] <= page);
-            sum = sum.wrapping_add(place as u64);
-        }
-        best = best.min(nanos(start.elapsed(rt)?));
+    for i in 0..ROUND {
+        let page = black_box(page_of(i));
+        sum = sum.wrapping_add(rows.partition_point(|row| row[0] <= page) as u64);
     }
-    Ok((best, sum))
+    sum
 }
 
 fn measure_calls<R: Clock + Print>(
@@ -159,8 +143,8 @@ fn measure_calls<R: Clock + Print>(
         edits,
         moves,
     )?;
-    let (looks, found) = time_at(rt, map)?;
-    let (points, counted) = time_partition_point(rt, rows)?;
+    let (looks, found) = best_of(rt, 40, || found(map))?;
+    let (points, counted) = best_of(rt, 40, || places_by_rows(rows))?;
     print_ratio(rt, "at over partition_point", looks, points)?;
     println!(rt; "sums {found} {counted}")
 }

@@ -1,10 +1,9 @@
 //! Crews of workers in threads, beside one worker without threads that serves the same requests.
 mod serve;
 
-use crate::crew::serve::{Served, by_crew, by_one};
-use crate::setting::{ON_NODE_0, desk_of, machine_of, request_of};
-use crate::times::{ROUNDS, Times};
-use numa_machine::Machine;
+use crate::crew::serve::{by_crew, by_one};
+use crate::setting::{ON_NODE_0, desk_of, request_of};
+use crate::times::{ROUNDS, Times, lacking};
 use numa_publish::Desk;
 use numa_space::Request;
 use std::alloc::Global;
@@ -40,20 +39,19 @@ fn time_crew<R: Clock + Threads + Sync>(
     rt: &R,
     alloc: Global,
     desk: &mut Desk,
-    machine: &Machine,
     workers: u32,
     requests: &[Request],
     times: &mut Times,
-) -> io::Result<u64> {
+) -> u64 {
     let mut refused = 0u64;
     for round in 0..ROUNDS {
-        let one = by_one(rt, alloc, desk, machine, requests)?;
-        let crew = by_crew(rt, alloc, desk, machine, workers, requests)?;
+        let one = by_one(rt, alloc, desk, requests);
+        let crew = by_crew(rt, alloc, desk, workers, requests);
         let placed = one.placed.min(crew.placed);
         refused = refused.wrapping_add((requests.len() as u64).saturating_sub(placed));
         times.put(round, one.nanos, crew.nanos);
     }
-    Ok(refused)
+    refused
 }
 
 /// Prints how many times one worker's requests a second a crew places.
@@ -65,14 +63,11 @@ fn measure_crew<R: Print + Clock + Threads + Sync>(
     count: u32,
     apart: bool,
 ) -> io::Result<()> {
-    let (Some(machine), Some(requests)) = (
-        machine_of(alloc),
-        requests_of(alloc, workers, count, apart),
-    ) else {
-        return println!(rt; "no memory");
+    let Some(requests) = requests_of(alloc, workers, count, apart) else {
+        return lacking(rt);
     };
     let mut times = Times::new();
-    let refused = time_crew(rt, alloc, desk, &machine, workers, &requests, &mut times)?;
+    let refused = time_crew(rt, alloc, desk, workers, &requests, &mut times);
     let nodes = if apart {
         "nodes of their own"
     } else {
@@ -80,20 +75,6 @@ fn measure_crew<R: Print + Clock + Threads + Sync>(
     };
     print!(rt; "  {workers} workers, {count} requests, {nodes}, {refused} refused")?;
     times.print(rt, "", u64::from(count))
-}
-
-/// Measures crews of one, two and four.
-fn measure_crews<R: Print + Clock + Threads + Sync>(
-    rt: &R,
-    alloc: Global,
-    desk: &mut Desk,
-    count: u32,
-    apart: bool,
-) -> io::Result<()> {
-    for workers in [1, 2, 4] {
-        measure_crew(rt, alloc, desk, workers, count, apart)?;
-    }
-    Ok(())
 }
 
 /// Measures all crews.
@@ -105,8 +86,11 @@ fn measure_all<R: Print + Clock + Threads + Sync>(
     println!(rt;
         "requests a second over those of one worker without threads (its time over the crew's):"
     )?;
-    measure_crews(rt, alloc, desk, 4_096, true)?;
-    measure_crews(rt, alloc, desk, 4_096, false)?;
+    for apart in [true, false] {
+        for workers in [1, 2, 4] {
+            measure_crew(rt, alloc, desk, workers, 4_096, apart)?;
+        }
+    }
     for (workers, count) in LONGER {
         measure_crew(rt, alloc, desk, workers, count, true)?;
     }
@@ -116,7 +100,7 @@ fn measure_all<R: Print + Clock + Threads + Sync>(
 /// Prints the ratios.
 pub fn measure<R: Print + Clock + Threads + Wait + Sync>(rt: &R, alloc: Global) -> io::Result<()> {
     let Some(mut desk) = desk_of(rt, alloc) else {
-        return println!(rt; "no memory");
+        return lacking(rt);
     };
     let done = measure_all(rt, alloc, &mut desk);
     desk.end(rt);
@@ -131,11 +115,10 @@ fn print_crew<R: Print + Clock + Threads + Sync>(
     count: u32,
     apart: bool,
 ) -> io::Result<()> {
-    let (Some(machine), Some(requests)) = (machine_of(alloc), requests_of(alloc, 4, count, apart))
-    else {
-        return println!(rt; "no memory");
+    let Some(requests) = requests_of(alloc, 4, count, apart) else {
+        return lacking(rt);
     };
-    let Served { nanos: _, placed } = by_crew(rt, alloc, desk, &machine, 4, &requests)?;
+    let placed = by_crew(rt, alloc, desk, 4, &requests).placed;
     println!(rt; "of {count} requests four workers place {placed}")
 }
 
@@ -155,7 +138,7 @@ pub fn checksums<R: Print + Clock + Threads + Wait + Sync>(
     alloc: Global,
 ) -> io::Result<()> {
     let Some(mut desk) = desk_of(rt, alloc) else {
-        return println!(rt; "no memory");
+        return lacking(rt);
     };
     let done = print_crews(rt, alloc, &mut desk);
     desk.end(rt);

@@ -6,10 +6,13 @@
 
 mod crew;
 mod fault;
+mod placing;
 mod pool;
 mod publish;
+mod seated;
 mod setting;
 mod times;
+mod workers;
 
 use std::rt::Clock;
 use std::sync::Wait;

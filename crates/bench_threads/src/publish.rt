@@ -6,6 +6,7 @@ mod looks;
 mod spaces;
 
 use crate::publish::looks::{choices, looks};
+use crate::times::lacking;
 use numa_publish::Desk;
 use std::alloc::Global;
 use std::io;
@@ -29,12 +30,12 @@ fn print_seen(rt: &impl Print, desk: &mut Desk) -> io::Result<()> {
 /// Prints what readers see, alone and beside a desk.
 pub fn checksums<R: Print + Threads + Wait + Sync>(rt: &R, alloc: Global) -> io::Result<()> {
     let Some(mut desk) = spaces::desk_of(rt, alloc, RANGES) else {
-        return println!(rt; "no memory");
+        return lacking(rt);
     };
     let seen = print_seen(rt, &mut desk);
     desk.end(rt);
     let Some(mut desk) = spaces::desk_of(rt, alloc, 1) else {
-        return println!(rt; "no memory");
+        return lacking(rt);
     };
     let beside = beside::checksums(rt, alloc, &mut desk);
     desk.end(rt);
@@ -66,12 +67,12 @@ fn measure_small<R: Print + Clock + Threads + Wait + Sync>(
 /// Prints the ratios.
 pub fn measure<R: Print + Clock + Threads + Wait + Sync>(rt: &R, alloc: Global) -> io::Result<()> {
     let Some(mut desk) = spaces::desk_of(rt, alloc, RANGES) else {
-        return println!(rt; "no memory");
+        return lacking(rt);
     };
     let large = measure_large(rt, alloc, &mut desk);
     desk.end(rt);
     let Some(mut desk) = spaces::desk_of(rt, alloc, 1) else {
-        return println!(rt; "no memory");
+        return lacking(rt);
     };
     let small = measure_small(rt, alloc, &mut desk);
     desk.end(rt);

@@ -1,13 +1,7 @@
-//! The machine, the published policies and the workers of faults and crews.
-ghost use Rattle.std.specs.Prelude.{◌≡◌, IfSome};
-ghost use Rattle.std.specs.List.{All};
-ghost use Rattle.numa_fault.specs.declared.worker.FaultWorker.{FaultWorker};
-
-use numa_fault::FaultWorker;
+//! The machine, the published policies and the requests of faults and crews.
 use numa_machine::Machine;
 use numa_mask::{NodeId, NodeMask};
 use numa_mode::PolicySpec;
-use numa_pool::{PoolSeat, Pools};
 use numa_publish::Desk;
 use numa_space::{Command, Limits, Request};
 use std::alloc::Global;
@@ -76,52 +70,5 @@ pub fn request_of(task: u32, place: u64) -> Request {
         task,
         page: FIRST + place % PAGES,
         cpu: 0,
-    }
-}
-
-/// A worker at these pools.
-fn worker_of(
-    alloc: Global,
-    desk: &mut Desk,
-    pools: &Pools,
-    seat: &mut PoolSeat,
-) -> Option<FaultWorker>
-    requires { seat.old.table ≡ pools.now.table }
-    ensures table { seat.new.table ≡ seat.old.table }
-    ensures worker { IfSome result (λ w. w.seat.table ≡ pools.now.table) }
-{
-    let other = pools.split(alloc, seat).ok()?;
-    let reader = desk.reader().ok()?;
-    Some(FaultWorker::new(reader, other))
-}
-
-/// So many workers at these pools.
-pub fn workers_of(
-    alloc: Global,
-    desk: &mut Desk,
-    pools: &Pools,
-    seat: &mut PoolSeat,
-    count: u32,
-) -> Option<Vec<FaultWorker>>
-    requires { seat.old.table ≡ pools.now.table }
-    ensures table { seat.new.table ≡ seat.old.table }
-    ensures workers { IfSome result (λ workers.
-        All (λ (w : FaultWorker). w.seat.table ≡ pools.now.table) workers.items) }
-{
-    let mut workers = Vec::new(alloc);
-    for _ in 0..count {
-        let worker = worker_of(alloc, desk, pools, seat)?;
-        workers.push(worker).ok()?;
-    }
-    Some(workers)
-}
-
-/// Takes so many frames of the node, which the seat keeps.
-pub fn keep(pools: &Pools, seat: &mut PoolSeat, node: u8, count: u32)
-    requires { seat.old.table ≡ pools.now.table }
-    ensures { seat.new.table ≡ seat.old.table }
-{
-    for _ in 0..count {
-        let _ = pools.take(seat, node);
     }
 }

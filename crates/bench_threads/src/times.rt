@@ -2,12 +2,36 @@
 ghost use Rattle.std.specs.Prelude.{◌<◌};
 
 use std::io;
-use std::time::Duration;
+use std::rt::Clock;
+use std::time::{Duration, Instant};
 
 /// How often a call and its baseline are timed.
 pub const ROUNDS: usize = 31;
 
-pub fn nanos(spent: Duration) -> u64 {
+/// A span of time that has begun. Where the clock can't be read, it lasts 0 nanoseconds.
+#[derive(Drop)]
+pub struct Watch {
+    start: Option<Instant>,
+}
+
+impl Watch {
+    /// It begins now.
+    pub fn start(rt: &impl Clock) -> Watch {
+        Watch {
+            start: Instant::now(rt).ok(),
+        }
+    }
+
+    /// How many nanoseconds have passed.
+    pub fn nanos(&self, rt: &impl Clock) -> u64 {
+        match &self.start {
+            Some(start) => start.elapsed(rt).map_or(0, nanos),
+            None => 0,
+        }
+    }
+}
+
+fn nanos(spent: Duration) -> u64 {
     u64::try_from(spent.as_nanos()).unwrap_or(u64::MAX)
 }
 
@@ -73,4 +97,9 @@ impl Times {
         let (whole, part) = (call / 100, call % 100);
         println!(rt; "{what}: {whole}.{part:02} ns")
     }
+}
+
+/// Prints that something couldn't be made, so that nothing is measured.
+pub fn lacking(rt: &impl Print) -> io::Result<()> {
+    println!(rt; "no memory")
 }

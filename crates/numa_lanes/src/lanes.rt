@@ -39,6 +39,7 @@ pub(crate) fn add_lanes(sums: u8x32, hits: u8x32, rounds: usize) -> u8x32
     ensures most { Each1 (λ sum. sum ≤ rounds + 1) result }
     ensures long { length result ≡ 32 }
 {
+    // It bounds the sums for the proof alone.
     let _ = rounds;
     sums.strict_add(hits)
 }

@@ -1,23 +1,11 @@
 //! How many pages of a span are on the nodes of a set.
 ghost use Rattle.std.specs.Prelude.{◌≡◌, ◌*◌, ◌<◌, ◌≤◌, length};
-ghost use Rattle.numa_mask.specs.NodeSet.{has};
 ghost use Rattle.numa_lanes.specs.Spans.{counted_in, between};
 
 use crate::count::count_block;
 use crate::ends::near_ends;
 use crate::lanes::{LANES, ROUNDS, WORTH};
-use numa_mask::{NodeId, NodeMask};
-
-/// Whether the node of this number is in the set.
-#[inline(always)]
-fn is_in(number: u8, set: &NodeMask) -> bool
-    ensures { result ≡ has set.now number }
-{
-    match NodeId::new(number) {
-        Some(node) => set.contains(node),
-        None => false,
-    }
-}
+use numa_mask::NodeMask;
 
 /// The count in a set, one page after another.
 fn count_pages_in(span: &[u8], set: &NodeMask) -> u64
@@ -25,7 +13,7 @@ fn count_pages_in(span: &[u8], set: &NodeMask) -> u64
 {
     let mut total = 0u64;
     for entry in span {
-        total += u64::from(is_in(*entry, set));
+        total += u64::from(set.has(*entry));
     }
     total
 }
@@ -40,7 +28,7 @@ fn count_between_in(block: &[u8], rounds: usize, least: u8, greatest: u8, set: &
 {
     let mut total = 0u64;
     for number in usize::from(least)..usize::from(greatest) + 1 {
-        if is_in(number as u8, set) {
+        if set.has(number as u8) {
             total += count_block(block, rounds, number as u8);
         }
     }

@@ -1,7 +1,9 @@
-//! How long a compile takes.
+//! How long a compile and a prediction of all ranges take.
 use crate::compile::spaces::{POLICIES, RANGES};
 use crate::times::{nanos, print_ratio};
 use numa_compile::compile;
+use numa_plan::Plan;
+use numa_reports::{Format, prediction_text};
 use numa_space::Space;
 use std::alloc::{AllocError, Global};
 use std::collections::HashMap;
@@ -73,6 +75,41 @@ fn time_copy<R: Clock>(rt: &R, alloc: Global, rows: &[Row]) -> io::Result<(u64, 
     Ok((best, sum))
 }
 
+/// The best time of a prediction, and the sum of the lengths of all texts.
+fn time_prediction<R: Clock>(
+    rt: &R,
+    alloc: Global,
+    space: &Space,
+    plan: &Plan,
+) -> io::Result<(u64, u64)> {
+    let mut best = u64::MAX;
+    let mut sum = 0u64;
+    for _ in 0..20 {
+        let start = Instant::now(rt)?;
+        let told = prediction_text(alloc, black_box(space), plan, 1, 0, Format::Text);
+        best = best.min(nanos(start.elapsed(rt)?));
+        if let Ok(text) = told {
+            sum = sum.wrapping_add(text.len() as u64);
+        }
+    }
+    Ok((best, sum))
+}
+
+/// Prints the ratio of a prediction to a compile.
+fn print_prediction<R: Clock + Print>(
+    rt: &R,
+    alloc: Global,
+    space: &Space,
+    compiled: u64,
+) -> io::Result<()> {
+    let Ok(plan) = compile(alloc, space) else {
+        return println!(rt; "no memory");
+    };
+    let (told, bytes) = time_prediction(rt, alloc, space, &plan)?;
+    print_ratio(rt, "predict as text over compile", told, compiled)?;
+    println!(rt; "bytes {bytes}")
+}
+
 /// Prints all ratios.
 pub fn print<R: Clock + Print>(rt: &R, alloc: Global, space: &Space) -> io::Result<()> {
     let rows = rows_of(alloc)?;
@@ -86,5 +123,6 @@ pub fn print<R: Clock + Print>(rt: &R, alloc: Global, space: &Space) -> io::Resu
         compiled,
         copied,
     )?;
-    println!(rt; "sums {plans} {copies}")
+    println!(rt; "sums {plans} {copies}")?;
+    print_prediction(rt, alloc, space, compiled)
 }

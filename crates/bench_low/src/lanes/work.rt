@@ -1,6 +1,6 @@
 //! A kernel beside a plain form of the same work, and the times of both.
 
-use crate::times::nanos;
+use numa_examples::times::nanos;
 use numa_lanes::{Cycle, count_all, count_in, count_node, fill_cycle, fill_one};
 use numa_mask::{NodeId, NodeMask};
 use std::hint::black_box;

@@ -1,105 +1,48 @@
 //! A fault on a span beside as many faults.
-ghost use Rattle.std.specs.Prelude.{◌≡◌};
-
-use crate::setting::{FIRST, request_of};
-use crate::times::{ROUNDS, Times, nanos};
-use numa_fault::FaultWorker;
-use numa_pool::Pools;
+use crate::placing::Placing;
+use crate::times::{ROUNDS, Times, Watch, lacking};
 use numa_space::Placement;
 use std::alloc::Global;
-use std::hint::black_box;
 use std::io;
 use std::rt::Clock;
-use std::time::Instant;
 
 /// How many pages the span has.
 const PAGES: usize = 4_096;
 
-/// Places the pages one by one.
-pub fn fault_each(
-    worker: &mut FaultWorker,
-    pools: &Pools,
-    task: u32,
-    placements: &mut Vec<Placement>,
-)
-    requires { worker.old.seat.table ≡ pools.now.table }
-    ensures { worker.new.seat.table ≡ worker.old.seat.table }
-{
-    for place in 0..PAGES {
-        let request = black_box(request_of(task, place as u64));
-        if let Ok(placement) = worker.fault(pools, request) {
-            let _ = placements.push(placement);
-        }
-    }
+/// The time of as many faults, whose frames are given up again.
+fn time_each(rt: &impl Clock, placing: &mut Placing, placements: &mut Vec<Placement>) -> u64 {
+    let watch = Watch::start(rt);
+    placing.fault_each(1, PAGES, placements);
+    let nanos = watch.nanos(rt);
+    placing.release_each(placements);
+    nanos
 }
 
-/// Places the pages at once.
-pub fn fault_span(
-    worker: &mut FaultWorker,
-    alloc: Global,
-    pools: &Pools,
-    task: u32,
-    placements: &mut Vec<Placement>,
-)
-    requires { worker.old.seat.table ≡ pools.now.table }
-    ensures { worker.new.seat.table ≡ worker.old.seat.table }
-{
-    let first = black_box(FIRST);
-    let _ = worker.fault_span(alloc, pools, task, 0, first, PAGES, placements);
-}
-
-/// Gives the frames up again.
-pub fn release_each(worker: &mut FaultWorker, pools: &Pools, placements: &mut Vec<Placement>)
-    requires { worker.old.seat.table ≡ pools.now.table }
-    ensures { worker.new.seat.table ≡ worker.old.seat.table }
-{
-    for _ in 0..placements.len() {
-        if let Some(placement) = placements.pop()
-            && worker.owns(&placement)
-        {
-            worker.release(pools, placement);
-        }
-    }
-}
-
-/// The times of a span beside those of as many faults.
-fn time_spans(
+/// The time of the span, whose frames are given up again.
+fn time_span(
     rt: &impl Clock,
     alloc: Global,
-    worker: &mut FaultWorker,
-    pools: &Pools,
-    times: &mut Times,
-) -> io::Result<()>
-    requires { worker.old.seat.table ≡ pools.now.table }
-    ensures { worker.new.seat.table ≡ worker.old.seat.table }
-{
-    let mut placements = Vec::with_capacity(alloc, PAGES)?;
-    for round in 0..ROUNDS {
-        let start = Instant::now(rt)?;
-        fault_each(worker, pools, 1, &mut placements);
-        let each = nanos(start.elapsed(rt)?);
-        release_each(worker, pools, &mut placements);
-        let start = Instant::now(rt)?;
-        fault_span(worker, alloc, pools, 1, &mut placements);
-        let span = nanos(start.elapsed(rt)?);
-        release_each(worker, pools, &mut placements);
-        times.put(round, span, each);
-    }
-    Ok(())
+    placing: &mut Placing,
+    placements: &mut Vec<Placement>,
+) -> u64 {
+    let watch = Watch::start(rt);
+    placing.fault_span(alloc, 1, PAGES, placements);
+    let nanos = watch.nanos(rt);
+    placing.release_each(placements);
+    nanos
 }
 
 /// Prints the ratio.
-pub fn measure<R: Print + Clock>(
-    rt: &R,
-    alloc: Global,
-    worker: &mut FaultWorker,
-    pools: &Pools,
-) -> io::Result<()>
-    requires { worker.old.seat.table ≡ pools.now.table }
-    ensures { worker.new.seat.table ≡ worker.old.seat.table }
-{
+pub fn measure<R: Print + Clock>(rt: &R, alloc: Global, placing: &mut Placing) -> io::Result<()> {
+    let Ok(mut placements) = Vec::with_capacity(alloc, PAGES) else {
+        return lacking(rt);
+    };
     let mut times = Times::new();
-    time_spans(rt, alloc, worker, pools, &mut times)?;
+    for round in 0..ROUNDS {
+        let each = time_each(rt, placing, &mut placements);
+        let span = time_span(rt, alloc, placing, &mut placements);
+        times.put(round, span, each);
+    }
     times.print(
         rt,
         "fault_span of 4,096 pages over as many faults, for each page",

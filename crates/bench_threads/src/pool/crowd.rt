@@ -4,8 +4,9 @@ ghost use Rattle.std.specs.List.{All};
 ghost use Rattle.numa_pool.specs.Seats.{SeatView};
 
 use crate::pool::bare::bare_by;
-use crate::pool::lone::pool_rounds;
-use crate::times::{ROUNDS, Times, nanos};
+use crate::seated::rounds;
+use crate::setting::machine_of;
+use crate::times::{ROUNDS, Times, Watch, lacking};
 use numa_pool::{PoolSeat, Pools};
 use std::alloc::Global;
 use std::hint::black_box;
@@ -13,21 +14,27 @@ use std::io;
 use std::rt::Clock;
 use std::sync::atomic::AtomicU64;
 use std::thread::{Threads, for_each_mut};
-use std::time::Instant;
 
 /// How many frames each thread takes at once.
 const TAKES: u64 = 200_000;
 
+/// Pools of their own, and seats at them.
+#[derive(Drop)]
+struct Seats {
+    pools: Pools,
+    seats: Vec<PoolSeat>,
+    ghost same: { All (λ (s : SeatView). s.table ≡ pools.table) seats.items },
+}
+
 /// So many seats at these pools.
-fn seats_of(alloc: Global, pools: &Pools, seat: &mut PoolSeat, count: u32) -> Option<Vec<PoolSeat>>
-    requires { seat.old.table ≡ pools.now.table }
-    ensures table { seat.new.table ≡ seat.old.table }
-    ensures seats { IfSome result (λ seats.
+fn seats_of(alloc: Global, pools: &Pools, mut seat: PoolSeat, count: u32) -> Option<Vec<PoolSeat>>
+    requires { seat.table ≡ pools.now.table }
+    ensures { IfSome result (λ seats.
         All (λ (s : SeatView). s.table ≡ pools.now.table) seats.items) }
 {
     let mut seats = Vec::new(alloc);
     for _ in 0..count {
-        let other = pools.split(alloc, seat).ok()?;
+        let other = pools.split(alloc, &mut seat).ok()?;
         seats.push(other).ok()?;
     }
     Some(seats)
@@ -48,83 +55,70 @@ fn take_by<R: Threads + Sync>(rt: &R, pools: &Pools, seats: &mut [PoolSeat], apa
             ensures { seat.new.table ≡ pools.entry.now.table }
         {
             let node = if apart { (place % 4) as u8 } else { 0 };
-            black_box(pool_rounds(pools, seat, node, TAKES));
+            black_box(rounds(pools, seat, node, TAKES));
         },
     );
 }
 
-/// The times on one word beside those of the bare steps by as many threads on one word.
-fn time_word<R: Clock + Threads + Sync>(
-    rt: &R,
-    pools: &Pools,
-    seats: &mut [PoolSeat],
-    times: &mut Times,
-) -> io::Result<()>
-    requires { All (λ (s : SeatView). s.table ≡ pools.now.table) seats.old }
-    ensures { All (λ (s : SeatView). s.table ≡ pools.now.table) seats.new }
-{
-    let word = AtomicU64::new(0);
-    let mut sums = [0u64; 4];
-    let threads = seats.len().min(4);
-    for round in 0..ROUNDS {
-        let start = Instant::now(rt)?;
-        bare_by(rt, &word, &mut sums[..threads], TAKES);
-        let bare = nanos(start.elapsed(rt)?);
-        let start = Instant::now(rt)?;
-        take_by(rt, pools, seats, false);
-        times.put(round, nanos(start.elapsed(rt)?), bare);
+impl Seats {
+    /// So many seats, at pools in which each frame is free.
+    fn open(alloc: Global, count: u32) -> Option<Seats> {
+        let machine = machine_of(alloc)?;
+        let (pools, seat) = Pools::open(alloc, &machine).ok()?;
+        let seats = seats_of(alloc, &pools, seat, count)?;
+        Some(Seats { pools, seats })
     }
-    Ok(())
+
+    /// The time of all takes, in as many threads as there are seats.
+    fn time<R: Clock + Threads + Sync>(&mut self, rt: &R, apart: bool) -> u64 {
+        let watch = Watch::start(rt);
+        take_by(rt, &self.pools, &mut self.seats, apart);
+        watch.nanos(rt)
+    }
+}
+
+/// The time of the bare steps, by as many threads on one word.
+fn time_bare<R: Clock + Threads + Sync>(rt: &R, word: &AtomicU64, threads: usize) -> u64 {
+    let mut sums = [0u64; 4];
+    let watch = Watch::start(rt);
+    bare_by(rt, word, &mut sums[..threads.min(4)], TAKES);
+    watch.nanos(rt)
+}
+
+/// The times on one word beside those of the bare steps.
+fn time_word<R: Clock + Threads + Sync>(rt: &R, seats: &mut Seats) -> Times {
+    let word = AtomicU64::new(0);
+    let mut times = Times::new();
+    for round in 0..ROUNDS {
+        let bare = time_bare(rt, &word, seats.seats.len());
+        times.put(round, seats.time(rt, false), bare);
+    }
+    times
 }
 
 /// The time of one thread's frames, as often as there are threads, beside that of all threads on
 /// nodes of their own.
-fn time_apart<R: Clock + Threads + Sync>(
-    rt: &R,
-    pools: &Pools,
-    one: &mut [PoolSeat],
-    seats: &mut [PoolSeat],
-    times: &mut Times,
-) -> io::Result<()>
-    requires one { All (λ (s : SeatView). s.table ≡ pools.now.table) one.old }
-    requires seats { All (λ (s : SeatView). s.table ≡ pools.now.table) seats.old }
-    ensures one { All (λ (s : SeatView). s.table ≡ pools.now.table) one.new }
-    ensures seats { All (λ (s : SeatView). s.table ≡ pools.now.table) seats.new }
-{
+fn time_apart<R: Clock + Threads + Sync>(rt: &R, one: &mut Seats, seats: &mut Seats) -> Times {
+    let mut times = Times::new();
     for round in 0..ROUNDS {
-        let start = Instant::now(rt)?;
-        take_by(rt, pools, one, true);
-        let single = nanos(start.elapsed(rt)?);
-        let start = Instant::now(rt)?;
-        take_by(rt, pools, seats, true);
-        let all = nanos(start.elapsed(rt)?);
-        times.put(round, single.saturating_mul(seats.len() as u64), all);
+        let single = one.time(rt, true);
+        let all = seats.time(rt, true);
+        times.put(round, single.saturating_mul(seats.seats.len() as u64), all);
     }
-    Ok(())
+    times
 }
 
 /// Prints the ratios of so many threads.
 pub fn measure<R: Print + Clock + Threads + Sync>(
     rt: &R,
     alloc: Global,
-    pools: &Pools,
-    seat: &mut PoolSeat,
     count: u32,
-) -> io::Result<()>
-    requires { seat.old.table ≡ pools.now.table }
-    ensures { seat.new.table ≡ seat.old.table }
-{
-    let Some(mut one) = seats_of(alloc, pools, seat, 1) else {
-        return println!(rt; "no memory");
+) -> io::Result<()> {
+    let (Some(mut one), Some(mut seats)) = (Seats::open(alloc, 1), Seats::open(alloc, count)) else {
+        return lacking(rt);
     };
-    let Some(mut seats) = seats_of(alloc, pools, seat, count) else {
-        return println!(rt; "no memory");
-    };
-    let (mut of_word, mut of_apart) = (Times::new(), Times::new());
-    time_word(rt, pools, &mut seats, &mut of_word)?;
     print!(rt; "  {count} threads on one word, over as many on a word of no pools")?;
-    of_word.print(rt, "", TAKES)?;
-    time_apart(rt, pools, &mut one, &mut seats, &mut of_apart)?;
+    time_word(rt, &mut seats).print(rt, "", TAKES)?;
     print!(rt; "  {count} threads on nodes of their own, frames a second over one thread's")?;
-    of_apart.print(rt, "", TAKES)
+    time_apart(rt, &mut one, &mut seats).print(rt, "", TAKES)
 }

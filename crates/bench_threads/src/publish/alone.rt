@@ -1,7 +1,7 @@
 //! What a look and a publish take beside their parts, in one thread.
 use crate::publish::looks::{bare_looks, choices, looks, plan_choices};
 use crate::publish::spaces::change;
-use crate::times::{ROUNDS, Times, nanos};
+use crate::times::{ROUNDS, Times, Watch, lacking};
 use numa_compile::compile;
 use numa_plan::Plan;
 use numa_publish::{Desk, PlanReader};
@@ -11,7 +11,6 @@ use std::io;
 use std::rt::Clock;
 use std::sync::Wait;
 use std::sync::atomic::AtomicU64;
-use std::time::Instant;
 
 /// How many looks are timed at once.
 const LOOKS: u64 = 20_000;
@@ -19,35 +18,54 @@ const LOOKS: u64 = 20_000;
 /// How many publishes of nothing.
 const PUBLISHES: u64 = 10_000;
 
+/// The time of the atomic steps of looks.
+fn time_bare(rt: &impl Clock, epoch: &AtomicU64, side: &AtomicU64) -> u64 {
+    let watch = Watch::start(rt);
+    black_box(bare_looks(epoch, side, LOOKS));
+    watch.nanos(rt)
+}
+
+/// The time of looks.
+fn time_looks(rt: &impl Clock, reader: PlanReader) -> (PlanReader, u64) {
+    let watch = Watch::start(rt);
+    let (reader, sum) = looks(reader, LOOKS);
+    black_box(sum);
+    (reader, watch.nanos(rt))
+}
+
+/// The time of a plan's choices.
+fn time_plan(rt: &impl Clock, plan: &Plan) -> u64 {
+    let watch = Watch::start(rt);
+    black_box(plan_choices(plan, LOOKS));
+    watch.nanos(rt)
+}
+
+/// The time of choices through a view.
+fn time_choices(rt: &impl Clock, reader: PlanReader) -> (PlanReader, u64) {
+    let watch = Watch::start(rt);
+    let (reader, sum) = choices(reader, LOOKS);
+    black_box(sum);
+    (reader, watch.nanos(rt))
+}
+
 /// Looks beside their atomic steps, and choices through a view beside looks and a plan's choices.
-fn time_looks<R: Clock>(
+fn time_all<R: Clock>(
     rt: &R,
     mut reader: PlanReader,
     plan: &Plan,
     of_looks: &mut Times,
     of_choices: &mut Times,
-) -> io::Result<()> {
+) {
     let (epoch, side) = (AtomicU64::new(0), AtomicU64::new(0));
     for round in 0..ROUNDS {
-        let start = Instant::now(rt)?;
-        black_box(bare_looks(&epoch, &side, LOOKS));
-        let bare = nanos(start.elapsed(rt)?);
-        let start = Instant::now(rt)?;
-        let (back, sum) = looks(reader, LOOKS);
-        let look = nanos(start.elapsed(rt)?);
-        black_box(sum);
-        let start = Instant::now(rt)?;
-        black_box(plan_choices(plan, LOOKS));
-        let found = nanos(start.elapsed(rt)?);
-        let start = Instant::now(rt)?;
-        let (back, sum) = choices(back, LOOKS);
-        let choice = nanos(start.elapsed(rt)?);
-        black_box(sum);
+        let bare = time_bare(rt, &epoch, &side);
+        let (back, look) = time_looks(rt, reader);
+        let found = time_plan(rt, plan);
+        let (back, choice) = time_choices(rt, back);
         reader = back;
         of_looks.put(round, look, bare);
         of_choices.put(round, choice, look.saturating_add(found));
     }
-    Ok(())
 }
 
 /// Publishes nothing, so many times.
@@ -61,39 +79,54 @@ fn publish_nothing<R: Wait>(rt: &R, desk: &mut Desk) -> u64 {
     sum
 }
 
+/// The time of a compile of the space.
+fn time_compile(rt: &impl Clock, alloc: Global, desk: &Desk) -> u64 {
+    let watch = Watch::start(rt);
+    let plan = compile(alloc, black_box(desk.space()));
+    let nanos = watch.nanos(rt);
+    drop(plan);
+    nanos
+}
+
+/// The time of a publish.
+fn time_publish<R: Clock + Wait>(rt: &R, desk: &mut Desk) -> u64 {
+    let watch = Watch::start(rt);
+    let receipt = desk.publish(rt);
+    let nanos = watch.nanos(rt);
+    drop(receipt);
+    nanos
+}
+
+/// The time of publishes of nothing.
+fn time_nothing<R: Clock + Wait>(rt: &R, desk: &mut Desk) -> u64 {
+    let watch = Watch::start(rt);
+    black_box(publish_nothing(rt, desk));
+    watch.nanos(rt)
+}
+
 /// A publish of one command beside a compile of the space, and publishes of nothing.
-fn time_publish<R: Clock + Wait>(
+fn time_publishes<R: Clock + Wait>(
     rt: &R,
     alloc: Global,
     desk: &mut Desk,
     of_one: &mut Times,
     of_none: &mut Times,
-) -> io::Result<()> {
+) {
     for round in 0..ROUNDS {
         change(desk, round as u64);
-        let start = Instant::now(rt)?;
-        let plan = compile(alloc, black_box(desk.space()));
-        let compiled = nanos(start.elapsed(rt)?);
-        drop(plan);
-        let start = Instant::now(rt)?;
-        let receipt = desk.publish(rt);
-        let published = nanos(start.elapsed(rt)?);
-        drop(receipt);
-        of_one.put(round, published, compiled);
-        let start = Instant::now(rt)?;
-        black_box(publish_nothing(rt, desk));
-        of_none.put(round, nanos(start.elapsed(rt)?), compiled);
+        let compiled = time_compile(rt, alloc, desk);
+        of_one.put(round, time_publish(rt, desk), compiled);
+        of_none.put(round, time_nothing(rt, desk), compiled);
     }
-    Ok(())
 }
 
 /// Prints the ratios of looks.
 fn print_looks<R: Print + Clock>(rt: &R, alloc: Global, desk: &mut Desk) -> io::Result<()> {
     let (mut of_looks, mut of_choices) = (Times::new(), Times::new());
     let (Ok(plan), Ok(reader)) = (compile(alloc, desk.space()), desk.reader()) else {
-        return println!(rt; "no memory");
+        return lacking(rt);
     };
-    time_looks(rt, reader, &plan, &mut of_looks, &mut of_choices)?;
+    time_all(rt, reader, &plan, &mut of_looks, &mut of_choices);
     of_looks.print(
         rt,
         "enter and leave over a fetch_add, a load and a fetch_add",
@@ -110,7 +143,7 @@ fn print_looks<R: Print + Clock>(rt: &R, alloc: Global, desk: &mut Desk) -> io::
 pub fn measure<R: Print + Clock + Wait>(rt: &R, alloc: Global, desk: &mut Desk) -> io::Result<()> {
     let (mut of_one, mut of_none) = (Times::new(), Times::new());
     print_looks(rt, alloc, desk)?;
-    time_publish(rt, alloc, desk, &mut of_one, &mut of_none)?;
+    time_publishes(rt, alloc, desk, &mut of_one, &mut of_none);
     of_one.print(rt, "publish of one command over compile", 1)?;
     of_none.print_call(rt, "publish with nothing pending", PUBLISHES)
 }

@@ -1,6 +1,6 @@
 //! Readers in threads, beside a desk that publishes without a pause.
 use crate::publish::spaces::change;
-use crate::times::nanos;
+use crate::times::{Watch, lacking};
 use numa_publish::{Desk, PlanReader};
 use std::alloc::Global;
 use std::io;
@@ -8,7 +8,6 @@ use std::rt::Clock;
 use std::sync::Wait;
 use std::sync::atomic::{AtomicU64, Ordering};
 use std::thread::{Threads, for_each_mut, join};
-use std::time::Instant;
 
 /// How many looks are made before the reader sees whether it is to end.
 const LOOKS: u64 = 100;
@@ -130,7 +129,7 @@ pub fn checksums<R: Print + Threads + Wait + Sync>(
     desk: &mut Desk,
 ) -> io::Result<()> {
     let Some(mut lookers) = lookers_of(alloc, desk, 3) else {
-        return println!(rt; "no memory");
+        return lacking(rt);
     };
     look_beside(rt, desk, 1_000, &mut lookers);
     for looker in &lookers {
@@ -149,11 +148,11 @@ fn measure_some<R: Print + Clock + Threads + Wait + Sync>(
     publishes: u64,
 ) -> io::Result<()> {
     let Some(mut lookers) = lookers_of(alloc, desk, count) else {
-        return println!(rt; "no memory");
+        return lacking(rt);
     };
-    let start = Instant::now(rt)?;
+    let watch = Watch::start(rt);
     look_beside(rt, desk, publishes, &mut lookers);
-    let spent = u128::from(nanos(start.elapsed(rt)?).max(1));
+    let spent = u128::from(watch.nanos(rt).max(1));
     let (looks, wrong) = totals(&lookers);
     let thousands = u128::from(looks) * 1_000_000 / spent;
     let each = spent / u128::from(publishes.max(1));
