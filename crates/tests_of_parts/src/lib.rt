@@ -21,6 +21,8 @@ mod pool;
 #[cfg(test)]
 mod ranges;
 #[cfg(test)]
+mod refused;
+#[cfg(test)]
 mod rows;
 #[cfg(test)]
 mod space;

@@ -107,7 +107,7 @@ fn all_pages_are_counted_at_once(rt: HostRuntime) {
 fn runs_and_rules_are_small(rt: HostRuntime) {
     assert_eq!(rt; size_of::<Run<Option<u32>>>(), 32);
     assert_eq!(rt; size_of::<Steps>(), 0);
-    // With 8 bytes for its slot and the 64 that a cycle of first nodes has beside its entries, a
-    // rule has 160 beside its rows and its cycles.
+    // With 16 bytes for its slot, 8 for the count of the plans that share it and the 64 that a cycle
+    // of first nodes has beside its entries, a rule has 176 beside its rows and its cycles.
     assert_eq!(rt; size_of::<Rule>(), 88);
 }

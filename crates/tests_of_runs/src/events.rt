@@ -136,7 +136,7 @@ fn touches(rt: HostRuntime) {
 }
 
 /// A core whose first worker owns a frame, and whose second looks for one with that frame met.
-fn begun_core(rt: &impl Abort, alloc: Global) -> Core {
+pub fn begun_core(rt: &impl Abort, alloc: Global) -> Core {
     let mut core = core_of(rt, alloc, &[2, 1], 2);
     let steps = [
         (Does(Map(0x10000, 0x2000, 0)), Accepted(1)),
@@ -148,6 +148,19 @@ fn begun_core(rt: &impl Abort, alloc: Global) -> Core {
     ];
     play(rt, &mut core, &steps);
     core
+}
+
+/// What a core that `begun_core` made goes on with.
+pub fn go_on(rt: &impl Abort, core: &mut Core) {
+    let steps = [
+        (Begin(1, 1, 17, 0), Refused(CoreRefusal::Busy)),
+        (Try(1, 0, 0), Refused(CoreRefusal::BadTry)),
+        (Touch(0, 1, 16, 0), Won(1, 0, 1, 0)),
+        (Try(1, 0, 1), Still),
+        (Try(1, 1, 0), Won(1, 1, 0, 1)),
+        (Publish, Published(2)),
+    ];
+    play(rt, core, &steps);
 }
 
 #[test]

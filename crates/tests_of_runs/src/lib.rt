@@ -9,6 +9,8 @@ mod lines;
 #[cfg(test)]
 mod maps;
 #[cfg(test)]
+mod refused;
+#[cfg(test)]
 mod script;
 #[cfg(test)]
 mod streams;

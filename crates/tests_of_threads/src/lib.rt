@@ -20,6 +20,8 @@ mod places;
 #[cfg(test)]
 mod refused;
 #[cfg(test)]
+mod refused_desk;
+#[cfg(test)]
 mod refused_span;
 #[cfg(test)]
 mod setting;

@@ -1,0 +1,260 @@
+//! Calls of which one growth is refused, each between two marks: what was there stays as it was,
+//! and the same call with memory does what it does without a refusal.
+ghost use Rattle.std.specs.Prelude.{◌≡◌};
+
+use crate::played::Step::{Does, List, Ranges, Version};
+use crate::played::{Step, ask_plan, plan_of, play};
+use numa_examples::Asked::{Map, Mbind, Task};
+use numa_examples::{flat_machine, flat_space, mark, set_of};
+use numa_lanes::{Cycle, fill_cycle};
+use numa_machine::{Frame, Machine, Weights};
+use numa_plan::Plan;
+use numa_pool::{PoolSeat, Pools};
+use numa_ranges::{RangeFault, RangeMap};
+use numa_rows::{Rows, Shared};
+use numa_space::Space;
+use std::alloc::Global;
+use std::process::Abort;
+
+/// What is asked after three pages are mapped, the middle one bound to node 0, and task 1 prefers
+/// node 1.
+const QUESTIONS: [Step<'static>; 5] = [
+    Version(3),
+    Ranges(3),
+    List(1, 16, 0, &[1, 0]),
+    List(1, 17, 0, &[0]),
+    List(1, 18, 0, &[1, 0]),
+];
+
+/// A space of two nodes after the three commands.
+fn three_pages(rt: &impl Abort, alloc: Global) -> Space {
+    let mut space = flat_space(alloc, 2).expect(rt, "a space");
+    let steps = [
+        Does(Map(0x10000, 0x3000, 0)),
+        Does(Task(1, 1, &[1])),
+        Does(Mbind(0x11000, 0x1000, 2, &[0])),
+    ];
+    play(rt, alloc, &mut space, &steps);
+    space
+}
+
+#[test]
+fn copy_of_a_space(rt: HostRuntime) {
+    let mut space = three_pages(&rt, rt.alloc());
+    mark(&rt, rt.alloc());
+    let first = space.copy(rt.alloc()).ok();
+    mark(&rt, rt.alloc());
+    play(&rt, rt.alloc(), &mut space, &QUESTIONS);
+    let mut copy = match first {
+        Some(copy) => copy,
+        None => space.copy(rt.alloc()).expect(&rt, "a copy"),
+    };
+    play(&rt, rt.alloc(), &mut copy, &QUESTIONS);
+}
+
+/// The same questions put to a plan.
+fn ask_all(rt: &impl Abort, plan: &Plan) {
+    for (line, step) in QUESTIONS.iter().enumerate() {
+        ask_plan(rt, plan, step, line);
+    }
+}
+
+#[test]
+fn copy_of_a_plan(rt: HostRuntime) {
+    let space = three_pages(&rt, rt.alloc());
+    let plan = numa_compile::compile(rt.alloc(), &space).expect(&rt, "a plan");
+    mark(&rt, rt.alloc());
+    let first = plan.copy(rt.alloc()).ok();
+    mark(&rt, rt.alloc());
+    ask_all(&rt, &plan);
+    let copy = match first {
+        Some(copy) => copy,
+        None => plan.copy(rt.alloc()).expect(&rt, "a copy"),
+    };
+    ask_all(&rt, &copy);
+}
+
+#[test]
+fn compiling(rt: HostRuntime) {
+    let mut space = three_pages(&rt, rt.alloc());
+    mark(&rt, rt.alloc());
+    let first = numa_compile::compile(rt.alloc(), &space).ok();
+    mark(&rt, rt.alloc());
+    play(&rt, rt.alloc(), &mut space, &QUESTIONS);
+    let plan = match first {
+        Some(plan) => plan,
+        None => numa_compile::compile(rt.alloc(), &space).expect(&rt, "a plan"),
+    };
+    ask_all(&rt, &plan);
+}
+
+/// A machine of two nodes with memory, 15 and 20 apart, with two frames and one.
+fn two_nodes(alloc: Global) -> Option<Machine> {
+    Machine::new(alloc, 2, set_of(&[0, 1]), &[10, 15, 20, 10], &[2, 1]).ok()
+}
+
+#[test]
+fn machines(rt: HostRuntime) {
+    mark(&rt, rt.alloc());
+    let first = two_nodes(rt.alloc());
+    mark(&rt, rt.alloc());
+    let machine = match first {
+        Some(machine) => machine,
+        None => two_nodes(rt.alloc()).expect(&rt, "a machine"),
+    };
+    assert_eq!(rt; machine.nodes(), 2);
+    assert_eq!(rt; machine.memory(), set_of(&[0, 1]));
+}
+
+/// The nodes by weights 3 and 2, and what seven pages get from the second turn on.
+fn turns(alloc: Global) -> Option<[u8; 7]> {
+    let mut weights = Weights::new(2);
+    weights.set(0, 3).ok()?;
+    weights.set(1, 2).ok()?;
+    let entries = weights.cycle_of(alloc, &set_of(&[0, 1])).ok()?;
+    let cycle = Cycle::new(alloc, &entries).ok()?;
+    let mut out = [9u8; 7];
+    fill_cycle(&cycle, 1, &mut out);
+    Some(out)
+}
+
+#[test]
+fn cycles(rt: HostRuntime) {
+    mark(&rt, rt.alloc());
+    let first = turns(rt.alloc());
+    mark(&rt, rt.alloc());
+    let found = first.or(turns(rt.alloc()));
+    assert_eq!(rt; found, Some([0, 0, 1, 1, 0, 0, 0]));
+}
+
+/// Pools of a machine with one frame on each of two nodes.
+fn open(rt: &impl Abort, alloc: Global) -> (Pools, PoolSeat)
+    ensures { result.1.table ≡ result.0.table }
+{
+    let machine = flat_machine(alloc, &[1, 1]).expect(rt, "a machine");
+    mark(rt, alloc);
+    let first = Pools::open(alloc, &machine).ok();
+    mark(rt, alloc);
+    match first {
+        Some(pools) => pools,
+        None => Pools::open(alloc, &machine).expect(rt, "memory"),
+    }
+}
+
+#[test]
+fn opened_pools(rt: HostRuntime) {
+    let (pools, mut seat) = open(&rt, rt.alloc());
+    assert_eq!(rt;
+        pools.take(&mut seat, 1),
+        Some(Frame { node: 1, number: 0 })
+    );
+    assert_eq!(rt; pools.take(&mut seat, 1), None);
+    let closed = pools.close(seat);
+    assert_eq!(rt;
+        (closed.taken[0], closed.taken[1], closed.alone),
+        (0, 1, true)
+    );
+}
+
+/// Parts a seat, with marks round it, and again where memory was refused.
+fn split(rt: &impl Abort, alloc: Global, pools: &Pools, seat: &mut PoolSeat) -> PoolSeat
+    requires { seat.old.table ≡ pools.now.table }
+    ensures { (seat.new.table ≡ pools.now.table) × (result.table ≡ pools.now.table) }
+{
+    mark(rt, alloc);
+    let first = pools.split(alloc, seat).ok();
+    mark(rt, alloc);
+    assert!(rt; seat.holds(&Frame { node: 0, number: 0 }));
+    match first {
+        Some(other) => other,
+        None => pools.split(alloc, seat).expect(rt, "memory"),
+    }
+}
+
+#[test]
+fn seats_that_part(rt: HostRuntime) {
+    let machine = flat_machine(rt.alloc(), &[1, 1]).expect(&rt, "a machine");
+    let (pools, mut seat) = Pools::open(rt.alloc(), &machine).expect(&rt, "memory");
+    assert!(rt; pools.take(&mut seat, 0).is_some());
+    let mut other = split(&rt, rt.alloc(), &pools, &mut seat);
+    assert_eq!(rt; pools.take(&mut other, 0), None);
+    assert_eq!(rt;
+        pools.take(&mut other, 1),
+        Some(Frame { node: 1, number: 0 })
+    );
+    assert!(rt; seat.holds(&Frame { node: 0, number: 0 }));
+}
+
+/// The rows are those from 0 to 599.
+fn expect_counted(rt: &impl Abort, rows: &Rows<u32, Shared<u32>>) {
+    assert_eq!(rt; rows.len(), 600);
+    assert!(rt; rows.iter().copied().eq(0..600u32));
+}
+
+/// The rows from 0 to 599, in chunks that a copy shares.
+fn counted(rt: &impl Abort, alloc: Global) -> Rows<u32, Shared<u32>> {
+    let mut rows = Rows::new(alloc);
+    for i in 0..600u32 {
+        rows.push(i).expect(rt, "memory");
+    }
+    rows
+}
+
+#[test]
+fn copy_of_rows(rt: HostRuntime) {
+    let rows = counted(&rt, rt.alloc());
+    mark(&rt, rt.alloc());
+    let first = rows.copy().ok();
+    mark(&rt, rt.alloc());
+    expect_counted(&rt, &rows);
+    let copy = match first {
+        Some(copy) => copy,
+        None => rows.copy().expect(&rt, "a copy"),
+    };
+    expect_counted(&rt, &copy);
+}
+
+#[test]
+fn rows_put_in(rt: HostRuntime) {
+    let mut rows = counted(&rt, rt.alloc());
+    let copy = rows.copy().expect(&rt, "a copy");
+    mark(&rt, rt.alloc());
+    assert_eq!(rt; rows.len(), 600);
+    let first = rows.splice(300, 302, &[7, 8, 9]);
+    mark(&rt, rt.alloc());
+    if first.is_err() {
+        expect_counted(&rt, &rows);
+        assert_eq!(rt; rows.len(), 600);
+        rows.splice(300, 302, &[7, 8, 9]).expect(&rt, "memory");
+    }
+    expect_counted(&rt, &copy);
+    assert_eq!(rt; rows.len(), 601);
+    let found = (
+        *rows.get(299),
+        *rows.get(300),
+        *rows.get(302),
+        *rows.get(303),
+    );
+    assert_eq!(rt; found, (299, 7, 9, 302));
+}
+
+/// Pages 16 to 25 with the values 4, the first of which has the index 0.
+fn ten_pages(rt: &impl Abort, alloc: Global) -> RangeMap<u8> {
+    let mut map = RangeMap::new(alloc, 8);
+    assert_eq!(rt; map.map_span(16, 10, 0, 4), Ok(()));
+    map
+}
+
+#[test]
+fn parted_ranges(rt: HostRuntime) {
+    let mut map = ten_pages(&rt, rt.alloc());
+    mark(&rt, rt.alloc());
+    let first = map.set_span(19, 3, 2);
+    mark(&rt, rt.alloc());
+    if first == Err(RangeFault::NoMemory) {
+        assert_eq!(rt; (map.len(), map.at(20)), (1, Some((4, 4))));
+        assert_eq!(rt; map.set_span(19, 3, 2), Ok(()));
+    }
+    let found = (map.len(), map.at(18), map.at(20), map.at(22));
+    assert_eq!(rt; found, (3, Some((2, 4)), Some((4, 2)), Some((6, 4))));
+}

@@ -1,0 +1,44 @@
+//! Cores of which one growth is refused, each between two marks: what was there stays as it was,
+//! and the same call with memory does what it does without a refusal.
+use crate::events::{begun_core, go_on};
+use numa_core::{Core, Event};
+use numa_examples::{flat_machine, limits, mark};
+use std::alloc::Global;
+use std::process::Abort;
+
+#[test]
+fn copy_of_a_core(rt: HostRuntime) {
+    let mut core = begun_core(&rt, rt.alloc());
+    mark(&rt, rt.alloc());
+    let first = core.copy().ok();
+    mark(&rt, rt.alloc());
+    let mut copy = match first {
+        Some(copy) => copy,
+        None => core.copy().expect(&rt, "a copy"),
+    };
+    go_on(&rt, &mut core);
+    go_on(&rt, &mut copy);
+}
+
+/// A core of a machine of two nodes with a frame each.
+fn new_core(alloc: Global) -> Option<Core> {
+    let machine = flat_machine(alloc, &[1, 1])?;
+    Core::new(alloc, machine, limits(), 2).ok()
+}
+
+/// Whether a new core publishes nothing, at version 0.
+fn publishes_nothing(mut core: Core) -> bool {
+    core.step(Event::Publish).is_ok() && core.published() == 0
+}
+
+#[test]
+fn new_cores(rt: HostRuntime) {
+    mark(&rt, rt.alloc());
+    let first = new_core(rt.alloc());
+    mark(&rt, rt.alloc());
+    let core = match first {
+        Some(core) => core,
+        None => new_core(rt.alloc()).expect(&rt, "a core"),
+    };
+    assert!(&rt; publishes_nothing(core));
+}

@@ -1,0 +1,61 @@
+//! Desks of which one growth is refused, as in `refused`: a new one, and a command that is accepted.
+ghost use Rattle.std.specs.Prelude.{◌≡◌};
+
+use crate::refused::mark;
+use crate::setting::{accept_both, desk_for, map_one, nodes, publish_as};
+use numa_machine::{Machine, NoMemory};
+use numa_publish::Desk;
+use numa_space::{Limits, Refusal};
+use std::alloc::Global;
+use std::process::Abort;
+use std::sync::Wait;
+
+/// A desk of two nodes with memory, for two readers.
+fn new_desk(rt: &(impl Wait + Abort), alloc: Global) -> Result<Desk, NoMemory> {
+    let machine = Machine::new(alloc, 2, nodes(&[0, 1]), &[10, 20, 20, 10], &[8, 8]).expect(
+        rt,
+        "a machine",
+    );
+    let limits = Limits::new(64, 8, 1_000).expect(rt, "limits");
+    mark(rt, alloc);
+    let desk = Desk::new(rt, alloc, machine, limits, 2);
+    mark(rt, alloc);
+    desk
+}
+
+/// Accepts two commands, publishes them, and ends the desk.
+fn publish_and_end(rt: &(impl Wait + Abort), mut desk: Desk) {
+    accept_both(rt, &mut desk);
+    publish_as(rt, &mut desk, 2);
+    desk.end(rt);
+}
+
+#[test]
+fn new(rt: HostRuntime) {
+    match new_desk(&rt, rt.alloc()) {
+        Ok(desk) => publish_and_end(&rt, desk),
+        Err(_) => publish_and_end(&rt, desk_for(&rt, rt.alloc(), 2)),
+    }
+}
+
+/// Accepts a map, with marks round it, and again where memory was refused.
+fn accept_map(rt: &impl Abort, alloc: Global, desk: &mut Desk) {
+    mark(rt, alloc);
+    let first = desk.accept(&map_one());
+    mark(rt, alloc);
+    let shown = (desk.published(), desk.pending(), desk.space().version());
+    if first.is_ok() {
+        assert_eq!(rt; (first, shown), (Ok(1), (0, 1, 1)));
+    } else {
+        assert_eq!(rt; (first, shown), (Err(Refusal::NoMemory), (0, 0, 0)));
+        assert_eq!(rt; desk.accept(&map_one()), Ok(1));
+    }
+}
+
+#[test]
+fn accept(rt: HostRuntime) {
+    let mut desk = desk_for(&rt, rt.alloc(), 2);
+    accept_map(&rt, rt.alloc(), &mut desk);
+    publish_as(&rt, &mut desk, 1);
+    desk.end(&rt);
+}
