@@ -2,12 +2,12 @@
 //! such test once for every growth between its two marks, with that one refused; run by itself,
 //! none is refused.
 use std::alloc::Global;
-use std::process::Abort;
 
 /// How many bytes a mark allocates: a size that no test has of its own.
 const MARK: usize = 1_000_003;
 
-/// Where the growths begin that may be refused, and where they end.
-pub fn mark(rt: &impl Abort, alloc: Global) {
-    drop(Vec::<u8>::with_capacity(alloc, MARK).expect(rt, "memory"));
+/// Where the growths begin that may be refused, and where they end. Whether there was memory for
+/// the mark.
+pub fn mark(alloc: Global) -> bool {
+    Vec::<u8>::with_capacity(alloc, MARK).is_ok()
 }

@@ -5,7 +5,7 @@ ghost use Rattle.std.specs.Prelude.{◌≡◌};
 use crate::played::Step::{Does, List, Ranges, Version};
 use crate::played::{Step, ask_plan, plan_of, play};
 use numa_examples::Asked::{Map, Mbind, Task};
-use numa_examples::{flat_machine, flat_space, mark, set_of};
+use numa_examples::{flat_machine, flat_space, set_of};
 use numa_lanes::{Cycle, fill_cycle};
 use numa_machine::{Frame, Machine, Weights};
 use numa_plan::Plan;
@@ -25,6 +25,11 @@ const QUESTIONS: [Step<'static>; 5] = [
     List(1, 17, 0, &[0]),
     List(1, 18, 0, &[1, 0]),
 ];
+
+/// Where the growths begin that may be refused, and where they end.
+fn mark(rt: &impl Abort, alloc: Global) {
+    assert!(rt; numa_examples::mark(alloc));
+}
 
 /// A space of two nodes after the three commands.
 fn three_pages(rt: &impl Abort, alloc: Global) -> Space {

@@ -2,9 +2,14 @@
 //! and the same call with memory does what it does without a refusal.
 use crate::events::{begun_core, go_on};
 use numa_core::{Core, Event};
-use numa_examples::{flat_machine, limits, mark};
+use numa_examples::{flat_machine, limits};
 use std::alloc::Global;
 use std::process::Abort;
+
+/// Where the growths begin that may be refused, and where they end.
+fn mark(rt: &impl Abort, alloc: Global) {
+    assert!(rt; numa_examples::mark(alloc));
+}
 
 #[test]
 fn copy_of_a_core(rt: HostRuntime) {
