@@ -62,6 +62,19 @@ fn prediction(
     }
 }
 
+/// Ends what is told, and writes where the mapped pages of the played script would go.
+fn write_prediction<W: Write, T: Write>(
+    alloc: Global,
+    findings: &mut Findings<T>,
+    asked: Asked,
+    format: Format,
+    output: &mut W,
+) -> Result<(), Halt> {
+    findings.end()?;
+    let text = prediction(alloc, findings.script(), asked, format)?;
+    write(text.as_slice(), output)
+}
+
 /// Plays the texts as one script, and writes where all mapped pages would go, if they were touched
 /// now. What is wrong with a line is told to `told`, and the line passed over. The answer is whole
 /// before its first byte is written.
@@ -77,9 +90,7 @@ pub fn predict<R: Read + Drop, W: Write, T: Write + Drop>(
     told: T,
 ) -> Result<(), Halt> {
     let mut findings = play(alloc, texts, told)?;
-    findings.end()?;
-    let text = prediction(alloc, findings.script(), asked, format)?;
-    write(text.as_slice(), output)
+    write_prediction(alloc, &mut findings, asked, format, output)
 }
 
 /// Plays the added lines, and ends what is told.
@@ -131,6 +142,18 @@ fn difference_by<T: Write>(
     difference(alloc, &before, findings.script(), asked)
 }
 
+/// Plays the lines, and writes which pages go elsewhere by them.
+fn write_difference<W: Write, T: Write>(
+    alloc: Global,
+    findings: &mut Findings<T>,
+    lines: &[String],
+    asked: Asked,
+    output: &mut W,
+) -> Result<(), Halt> {
+    let text = difference_by(alloc, findings, lines, asked)?;
+    write(text.as_slice(), output)
+}
+
 /// Plays the texts as one script, and then the lines, and writes which pages would go to another
 /// node after the lines than before, if they were touched. What is wrong with a line is told to
 /// `told`, and the line passed over; the added lines have the name `--then` and are numbered from
@@ -147,6 +170,5 @@ pub fn diff<R: Read + Drop, W: Write, T: Write + Drop>(
     told: T,
 ) -> Result<(), Halt> {
     let mut findings = play(alloc, texts, told)?;
-    let text = difference_by(alloc, &mut findings, lines, asked)?;
-    write(text.as_slice(), output)
+    write_difference(alloc, &mut findings, lines, asked, output)
 }

@@ -1,5 +1,6 @@
 //! Why a page goes where it goes, after scripts.
 use crate::asking::{Asked, space_of, write};
+use crate::findings::Findings;
 use crate::halt::Halt;
 use crate::playing::play;
 use numa_files::Stop;
@@ -25,6 +26,19 @@ fn reasons(alloc: Global, script: &Script, asked: Asked, page: u64) -> Result<St
     Ok(text)
 }
 
+/// Ends what is told, and writes why a page goes where it goes.
+fn write_reasons<W: Write, T: Write>(
+    alloc: Global,
+    findings: &mut Findings<T>,
+    asked: Asked,
+    page: u64,
+    output: &mut W,
+) -> Result<(), Halt> {
+    findings.end()?;
+    let text = reasons(alloc, findings.script(), asked, page)?;
+    write(text.as_str().as_bytes(), output)
+}
+
 /// Plays the texts as one script, and writes why a page would go where it goes, if it were touched
 /// now. What is wrong with a line is told to `told`, and the line passed over. The answer is whole
 /// before its first byte is written.
@@ -40,7 +54,5 @@ pub fn explain<R: Read + Drop, W: Write, T: Write + Drop>(
     told: T,
 ) -> Result<(), Halt> {
     let mut findings = play(alloc, texts, told)?;
-    findings.end()?;
-    let text = reasons(alloc, findings.script(), asked, page)?;
-    write(text.as_str().as_bytes(), output)
+    write_reasons(alloc, &mut findings, asked, page, output)
 }

@@ -67,6 +67,18 @@ fn played<R: Read + Drop, T: Write + Drop>(
     Ok(findings)
 }
 
+/// Replays a trace in the space that a script has led to, and writes what it met.
+fn write_replay<S: Read + Drop, W: Write>(
+    alloc: Global,
+    script: &Script,
+    trace: Vec<(String, S)>,
+    format: Shape,
+    output: &mut W,
+) -> Result<(), Halt> {
+    let text = replayed(alloc, script, trace, format)?;
+    write(text.as_str().as_bytes(), output)
+}
+
 /// Plays the texts as one script, and then a trace on a machine where no page is placed, by the plan
 /// of all commands that were accepted; writes what the trace met. What is wrong with a line of the
 /// scripts is told to `told`, and the line passed over. The answer is whole before its first byte is
@@ -87,8 +99,5 @@ pub fn replay<R: Read + Drop, S: Read + Drop, W: Write, T: Write + Drop>(
         Ok(findings) => findings,
         Err(why) => return Err(Halt::Stopped(why)),
     };
-    match replayed(alloc, findings.script(), trace, format) {
-        Ok(text) => write(text.as_str().as_bytes(), output),
-        Err(halt) => Err(halt),
-    }
+    write_replay(alloc, findings.script(), trace, format, output)
 }
