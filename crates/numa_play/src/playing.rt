@@ -43,6 +43,12 @@ pub fn play<R: Read + Drop, W: Write + Drop>(
     Ok(checking.lines.taker)
 }
 
+/// Ends what is told. Whether nothing was.
+fn find_nothing<W: Write>(findings: &mut Findings<W>) -> Result<bool, Stop> {
+    findings.end()?;
+    Ok(!findings.has_faults())
+}
+
 /// Reads the texts in turn, as one script, and tells the writer what is wrong with their lines.
 /// Whether nothing is.
 ///
@@ -54,6 +60,5 @@ pub fn check<R: Read + Drop, W: Write + Drop>(
     output: W,
 ) -> Result<bool, Stop> {
     let mut findings = play(alloc, texts, output)?;
-    findings.end()?;
-    Ok(!findings.has_faults())
+    find_nothing(&mut findings)
 }
