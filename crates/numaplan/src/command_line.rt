@@ -25,22 +25,33 @@ docs/SCRIPT.md of the repository, the commands in docs/COMMANDS.md.";
 /// What is told where there is no command.
 const NO_COMMAND: &str = "error: a command is missing\n\nFor more information, try '--help'.\n";
 
+/// The program with one word more.
+fn with_word<'a>(
+    program: Command<'a>,
+    word: Result<Command<'a>, AllocError>,
+) -> Result<Command<'a>, AllocError> {
+    match word {
+        Ok(word) => program.subcommand(word),
+        Err(error) => Err(error),
+    }
+}
+
 /// The commands that the program knows.
 fn command<'a>(alloc: Global) -> Result<Command<'a>, AllocError> {
-    Command::new(alloc, "numaplan")
+    let program = Command::new(alloc, "numaplan")
         .about(PROGRAM)
         .after_help(MORE)
         .version(VERSION)
         .subcommand_required(true)
-        .arg_required_else_help(true)
-        .subcommand(run::command(alloc)?)?
-        .subcommand(check::command(alloc)?)?
-        .subcommand(expect::command(alloc)?)?
-        .subcommand(predict::command(alloc)?)?
-        .subcommand(diff::command(alloc)?)?
-        .subcommand(explain::command(alloc)?)?
-        .subcommand(replay::command(alloc)?)?
-        .subcommand(storm::command(alloc)?)
+        .arg_required_else_help(true);
+    let program = with_word(program, run::command(alloc))?;
+    let program = with_word(program, check::command(alloc))?;
+    let program = with_word(program, expect::command(alloc))?;
+    let program = with_word(program, predict::command(alloc))?;
+    let program = with_word(program, diff::command(alloc))?;
+    let program = with_word(program, explain::command(alloc))?;
+    let program = with_word(program, replay::command(alloc))?;
+    with_word(program, storm::command(alloc))
 }
 
 /// What an error of the command line is.

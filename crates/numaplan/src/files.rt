@@ -91,6 +91,35 @@ where
     }
 }
 
+/// The files that are open, each with its name.
+type Texts<R> = Vec<(String, Source<<R as Files>::File, <R as Input>::Reader>)>;
+
+/// Opens what has this name, behind what is open.
+fn add_file<R>(rt: &R, name: &str, texts: &mut Texts<R>) -> Result<(), JobFault>
+where
+    R: Files + Input + Eprint + AllocGlobal,
+    R::Reader: IsTerminal,
+{
+    let named = String::from_str(rt.alloc(), name)?;
+    texts.push((named, open(rt, name)?))?;
+    Ok(())
+}
+
+/// Opens the files in turn, and standard input where none is named.
+fn add_files<R>(rt: &R, names: &[String], texts: &mut Texts<R>) -> Result<(), JobFault>
+where
+    R: Files + Input + Eprint + AllocGlobal,
+    R::Reader: IsTerminal,
+{
+    if names.is_empty() {
+        return add_file(rt, "-", texts);
+    }
+    for name in names {
+        add_file(rt, name.as_str(), texts)?;
+    }
+    Ok(())
+}
+
 /// Opens the files, and standard input where none is named, each with its name.
 ///
 /// # Errors
@@ -104,14 +133,10 @@ where
     R::Reader: IsTerminal,
 {
     let mut texts = Vec::new(rt.alloc());
-    if names.is_empty() {
-        texts.push((String::from_str(rt.alloc(), "-")?, open(rt, "-")?))?;
+    match add_files(rt, names, &mut texts) {
+        Ok(()) => Ok(texts),
+        Err(fault) => Err(fault),
     }
-    for name in names {
-        let source = open(rt, name.as_str())?;
-        texts.push((String::from_str(rt.alloc(), name.as_str())?, source))?;
-    }
-    Ok(texts)
 }
 
 /// What was opened, without the names.

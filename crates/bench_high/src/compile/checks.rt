@@ -25,17 +25,22 @@ fn choices(plan: &Plan, task: u32, cpu: u32) -> u64 {
     sum
 }
 
-/// Prints the checksums.
-pub fn print(rt: &impl Print, alloc: Global, space: &Space) -> io::Result<()> {
-    let Ok(plan) = compile(alloc, space) else {
-        return println!(rt; "no memory");
-    };
+/// Prints the checksums of a plan.
+fn print_plan(rt: &impl Print, plan: &Plan) -> io::Result<()> {
     let runs = plan.run_count();
     let version = plan.version();
     println!(rt; "{runs} runs, version {version}")?;
     for cpu in 0..3 {
-        let sum = choices(&plan, 1, cpu);
+        let sum = choices(plan, 1, cpu);
         println!(rt; "choice of each page on node {cpu}: {sum}")?;
     }
     Ok(())
+}
+
+/// Prints the checksums of the plan of the space.
+pub fn print(rt: &impl Print, alloc: Global, space: &Space) -> io::Result<()> {
+    match compile(alloc, space) {
+        Ok(plan) => print_plan(rt, &plan),
+        Err(_) => println!(rt; "no memory"),
+    }
 }

@@ -2,7 +2,7 @@
 use crate::compile::spaces::{POLICIES, RANGES};
 use crate::times::{nanos, print_ratio};
 use numa_compile::compile;
-use numa_plan::Plan;
+use numa_plan::{NoMemory, Plan};
 use numa_reports::{Format, prediction_text};
 use numa_space::Space;
 use std::alloc::{AllocError, Global};
@@ -15,17 +15,31 @@ use std::time::Instant;
 /// A range of a plain vector: its first page, pages, index and policy.
 type Row = [u64; 4];
 
+/// How many runs a plan has that was compiled, none where there was no memory.
+fn runs_of(compiled: Result<Plan, NoMemory>) -> u64 {
+    match compiled {
+        Ok(plan) => plan.run_count() as u64,
+        Err(_) => 0,
+    }
+}
+
+/// How long one compile takes, and how many runs its plan has.
+fn compile_once<R: Clock>(rt: &R, alloc: Global, space: &Space) -> io::Result<(u64, u64)> {
+    let start = Instant::now(rt)?;
+    let compiled = compile(alloc, black_box(space));
+    let spent = start.elapsed(rt);
+    let runs = runs_of(compiled);
+    Ok((nanos(spent?), runs))
+}
+
 /// The best time of a compile, and the sum of the runs of all plans, so that no round is left out.
 fn time_compile<R: Clock>(rt: &R, alloc: Global, space: &Space) -> io::Result<(u64, u64)> {
     let mut best = u64::MAX;
     let mut sum = 0u64;
     for _ in 0..40 {
-        let start = Instant::now(rt)?;
-        let compiled = compile(alloc, black_box(space));
-        best = best.min(nanos(start.elapsed(rt)?));
-        if let Ok(plan) = compiled {
-            sum = sum.wrapping_add(plan.run_count() as u64);
-        }
+        let (spent, runs) = compile_once(rt, alloc, space)?;
+        best = best.min(spent);
+        sum = sum.wrapping_add(runs);
     }
     Ok((best, sum))
 }
@@ -95,19 +109,30 @@ fn time_prediction<R: Clock>(
     Ok((best, sum))
 }
 
-/// Prints the ratio of a prediction to a compile.
+/// Prints the ratio of a prediction by a plan to a compile.
 fn print_prediction<R: Clock + Print>(
+    rt: &R,
+    alloc: Global,
+    space: &Space,
+    plan: &Plan,
+    compiled: u64,
+) -> io::Result<()> {
+    let (told, bytes) = time_prediction(rt, alloc, space, plan)?;
+    print_ratio(rt, "predict as text over compile", told, compiled)?;
+    println!(rt; "bytes {bytes}")
+}
+
+/// The same by the plan of the space.
+fn print_predictions<R: Clock + Print>(
     rt: &R,
     alloc: Global,
     space: &Space,
     compiled: u64,
 ) -> io::Result<()> {
-    let Ok(plan) = compile(alloc, space) else {
-        return println!(rt; "no memory");
-    };
-    let (told, bytes) = time_prediction(rt, alloc, space, &plan)?;
-    print_ratio(rt, "predict as text over compile", told, compiled)?;
-    println!(rt; "bytes {bytes}")
+    match compile(alloc, space) {
+        Ok(plan) => print_prediction(rt, alloc, space, &plan, compiled),
+        Err(_) => println!(rt; "no memory"),
+    }
 }
 
 /// Prints all ratios.
@@ -124,5 +149,5 @@ pub fn print<R: Clock + Print>(rt: &R, alloc: Global, space: &Space) -> io::Resu
         copied,
     )?;
     println!(rt; "sums {plans} {copies}")?;
-    print_prediction(rt, alloc, space, compiled)
+    print_predictions(rt, alloc, space, compiled)
 }

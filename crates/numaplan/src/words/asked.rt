@@ -21,8 +21,8 @@ fn number<'a>(alloc: Global, name: &'a str, value: &'a str, help: &'a str) -> Ar
 /// The command with both options.
 pub fn with_options<'a>(alloc: Global, command: Command<'a>) -> Result<Command<'a>, AllocError> {
     let task = number(alloc, "task", "T", "The task that touches the pages");
-    let cpu = number(alloc, "cpu", "C", "The node of the CPU on which it does");
-    command.arg(task)?.arg(cpu)
+    let command = command.arg(task)?;
+    command.arg(number(alloc, "cpu", "C", "The node of the CPU on which it does"))
 }
 
 /// What the options say.

@@ -27,19 +27,18 @@ const MORE: &str =
 
 /// The command.
 pub fn command<'a>(alloc: Global) -> Result<Command<'a>, AllocError> {
+    let word = Command::new(alloc, "diff")
+        .about("Tells which pages would go elsewhere if lines were added to scripts")
+        .long_about(ABOUT)
+        .after_help(MORE);
+    let word = asked::with_options(alloc, word)?;
     let lines = Arg::new(alloc, "then")
         .long("then")
         .value_name("LINE")
         .help("A script line that is added; several in turn")
         .required(true)
         .action(ArgAction::Append);
-    let word = Command::new(alloc, "diff")
-        .about("Tells which pages would go elsewhere if lines were added to scripts")
-        .long_about(ABOUT)
-        .after_help(MORE);
-    asked::with_options(alloc, word)?
-        .arg(lines)?
-        .arg(files::argument(alloc))
+    word.arg(lines)?.arg(files::argument(alloc))
 }
 
 /// The job that its words ask for.

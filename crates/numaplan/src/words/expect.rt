@@ -49,6 +49,16 @@ pub fn job(alloc: Global, matches: &ArgMatches<'_>) -> Result<Job, JobFault>
     Ok(Job::Expect(files::named(alloc, matches)?))
 }
 
+/// Reads worked scripts, and tells the counts. Whether all answers are as wanted.
+fn compare_by<S: io::Read + Drop, W: io::Write>(
+    texts: Vec<(String, S)>,
+    expect: &mut Expect<Answering, W>,
+) -> Result<bool, Stop> {
+    read_all(texts, expect)?;
+    expect.tell_counts()?;
+    Ok(expect.counts().different == 0)
+}
+
 /// Compares worked scripts. Whether all answers are as wanted.
 fn compare<R, F, I>(rt: &R, texts: Vec<(String, Source<F, I>)>) -> Result<bool, Stop>
 where
@@ -58,9 +68,7 @@ where
 {
     let answering = Answering::new(rt.alloc());
     let mut expect = Expect::new(rt.alloc(), answering, io::writer(rt));
-    read_all(texts, &mut expect)?;
-    expect.tell_counts()?;
-    Ok(expect.counts().different == 0)
+    compare_by(texts, &mut expect)
 }
 
 /// Compares the worked scripts of files.

@@ -32,17 +32,16 @@ const BAD_ADDRESS: &str =
 
 /// The command.
 pub fn command<'a>(alloc: Global) -> Result<Command<'a>, AllocError> {
-    let address = Arg::new(alloc, "ADDRESS")
-        .help("An address of the page, in bytes")
-        .required(true)
-        .action(ArgAction::Set);
     let word = Command::new(alloc, "explain")
         .about("Tells why a page goes where it goes")
         .long_about(ABOUT)
         .after_help(MORE);
-    asked::with_options(alloc, word)?
-        .arg(address)?
-        .arg(files::argument(alloc))
+    let word = asked::with_options(alloc, word)?;
+    let address = Arg::new(alloc, "ADDRESS")
+        .help("An address of the page, in bytes")
+        .required(true)
+        .action(ArgAction::Set);
+    word.arg(address)?.arg(files::argument(alloc))
 }
 
 /// The job that its words ask for.

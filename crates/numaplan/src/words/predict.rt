@@ -29,6 +29,11 @@ const FORMATS: [&str; 4] = ["text", "json", "csv", "svg"];
 
 /// The command.
 pub fn command<'a>(alloc: Global) -> Result<Command<'a>, AllocError> {
+    let word = Command::new(alloc, "predict")
+        .about("Tells where pages would go after scripts, if a task touched them")
+        .long_about(ABOUT)
+        .after_help(MORE);
+    let word = asked::with_options(alloc, word)?;
     let format = Arg::new(alloc, "format")
         .long("format")
         .value_name("FORMAT")
@@ -36,13 +41,7 @@ pub fn command<'a>(alloc: Global) -> Result<Command<'a>, AllocError> {
         .value_parser(FORMATS.as_slice())
         .default_value("text")
         .action(ArgAction::Set);
-    let word = Command::new(alloc, "predict")
-        .about("Tells where pages would go after scripts, if a task touched them")
-        .long_about(ABOUT)
-        .after_help(MORE);
-    asked::with_options(alloc, word)?
-        .arg(format)?
-        .arg(files::argument(alloc))
+    word.arg(format)?.arg(files::argument(alloc))
 }
 
 /// The format of this name.

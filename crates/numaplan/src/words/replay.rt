@@ -40,6 +40,11 @@ pub fn command<'a>(alloc: Global) -> Result<Command<'a>, AllocError> {
         .help("The file of the trace; - is standard input")
         .required(true)
         .action(ArgAction::Set);
+    let word = Command::new(alloc, "replay")
+        .about("Tells what a trace of accesses meets after scripts")
+        .long_about(ABOUT)
+        .after_help(MORE)
+        .arg(trace)?;
     let format = Arg::new(alloc, "format")
         .long("format")
         .value_name("FORMAT")
@@ -47,13 +52,7 @@ pub fn command<'a>(alloc: Global) -> Result<Command<'a>, AllocError> {
         .value_parser(FORMATS.as_slice())
         .default_value("text")
         .action(ArgAction::Set);
-    Command::new(alloc, "replay")
-        .about("Tells what a trace of accesses meets after scripts")
-        .long_about(ABOUT)
-        .after_help(MORE)
-        .arg(trace)?
-        .arg(format)?
-        .arg(files::argument(alloc))
+    word.arg(format)?.arg(files::argument(alloc))
 }
 
 /// The format of this name.
