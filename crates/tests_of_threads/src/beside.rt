@@ -137,24 +137,34 @@ fn look_on(reader: PlanReader, progress: &Progress) -> (PlanReader, Tally) {
     (held, tally)
 }
 
-/// Looks beside the submits. The reader has learnt nothing, and sees each version that is awaited.
-fn run<K: DeskName + Send + Sync>(rt: &(impl Threads + Wait + Abort + Sync), desk: Desk)
-    requires { desk.desk ≡ K.desk }
-{
-    let shared = SharedDesk::<K>::new(desk);
-    let lock = &shared;
+/// Looks beside the submits: the last version, and what the looks were. The reader has learnt
+/// nothing, and sees each version that is awaited.
+fn look_beside<K: DeskName + Send + Sync>(
+    rt: &(impl Threads + Wait + Abort + Sync),
+    lock: &SharedDesk<K>,
+    reader: PlanReader,
+) -> (u64, Tally) {
     let progress = Progress {
         looks: AtomicU64::new(0),
         done: AtomicU64::new(0),
     };
     let told = &progress;
-    let reader = shared.reader(rt).expect(rt, "a place");
     let ((reader, tally), last) = join(
         rt,
         move || look_on(reader, told),
         move || submit_all(rt, lock, told),
     );
-    let _reader = see(rt, reader, Some((SUBMITS, Ok((0, 1)))));
+    see(rt, reader, Some((SUBMITS, Ok((0, 1)))));
+    (last, tally)
+}
+
+/// The same on a desk that is shared.
+fn run<K: DeskName + Send + Sync>(rt: &(impl Threads + Wait + Abort + Sync), desk: Desk)
+    requires { desk.desk ≡ K.desk }
+{
+    let shared = SharedDesk::<K>::new(desk);
+    let reader = shared.reader(rt).expect(rt, "a place");
+    let (last, tally) = look_beside(rt, &shared, reader);
     shared.into_desk().end(rt);
     judge(rt, last, tally);
 }

@@ -1,55 +1,50 @@
-//! Machines, desks and workers of the tests of crews.
-ghost use Rattle.std.specs.Prelude.{◌≡◌, ◌≤◌};
+//! Desks and workers of the tests of crews.
+ghost use Rattle.std.specs.Prelude.{◌≡◌};
 ghost use Rattle.std.specs.List.{All};
 ghost use Rattle.numa_fault.specs.declared.worker.FaultWorker.{FaultWorker};
 
-use crate::setting::node;
-use numa_fault::{Answer, FaultWorker};
-use numa_machine::Machine;
-use numa_mask::NodeId;
+use crate::setting::{desk_of, machine_of, new_reader, publish_as, publish_map};
+use numa_fault::{Answer, Crew, CrewRefusal, FaultWorker, Gate};
 use numa_pool::{PoolSeat, Pools};
-use numa_publish::Desk;
-use numa_space::{Command, Limits, Request};
+use numa_publish::{Desk, PlanReader};
+use numa_space::Request;
 use std::alloc::Global;
 use std::process::Abort;
 use std::sync::Wait;
+use std::thread::Threads;
 
-/// Two nodes with so many frames each, 20 apart.
-pub fn machine(rt: &impl Abort, alloc: Global, frames: u32) -> Machine {
-    let mut memory = node(0);
-    if let Some(id) = NodeId::new(1) {
-        memory.insert(id);
-    }
-    Machine::new(alloc, 2, memory, &[10, 20, 20, 10], &[frames, frames]).expect(rt, "a machine")
-}
-
-/// A desk of this machine with a place for each of 17 readers, on which so many pages from page 16
-/// on are mapped in version 1.
+/// A desk of two nodes with so many frames each, with a place for each of 17 readers, on which so
+/// many pages from page 16 on are mapped in version 1.
 pub fn desk(rt: &(impl Wait + Abort), alloc: Global, frames: u32, pages: u64) -> Desk {
-    let limits = Limits::new(65_536, 1_024, 4_294_967_295).expect(rt, "limits");
-    let machine = machine(rt, alloc, frames);
-    let mut desk = Desk::new(rt, alloc, machine, limits, 17).expect(rt, "memory");
-    let map = Command::Map {
-        start: 0x10000,
-        length: pages.wrapping_mul(4_096),
-        offset: 0,
-    };
-    assert_eq!(rt; desk.accept(&map), Ok(1));
-    assert_eq!(rt; desk.publish(rt).expect(rt, "memory").version(), 1);
+    let mut desk = desk_of(rt, alloc, frames, 17);
+    publish_map(rt, &mut desk, pages);
     desk
 }
 
-/// A worker with this seat, whose reader has learnt what is published.
-fn worker(rt: &(impl Wait + Abort), desk: &mut Desk, seat: PoolSeat) -> FaultWorker
-    ensures { result.seat ≡ seat }
-{
-    let receipt = desk.publish(rt).expect(rt, "memory");
-    let reader = desk.reader().expect(rt, "a place").learn(&receipt);
-    FaultWorker::new(reader, seat)
+/// A reader that has learnt what is published.
+fn reader(rt: &(impl Wait + Abort), desk: &mut Desk) -> PlanReader {
+    let receipt = publish_as(rt, desk, 1);
+    new_reader(rt, desk).learn(&receipt)
 }
 
-/// So many workers, each with a seat that is split off.
-pub fn workers(
+/// A worker whose reader has learnt what is published, with a seat that is split off.
+fn worker(
+    rt: &(impl Wait + Abort),
+    alloc: Global,
+    desk: &mut Desk,
+    pools: &Pools,
+    seat: &mut PoolSeat,
+) -> FaultWorker
+    requires { seat.old.table ≡ pools.now.table }
+    ensures table { seat.new.table ≡ pools.now.table }
+    ensures worker { result.seat.table ≡ pools.now.table }
+{
+    let other = pools.split(alloc, seat).expect(rt, "memory");
+    FaultWorker::new(reader(rt, desk), other)
+}
+
+/// So many workers.
+fn workers_of(
     rt: &(impl Wait + Abort),
     alloc: Global,
     desk: &mut Desk,
@@ -62,10 +57,45 @@ pub fn workers(
 {
     let mut workers = Vec::new(alloc);
     for _ in 0..count {
-        let other = pools.split(alloc, seat).expect(rt, "memory");
-        workers.push(worker(rt, desk, other)).expect(rt, "memory");
+        let worker = worker(rt, alloc, desk, pools, seat);
+        workers.push(worker).expect(rt, "memory");
     }
     workers
+}
+
+/// Pools of their own, and workers at them.
+#[derive(Drop)]
+pub struct Workers {
+    pools: Pools,
+    workers: Vec<FaultWorker>,
+    ghost same: { All (λ (w : FaultWorker). w.seat.table ≡ pools.table) workers.items },
+}
+
+impl Workers {
+    /// So many workers, at pools with so many free frames for each of two nodes.
+    pub fn open(
+        rt: &(impl Wait + Abort),
+        alloc: Global,
+        desk: &mut Desk,
+        frames: u32,
+        count: usize,
+    ) -> Workers {
+        let machine = machine_of(rt, alloc, frames);
+        let (pools, mut seat) = Pools::open(alloc, &machine).expect(rt, "memory");
+        let workers = workers_of(rt, alloc, desk, &pools, &mut seat, count);
+        Workers { pools, workers }
+    }
+
+    /// Serves the requests as a crew.
+    pub fn run<R: Threads + Sync, G: Gate + Sync>(
+        &mut self,
+        rt: &R,
+        alloc: Global,
+        wanted: &[Request],
+        gate: &G,
+    ) -> Result<Vec<Answer>, CrewRefusal> {
+        Crew::run(rt, alloc, &mut self.workers, &self.pools, wanted, gate)
+    }
 }
 
 /// A request of task 1 on node 0 for each of so many pages from page 16 on.

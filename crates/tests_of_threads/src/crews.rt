@@ -1,7 +1,6 @@
 //! Crews of fault workers.
-use crate::crew_setting::{desk, machine, placed, requests, workers};
-use numa_fault::{Answer, Crew, CrewRefusal, Gate};
-use numa_pool::Pools;
+use crate::crew_setting::{Workers, desk, placed, requests};
+use numa_fault::{Answer, CrewRefusal, Gate};
 use numa_space::Request;
 use std::alloc::Global;
 use std::process::Abort;
@@ -63,13 +62,27 @@ fn run_crew<R: Threads + Wait + Abort + Sync, G: Gate + Sync>(
     gate: &G,
 ) -> Result<Vec<Answer>, CrewRefusal> {
     let mut desk = desk(rt, alloc, frames, pages);
-    let machine = machine(rt, alloc, frames);
-    let (pools, mut seat) = Pools::open(alloc, &machine).expect(rt, "memory");
-    let mut crew = workers(rt, alloc, &mut desk, &pools, &mut seat, count);
-    let answers = Crew::run(rt, alloc, &mut crew, &pools, wanted, gate);
-    drop(crew);
+    let mut workers = Workers::open(rt, alloc, &mut desk, frames, count);
+    let answers = workers.run(rt, alloc, wanted, gate);
+    drop(workers);
     desk.end(rt);
     answers
+}
+
+/// Each of the gate's calls was made once, and no wait ran out.
+fn judge(rt: &impl Abort, gate: &Crossed) {
+    let Crossed {
+        before,
+        after,
+        late,
+    } = gate;
+    let calls = [
+        before[0].load(Ordering::SeqCst),
+        before[1].load(Ordering::SeqCst),
+        after[0].load(Ordering::SeqCst),
+        after[1].load(Ordering::SeqCst),
+    ];
+    assert_eq!(rt; (calls, late.load(Ordering::SeqCst)), ([1; 4], 0));
 }
 
 #[test]
@@ -81,18 +94,9 @@ fn crew_crossed(rt: HostRuntime) {
     };
     let wanted = requests(&rt, rt.alloc(), 2);
     let answers = run_crew(&rt, rt.alloc(), 1, 3, 2, &wanted, &gate).expect(&rt, "answers");
-    assert_eq!(rt; answers.len(), 2);
-    assert_eq!(rt; placed(answers.get(1)), Some((17, 0)));
-    assert_eq!(rt; placed(answers.first()), Some((16, 1)));
-    assert_eq!(rt; gate.late.load(Ordering::SeqCst), 0);
-    for calls in [
-        &gate.before[0],
-        &gate.before[1],
-        &gate.after[0],
-        &gate.after[1],
-    ] {
-        assert_eq!(rt; calls.load(Ordering::SeqCst), 1);
-    }
+    let pages = (placed(answers.first()), placed(answers.get(1)));
+    assert_eq!(rt; (answers.len(), pages), (2, (Some((16, 1)), Some((17, 0)))));
+    judge(&rt, &gate);
 }
 
 /// Counts for each request its calls of `before`, and 256 for each call of `after`.

@@ -2,15 +2,16 @@
 //! submits policies. Whatever the threads' order, each has placed a page before any goes on.
 ghost use Rattle.std.specs.Prelude.{◌≡◌};
 ghost use Rattle.std.specs.List.{All};
+ghost use Rattle.tests_of_threads.specs.declared.eight_workers.Hand.{Hand};
 
-use crate::setting::nodes;
+use crate::setting::{accept_as, limits, nodes, publish_as};
 use crate::tally::{frames_not_once, wrong_placements};
 use numa_fault::{FaultRefusal, FaultWorker};
 use numa_machine::Machine;
 use numa_mode::PolicySpec;
 use numa_pool::{PoolSeat, Pools};
 use numa_publish::{Desk, DeskName, SharedDesk};
-use numa_space::{Command, Limits, Placement, Request};
+use numa_space::{Command, Placement, Request};
 use std::alloc::Global;
 use std::marker::Brand;
 use std::process::Abort;
@@ -48,11 +49,6 @@ pub fn machine(rt: &impl Abort, alloc: Global) -> Machine {
     ];
     let memory = nodes(&[0, 1, 2, 3]);
     Machine::new(alloc, 4, memory, &distances, &[FRAMES; 4]).expect(rt, "a machine")
-}
-
-/// Limits that stand in nobody's way.
-pub fn limits(rt: &impl Abort) -> Limits {
-    Limits::new(65_536, 1_024, 4_294_967_295).expect(rt, "limits")
 }
 
 /// The command that makes this version: the map first, then interleaving of task 1 over nodes 1 and
@@ -126,9 +122,10 @@ fn wait_for_all(arrived: &AtomicU64) {
     }
 }
 
-/// Each worker places a page, in its thread; once all did, each places the rest.
-fn place<R: Threads + Sync>(rt: &R, pools: &Pools, hands: &mut [Hand], arrived: &AtomicU64)
+/// Each worker places a page, in its thread.
+fn place_first<R: Threads + Sync>(rt: &R, pools: &Pools, hands: &mut [Hand])
     requires { All (λ (h : Hand). h.worker.seat.table ≡ pools.now.table) hands.old }
+    ensures { All (λ (h : Hand). h.worker.seat.table ≡ pools.now.table) hands.new }
 {
     thread::for_each_mut(
         rt,
@@ -141,30 +138,25 @@ fn place<R: Threads + Sync>(rt: &R, pools: &Pools, hands: &mut [Hand], arrived: 
             place_one(pools, w, hand);
         },
     );
+}
+
+/// Once all came here, each worker places the rest, in its thread.
+fn place_rest<R: Threads + Sync>(rt: &R, pools: &Pools, hands: &mut [Hand], arrived: &AtomicU64)
+    requires { All (λ (h : Hand). h.worker.seat.table ≡ pools.now.table) hands.old }
+    ensures { All (λ (h : Hand). h.worker.seat.table ≡ pools.now.table) hands.new }
+{
     thread::for_each_mut(
         rt,
         hands,
         WORKERS,
         &|w, hand: &mut Hand|
             requires { hand.old.worker.seat.table ≡ pools.now.table }
+            ensures { hand.new.worker.seat.table ≡ pools.entry.now.table }
         {
             wait_for_all(arrived);
             place_all(pools, w, hand);
         },
     );
-}
-
-/// The same, of workers that are handed over and back.
-fn place_by<R: Threads + Sync>(
-    rt: &R,
-    pools: &Pools,
-    mut hands: Vec<Hand>,
-    arrived: &AtomicU64,
-) -> Vec<Hand>
-    requires { All (λ (h : Hand). h.worker.seat.table ≡ pools.now.table) hands.items }
-{
-    place(rt, pools, hands.as_mut_slice(), arrived);
-    hands
 }
 
 /// Submits the commands behind version 2, and counts those that were not published in turn.
@@ -225,6 +217,52 @@ fn hire<K: DeskName>(
     hands
 }
 
+/// Pools of their own with a seat, and all workers at them.
+#[derive(Drop)]
+struct Crowd {
+    pools: Pools,
+    seat: PoolSeat,
+    hands: Vec<Hand>,
+    ghost seated: { seat.table ≡ pools.table },
+    ghost same: { All (λ (h : Hand). h.worker.seat.table ≡ pools.table) hands.items },
+}
+
+impl Crowd {
+    /// All workers, at pools in which each frame is free.
+    fn open<K: DeskName>(rt: &(impl Wait + Abort), alloc: Global, desk: &SharedDesk<K>) -> Crowd {
+        let (pools, mut seat) = Pools::open(alloc, &machine(rt, alloc)).expect(rt, "memory");
+        let hands = hire(rt, alloc, desk, &pools, &mut seat);
+        Crowd { pools, seat, hands }
+    }
+
+    /// Each worker places a page; once all did, each places the rest.
+    fn place<R: Threads + Sync>(self, rt: &R, arrived: &AtomicU64) -> Crowd {
+        let Crowd {
+            pools,
+            seat,
+            mut hands,
+        } = self;
+        place_first(rt, &pools, hands.as_mut_slice());
+        place_rest(rt, &pools, hands.as_mut_slice(), arrived);
+        Crowd { pools, seat, hands }
+    }
+
+    /// The workers, and how many frames of the four nodes are taken.
+    fn close(self) -> (Vec<Hand>, [u32; 4]) {
+        let Crowd { pools, seat, hands } = self;
+        let taken = pools.close(seat).taken;
+        (hands, [taken[0], taken[1], taken[2], taken[3]])
+    }
+}
+
+/// Each frame was placed once, as its version means.
+fn judge(rt: &impl Abort, alloc: Global, crowd: Crowd) {
+    let (hands, taken) = crowd.close();
+    assert_eq!(rt; wrong_placements(rt, alloc, hands.as_slice()), 0);
+    assert_eq!(rt; frames_not_once(rt, alloc, hands.as_slice()), 0);
+    assert_eq!(rt; taken, [FRAMES; 4]);
+}
+
 /// All of it, on a desk that is shared.
 fn run<K: DeskName + Send + Sync, R: Threads + Wait + Abort + Sync>(
     rt: &R,
@@ -234,34 +272,30 @@ fn run<K: DeskName + Send + Sync, R: Threads + Wait + Abort + Sync>(
     requires { desk.desk ≡ K.desk }
 {
     let shared = SharedDesk::<K>::new(desk);
-    let (pools, mut seat) = Pools::open(alloc, &machine(rt, alloc)).expect(rt, "memory");
-    let hands = hire(rt, alloc, &shared, &pools, &mut seat);
+    let crowd = Crowd::open(rt, alloc, &shared);
     let arrived = AtomicU64::new(0);
-    let (lock, all, line) = (&shared, &pools, &arrived);
-    let (missed, hands) = join(
+    let (lock, line) = (&shared, &arrived);
+    let (missed, crowd) = join(
         rt,
         move || submit_all(rt, lock, line),
-        move || -> Vec<Hand>
-            requires { All (λ (h : Hand). h.worker.seat.table ≡ all.now.table) hands.items }
-        { place_by(rt, all, hands, line) },
+        move || crowd.place(rt, line),
     );
     shared.into_desk().end(rt);
-    let closed = pools.close(seat);
     assert_eq!(rt; missed, 0);
-    assert_eq!(rt; wrong_placements(rt, alloc, hands.as_slice()), 0);
-    assert_eq!(rt; frames_not_once(rt, alloc, hands.as_slice()), 0);
-    for node in 0..4 {
-        assert_eq!(rt; closed.taken[node], FRAMES);
-    }
+    judge(rt, alloc, crowd);
+}
+
+/// A desk at version 2.
+fn desk_of(rt: &(impl Wait + Abort), alloc: Global) -> Desk {
+    let mut desk = Desk::new(rt, alloc, machine(rt, alloc), limits(rt), 8).expect(rt, "memory");
+    accept_as(rt, &mut desk, &command(rt, 1), 1);
+    accept_as(rt, &mut desk, &command(rt, 2), 2);
+    publish_as(rt, &mut desk, 2);
+    desk
 }
 
 #[test]
 fn until_no_frame_is_left(rt: HostRuntime) {
-    let mut desk = Desk::new(&rt, rt.alloc(), machine(&rt, rt.alloc()), limits(&rt), 8).expect(
-        &rt, "memory",
-    );
-    assert_eq!(rt; desk.accept(&command(&rt, 1)), Ok(1));
-    assert_eq!(rt; desk.accept(&command(&rt, 2)), Ok(2));
-    let _receipt = desk.publish(&rt).expect(&rt, "memory");
+    let desk = desk_of(&rt, rt.alloc());
     run::<Brand, HostRuntime>(&rt, rt.alloc(), desk);
 }

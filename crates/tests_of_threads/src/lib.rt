@@ -18,6 +18,8 @@ mod one_frame;
 #[cfg(test)]
 mod places;
 #[cfg(test)]
+mod placing;
+#[cfg(test)]
 mod refused;
 #[cfg(test)]
 mod refused_desk;

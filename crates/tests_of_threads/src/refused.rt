@@ -3,7 +3,7 @@
 //! one; run by itself, none is refused.
 ghost use Rattle.std.specs.Prelude.{◌≡◌};
 
-use crate::setting::{Seen, accept_both, desk_for, look, prefer};
+use crate::setting::{Seen, accept_both, desk_for, look, new_reader, prefer};
 use numa_publish::{Desk, DeskName, SharedDesk, SubmitRefusal};
 use numa_space::{PlaceRefusal, Refusal};
 use std::alloc::Global;
@@ -28,11 +28,15 @@ fn desk_with_pending(rt: &(impl Wait + Abort), alloc: Global) -> Desk {
 
 /// What a new reader sees.
 fn seen_on(rt: &impl Abort, desk: &mut Desk) -> Option<Seen> {
-    look(desk.reader().expect(rt, "a place")).1
+    let (_reader, seen) = look(new_reader(rt, desk));
+    seen
 }
 
-/// What a new reader sees, the published version, and how many commands are pending.
-fn shown_by(rt: &impl Abort, desk: &mut Desk) -> (u64, usize, Option<Seen>) {
+/// The published version, how many commands are pending, and what a new reader sees.
+type Shown = (u64, usize, Option<Seen>);
+
+/// What a desk shows.
+fn shown_by(rt: &impl Abort, desk: &mut Desk) -> Shown {
     let seen = seen_on(rt, desk);
     (desk.published(), desk.pending(), seen)
 }
@@ -48,21 +52,34 @@ fn last(rt: &(impl Wait + Abort), mut desk: Desk) -> (Option<u64>, Option<Seen>)
 /// What is shown before anything is published.
 const NOTHING: Option<Seen> = Some((0, Err(PlaceRefusal::Unmapped)));
 
+/// What the desk shows after a publish with one growth refused, and at the end.
+fn judge(rt: &(impl Wait + Abort), mut desk: Desk, wanted: Shown, all: u64, row: (u8, u8)) {
+    let left = shown_by(rt, &mut desk);
+    assert_eq!(rt; left, wanted);
+    assert_eq!(rt; last(rt, desk), (Some(all), Some((all, Ok(row)))));
+}
+
+/// A publish between two marks: its version.
+fn published(rt: &(impl Wait + Abort), alloc: Global, desk: &mut Desk) -> Option<u64> {
+    mark(rt, alloc);
+    let answer = desk.publish(rt);
+    mark(rt, alloc);
+    match answer {
+        Ok(receipt) => Some(receipt.version()),
+        Err(_) => None,
+    }
+}
+
 #[test]
 fn publish(rt: HostRuntime) {
     let mut desk = desk_with_pending(&rt, rt.alloc());
-    mark(&rt, rt.alloc());
-    let answer = desk.publish(&rt).ok().map(|receipt| receipt.version());
-    mark(&rt, rt.alloc());
-    let left = shown_by(&rt, &mut desk);
-    let end = last(&rt, desk);
-    match answer {
-        Some(version) => {
-            assert_eq!(rt; (version, left), (2, (2, 0, Some((2, Ok((1, 0)))))));
-        }
-        None => assert_eq!(rt; left, (0, 2, NOTHING)),
-    }
-    assert_eq!(rt; end, (Some(2), Some((2, Ok((1, 0))))));
+    let answer = published(&rt, rt.alloc(), &mut desk);
+    let wanted = match answer {
+        Some(_) => (2, 0, Some((2, Ok((1, 0))))),
+        None => (0, 2, NOTHING),
+    };
+    assert_eq!(rt; answer.unwrap_or(2), 2);
+    judge(&rt, desk, wanted, 2, (1, 0));
 }
 
 /// Submits `prefer:0` to the desk under a lock: the answer, and the desk.
@@ -84,20 +101,22 @@ fn submitted<K: DeskName>(
     (answer, shared.into_desk())
 }
 
-#[test]
-fn submit(rt: HostRuntime) {
-    let desk = desk_with_pending(&rt, rt.alloc());
-    let (answer, mut desk) = submitted::<Brand>(&rt, rt.alloc(), desk);
-    let left = shown_by(&rt, &mut desk);
-    let end = last(&rt, desk);
-    let (wanted, all, row) = match answer {
+/// What the desk shows after this answer, and the version and the list of the last publish.
+fn meant(rt: &impl Abort, answer: Result<u64, SubmitRefusal>) -> (Shown, u64, (u8, u8)) {
+    match answer {
         Ok(3) => ((3, 0, Some((3, Ok((0, 1))))), 3, (0, 1)),
         Err(SubmitRefusal::Held(3)) => ((0, 3, NOTHING), 3, (0, 1)),
         _ => {
             assert_eq!(rt; answer, Err(SubmitRefusal::Refused(Refusal::NoMemory)));
             ((0, 2, NOTHING), 2, (1, 0))
         }
-    };
-    assert_eq!(rt; left, wanted);
-    assert_eq!(rt; end, (Some(all), Some((all, Ok(row)))));
+    }
+}
+
+#[test]
+fn submit(rt: HostRuntime) {
+    let desk = desk_with_pending(&rt, rt.alloc());
+    let (answer, desk) = submitted::<Brand>(&rt, rt.alloc(), desk);
+    let (wanted, all, row) = meant(&rt, answer);
+    judge(&rt, desk, wanted, all, row);
 }

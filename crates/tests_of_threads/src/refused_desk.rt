@@ -1,9 +1,7 @@
 //! Desks of which one growth is refused, as in `refused`: a new one, and a command that is accepted.
-ghost use Rattle.std.specs.Prelude.{◌≡◌};
-
 use crate::refused::mark;
-use crate::setting::{accept_both, desk_for, map_one, nodes, publish_as};
-use numa_machine::{Machine, NoMemory};
+use crate::setting::{accept_both, desk_for, machine_of, map_one, publish_as};
+use numa_machine::NoMemory;
 use numa_publish::Desk;
 use numa_space::{Limits, Refusal};
 use std::alloc::Global;
@@ -12,10 +10,7 @@ use std::sync::Wait;
 
 /// A desk of two nodes with memory, for two readers.
 fn new_desk(rt: &(impl Wait + Abort), alloc: Global) -> Result<Desk, NoMemory> {
-    let machine = Machine::new(alloc, 2, nodes(&[0, 1]), &[10, 20, 20, 10], &[8, 8]).expect(
-        rt,
-        "a machine",
-    );
+    let machine = machine_of(rt, alloc, 8);
     let limits = Limits::new(64, 8, 1_000).expect(rt, "limits");
     mark(rt, alloc);
     let desk = Desk::new(rt, alloc, machine, limits, 2);
@@ -38,16 +33,26 @@ fn new(rt: HostRuntime) {
     }
 }
 
+/// Accepts a map, with marks round it.
+fn accept_marked(rt: &impl Abort, alloc: Global, desk: &mut Desk) -> Result<u64, Refusal> {
+    mark(rt, alloc);
+    let answer = desk.accept(&map_one());
+    mark(rt, alloc);
+    answer
+}
+
+/// The published version, how many commands are pending, and how many the desk's space has.
+fn shown(desk: &Desk) -> (u64, usize, u64) {
+    (desk.published(), desk.pending(), desk.space().version())
+}
+
 /// Accepts a map, with marks round it, and again where memory was refused.
 fn accept_map(rt: &impl Abort, alloc: Global, desk: &mut Desk) {
-    mark(rt, alloc);
-    let first = desk.accept(&map_one());
-    mark(rt, alloc);
-    let shown = (desk.published(), desk.pending(), desk.space().version());
+    let first = accept_marked(rt, alloc, desk);
     if first.is_ok() {
-        assert_eq!(rt; (first, shown), (Ok(1), (0, 1, 1)));
+        assert_eq!(rt; (first, shown(desk)), (Ok(1), (0, 1, 1)));
     } else {
-        assert_eq!(rt; (first, shown), (Err(Refusal::NoMemory), (0, 0, 0)));
+        assert_eq!(rt; (first, shown(desk)), (Err(Refusal::NoMemory), (0, 0, 0)));
         assert_eq!(rt; desk.accept(&map_one()), Ok(1));
     }
 }

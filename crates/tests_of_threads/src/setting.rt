@@ -29,26 +29,46 @@ pub fn nodes(numbers: &[u8]) -> NodeMask {
     set
 }
 
-/// A desk of two nodes with memory, 8 frames each, 20 apart.
+/// Two nodes with so many frames each, 20 apart.
+pub fn machine_of(rt: &impl Abort, alloc: Global, frames: u32) -> Machine {
+    let memory = nodes(&[0, 1]);
+    Machine::new(alloc, 2, memory, &[10, 20, 20, 10], &[frames, frames]).expect(rt, "a machine")
+}
+
+/// Limits that stand in nobody's way.
+pub fn limits(rt: &impl Abort) -> Limits {
+    Limits::new(65_536, 1_024, 4_294_967_295).expect(rt, "limits")
+}
+
+/// A desk of two nodes with so many frames each, with places for so many readers.
+pub fn desk_of(rt: &(impl Wait + Abort), alloc: Global, frames: u32, readers: u32) -> Desk
+    requires some { 1 ≤ readers }
+    requires few { readers ≤ 64 }
+{
+    let machine = machine_of(rt, alloc, frames);
+    Desk::new(rt, alloc, machine, limits(rt), readers).expect(rt, "memory")
+}
+
+/// A desk of two nodes with 8 frames each.
 pub fn desk_for(rt: &(impl Wait + Abort), alloc: Global, readers: u32) -> Desk
     requires some { 1 ≤ readers }
     requires few { readers ≤ 64 }
 {
-    let machine = Machine::new(alloc, 2, nodes(&[0, 1]), &[10, 20, 20, 10], &[8, 8]).expect(
-        rt,
-        "a machine",
-    );
-    let limits = Limits::new(65_536, 1_024, 4_294_967_295).expect(rt, "limits");
-    Desk::new(rt, alloc, machine, limits, readers).expect(rt, "memory")
+    desk_of(rt, alloc, 8, readers)
+}
+
+/// Maps so many pages from page 0x10 on.
+pub fn map_of(pages: u64) -> Command {
+    Command::Map {
+        start: 0x10000,
+        length: pages.wrapping_mul(4_096),
+        offset: 0,
+    }
 }
 
 /// Maps page 0x10.
 pub fn map_one() -> Command {
-    Command::Map {
-        start: 0x10000,
-        length: 0x1000,
-        offset: 0,
-    }
+    map_of(1)
 }
 
 /// Task 1 prefers a node.
@@ -59,12 +79,33 @@ pub fn prefer(rt: &impl Abort, number: u8) -> Command {
     }
 }
 
+/// Accepts a command, which must be the one with this version.
+pub fn accept_as(rt: &impl Abort, desk: &mut Desk, command: &Command, version: u64)
+    ensures { desk.new.desk ≡ desk.old.desk }
+{
+    assert_eq!(rt; desk.accept(command), Ok(version));
+}
+
 /// Accepts two commands: a map, and `prefer:1` for task 1.
 pub fn accept_both(rt: &impl Abort, desk: &mut Desk)
     ensures { desk.new.desk ≡ desk.old.desk }
 {
-    assert_eq!(rt; desk.accept(&map_one()), Ok(1));
-    assert_eq!(rt; desk.accept(&prefer(rt, 1)), Ok(2));
+    accept_as(rt, desk, &map_one(), 1);
+    accept_as(rt, desk, &prefer(rt, 1), 2);
+}
+
+/// Publishes a map of so many pages, in version 1.
+pub fn publish_map(rt: &(impl Wait + Abort), desk: &mut Desk, pages: u64) {
+    accept_as(rt, desk, &map_of(pages), 1);
+    publish_as(rt, desk, 1);
+}
+
+/// A new reader.
+pub fn new_reader(rt: &impl Abort, desk: &mut Desk) -> PlanReader
+    ensures same { desk.new.desk ≡ desk.old.desk }
+    ensures reader { result.desk ≡ desk.new.desk }
+{
+    desk.reader().expect(rt, "a place")
 }
 
 /// Publishes, which must give this version.

@@ -1,14 +1,23 @@
 //! Workers that place spans, each on fresh pools.
-ghost use Rattle.std.specs.Prelude.{◌≡◌};
-
-use crate::one_frame::{desk, open, placed, worker};
+use crate::one_frame::{desk, placed};
+use crate::placing::Placing;
 use numa_fault::SpanRefusal;
+use numa_space::Placement;
 use std::alloc::Global;
 use std::process::Abort;
 use std::sync::Wait;
 
-/// A span of task 1 for faults on this node: its answer, and how many placements came. These are of
-/// page 16 on node 0, then of page 17 on node 1, and no other frame is taken.
+/// The placements are of page 16 on node 0, then of page 17 on node 1, and no other frame is taken.
+fn judge(rt: &impl Abort, placing: Placing, out: &[Placement]) {
+    let (on_node_0, on_node_1, _) = placing.close();
+    let count = out.len();
+    let both = [placed(16, 0, 0), placed(17, 1, 1)];
+    assert!(rt; count <= 2);
+    assert_eq!(rt; out, &both[..count.min(2)]);
+    assert_eq!(rt; (on_node_0 == 1, on_node_1 == 1), (count > 0, count > 1));
+}
+
+/// A span of task 1 for faults on this node: its answer, and how many placements came.
 fn place(
     rt: &(impl Wait + Abort),
     alloc: Global,
@@ -17,22 +26,12 @@ fn place(
     pages: usize,
 ) -> (Result<u64, SpanRefusal>, usize) {
     let mut desk = desk(rt, alloc);
-    let (pools, seat) = open(rt, alloc);
-    let mut a = worker(rt, &mut desk, seat);
+    let mut placing = Placing::open(rt, alloc, &mut desk);
     let mut out = Vec::new(alloc);
-    let answer = a.fault_span(alloc, &pools, 1, cpu, first, pages, &mut out);
+    let answer = placing.span(alloc, cpu, first, pages, &mut out);
     desk.end(rt);
-    let (_, seat) = a.into_parts();
-    let closed = pools.close(seat);
-    let count = out.len();
-    let both = [placed(16, 0, 0), placed(17, 1, 1)];
-    assert!(rt; count <= 2);
-    assert_eq!(rt; out.as_slice(), &both[..count.min(2)]);
-    assert_eq!(rt;
-        (closed.taken[0] == 1, closed.taken[1] == 1),
-        (count > 0, count > 1)
-    );
-    (answer, count)
+    judge(rt, placing, out.as_slice());
+    (answer, out.len())
 }
 
 #[test]

@@ -1,32 +1,36 @@
+//! Storms: what they print, and to whom.
+ghost use Rattle.numa_fault.specs.Crew.{IsCrew};
+
 use numa_script::{RunFault, Watched};
 use numa_storm::storm;
+use std::alloc::Global;
 use std::io;
 use std::io::Write;
-use std::test::Fail;
+use std::process::Abort;
+use std::sync::Wait;
+use std::thread::Threads;
+
+/// A storm of so many workers prints these lines.
+fn prints<R: Threads + Wait + Abort + Sync>(rt: &R, alloc: Global, workers: u32, want: &str)
+    requires { IsCrew workers }
+{
+    let mut output = Watched::new(Vec::new(alloc));
+    let status = storm(rt, alloc, workers, &mut output);
+    assert_eq!(rt;
+        (status, output.inner.as_slice()),
+        (Ok(0), want.as_bytes()),
+        "{workers}"
+    );
+}
 
 #[test]
-fn five_lines(rt: HostRuntime) -> Result<(), Fail> {
-    let rows = [
-        (
-            1,
-            "workers 1\nplaced 256\nexhausted 64\nplans match yes\nframes held 256\n",
-        ),
-        (
-            4,
-            "workers 4\nplaced 256\nexhausted 64\nplans match yes\nframes held 256\n",
-        ),
-        (
-            16,
-            "workers 16\nplaced 256\nexhausted 64\nplans match yes\nframes held 256\n",
-        ),
-    ];
-    for (workers, want) in rows {
-        let mut output = Watched::new(Vec::new(rt.alloc()));
-        let status = storm(&rt, rt.alloc(), workers, &mut output);
-        assert_eq!(rt; status, Ok(0), "{workers}");
-        assert_eq!(rt; output.inner.as_slice(), want.as_bytes(), "{workers}");
-    }
-    Ok(())
+fn five_lines(rt: HostRuntime) {
+    let one = "workers 1\nplaced 256\nexhausted 64\nplans match yes\nframes held 256\n";
+    prints(&rt, rt.alloc(), 1, one);
+    let four = "workers 4\nplaced 256\nexhausted 64\nplans match yes\nframes held 256\n";
+    prints(&rt, rt.alloc(), 4, four);
+    let sixteen = "workers 16\nplaced 256\nexhausted 64\nplans match yes\nframes held 256\n";
+    prints(&rt, rt.alloc(), 16, sixteen);
 }
 
 // Takes one byte a call, and fails at the call with so many before it.
@@ -60,19 +64,27 @@ impl Write for Narrow {
 // The five lines of two workers.
 const WHOLE: &str = "workers 2\nplaced 256\nexhausted 64\nplans match yes\nframes held 256\n";
 
+/// What a storm of two workers answers whose output fails at the call with so many before it.
+fn storm_by<R: Threads + Wait + Sync>(
+    rt: &R,
+    alloc: Global,
+    fails_at: usize,
+) -> (Result<u8, RunFault>, Narrow) {
+    let mut output = Watched::new(Narrow {
+        taken: Vec::new(alloc),
+        fails_at,
+        failed: 0,
+    });
+    let answer = storm(rt, alloc, 2, &mut output);
+    (answer, output.inner)
+}
+
 #[test]
-fn failing_writes(rt: HostRuntime) -> Result<(), Fail> {
+fn failing_writes(rt: HostRuntime) {
     for bytes in 0..WHOLE.len() {
-        let mut output = Watched::new(Narrow {
-            taken: Vec::new(rt.alloc()),
-            fails_at: bytes,
-            failed: 0,
-        });
-        let answer = storm(&rt, rt.alloc(), 2, &mut output);
-        assert_eq!(rt; answer, Err(RunFault::Write), "{bytes}");
-        assert_eq!(rt; output.inner.failed, 1, "{bytes}");
+        let (answer, Narrow { taken, failed, .. }) = storm_by(&rt, rt.alloc(), bytes);
+        assert_eq!(rt; (answer, failed), (Err(RunFault::Write), 1), "{bytes}");
         let front = WHOLE.as_bytes().get(..bytes).unwrap_or(b"");
-        assert_eq!(rt; output.inner.taken.as_slice(), front, "{bytes}");
+        assert_eq!(rt; taken.as_slice(), front, "{bytes}");
     }
-    Ok(())
 }

@@ -1,5 +1,6 @@
 //! What is wrong with the placements of eight workers.
-use crate::eight_workers::{COMMANDS, FRAMES, Hand, command, limits, machine, request};
+use crate::eight_workers::{COMMANDS, FRAMES, Hand, command, machine, request};
+use crate::setting::limits;
 use numa_fault::FaultRefusal;
 use numa_space::{Placement, Space};
 use std::alloc::Global;
@@ -66,13 +67,23 @@ fn disorderly(hands: &[Hand]) -> u64 {
     count
 }
 
+/// A space of nothing but the machine.
+fn empty_space(rt: &impl Abort, alloc: Global) -> Space {
+    Space::new(alloc, machine(rt, alloc), limits(rt))
+}
+
+/// Plays the command of this version.
+fn play(rt: &impl Abort, space: &mut Space, version: u64) {
+    assert_eq!(rt; space.apply(&command(rt, version)), Ok(()));
+}
+
 /// How many workers are not orderly, and how many placements are not what the commands up to their
 /// version mean, which are played anew, one after the other.
 pub fn wrong_placements(rt: &impl Abort, alloc: Global, hands: &[Hand]) -> u64 {
-    let mut space = Space::new(alloc, machine(rt, alloc), limits(rt));
+    let mut space = empty_space(rt, alloc);
     let mut wrong = disorderly(hands);
     for version in 1..=COMMANDS {
-        assert_eq!(rt; space.apply(&command(rt, version)), Ok(()));
+        play(rt, &mut space, version);
         wrong = wrong.saturating_add(wrong_of_version(&space, version, hands));
     }
     wrong

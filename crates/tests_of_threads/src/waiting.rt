@@ -1,5 +1,7 @@
 //! For which views a publish waits.
-use crate::setting::{desk_for, map_one, prefer, publish_as, see, wait_until};
+use crate::setting::{
+    accept_as, desk_for, new_reader, prefer, publish_as, publish_map, see, wait_until,
+};
 use numa_publish::{Desk, PlanReader, PlanView};
 use std::process::Abort;
 use std::rt::Clock;
@@ -9,29 +11,28 @@ use std::thread;
 use std::thread::{Threads, join};
 use std::time::Duration;
 
-/// A desk with version 1 published.
-fn published_desk(rt: &(impl Wait + Abort), desk: &mut Desk) {
-    assert_eq!(rt; desk.accept(&map_one()), Ok(1));
-    publish_as(rt, desk, 1);
-}
-
 /// A new reader's view.
 fn view(rt: &impl Abort, desk: &mut Desk) -> PlanView {
-    let reader = desk.reader().expect(rt, "a place");
+    let reader = new_reader(rt, desk);
     reader.enter().ok().expect(rt, "an entry")
+}
+
+/// Publishes version 2, which a third reader sees.
+fn publish_beside(rt: &(impl Wait + Abort), desk: &mut Desk) {
+    let reader = new_reader(rt, desk);
+    accept_as(rt, desk, &prefer(rt, 1), 2);
+    publish_as(rt, desk, 2);
+    see(rt, reader, Some((2, Ok((1, 0)))));
 }
 
 #[test]
 fn two_views_at_once(rt: HostRuntime) {
     let mut desk = desk_for(&rt, rt.alloc(), 3);
-    published_desk(&rt, &mut desk);
+    publish_map(&rt, &mut desk, 1);
     let first = view(&rt, &mut desk);
     let second = view(&rt, &mut desk);
-    let third = desk.reader().expect(&rt, "a place");
-    assert_eq!(rt; desk.accept(&prefer(&rt, 1)), Ok(2));
     // Both views are of the newest version, so this waits for neither.
-    publish_as(&rt, &mut desk, 2);
-    see(&rt, third, Some((2, Ok((1, 0)))));
+    publish_beside(&rt, &mut desk);
     let held = (first.version(), second.version());
     first.leave();
     second.leave();
@@ -60,23 +61,26 @@ fn hold<R: Wait + Abort + Clock>(rt: &R, reader: PlanReader, flags: &Flags) -> u
     version
 }
 
+/// Publishes that task 1 prefers a node: whether the view was about to leave when that returned.
+fn publish_one<R: Wait + Abort>(rt: &R, desk: &mut Desk, number: u8, flags: &Flags) -> u64 {
+    let _ = desk.accept(&prefer(rt, number));
+    let _ = desk.publish(rt);
+    flags.leaves.load(Ordering::SeqCst)
+}
+
 /// Publishes twice beside the view: whether it was about to leave when each publish returned.
 fn publish_twice<R: Wait + Abort>(rt: &R, desk: &mut Desk, flags: &Flags) -> (u64, u64) {
     wait_until(rt, &flags.held, 1);
-    let _ = desk.accept(&prefer(rt, 1));
-    let _ = desk.publish(rt);
-    let first = flags.leaves.load(Ordering::SeqCst);
+    let first = publish_one(rt, desk, 1, flags);
     flags.published.store(1, Ordering::SeqCst);
-    let _ = desk.accept(&prefer(rt, 0));
-    let _ = desk.publish(rt);
-    (first, flags.leaves.load(Ordering::SeqCst))
+    (first, publish_one(rt, desk, 0, flags))
 }
 
 #[test]
 fn a_view_that_leaves_after_a_while(rt: HostRuntime) {
     let mut desk = desk_for(&rt, rt.alloc(), 2);
-    published_desk(&rt, &mut desk);
-    let reader = desk.reader().expect(&rt, "a place");
+    publish_map(&rt, &mut desk, 1);
+    let reader = new_reader(&rt, &mut desk);
     let flags = Flags {
         held: AtomicU64::new(0),
         published: AtomicU64::new(0),

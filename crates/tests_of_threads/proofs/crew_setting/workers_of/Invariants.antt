@@ -1,7 +1,7 @@
 use Rattle.std.proofs.Common.{◌≡◌}
 use Rattle.std.specs.List.{All}
 use Rattle.numa_fault.specs.declared.worker.FaultWorker.{FaultWorker}
-use Rattle.tests_of_threads.proofs.crew_setting.workers.Given as goal
+use Rattle.tests_of_threads.proofs.crew_setting.workers_of.Given as goal
 
 -- all seats are of the pools
 abbrev pub invariant-loop : goal.invariant-loop
