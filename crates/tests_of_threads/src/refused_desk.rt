@@ -1,4 +1,4 @@
-//! Desks of which one growth is refused, as in `refused`: a new one, and a command that is accepted.
+//! Desks of which one growth is refused, as in `refused`: a new one, and one that accepts.
 use crate::refused::mark;
 use crate::setting::{accept_both, desk_for, machine_of, map_one, publish_as};
 use numa_machine::NoMemory;

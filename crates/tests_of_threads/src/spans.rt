@@ -11,9 +11,7 @@ use std::sync::Wait;
 fn judge(rt: &impl Abort, placing: Placing, out: &[Placement]) {
     let (on_node_0, on_node_1, _) = placing.close();
     let count = out.len();
-    let both = [placed(16, 0, 0), placed(17, 1, 1)];
-    assert!(rt; count <= 2);
-    assert_eq!(rt; out, &both[..count.min(2)]);
+    assert!(rt; [placed(16, 0, 0), placed(17, 1, 1)].starts_with(out));
     assert_eq!(rt; (on_node_0 == 1, on_node_1 == 1), (count > 0, count > 1));
 }
 
