@@ -7,7 +7,7 @@ ghost use Rattle.numa_space.specs.declared.command.Command.{Command};
 ghost use Rattle.numa_reports.specs.Predicted.{AreFirsts, IsPrediction};
 
 use crate::fault::ReportFault;
-use crate::tally::add_counts;
+use crate::tally::add_span;
 use numa_mode::Record;
 use numa_plan::Plan;
 use numa_space::{PlaceRefusal, RangeRecord, Run, Space};
@@ -100,8 +100,16 @@ pub fn predict_all<T: TakeRange>(
     }
     let mut counts = [0u64; 256];
     for range in space.range_iter() {
-        let more = plan.counts(task, cpu, range.first, range.pages)?;
-        add_counts(&mut counts, &more);
+        let mut more = [0u64; 256];
+        add_span(
+            plan,
+            task,
+            cpu,
+            range.first,
+            range.pages,
+            &mut more,
+            &mut counts,
+        )?;
         taker.take(range, space.policy_at(task, range.first), &more)?;
     }
     Ok(counts)

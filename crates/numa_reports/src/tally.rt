@@ -1,6 +1,14 @@
 //! Counts by node, added up.
-ghost use Rattle.std.specs.Prelude.{slice_index};
+ghost use Rattle.std.specs.Prelude.{◌≤◌, length, slice_index, OnOk};
+ghost use Rattle.numa_plan.specs.Meaning.{planned_count};
 ghost use Rattle.numa_plan.specs.Tally.{Adds, HasRoom};
+ghost use Rattle.numa_reports.specs.Predicted.{places};
+
+use numa_plan::Plan;
+use numa_space::PlaceRefusal;
+
+/// How many pages are looked at one by one; where there are more, they are counted together.
+const FEW: usize = 64;
 
 /// Adds to each node's count as many pages as the other has.
 pub(crate) fn add_counts(counts: &mut [u64; 256], more: &[u64; 256])
@@ -10,4 +18,85 @@ pub(crate) fn add_counts(counts: &mut [u64; 256], more: &[u64; 256])
     for node in 0..256 {
         counts[node] += more[node];
     }
+}
+
+/// Adds to each node's count a page for each place that has the node.
+fn add_nodes(counts: &mut [u64; 256], nodes: &[u8])
+    requires { HasRoom counts.old (places nodes.now) }
+    ensures { Adds counts.old counts.new (places nodes.now) }
+{
+    for k in 0..nodes.len() {
+        counts[nodes[k] as usize] += 1;
+    }
+}
+
+/// Adds the pages of a span, as many as the list has places, to the counts of a range and of all.
+fn add_filled(
+    plan: &Plan,
+    task: u32,
+    cpu: u32,
+    first: u64,
+    nodes: &mut [u8],
+    counts: &mut [u64; 256],
+    all: &mut [u64; 256],
+) -> Result<(), PlaceRefusal>
+    requires room { HasRoom counts.old (planned_count plan.now task cpu first (length nodes.old)) }
+    requires room_all { HasRoom all.old (planned_count plan.now task cpu first (length nodes.old)) }
+    ensures counts { OnOk result (Adds counts.old counts.new
+        (planned_count plan.now task cpu first (length nodes.old))) }
+    ensures all { OnOk result (Adds all.old all.new
+        (planned_count plan.now task cpu first (length nodes.old))) }
+{
+    plan.fill(task, cpu, first, nodes)?;
+    add_nodes(counts, nodes);
+    add_nodes(all, nodes);
+    Ok(())
+}
+
+/// Adds the pages of a short span, looked at one by one.
+fn add_few(
+    plan: &Plan,
+    task: u32,
+    cpu: u32,
+    first: u64,
+    pages: usize,
+    counts: &mut [u64; 256],
+    all: &mut [u64; 256],
+) -> Result<(), PlaceRefusal>
+    requires few { pages ≤ 64 }
+    requires room { HasRoom counts.old (planned_count plan.now task cpu first pages) }
+    requires room_all { HasRoom all.old (planned_count plan.now task cpu first pages) }
+    ensures counts { OnOk result (Adds counts.old counts.new
+        (planned_count plan.now task cpu first pages)) }
+    ensures all { OnOk result (Adds all.old all.new
+        (planned_count plan.now task cpu first pages)) }
+{
+    let mut nodes = [0u8; FEW];
+    add_filled(plan, task, cpu, first, &mut nodes[..pages], counts, all)
+}
+
+/// Adds the pages of a span to the counts of a range and of all.
+pub(crate) fn add_span(
+    plan: &Plan,
+    task: u32,
+    cpu: u32,
+    first: u64,
+    pages: u64,
+    counts: &mut [u64; 256],
+    all: &mut [u64; 256],
+) -> Result<(), PlaceRefusal>
+    requires room { HasRoom counts.old (planned_count plan.now task cpu first pages) }
+    requires room_all { HasRoom all.old (planned_count plan.now task cpu first pages) }
+    ensures counts { OnOk result (Adds counts.old counts.new
+        (planned_count plan.now task cpu first pages)) }
+    ensures all { OnOk result (Adds all.old all.new
+        (planned_count plan.now task cpu first pages)) }
+{
+    if pages <= FEW as u64 {
+        return add_few(plan, task, cpu, first, pages as usize, counts, all);
+    }
+    let more = plan.counts(task, cpu, first, pages)?;
+    add_counts(counts, &more);
+    add_counts(all, &more);
+    Ok(())
 }

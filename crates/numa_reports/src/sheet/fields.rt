@@ -37,7 +37,9 @@ pub(crate) fn sum(counts: &[u64]) -> u64 {
 #[derive(Drop)]
 pub(crate) struct PolicyTexts {
     alloc: Global,
-    texts: HashMap<Record, String>,
+    texts: Vec<String>,
+    // The place of each policy's text.
+    places: HashMap<Record, usize>,
 }
 
 impl PolicyTexts {
@@ -45,18 +47,21 @@ impl PolicyTexts {
     pub(crate) fn new(alloc: Global) -> PolicyTexts {
         PolicyTexts {
             alloc,
-            texts: HashMap::new(alloc),
+            texts: Vec::new(alloc),
+            places: HashMap::new(alloc),
         }
     }
 
-    /// Makes a policy's text, where there is none yet.
-    fn learn(&mut self, policy: Record) -> Result<(), AllocError> {
-        if self.texts.get(&policy).is_some() {
-            return Ok(());
+    /// The place of a policy's text, which is made where there is none yet.
+    fn place(&mut self, policy: Record) -> Result<usize, AllocError> {
+        if let Some(place) = self.places.get(&policy).copied() {
+            return Ok(place);
         }
         let text = String::from_str(self.alloc, policy.policy_text().as_str())?;
-        match self.texts.insert(policy, text) {
-            Ok(_) => Ok(()),
+        let place = self.texts.len();
+        self.texts.push(text)?;
+        match self.places.insert(policy, place) {
+            Ok(_) => Ok(place),
             Err(_) => Err(AllocError),
         }
     }
@@ -66,8 +71,8 @@ impl PolicyTexts {
         let Some(policy) = policy else {
             return Ok("default");
         };
-        self.learn(policy)?;
-        match self.texts.get(&policy) {
+        let place = self.place(policy)?;
+        match self.texts.get(place) {
             Some(text) => Ok(text.as_str()),
             None => Err(AllocError),
         }

@@ -10,13 +10,13 @@ const DIGITS: [u8; 16] = *b"0123456789abcdef";
 
 /// A number in hexadecimal digits, eight at least.
 fn push_hexadecimal(text: &mut Vec<u8>, number: u64) -> Result<(), AllocError> {
+    let mut digits = [0u8; 16];
     for place in 0..16u32 {
         let high = number >> (60 - 4 * place);
-        if place >= 8 || high > 0 {
-            text.push(DIGITS[(high & 15) as usize])?;
-        }
+        digits[place as usize] = DIGITS[(high & 15) as usize];
     }
-    Ok(())
+    let zeros = (number.leading_zeros() / 4) as usize;
+    text.extend_from_slice(&digits[zeros.min(8)..])
 }
 
 /// A number in decimal digits.

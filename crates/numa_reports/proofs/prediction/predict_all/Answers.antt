@@ -19,12 +19,17 @@ loop-range-init g c = record {
   long = refl;
 }
 
-pub add_counts-requires : goal.add_counts-requires
-add_counts-requires g c node small =
-    let test : ℕ → Bool = λ page. is_number node (planned_first c.args.plan.now c.args.task page c.args.cpu) in
-    let more = c.in_ok-more.ensures.ok.2 node small in
-    let step = ap (λ (runs : List (Run (Option PolicyRecord))). count_runs test runs) c.in-Some.ensures.steps in
-    omega (arith, more, step, c.loop-range.invariant.counts node small, runs-most test 0 c.args.space.now.ranges c.loop-range.invariant.apart, sum_by-cons (λ run. count_pages test run.first run.pages) c.in-Some.range.now c.next.new.self)
+pub add_span-requires : goal.add_span-requires
+add_span-requires g c = record {
+  room = λ node small.
+      let test : ℕ → Bool = λ page. is_number node (planned_first c.args.plan.now c.args.task page c.args.cpu) in
+      let step = ap (λ (runs : List (Run (Option PolicyRecord))). count_runs test runs) c.in-Some.ensures.steps in
+      omega (arith, get_or-replicate {A = ℕ} 256 node 0 0 small, step, c.loop-range.invariant.counts node small, runs-most test 0 c.args.space.now.ranges c.loop-range.invariant.apart, sum_by-cons (λ run. count_pages test run.first run.pages) c.in-Some.range.now c.next.new.self);
+  room_all = λ node small.
+      let test : ℕ → Bool = λ page. is_number node (planned_first c.args.plan.now c.args.task page c.args.cpu) in
+      let step = ap (λ (runs : List (Run (Option PolicyRecord))). count_runs test runs) c.in-Some.ensures.steps in
+      omega (arith, step, c.loop-range.invariant.counts node small, runs-most test 0 c.args.space.now.ranges c.loop-range.invariant.apart, sum_by-cons (λ run. count_pages test run.first run.pages) c.in-Some.range.now c.next.new.self);
+}
 
 pub returns : goal.returns
 returns g c = record {
