@@ -1,8 +1,9 @@
 //! What stands at one moment: a plan, and which pages are mapped.
-ghost use Rattle.std.specs.Prelude.{List, IfOk};
+ghost use Rattle.std.specs.Prelude.{◌≡◌, List, map, IfOk};
 ghost use Rattle.numa_compile.specs.Standing.{PlanStandsFor};
 ghost use Rattle.numa_space.specs.Standing.{StandsFor};
 ghost use Rattle.numa_space.specs.declared.command.Command.{Command};
+ghost use Rattle.numa_reports.specs.Mapped.{span_of};
 
 use crate::fault::ReportFault;
 use numa_compile::compile;
@@ -25,7 +26,9 @@ pub struct Outlook {
 }
 
 /// The pages of each range of a space, rising.
-fn spans_of(alloc: Global, space: &Space) -> Result<Vec<Span>, AllocError> {
+fn spans_of(alloc: Global, space: &Space) -> Result<Vec<Span>, AllocError>
+    ensures { IfOk result (λ spans. spans.items ≡ map span_of space.now.ranges) }
+{
     let mut spans = Vec::new(alloc);
     for range in space.range_iter() {
         spans.push(Span {
@@ -43,6 +46,8 @@ fn spans_of(alloc: Global, space: &Space) -> Result<Vec<Span>, AllocError> {
 pub fn outlook_of(alloc: Global, space: &Space) -> Result<Outlook, ReportFault>
     ensures plan { (history : List Command) → StandsFor space.now history
         → IfOk result (λ outlook. PlanStandsFor space.now.machine outlook.plan history) }
+    ensures spans { IfOk result (λ outlook.
+        outlook.spans.items ≡ map span_of space.now.ranges) }
 {
     let plan = compile(alloc, space)?;
     let spans = spans_of(alloc, space)?;

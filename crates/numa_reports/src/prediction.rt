@@ -1,9 +1,11 @@
 //! Where all mapped pages would go.
-ghost use Rattle.std.specs.Prelude.{◌≡◌, ◌≤◌, ◌^◌, List, IfOk, IfErr};
+ghost use Rattle.std.specs.Prelude.{◌≡◌, ◌≤◌, ◌^◌, List, Err, IfOk, IfErr};
 ghost use Rattle.numa_compile.specs.Spans.{SpanIsRefused};
 ghost use Rattle.numa_compile.specs.Standing.{PlanStandsFor};
 ghost use Rattle.numa_space.specs.Standing.{StandsFor};
 ghost use Rattle.numa_space.specs.declared.command.Command.{Command};
+ghost use Rattle.numa_space.specs.declared.refusal.PlaceRefusal.TheVariants.{BadCpu};
+ghost use Rattle.numa_reports.specs.declared.fault.ReportFault.TheVariants.{Refused};
 ghost use Rattle.numa_reports.specs.Predicted.{AreFirsts, IsPrediction};
 
 use crate::fault::ReportFault;
@@ -94,6 +96,7 @@ pub fn predict_all<T: TakeRange>(
     ensures ok { (history : List Command) → StandsFor space.now history
         → PlanStandsFor space.now.machine plan.now history
         → IfOk result (AreFirsts space.now.machine history task cpu 0 (2 ^ 35)) }
+    ensures bad_cpu { space.now.machine.nodes ≤ cpu → result ≡ Err (Refused BadCpu) }
 {
     if cpu >= space.machine().nodes() {
         return Err(ReportFault::Refused(PlaceRefusal::BadCpu));

@@ -31,10 +31,8 @@ add_span-requires g c = record {
       omega (arith, step, c.loop-range.invariant.counts node small, runs-most test 0 c.args.space.now.ranges c.loop-range.invariant.apart, sum_by-cons (λ run. count_pages test run.first run.pages) c.in-Some.range.now c.next.new.self);
 }
 
-pub returns : goal.returns
-returns g c = record {
-  ok = λ history stands planned node small.
-      let lt : c.args.cpu < c.args.plan.now.nodes = omega (arith, planned.nodes, ap (λ (m : Hardware). m.nodes) c.machine.ensures) in
-      let test : ℕ → Bool = λ page. is_number node (planned_first c.args.plan.now c.args.task page c.args.cpu) in
-      omega (arith, c.loop-range.invariant.counts node small, runs-none test c.loop-range.range-iterator (ap length c.in-None.ensures.steps.0), counted-all c.args.space.now c.args.plan.now history c.args.task c.args.cpu node stands planned lt c.loop-range.invariant.apart);
-}
+pub returns-clause-ok : goal.returns-clause-ok
+returns-clause-ok g c history stands planned node small =
+    let lt : c.args.cpu < c.args.plan.now.nodes = omega (arith, planned.nodes, ap (λ (m : Hardware). m.nodes) c.machine.ensures) in
+    let test : ℕ → Bool = λ page. is_number node (planned_first c.args.plan.now c.args.task page c.args.cpu) in
+    omega (arith, c.loop-range.invariant.counts node small, runs-none test c.loop-range.range-iterator (ap length c.in-None.ensures.steps.0), counted-all c.args.space.now c.args.plan.now history c.args.task c.args.cpu node stands planned lt c.loop-range.invariant.apart)

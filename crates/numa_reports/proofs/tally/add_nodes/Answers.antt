@@ -1,4 +1,4 @@
-use Rattle.std.proofs.Common.{ℕ, ◌∙◌, eqb, get_or, length, length-set, arith, refl}
+use Rattle.std.proofs.Common.{◌∙◌, eqb, get_or, length, length-set, arith, refl}
 use Rattle.numa_reports.proofs.Moving.{count-zero}
 use Rattle.numa_reports.proofs.Placed.{place-left, place-next}
 use Rattle.numa_reports.proofs.tally.add_nodes.Goals as goal
