@@ -196,8 +196,8 @@ impl<'a> Distances<'a> {
     }
 
     /// The entries of the distance table of so many nodes, row after row: `flat` makes one for each
-    /// two nodes, and a table is as it was written, whatever the number of nodes. `Err` is want of
-    /// memory.
+    /// two nodes, and a table is as it was written, whatever the number of nodes. `Err` where there
+    /// is no memory.
     pub fn for_nodes(&self, alloc: Global, nodes: u32) -> Result<Vec<u8>, AllocError>
         requires { nodes ≤ 256 }
         ensures { IfOk result (λ v. v.items ≡ distances_for nodes self.now) }
