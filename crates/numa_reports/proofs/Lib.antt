@@ -1,3 +1,4 @@
+pub mod Meeting
 pub mod Moving
 pub mod Placed
 pub mod Tiling

@@ -1,3 +1,4 @@
+pub mod Common
 pub mod Mapped
 pub mod Moved
 pub mod Predicted

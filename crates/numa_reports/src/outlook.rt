@@ -1,8 +1,9 @@
 //! What stands at one moment: a plan, and which pages are mapped.
-ghost use Rattle.std.specs.Prelude.{◌≡◌, List, map, IfOk};
+ghost use Rattle.std.specs.Prelude.{◌≡◌, ◌<◌, ◌^◌, ◌++◌, List, map, IfOk};
 ghost use Rattle.numa_compile.specs.Standing.{PlanStandsFor};
 ghost use Rattle.numa_space.specs.Standing.{StandsFor};
 ghost use Rattle.numa_space.specs.declared.command.Command.{Command};
+ghost use Rattle.numa_reports.specs.Common.{AreCommon, AreRising, common_of, span_end};
 ghost use Rattle.numa_reports.specs.Mapped.{span_of};
 
 use crate::fault::ReportFault;
@@ -27,7 +28,8 @@ pub struct Outlook {
 
 /// The pages of each range of a space, rising.
 fn spans_of(alloc: Global, space: &Space) -> Result<Vec<Span>, AllocError>
-    ensures { IfOk result (λ spans. spans.items ≡ map span_of space.now.ranges) }
+    ensures spans { IfOk result (λ spans. spans.items ≡ map span_of space.now.ranges) }
+    ensures rising { IfOk result (λ spans. AreRising 0 spans.items) }
 {
     let mut spans = Vec::new(alloc);
     for range in space.range_iter() {
@@ -48,6 +50,7 @@ pub fn outlook_of(alloc: Global, space: &Space) -> Result<Outlook, ReportFault>
         → IfOk result (λ outlook. PlanStandsFor space.now.machine outlook.plan history) }
     ensures spans { IfOk result (λ outlook.
         outlook.spans.items ≡ map span_of space.now.ranges) }
+    ensures rising { IfOk result (λ outlook. AreRising 0 outlook.spans.items) }
 {
     let plan = compile(alloc, space)?;
     let spans = spans_of(alloc, space)?;
@@ -55,38 +58,40 @@ pub fn outlook_of(alloc: Global, space: &Space) -> Result<Outlook, ReportFault>
 }
 
 /// The page behind the last.
-fn end_of(span: Span) -> u64 {
+fn end_of(span: Span) -> u64
+    ensures { span_end span < 2 ^ 64 → result ≡ span_end span }
+{
     span.first.saturating_add(span.pages)
 }
 
-/// The pages that both spans have.
-fn common(one: Span, other: Span) -> Option<Span> {
+/// Puts the pages that both spans have behind the spans found so far.
+fn add_common(found: &mut Vec<Span>, one: Span, other: Span) -> Result<(), AllocError>
+    ensures { span_end one < 2 ^ 64 → span_end other < 2 ^ 64
+        → IfOk result (λ _. found.new.items ≡ found.old.items ++ common_of one other) }
+{
     let first = one.first.max(other.first);
     let end = end_of(one).min(end_of(other));
-    if first < end {
-        Some(Span {
-            first,
-            pages: end - first,
-        })
-    } else {
-        None
+    if first >= end {
+        return Ok(());
     }
+    let pages = end - first;
+    found.push(Span { first, pages })?;
+    Ok(())
 }
 
 /// The spans that two rising lists of spans have in common, each inside one span of either.
-pub fn common_spans(
-    alloc: Global,
-    ones: &[Span],
-    others: &[Span],
-) -> Result<Vec<Span>, AllocError> {
+pub fn common_spans(alloc: Global, ones: &[Span], others: &[Span]) -> Result<Vec<Span>, AllocError>
+    ensures common { AreRising 0 ones.now → AreRising 0 others.now
+        → IfOk result (λ spans. AreCommon ones.now others.now spans.items) }
+{
     let mut found = Vec::new(alloc);
     let mut i = 0;
     let mut j = 0;
     while i < ones.len() && j < others.len() {
-        if let Some(span) = common(ones[i], others[j]) {
-            found.push(span)?;
-        }
-        if end_of(ones[i]) <= end_of(others[j]) {
+        let one = ones[i];
+        let other = others[j];
+        add_common(&mut found, one, other)?;
+        if end_of(one) <= end_of(other) {
             i += 1;
         } else {
             j += 1;
