@@ -1,4 +1,5 @@
 pub mod Meeting
 pub mod Moving
 pub mod Placed
+pub mod Taking
 pub mod Tiling

@@ -1,4 +1,5 @@
 pub mod Common
+pub mod Filled
 pub mod Mapped
 pub mod Moved
 pub mod Predicted

@@ -1,4 +1,7 @@
 //! Why there is no report.
+ghost use Rattle.std.specs.Prelude.{◌≡◌};
+ghost use Rattle.numa_reports.specs.declared.fault.ReportFault.TheVariants as fault;
+
 use numa_plan::NoMemory;
 use numa_space::PlaceRefusal;
 use std::alloc::AllocError;
@@ -13,19 +16,25 @@ pub enum ReportFault {
 }
 
 impl From<AllocError> for ReportFault {
-    fn from(_error: AllocError) -> ReportFault {
+    fn from(_error: AllocError) -> ReportFault
+        ensures { result ≡ fault.Memory }
+    {
         ReportFault::Memory
     }
 }
 
 impl From<PlaceRefusal> for ReportFault {
-    fn from(refusal: PlaceRefusal) -> ReportFault {
+    fn from(refusal: PlaceRefusal) -> ReportFault
+        ensures { result ≡ fault.Refused refusal }
+    {
         ReportFault::Refused(refusal)
     }
 }
 
 impl From<NoMemory> for ReportFault {
-    fn from(_error: NoMemory) -> ReportFault {
+    fn from(_error: NoMemory) -> ReportFault
+        ensures { result ≡ fault.Memory }
+    {
         ReportFault::Memory
     }
 }

@@ -5,6 +5,7 @@
 #![tactic(auto)]
 
 mod fault;
+mod filling;
 mod moves;
 mod outlook;
 mod prediction;
@@ -12,7 +13,8 @@ pub mod sheet;
 mod tally;
 
 pub use fault::ReportFault;
+pub use filling::{FreePages, fill_all};
 pub use moves::span_moves;
 pub use outlook::{Outlook, Span, common_spans, outlook_of};
 pub use prediction::{RangePrediction, TakeRange, predict_all, predict_range};
-pub use sheet::{Format, difference_text, prediction_text};
+pub use sheet::{Format, difference_text, filling_text, prediction_text};

@@ -10,7 +10,7 @@ mod pictures;
 mod records;
 
 pub use changes::difference_text;
-pub use parts::prediction_text;
+pub use parts::{filling_text, prediction_text};
 
 /// How a prediction is told.
 #[derive(Clone, Copy, Debug, PartialEq, Eq)]

@@ -32,6 +32,27 @@ pub(crate) fn sum(counts: &[u64]) -> u64 {
     sum
 }
 
+/// Pages by node.
+#[derive(Clone, Copy)]
+pub(crate) struct Placed<'a> {
+    /// How many pages each node gets.
+    pub(crate) counts: &'a [u64],
+    /// How many pages all nodes get.
+    pub(crate) pages: u64,
+    /// How many pages find no node with a free page; none where free pages aren't counted.
+    pub(crate) exhausted: Option<u64>,
+}
+
+impl Placed<'_> {
+    /// How many pages find no node, none where that is none.
+    pub(crate) fn lacking(&self) -> Option<u64> {
+        match self.exhausted {
+            Some(0) => None,
+            exhausted => exhausted,
+        }
+    }
+}
+
 /// The texts of policies; each is made once, since making one takes longer than all else that is
 /// said of a range.
 #[derive(Drop)]

@@ -1,6 +1,7 @@
 //! Reports as lines in the form of numa_maps.
 
-use crate::sheet::fields::{address, end, sum};
+use crate::filling::FreePages;
+use crate::sheet::fields::{Placed, address, end};
 use itoa::Buffer;
 use numa_space::{RangeRecord, Run};
 use std::alloc::AllocError;
@@ -33,15 +34,25 @@ fn push_node(text: &mut Vec<u8>, node: usize, pages: u64) -> Result<(), AllocErr
     push_number(text, pages)
 }
 
+/// How many pages find no node with a free page, where there are some.
+fn push_lacking(text: &mut Vec<u8>, placed: Placed<'_>) -> Result<(), AllocError> {
+    if let Some(pages) = placed.lacking() {
+        text.extend_from_slice(b" exhausted=")?;
+        push_number(text, pages)?;
+    }
+    Ok(())
+}
+
 /// All pages, and each node that has some with them, the lowest first.
-fn push_pages(text: &mut Vec<u8>, pages: u64, counts: &[u64]) -> Result<(), AllocError> {
+fn push_pages(text: &mut Vec<u8>, placed: Placed<'_>) -> Result<(), AllocError> {
     text.extend_from_slice(b" anon=")?;
-    push_number(text, pages)?;
-    for node in 0..counts.len() {
-        if counts[node] > 0 {
-            push_node(text, node, counts[node])?;
+    push_number(text, placed.pages)?;
+    for node in 0..placed.counts.len() {
+        if placed.counts[node] > 0 {
+            push_node(text, node, placed.counts[node])?;
         }
     }
+    push_lacking(text, placed)?;
     text.extend_from_slice(b" kernelpagesize_kB=4\n")
 }
 
@@ -51,18 +62,30 @@ pub(crate) fn push_range(
     text: &mut Vec<u8>,
     range: &Run<RangeRecord>,
     policy: &str,
-    counts: &[u64],
+    placed: Placed<'_>,
 ) -> Result<(), AllocError> {
     push_hexadecimal(text, address(range.first))?;
     text.push(b'-')?;
     push_hexadecimal(text, end(range))?;
     text.push(b' ')?;
     text.extend_from_slice(policy.as_bytes())?;
-    push_pages(text, range.pages, counts)
+    push_pages(text, placed)
 }
 
-/// The last line: all pages by node.
-pub(crate) fn push_total(text: &mut Vec<u8>, counts: &[u64]) -> Result<(), AllocError> {
+/// The line of all pages by node.
+pub(crate) fn push_total(text: &mut Vec<u8>, placed: Placed<'_>) -> Result<(), AllocError> {
     text.extend_from_slice(b"total")?;
-    push_pages(text, sum(counts), counts)
+    push_pages(text, placed)
+}
+
+/// The last line, where some nodes are named: what is left on each of them.
+pub(crate) fn push_left(text: &mut Vec<u8>, left: &[FreePages]) -> Result<(), AllocError> {
+    if left.is_empty() {
+        return Ok(());
+    }
+    text.extend_from_slice(b"left")?;
+    for one in left {
+        push_node(text, usize::from(one.node), one.pages)?;
+    }
+    text.extend_from_slice(b"\n")
 }

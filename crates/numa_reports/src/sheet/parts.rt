@@ -1,9 +1,10 @@
 //! A prediction, part by part, in the format that was asked for.
 
 use crate::fault::ReportFault;
+use crate::filling::{FreePages, fill_all, free_of, taken};
 use crate::prediction::{TakeRange, predict_all};
-use crate::sheet::cells::{CELLS, first_cells};
-use crate::sheet::fields::PolicyTexts;
+use crate::sheet::cells::{CELLS, filled_cells, first_cells};
+use crate::sheet::fields::{Placed, PolicyTexts, sum};
 use crate::sheet::{Format, lines, objects, pictures, records};
 use numa_mode::Record;
 use numa_plan::Plan;
@@ -18,8 +19,12 @@ struct Parts {
     // How many nodes the machine has.
     nodes: usize,
     policies: PolicyTexts,
-    // How many ranges are told of, and as many bytes for each as a picture has cells.
+    // Whether pages that find no node with a free page are counted.
+    fills: bool,
+    // How many ranges are told of, with how many pages, and as many bytes for each range as a
+    // picture has cells.
     ranges: usize,
+    pages: u64,
     cells: Vec<u8>,
     text: Vec<u8>,
 }
@@ -37,34 +42,55 @@ fn cells_of(cells: &[u8], ranges: usize, pages: u64) -> &[u8] {
 }
 
 impl Parts {
+    /// What is said of so many mapped pages.
+    fn placed<'a>(&self, counts: &'a [u64], pages: u64) -> Placed<'a> {
+        if !self.fills {
+            return Placed {
+                counts,
+                pages,
+                exhausted: None,
+            };
+        }
+        let found = sum(counts);
+        Placed {
+            counts,
+            pages: found,
+            exhausted: Some(pages.saturating_sub(found)),
+        }
+    }
+
     /// Writes what is said of the next range.
     fn push(
         &mut self,
         range: &Run<RangeRecord>,
         policy: Option<Record>,
-        counts: &[u64],
+        placed: Placed<'_>,
     ) -> Result<(), AllocError> {
         let policy = self.policies.text(policy)?;
         let part = match self.format {
-            Format::Text => return lines::push_range(&mut self.text, range, policy, counts),
-            Format::Json => { objects::range(self.alloc, range, policy, counts, self.ranges == 0)? }
-            Format::Csv => records::range(self.alloc, range, policy, counts)?,
+            Format::Text => return lines::push_range(&mut self.text, range, policy, placed),
+            Format::Json => { objects::range(self.alloc, range, policy, placed, self.ranges == 0)? }
+            Format::Csv => records::range(self.alloc, range, policy, placed)?,
             Format::Svg => {
-                let cells = cells_of(&self.cells, self.ranges, range.pages);
-                pictures::range(self.alloc, self.ranges, range, policy, counts, cells)?
+                let cells = cells_of(&self.cells, self.ranges, placed.pages);
+                pictures::range(self.alloc, self.ranges, range, policy, placed, cells)?
             }
         };
         self.text.extend_from_slice(part.as_slice())
     }
 
-    /// Writes what stands behind the last range: how many pages each node gets in all.
-    fn push_total(&mut self, counts: &[u64; 256]) -> Result<(), AllocError> {
-        let counts = shown(counts, self.nodes);
+    /// Writes what stands behind the last range: how many pages each node gets in all, and what is
+    /// left on those that are named.
+    fn push_total(&mut self, counts: &[u64; 256], left: &[FreePages]) -> Result<(), AllocError> {
+        let placed = self.placed(shown(counts, self.nodes), self.pages);
         let part = match self.format {
-            Format::Text => return lines::push_total(&mut self.text, counts),
-            Format::Json => objects::total(self.alloc, counts)?,
-            Format::Csv => records::total(self.alloc, counts)?,
-            Format::Svg => pictures::total(self.alloc, counts, self.ranges)?,
+            Format::Text => {
+                lines::push_total(&mut self.text, placed)?;
+                return lines::push_left(&mut self.text, left);
+            }
+            Format::Json => objects::total(self.alloc, placed, left)?,
+            Format::Csv => records::total(self.alloc, placed, left)?,
+            Format::Svg => pictures::total(self.alloc, placed, left, self.ranges)?,
         };
         self.text.extend_from_slice(part.as_slice())
     }
@@ -77,8 +103,10 @@ impl TakeRange for Parts {
         policy: Option<Record>,
         counts: &[u64; 256],
     ) -> Result<(), AllocError> {
-        self.push(range, policy, shown(counts, self.nodes))?;
+        let placed = self.placed(shown(counts, self.nodes), range.pages);
+        self.push(range, policy, placed)?;
         self.ranges = self.ranges.saturating_add(1);
+        self.pages = self.pages.saturating_add(range.pages);
         Ok(())
     }
 }
@@ -103,6 +131,21 @@ fn head(
     }
 }
 
+/// The cells of a picture.
+fn cells_by(
+    alloc: Global,
+    space: &Space,
+    plan: &Plan,
+    task: u32,
+    cpu: u32,
+    free: &[FreePages],
+) -> Result<Vec<u8>, ReportFault> {
+    if free.is_empty() {
+        return first_cells(alloc, space, plan, task, cpu);
+    }
+    filled_cells(alloc, space, plan, task, cpu, &mut free_of(free))
+}
+
 /// Before the first range.
 fn begin(
     alloc: Global,
@@ -111,10 +154,11 @@ fn begin(
     task: u32,
     cpu: u32,
     format: Format,
+    free: &[FreePages],
 ) -> Result<Parts, ReportFault> {
     let text = head(alloc, space, plan, task, cpu, format)?;
     let cells = match format {
-        Format::Svg => first_cells(alloc, space, plan, task, cpu)?,
+        Format::Svg => cells_by(alloc, space, plan, task, cpu, free)?,
         _ => Vec::new(alloc),
     };
     Ok(Parts {
@@ -122,7 +166,9 @@ fn begin(
         format,
         nodes: space.machine().nodes() as usize,
         policies: PolicyTexts::new(alloc),
+        fills: !free.is_empty(),
         ranges: 0,
+        pages: 0,
         cells,
         text,
     })
@@ -141,8 +187,49 @@ pub fn prediction_text(
     cpu: u32,
     format: Format,
 ) -> Result<Vec<u8>, ReportFault> {
-    let mut parts = begin(alloc, space, plan, task, cpu, format)?;
+    let mut parts = begin(alloc, space, plan, task, cpu, format, &[])?;
     let counts = predict_all(space, plan, task, cpu, &mut parts)?;
-    parts.push_total(&counts)?;
+    parts.push_total(&counts, &[])?;
+    Ok(parts.text)
+}
+
+/// What is left on the nodes that are named.
+fn left_on(
+    alloc: Global,
+    named: &[FreePages],
+    free: &[u64; 256],
+) -> Result<Vec<FreePages>, AllocError> {
+    let mut left = Vec::with_capacity(alloc, named.len())?;
+    for one in named {
+        left.push(FreePages {
+            node: one.node,
+            pages: free[usize::from(one.node)],
+        })?;
+    }
+    Ok(left)
+}
+
+/// Where all mapped pages would go, if the task touched each of them now on a CPU of node `cpu`,
+/// those of lower addresses first, and the named nodes had so many free pages; the others never run
+/// out. Tells how many pages find no node with a free page (`exhausted`), and what is left on the
+/// nodes that are named. The plan is one of the space. The time grows with the pages.
+///
+/// # Errors
+/// `Refused` where the machine has no node `cpu`; `Memory` where there was none for the text.
+pub fn filling_text(
+    alloc: Global,
+    space: &Space,
+    plan: &Plan,
+    task: u32,
+    cpu: u32,
+    format: Format,
+    free: &[FreePages],
+) -> Result<Vec<u8>, ReportFault> {
+    let mut parts = begin(alloc, space, plan, task, cpu, format, free)?;
+    let before = free_of(free);
+    let mut after = before;
+    fill_all(space, plan, task, cpu, &mut after, &mut parts)?;
+    let left = left_on(alloc, free, &after)?;
+    parts.push_total(&taken(&before, &after), &left)?;
     Ok(parts.text)
 }

@@ -3,7 +3,8 @@
 //! A range is a line of text and a bar with a cell for each page, in which the node's number
 //! stands; below the ranges stand the nodes with what they get. So nothing hangs on the colours.
 
-use crate::sheet::fields::{address, bytes, end, sum};
+use crate::filling::FreePages;
+use crate::sheet::fields::{Placed, address, bytes, end};
 use numa_space::{RangeRecord, Run};
 use std::alloc::{AllocError, Global};
 use std::fmt::Write;
@@ -105,6 +106,14 @@ fn push_counts(text: &mut String, counts: &[u64]) -> Result<(), AllocError> {
     Ok(())
 }
 
+/// How many pages find no node with a free page, where there are some.
+fn push_lacking(text: &mut String, placed: Placed<'_>) -> Result<(), AllocError> {
+    match placed.lacking() {
+        Some(pages) => write!(text, " exhausted={pages}"),
+        None => Ok(()),
+    }
+}
+
 /// A bar: a cell for each of the first pages, and how many pages more there are.
 fn push_bar(text: &mut String, cells: &[u8], pages: u64) -> Result<(), AllocError> {
     let mut left = 0u64;
@@ -126,7 +135,7 @@ pub(crate) fn range(
     before: usize,
     range: &Run<RangeRecord>,
     policy: &str,
-    counts: &[u64],
+    placed: Placed<'_>,
     cells: &[u8],
 ) -> Result<Vec<u8>, AllocError> {
     let mut text = String::new(alloc);
@@ -138,32 +147,56 @@ pub(crate) fn range(
         "<g class=\"range\" transform=\"translate(16,{top})\"><text y=\"11\">"
     )?;
     write!(text, "{:08x}-{:08x}", address(range.first), end(range))?;
-    write!(text, " anon={}", range.pages)?;
-    push_counts(&mut text, counts)?;
+    write!(text, " anon={}", placed.pages)?;
+    push_counts(&mut text, placed.counts)?;
+    push_lacking(&mut text, placed)?;
     write!(text, " {policy}</text>")?;
-    push_bar(&mut text, cells, range.pages)?;
+    push_bar(&mut text, cells, placed.pages)?;
     text.push_str("</g>\n")?;
     Ok(text.into_bytes())
 }
 
+/// What is left on a node, where it is named.
+fn push_left(text: &mut String, node: usize, left: &[FreePages]) -> Result<(), AllocError> {
+    for one in left {
+        if usize::from(one.node) == node {
+            write!(text, ", {} pages left", one.pages)?;
+        }
+    }
+    Ok(())
+}
+
 /// What a node gets in all.
-fn push_node(text: &mut String, node: usize, pages: u64, top: u64) -> Result<(), AllocError> {
+fn push_node(
+    text: &mut String,
+    node: usize,
+    pages: u64,
+    top: u64,
+    left: &[FreePages],
+) -> Result<(), AllocError> {
     let line = top.saturating_add(12);
     let bytes = bytes(pages);
     write!(text, "<use xlink:href=\"#n{node}\" x=\"0\" y=\"{top}\"/>")?;
     write!(
         text,
-        "<text x=\"20\" y=\"{line}\">N{node}={pages} pages, {bytes} bytes</text>\n"
-    )
+        "<text x=\"20\" y=\"{line}\">N{node}={pages} pages, {bytes} bytes"
+    )?;
+    push_left(text, node, left)?;
+    text.push_str("</text>\n")
 }
 
 /// The picture ends: what each node gets.
-pub(crate) fn total(alloc: Global, counts: &[u64], ranges: usize) -> Result<Vec<u8>, AllocError> {
+pub(crate) fn total(
+    alloc: Global,
+    placed: Placed<'_>,
+    left: &[FreePages],
+    ranges: usize,
+) -> Result<Vec<u8>, AllocError> {
     let mut text = String::new(alloc);
     let top = (ranges as u64)
         .saturating_mul(RANGE_ROWS)
         .saturating_add(TOP);
-    let pages = sum(counts);
+    let pages = placed.pages;
     let bytes = bytes(pages);
     write!(
         text,
@@ -171,11 +204,13 @@ pub(crate) fn total(alloc: Global, counts: &[u64], ranges: usize) -> Result<Vec<
     )?;
     write!(
         text,
-        "<text y=\"16\">total anon={pages} pages, {bytes} bytes</text>\n"
+        "<text y=\"16\">total anon={pages} pages, {bytes} bytes"
     )?;
+    push_lacking(&mut text, placed)?;
+    text.push_str("</text>\n")?;
     let mut top = 24u64;
-    for node in 0..counts.len() {
-        push_node(&mut text, node, counts[node], top)?;
+    for node in 0..placed.counts.len() {
+        push_node(&mut text, node, placed.counts[node], top, left)?;
         top = top.saturating_add(NODE_ROWS);
     }
     text.push_str("</g>\n</svg>\n")?;

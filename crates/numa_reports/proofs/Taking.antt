@@ -1,0 +1,91 @@
+-- Pages that are filled one by one, and range by range.
+use Rattle.std.proofs.Common.{◌≡◌, ℕ, zero, suc, ◌+◌, ◌-◌, ◌<◌, ◌≤◌, ◌^◌, Bool, true, false, cond, eqb, Option, Some, None, List, [], ◌∷◌, length, get_or, refl, sym, ap, subst, ◌∙◌, arith, inl, inr}
+use Rattle.std.specs.Prelude.{unwrap_or}
+use Rattle.std.proofs.lemmas.Bool.{cases_Bool}
+use Rattle.numa_machine.specs.Machine.{Hardware}
+use Rattle.numa_ranges.specs.Runs.{AreApart, end_of, page_at}
+use Rattle.numa_ranges.specs.declared.run.Run.{Run}
+use Rattle.numa_ranges.proofs.Apart.{apart-top, in_pages-above, in_pages-below, page_at-before}
+use Rattle.numa_plan.specs.Meaning.{PlanData, planned_list}
+use Rattle.numa_compile.specs.Standing.{PlanStandsFor}
+use Rattle.numa_space.specs.Lists.{node_list}
+use Rattle.numa_space.specs.Pages.{is_mapped}
+use Rattle.numa_space.specs.Standing.{SpaceState, StandsFor}
+use Rattle.numa_space.specs.declared.command.Command.{Command}
+use Rattle.numa_reports.specs.Filled.{first_free, one_less, free_behind, nodes_of, planned_nodes}
+use Rattle.numa_reports.proofs.Tiling.{not-mapped}
+
+pub free-start : (nodes : ℕ → List ℕ) (free : List ℕ) (first : ℕ) → free_behind nodes free first 0 ≡ free
+unfolding free_behind
+free-start nodes free first = refl
+
+-- one page more
+pub free-step : (nodes : ℕ → List ℕ) (free : List ℕ) (first pages : ℕ) → free_behind nodes free first (suc pages) ≡ free_behind nodes (one_less free (first_free free (nodes first))) (first + 1) pages
+unfolding free_behind
+free-step nodes free first pages = refl
+
+-- a page more whose list a plan told, where it took of the first node that had a free one
+pub free-next : (plan : PlanData) (task cpu page left long : ℕ) (list free free' : List ℕ) (took : Option ℕ) → planned_list plan task page cpu ≡ Some list → took ≡ first_free free list → free' ≡ one_less free took → long ≡ suc left
+    → free_behind (planned_nodes plan task cpu) free' (page + 1) left ≡ free_behind (planned_nodes plan task cpu) free page long
+free-next plan task cpu page left long list free free' took told node taken more =
+    let nodes = planned_nodes plan task cpu in
+    let is : nodes page ≡ list = ap (λ (o : Option (List ℕ)). unwrap_or o []) told in
+    let less : free' ≡ one_less free (first_free free (nodes page)) = taken ∙ ap (λ (o : Option ℕ). one_less free o) node ∙ sym (ap (λ (l : List ℕ). one_less free (first_free free l)) is) in
+    ap (λ (f : List ℕ). free_behind nodes f (page + 1) left) less ∙ sym (free-step nodes free page left) ∙ sym (ap (λ (k : ℕ). free_behind nodes free page k) more)
+
+-- a span cut in two
+pub free-split : (nodes : ℕ → List ℕ) (free : List ℕ) (a m n k : ℕ) → m + n ≡ k → free_behind nodes free a k ≡ free_behind nodes (free_behind nodes free a m) (a + m) n
+unfolding free_behind
+free-split nodes free a zero n k sum =
+    let one : k ≡ n = omega (arith, sum) in
+    let two : a ≡ a + 0 = omega arith in
+    ap (λ (x : ℕ). free_behind nodes free a x) one ∙ ap (λ (x : ℕ). free_behind nodes free x n) two
+free-split nodes free a (suc m) n zero sum = absurd (omega (arith, sum))
+free-split nodes free a (suc m) n (suc k) sum =
+    let less : List ℕ = one_less free (first_free free (nodes a)) in
+    let place : a + 1 + m ≡ a + suc m = omega arith in
+    free-split nodes less (a + 1) m n k (omega (arith, sum)) ∙ ap (λ (x : ℕ). free_behind nodes (free_behind nodes less (a + 1) m) x n) place
+
+-- pages without a list take nothing
+pub free-none : (nodes : ℕ → List ℕ) (free : List ℕ) (a n : ℕ) → ((p : ℕ) → a ≤ p → p < a + n → nodes p ≡ []) → free_behind nodes free a n ≡ free
+unfolding free_behind
+free-none nodes free a zero none = refl
+free-none nodes free a (suc n) none =
+    let here : one_less free (first_free free (nodes a)) ≡ free = ap (λ (l : List ℕ). one_less free (first_free free l)) (none a (omega arith) (omega arith)) in
+    ap (λ (f : List ℕ). free_behind nodes f (a + 1) n) here ∙ free-none nodes free (a + 1) n (λ p low high. none p (omega arith) (omega arith))
+
+-- what is free behind the pages of the runs, run by run
+abbrev pub free_runs : {T : Type 0} → (ℕ → List ℕ) → List ℕ → List (Run T) → List ℕ
+free_runs nodes free [] = free
+free_runs nodes free (run ∷ runs) = free_runs nodes (free_behind nodes free run.first run.pages) runs
+
+-- where no page outside the runs has a list, the pages of the runs are all that take something
+pub free-runs : {T : Type 0} (nodes : ℕ → List ℕ) (free : List ℕ) (from n : ℕ) (runs : List (Run T)) → AreApart from runs → from + n ≡ 2 ^ 35
+    → ((page : ℕ) → from ≤ page → page_at runs page ≡ None → nodes page ≡ []) → free_runs nodes free runs ≡ free_behind nodes free from n
+free-runs nodes free from n [] apart all none = sym (free-none nodes free from n (λ page low high. none page low refl))
+free-runs nodes free from n (run ∷ runs) apart all none =
+    let room : end_of run ≤ 2 ^ 35 = apart-top (end_of run) runs apart.3 in
+    let hole = run.first - from in
+    let tail = 2 ^ 35 - end_of run in
+    let held : List ℕ = free_behind nodes free run.first run.pages in
+    let cut1 : free_behind nodes free from n ≡ free_behind nodes (free_behind nodes free from hole) (from + hole) (run.pages + tail) = free-split nodes free from hole (run.pages + tail) n (omega (arith, apart.0)) in
+    let before : free_behind nodes free from hole ≡ free = free-none nodes free from hole (λ page low high. none page low (rw (in_pages-below run.first run.pages page (omega (arith, apart.0))) (page_at-before (end_of run) runs page apart.3 (omega (arith, apart.0))))) in
+    let seam : from + hole ≡ run.first = omega (arith, apart.0) in
+    let cut2 : free_behind nodes free run.first (run.pages + tail) ≡ free_behind nodes held (run.first + run.pages) tail = free-split nodes free run.first run.pages tail (run.pages + tail) refl in
+    let behind : free_runs nodes held runs ≡ free_behind nodes held (end_of run) tail = free-runs nodes held (end_of run) tail runs apart.3 (omega arith) (λ page low miss. none page (omega (arith, apart.0)) (rw (in_pages-above run.first run.pages page low) miss)) in
+    behind ∙ sym cut2 ∙ sym (ap (λ (f : List ℕ). free_behind nodes f run.first (run.pages + tail)) before) ∙ sym (ap (λ (a : ℕ). free_behind nodes (free_behind nodes free from hole) a (run.pages + tail)) seam) ∙ sym cut1
+
+-- the plan's list of a page is what the history means
+same-nodes : (machine : Hardware) (plan : PlanData) (history : List Command) (task cpu page : ℕ) → PlanStandsFor machine plan history → cpu < machine.nodes → planned_nodes plan task cpu page ≡ nodes_of machine history task cpu page
+same-nodes machine plan history task cpu page planned lt =
+    elim (cases_Bool (is_mapped history page)) [
+      | inl t ↦ rw t (ap (λ (o : Option (List ℕ)). unwrap_or o []) (planned.lists task page cpu lt t))
+      | inr f ↦ rw f (ap (λ (o : Option (List ℕ)). unwrap_or o []) (planned.unmapped task page cpu f))
+    ]
+
+-- what is free behind the ranges of a space, by a plan, is what the history means
+pub free-all : (space : SpaceState) (plan : PlanData) (history : List Command) (task cpu : ℕ) (free : List ℕ) → StandsFor space history → PlanStandsFor space.machine plan history → cpu < space.machine.nodes → AreApart 0 space.ranges
+    → free_runs (planned_nodes plan task cpu) free space.ranges ≡ free_behind (nodes_of space.machine history task cpu) free 0 (2 ^ 35)
+free-all space plan history task cpu free stands planned lt apart =
+    free-runs (planned_nodes plan task cpu) free 0 (2 ^ 35) space.ranges apart refl (λ page low missing. ap (λ (o : Option (List ℕ)). unwrap_or o []) (planned.unmapped task page cpu (not-mapped space history page stands missing)))
+    ∙ ap (λ (nodes : ℕ → List ℕ). free_behind nodes free 0 (2 ^ 35)) (λ i page. same-nodes space.machine plan history task cpu page planned lt i)

@@ -1,0 +1,12 @@
+use Rattle.std.proofs.Common.{◌≡◌, ℕ}
+use Rattle.numa_ranges.specs.Runs.{AreApart}
+use Rattle.numa_reports.specs.Filled.{planned_nodes}
+use Rattle.numa_reports.proofs.Taking.{free_runs}
+use Rattle.numa_reports.proofs.filling.fill_all.Given as goal
+
+abbrev pub invariant-loop-range : goal.invariant-loop-range
+invariant-loop-range g l = record {
+  left : free_runs (planned_nodes l.plan l.task l.cpu) l.free l.range-iterator ≡ free_runs (planned_nodes l.plan l.task l.cpu) l.fn.free l.space.ranges;
+  apart : AreApart 0 l.space.ranges;
+  rest : (from : ℕ) × AreApart from l.range-iterator;
+}

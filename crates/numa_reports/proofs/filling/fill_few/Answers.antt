@@ -1,0 +1,21 @@
+use Rattle.std.proofs.Common.{◌≡◌, ℕ, ◌+◌, ◌-◌, arith, ap, sym, ◌∙◌, length, length-set}
+use Rattle.numa_reports.specs.Filled.{free_behind, planned_nodes}
+use Rattle.numa_reports.proofs.Taking.{free-next, free-start}
+use Rattle.numa_reports.proofs.filling.fill_few.Goals as goal
+
+pub loop-k-preserved : goal.loop-k-preserved
+loop-k-preserved c =
+    let nodes = planned_nodes c.args.plan.now c.args.task c.args.cpu in
+    let place : c.args.first + (c.loop-k.k + 1) ≡ c.args.first + c.loop-k.k + 1 = omega arith in
+    record {
+      long = length-set _ _ _ ∙ c.loop-k.invariant.long;
+      left = ap (λ (page : ℕ). free_behind nodes c.take_first.new.free page (length c.args.nodes.now - (c.loop-k.k + 1))) place
+          ∙ free-next c.args.plan.now c.args.task c.args.cpu (c.args.first + c.loop-k.k) (length c.args.nodes.now - (c.loop-k.k + 1)) (length c.args.nodes.now - c.loop-k.k) c.in_ok-list.list.now c.loop-k.free c.take_first.new.free c.take_first.result c.in_ok-list.ensures.ok.1 c.take_first.ensures.node c.take_first.ensures.taken (omega (arith, c.loop-k-test.true, c.loop-k.invariant.long))
+          ∙ c.loop-k.invariant.left;
+    }
+
+pub returns : goal.returns
+returns c =
+    let nodes = planned_nodes c.args.plan.now c.args.task c.args.cpu in
+    let none : length c.args.nodes.now - c.loop-k.k ≡ 0 = omega (arith, c.loop-k-test.false, c.loop-k.invariant.long) in
+    sym (free-start nodes c.loop-k.free (c.args.first + c.loop-k.k)) ∙ sym (ap (λ (k : ℕ). free_behind nodes c.loop-k.free (c.args.first + c.loop-k.k) k) none) ∙ c.loop-k.invariant.left

@@ -1,0 +1,15 @@
+use Rattle.std.proofs.Common.{◌≡◌, ℕ, ◌+◌, ◌-◌, arith, ap, sym, ◌∙◌}
+use Rattle.numa_reports.specs.Filled.{free_behind, planned_nodes}
+use Rattle.numa_reports.proofs.Taking.{free-next, free-start}
+use Rattle.numa_reports.proofs.filling.fill_span.Goals as goal
+
+pub loop-page-preserved : goal.loop-page-preserved
+loop-page-preserved c =
+    free-next c.args.plan.now c.args.task c.args.cpu c.loop-page.page (c.args.first + c.args.pages - (c.loop-page.page + 1)) (c.args.first + c.args.pages - c.loop-page.page) c.in_ok-nodes.nodes.now c.loop-page.free c.take_first.new.free c.take_first.result c.in_ok-nodes.ensures.ok.1 c.take_first.ensures.node c.take_first.ensures.taken (omega (arith, c.loop-page-test.true))
+    ∙ c.loop-page.invariant
+
+pub returns : goal.returns
+returns c =
+    let nodes = planned_nodes c.args.plan.now c.args.task c.args.cpu in
+    let none : c.args.first + c.args.pages - c.loop-page.page ≡ 0 = omega (arith, c.loop-page-test.false) in
+    sym (free-start nodes c.loop-page.free c.loop-page.page) ∙ sym (ap (λ (k : ℕ). free_behind nodes c.loop-page.free c.loop-page.page k) none) ∙ c.loop-page.invariant

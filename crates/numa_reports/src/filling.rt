@@ -1,0 +1,141 @@
+//! Where all mapped pages would go, on nodes that have so many free pages each.
+ghost use Rattle.std.specs.Prelude.{◌≡◌, ◌+◌, ◌<◌, ◌≤◌, ◌^◌, List, Err, OnOk, length};
+ghost use Rattle.std.specs.Prelude.{replicate};
+ghost use Rattle.numa_compile.specs.Standing.{PlanStandsFor};
+ghost use Rattle.numa_space.specs.Standing.{StandsFor};
+ghost use Rattle.numa_space.specs.declared.command.Command.{Command};
+ghost use Rattle.numa_space.specs.declared.refusal.PlaceRefusal.TheVariants.{BadCpu};
+ghost use Rattle.numa_reports.specs.declared.fault.ReportFault.TheVariants.{Refused};
+ghost use Rattle.numa_reports.specs.Filled.{first_free, one_less, free_behind};
+ghost use Rattle.numa_reports.specs.Filled.{nodes_of, planned_nodes, with_named};
+
+use crate::fault::ReportFault;
+use crate::prediction::TakeRange;
+use numa_plan::{Plan, Steps};
+use numa_space::{PlaceRefusal, Space};
+
+/// So many free pages of a node.
+#[derive(Clone, Copy, Debug, PartialEq, Eq)]
+pub struct FreePages {
+    pub node: u8,
+    pub pages: u64,
+}
+
+/// As many pages as a space can map.
+const ALL_PAGES: u64 = 1 << 35;
+
+/// How many free pages each node has: those that are named, so many (the last of them counts); the
+/// others, as many as a space can map, so that they never run out.
+pub(crate) fn free_of(named: &[FreePages]) -> [u64; 256]
+    ensures { result ≡ with_named (replicate 256 (2 ^ 35)) named.now }
+{
+    let mut free = [ALL_PAGES; 256];
+    let mut rest = named;
+    while let Some((one, behind)) = rest.split_first() {
+        free[usize::from(one.node)] = one.pages;
+        rest = behind;
+    }
+    free
+}
+
+/// Takes a free page of the first node of a list that has one, and tells the node; of none where no
+/// node has.
+fn take_first(nodes: &[u8], free: &mut [u64; 256]) -> Option<u8>
+    ensures node { result ≡ first_free free.old nodes.now }
+    ensures taken { free.new ≡ one_less free.old result }
+{
+    let mut rest = nodes;
+    while let Some((node, behind)) = rest.split_first() {
+        let place = usize::from(*node);
+        if free[place] > 0 {
+            free[place] -= 1;
+            return Some(*node);
+        }
+        rest = behind;
+    }
+    None
+}
+
+/// Takes a free page for each page of a span, the lowest first.
+pub(crate) fn fill_span(
+    plan: &Plan,
+    task: u32,
+    cpu: u32,
+    first: u64,
+    pages: u64,
+    free: &mut [u64; 256],
+) -> Result<(), PlaceRefusal>
+    requires { first + pages < 2 ^ 64 }
+    ensures { OnOk result (free.new
+        ≡ free_behind (planned_nodes plan.now task cpu) free.old first pages) }
+{
+    for page in first..first + pages {
+        let nodes = plan.choice(task, page, cpu, &mut Steps::new())?;
+        take_first(nodes, free);
+    }
+    Ok(())
+}
+
+/// Takes a free page for each page of a short span, and writes the node of each; a page for which no
+/// node has one has the number 0.
+pub(crate) fn fill_few(
+    plan: &Plan,
+    task: u32,
+    cpu: u32,
+    first: u64,
+    nodes: &mut [u8],
+    free: &mut [u64; 256],
+) -> Result<(), PlaceRefusal>
+    requires { first + length nodes.old < 2 ^ 64 }
+    ensures { OnOk result (free.new
+        ≡ free_behind (planned_nodes plan.now task cpu) free.old first (length nodes.old)) }
+{
+    for k in 0..nodes.len() {
+        let list = plan.choice(task, first + k as u64, cpu, &mut Steps::new())?;
+        nodes[k] = take_first(list, free).unwrap_or(0);
+    }
+    Ok(())
+}
+
+/// How many pages of each node were taken.
+pub(crate) fn taken(before: &[u64; 256], after: &[u64; 256]) -> [u64; 256] {
+    let mut counts = [0u64; 256];
+    for node in 0..256 {
+        counts[node] = before[node].saturating_sub(after[node]);
+    }
+    counts
+}
+
+/// What would be free behind all mapped pages, if the task touched each of them now on a CPU of
+/// node `cpu`, those of lower addresses first: a page goes to the first node of its list that has a
+/// free page left, and takes it; where no node has one, it goes nowhere. How many pages of a range
+/// each node gets is told to the taker on the way. The plan is one of the space. The time grows
+/// with the pages.
+///
+/// # Errors
+/// `Refused(BadCpu)` where the machine has no node `cpu`; `Refused(Unmapped)` where the plan isn't
+/// one of the space; `Memory` where the taker had none.
+pub fn fill_all<T: TakeRange>(
+    space: &Space,
+    plan: &Plan,
+    task: u32,
+    cpu: u32,
+    free: &mut [u64; 256],
+    taker: &mut T,
+) -> Result<(), ReportFault>
+    ensures ok { (history : List Command) → StandsFor space.now history
+        → PlanStandsFor space.now.machine plan.now history → OnOk result (free.new
+        ≡ free_behind (nodes_of space.now.machine history task cpu) free.old 0 (2 ^ 35)) }
+    ensures bad_cpu { space.now.machine.nodes ≤ cpu → result ≡ Err (Refused BadCpu) }
+{
+    if cpu >= space.machine().nodes() {
+        return Err(ReportFault::Refused(PlaceRefusal::BadCpu));
+    }
+    for range in space.range_iter() {
+        let before = *free;
+        fill_span(plan, task, cpu, range.first, range.pages, free)?;
+        let counts = taken(&before, free);
+        taker.take(range, space.policy_at(task, range.first), &counts)?;
+    }
+    Ok(())
+}
