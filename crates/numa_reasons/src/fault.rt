@@ -1,4 +1,7 @@
 //! Why there is no explanation.
+ghost use Rattle.std.specs.Prelude.{◌≡◌};
+ghost use Rattle.numa_reasons.specs.declared.fault.ReasonFault.TheVariants as fault;
+
 use numa_space::PlaceRefusal;
 use std::alloc::AllocError;
 
@@ -12,7 +15,9 @@ pub enum ReasonFault {
 }
 
 impl From<AllocError> for ReasonFault {
-    fn from(_error: AllocError) -> ReasonFault {
+    fn from(_error: AllocError) -> ReasonFault
+        ensures { result ≡ fault.NoMemory }
+    {
         ReasonFault::NoMemory
     }
 }

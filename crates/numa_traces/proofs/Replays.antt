@@ -5,7 +5,7 @@ use Rattle.numa_machine.specs.Machine.{Hardware}
 use Rattle.numa_plan.specs.Meaning.{PlanData, planned_list}
 use Rattle.numa_space.specs.declared.refusal.PlaceRefusal.{PlaceRefusal}
 use Rattle.numa_traces.specs.Placing.{node_of, touched}
-use Rattle.numa_traces.specs.Replaying.{Replayed, IsReplay, frames_after}
+use Rattle.numa_traces.specs.Replaying.{EndsReplay, Replayed, IsReplay, frames_after}
 use Rattle.numa_traces.specs.Tallies.{Counts, IsRoomFault, is_way, with_accesses}
 use Rattle.numa_traces.specs.declared.access.Access.{Access}
 use Rattle.numa_traces.specs.declared.fault.ReplayFault.{ReplayFault}
@@ -21,6 +21,13 @@ not-refused Q refusal (Err TooMany) room = λ same. absurd (cc)
 not-refused Q refusal (Err NoMemory) room = λ same. absurd (cc)
 not-refused Q refusal (Err (Refused r)) room = absurd room
 not-refused Q refusal (Err (Malformed f)) room = absurd room
+
+pub room-ends : {A : Type 0} (result : Result A ReplayFault) → IfErr result IsRoomFault → IfErr result EndsReplay
+room-ends (Ok a) room = tt
+room-ends (Err TooMany) room = tt
+room-ends (Err NoMemory) room = tt
+room-ends (Err (Refused r)) room = tt
+room-ends (Err (Malformed f)) room = absurd room
 
 pub replayed : (machine : Hardware) (plan : PlanData) (trace : List Access) (access : Access) (old new : Replayed) (nodes : List ℕ)
     → planned_list plan access.task access.page access.cpu ≡ Some nodes

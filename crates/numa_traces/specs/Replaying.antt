@@ -1,12 +1,14 @@
 -- What a trace meets on a machine, by a plan. A trace is the list of its accesses, the newest
 -- first.
-use Rattle.std.specs.Prelude.{◌≡◌, ℕ, ◌<◌, Bool, not, is_some, List, [], ◌∷◌, slice_index}
+use Rattle.std.specs.Prelude.{◌≡◌, ⊤, ℕ, ◌<◌, Bool, not, is_some, List, [], ◌∷◌, slice_index}
 use Rattle.std.specs.Prelude.{unwrap_or, if◌then◌else◌}
 use Rattle.numa_machine.specs.Machine.{Hardware, frames_of}
 use Rattle.numa_plan.specs.Meaning.{PlanData, planned_list}
 use Rattle.numa_traces.specs.Placing.{Frames, node_of, touched}
 use Rattle.numa_traces.specs.Tallies.{Way, is_way, no_accesses, tally_at, with_accesses}
 use Rattle.numa_traces.specs.declared.access.Access.{Access}
+use Rattle.numa_traces.specs.declared.fault.ReplayFault.{ReplayFault}
+use Rattle.numa_traces.specs.declared.fault.ReplayFault.TheVariants.{Malformed}
 use Rattle.numa_traces.specs.declared.tallies.Tally.{Tally}
 
 -- no page is placed, and every frame is free
@@ -53,3 +55,8 @@ pub record IsReplay (machine : Hardware) (plan : PlanData) (trace : List Access)
   pub fresh : IsFresh machine start
   pub frames : met.frames ≡ frames_after plan start trace
   pub tallies : (way : Way) → tally_at met.tallies way ≡ tally_of plan start trace way
+
+-- a fault with which an access can end that was read
+abbrev pub EndsReplay : ReplayFault → Type 0
+EndsReplay (Malformed fault) = ⊥
+EndsReplay fault = ⊤

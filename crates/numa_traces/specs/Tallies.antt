@@ -1,5 +1,5 @@
 -- How many accesses went which way.
-use Rattle.std.specs.Prelude.{◌≡◌, ⊤, ℕ, ◌+◌, Bool, Option, List, unwrap_or}
+use Rattle.std.specs.Prelude.{◌≡◌, ◌≤◌, ◌^◌, ◌⊎◌, ⊤, ℕ, ◌+◌, Bool, Option, List, unwrap_or}
 use Rattle.std.specs.Prelude.{if◌then◌else◌}
 use Rattle.std.specs.BTreeMap.{is_at}
 use Rattle.std.specs.Map.{lookup}
@@ -47,3 +47,9 @@ abbrev pub IsRoomFault : ReplayFault → Type 0
 IsRoomFault TooMany = ⊤
 IsRoomFault NoMemory = ⊤
 IsRoomFault _ = ⊥
+
+-- a number of the way would pass 2^64 - 1, if so many accesses were counted, the first of them a
+-- fault or not
+abbrev pub IsFull : List (Way × Tally) → Way → ℕ → Bool → Type 0
+IsFull tallies way count is_fault = (2 ^ 64 ≤ (tally_at tallies way).accesses + count)
+    ⊎ (2 ^ 64 ≤ (tally_at tallies way).faults + (if is_fault then 1 else 0))

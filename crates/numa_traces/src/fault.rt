@@ -1,4 +1,7 @@
 //! Why a trace can't be replayed.
+ghost use Rattle.std.specs.Prelude.{◌≡◌};
+ghost use Rattle.numa_traces.specs.declared.fault.ReplayFault.TheVariants as fault;
+
 use numa_space::PlaceRefusal;
 use std::alloc::{AllocError, AllocFailed};
 
@@ -61,13 +64,17 @@ impl ReplayFault {
 }
 
 impl From<AllocError> for ReplayFault {
-    fn from(_error: AllocError) -> ReplayFault {
+    fn from(_error: AllocError) -> ReplayFault
+        ensures { result ≡ fault.NoMemory }
+    {
         ReplayFault::NoMemory
     }
 }
 
 impl<T: Drop> From<AllocFailed<T>> for ReplayFault {
-    fn from(_failed: AllocFailed<T>) -> ReplayFault {
+    fn from(_failed: AllocFailed<T>) -> ReplayFault
+        ensures { result ≡ fault.NoMemory }
+    {
         ReplayFault::NoMemory
     }
 }

@@ -2,7 +2,7 @@
 ghost use Rattle.std.specs.Prelude.{◌≡◌, ◌∷◌, [], List, IfOk, IfErr, OnOk, Some};
 ghost use Rattle.numa_machine.specs.Machine.{Hardware};
 ghost use Rattle.numa_plan.specs.Meaning.{PlanData, place_refusal};
-ghost use Rattle.numa_traces.specs.Replaying.{IsReplay};
+ghost use Rattle.numa_traces.specs.Replaying.{EndsReplay, IsReplay};
 ghost use Rattle.numa_traces.specs.declared.access.Access.{Access};
 ghost use Rattle.numa_space.specs.declared.refusal.PlaceRefusal.{PlaceRefusal};
 
@@ -61,6 +61,7 @@ impl Replay {
         ensures refused { (refusal : PlaceRefusal)
             → IfErr result (λ fault. fault ≡ ReplayFault.Refused refusal
             → place_refusal plan.now access.page access.cpu ≡ Some refusal) }
+        ensures read { IfErr result EndsReplay }
     {
         let (task, page, cpu) = (access.task, access.page, access.cpu);
         let list = match plan.choice(task, page, cpu, &mut Steps::new()) {

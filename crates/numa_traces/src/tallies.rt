@@ -1,6 +1,7 @@
 //! How many accesses went which way.
 ghost use Rattle.std.specs.Prelude.{◌≡◌, [], IfErr, OnOk, OnErr, if◌then◌else◌};
-ghost use Rattle.numa_traces.specs.Tallies.{Counts, IsRoomFault, tally_at};
+ghost use Rattle.numa_traces.specs.Tallies.{Counts, IsFull, IsRoomFault, tally_at};
+ghost use Rattle.numa_traces.specs.declared.fault.ReplayFault.TheVariants as fault;
 
 use crate::fault::ReplayFault;
 use std::alloc::Global;
@@ -83,6 +84,8 @@ impl Tallies {
     pub fn add(&mut self, way: Way, count: u32, is_fault: bool) -> Result<(), ReplayFault>
         ensures counts { OnOk result (Counts self.old way count is_fault self.new) }
         ensures err { IfErr result IsRoomFault }
+        ensures full { IfErr result (λ why. why ≡ fault.TooMany
+            → IsFull self.old way count is_fault) }
         ensures unchanged { OnErr result (self.new ≡ self.old) }
     {
         let tally = self.get(way);

@@ -2,7 +2,7 @@ use Rattle.std.proofs.Common.{◌≡◌, ℕ, Bool, true, not, is_some, Option, 
 use Rattle.numa_traces.specs.Placing.{node_of}
 use Rattle.numa_traces.specs.Replaying.{IsReplay, Replayed}
 use Rattle.numa_traces.specs.Tallies.{Counts}
-use Rattle.numa_traces.proofs.Replays.{not-refused, on-ok, replayed}
+use Rattle.numa_traces.proofs.Replays.{not-refused, on-ok, replayed, room-ends}
 use Rattle.numa_traces.proofs.replay.Replay.take.Goals as goal
 
 pub returns-in-Some-clause-refused : goal.returns-in-Some-clause-refused
@@ -10,6 +10,12 @@ returns-in-Some-clause-refused c refusal = not-refused _ refusal c.add.result c.
 
 pub returns-clause-refused : goal.returns-clause-refused
 returns-clause-refused c refusal = not-refused _ refusal c.add-2.result c.add-2.ensures.err
+
+pub returns-in-Some-clause-read : goal.returns-in-Some-clause-read
+returns-in-Some-clause-read c = room-ends c.add.result c.add.ensures.err
+
+pub returns-clause-read : goal.returns-clause-read
+returns-clause-read c = room-ends c.add-2.result c.add-2.ensures.err
 
 pub returns-clause-ok : goal.returns-clause-ok
 returns-clause-ok c machine trace was =
