@@ -4,7 +4,11 @@ use crate::halt::{Halt, halt_of};
 use crate::playing::play;
 use numa_compile::compile;
 use numa_files::{Stop, TakeLine};
-use numa_reports::{Format, Outlook, difference_text, outlook_of, prediction_text};
+use numa_plan::Plan;
+use numa_reports::{
+    Format, FreePages, Outlook, ReportFault, difference_text, filling_text, outlook_of,
+    prediction_text,
+};
 use numa_run::Script;
 use numa_space::Space;
 use std::alloc::Global;
@@ -45,18 +49,44 @@ pub(crate) fn write<W: Write>(text: &[u8], output: &mut W) -> Result<(), Halt> {
     }
 }
 
+/// The first node of free pages that a machine of so many nodes lacks.
+fn lacking_node(free: &[FreePages], nodes: u32) -> Option<u8> {
+    free.iter()
+        .find(|one| u32::from(one.node) >= nodes)
+        .map(|one| one.node)
+}
+
+/// Where the mapped pages of a space would go, as a text.
+fn text_of(
+    alloc: Global,
+    space: &Space,
+    plan: &Plan,
+    asked: Asked,
+    format: Format,
+    free: &[FreePages],
+) -> Result<Vec<u8>, ReportFault> {
+    if free.is_empty() {
+        return prediction_text(alloc, space, plan, asked.task, asked.cpu, format);
+    }
+    filling_text(alloc, space, plan, asked.task, asked.cpu, format, free)
+}
+
 /// Where the mapped pages of a script's space would go, as a text.
 fn prediction(
     alloc: Global,
     script: &Script,
     asked: Asked,
     format: Format,
+    free: &[FreePages],
 ) -> Result<Vec<u8>, Halt> {
     let space = space_of(script)?;
+    if let Some(node) = lacking_node(free, space.machine().nodes()) {
+        return Err(Halt::NoFreeNode(node, space.machine().nodes()));
+    }
     let Ok(plan) = compile(alloc, space) else {
         return Err(Halt::Stopped(Stop::Memory));
     };
-    match prediction_text(alloc, space, &plan, asked.task, asked.cpu, format) {
+    match text_of(alloc, space, &plan, asked, format, free) {
         Ok(text) => Ok(text),
         Err(fault) => Err(halt_of(fault, space.machine().nodes())),
     }
@@ -68,16 +98,18 @@ fn write_prediction<W: Write, T: Write>(
     findings: &mut Findings<T>,
     asked: Asked,
     format: Format,
+    free: &[FreePages],
     output: &mut W,
 ) -> Result<(), Halt> {
     findings.end()?;
-    let text = prediction(alloc, findings.script(), asked, format)?;
+    let text = prediction(alloc, findings.script(), asked, format, free)?;
     write(text.as_slice(), output)
 }
 
 /// Plays the texts as one script, and writes where all mapped pages would go, if they were touched
-/// now. What is wrong with a line is told to `told`, and the line passed over. The answer is whole
-/// before its first byte is written.
+/// now; where nodes are named in `free`, those have so many free pages, and the text tells what is
+/// left on them. What is wrong with a line is told to `told`, and the line passed over. The answer
+/// is whole before its first byte is written.
 ///
 /// # Errors
 /// Where there is no answer; what was told by then stays.
@@ -86,11 +118,12 @@ pub fn predict<R: Read + Drop, W: Write, T: Write + Drop>(
     texts: Vec<(String, R)>,
     asked: Asked,
     format: Format,
+    free: &[FreePages],
     output: &mut W,
     told: T,
 ) -> Result<(), Halt> {
     let mut findings = play(alloc, texts, told)?;
-    write_prediction(alloc, &mut findings, asked, format, output)
+    write_prediction(alloc, &mut findings, asked, format, free, output)
 }
 
 /// Plays the added lines, and ends what is told.

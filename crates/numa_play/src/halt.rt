@@ -14,6 +14,8 @@ pub enum Halt {
     NoMachine,
     /// The machine has so many nodes, and not the one that is asked of.
     NoNode(u32),
+    /// Free pages are given to this node, and the machine has so many nodes, and not this one.
+    NoFreeNode(u8, u32),
     /// The page that is asked of isn't mapped.
     Unmapped,
     /// A line of the trace, from 1, can't be replayed.

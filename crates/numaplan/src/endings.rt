@@ -82,6 +82,11 @@ pub fn ended(rt: &impl Eprint, trace: &str, answer: Result<(), Halt>) -> ExitCod
             ExitCode::from(NOT_AS_ASKED)
         }
         Err(Halt::NoNode(_)) => ExitCode::from(2),
+        Err(Halt::NoFreeNode(node, nodes)) => {
+            let last = nodes.saturating_sub(1);
+            let _ = eprintln!(rt; "error: '--free {node}=..': the machine's nodes are 0 to {last}");
+            ExitCode::from(2)
+        }
         Err(Halt::Unmapped) => {
             let _ = eprintln!(rt; "error: the page of '<ADDRESS>' isn't mapped after the scripts");
             ExitCode::from(2)

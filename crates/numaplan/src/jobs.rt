@@ -1,5 +1,5 @@
 //! What the program is asked to do.
-use numa_play::{Asked, Format, Shape};
+use numa_play::{Asked, Format, FreePages, Shape};
 use std::alloc::{AllocError, AllocFailed};
 
 /// What the program is asked to do, a variant for each word.
@@ -15,11 +15,13 @@ pub enum Job {
     Expect(Vec<String>),
     /// To tell what is wrong with the scripts of these files.
     Check(Vec<String>),
-    /// To tell where pages would go after the scripts of these files.
+    /// To tell where pages would go after the scripts of these files, where nodes are named in
+    /// `free`, with so many free pages on these.
     Predict {
         files: Vec<String>,
         asked: Asked,
         format: Format,
+        free: Vec<FreePages>,
     },
     /// To tell which pages would go elsewhere if these lines were added to the scripts of these
     /// files.

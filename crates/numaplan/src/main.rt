@@ -52,8 +52,9 @@ fn main(rt: HostRuntime) -> ExitCode {
                 files,
                 asked,
                 format,
+                free,
             },
-        ) => predict::answer(&rt, &files, asked, format),
+        ) => predict::answer(&rt, &files, asked, format, &free),
         Ok(
             Job::Diff {
                 files,

@@ -1,13 +1,13 @@
-//! `numaplan predict --task T --cpu C [FILE]..`: tells where pages would go after scripts.
+//! `numaplan predict --task T --cpu C [--free NODE=PAGES,..] [FILE]..`: tells where pages would go after scripts.
 ghost use Rattle.std.specs.Prelude.{IfOk};
 ghost use Rattle.numaplan.specs.Jobs.{CanBeDone};
 
 use crate::endings::{Told, answered, tell_fault};
 use crate::files;
 use crate::jobs::{Job, JobFault};
-use crate::words::asked;
+use crate::words::{asked, free};
 use clap::{Arg, ArgAction, ArgMatches, Command};
-use numa_play::{Asked, Format};
+use numa_play::{Asked, Format, FreePages};
 use std::alloc::{AllocError, Global};
 use std::io;
 use std::io::IsTerminal;
@@ -17,7 +17,9 @@ use std::rt::Files;
 /// What the help says in full.
 const ABOUT: &str =
     "Tells where all mapped pages would go after the scripts, if a task touched each of them now on a CPU of one node: the \
-first node of each page's list, range by range and in all. Lines that are faulty or refused are told on standard error as by \
+first node of each page's list, range by range and in all. With --free the named nodes have so many free pages, and the others never \
+run out: each page, the lowest first, goes to the first node of its list that has one left; the answer tells how many pages find none \
+(exhausted=) and what is left on the named nodes. Lines that are faulty or refused are told on standard error as by \
 `check`, and passed over. The status is 3 where no machine is ready after the scripts.";
 
 /// What stands at the end of the help.
@@ -41,7 +43,8 @@ pub fn command<'a>(alloc: Global) -> Result<Command<'a>, AllocError> {
         .value_parser(FORMATS.as_slice())
         .default_value("text")
         .action(ArgAction::Set);
-    word.arg(format)?.arg(files::argument(alloc))
+    let word = word.arg(format)?.arg(free::option(alloc))?;
+    word.arg(files::argument(alloc))
 }
 
 /// The format of this name.
@@ -62,11 +65,18 @@ pub fn job(alloc: Global, matches: &ArgMatches<'_>) -> Result<Job, JobFault>
         files: files::named(alloc, matches)?,
         asked: asked::asked(alloc, matches)?,
         format: format_of(matches.get_str("format")),
+        free: free::named(alloc, matches)?,
     })
 }
 
 /// Tells where pages would go after the scripts of files.
-pub fn answer<R>(rt: &R, names: &[String], asked: Asked, format: Format) -> ExitCode
+pub fn answer<R>(
+    rt: &R,
+    names: &[String],
+    asked: Asked,
+    format: Format,
+    free: &[FreePages],
+) -> ExitCode
 where
     R: Files + Input + Print + Eprint + AllocGlobal,
     R::Reader: IsTerminal,
@@ -76,6 +86,14 @@ where
         Err(fault) => return tell_fault(rt, fault),
     };
     let mut output = io::writer(rt);
-    let answer = numa_play::predict(rt.alloc(), texts, asked, format, &mut output, Told { rt });
+    let answer = numa_play::predict(
+        rt.alloc(),
+        texts,
+        asked,
+        format,
+        free,
+        &mut output,
+        Told { rt },
+    );
     answered(rt, asked, answer)
 }
