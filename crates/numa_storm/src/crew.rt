@@ -96,6 +96,7 @@ pub fn serve<R: Threads + Sync>(
 {
     let mut workers = workers;
     let answers = Crew::run(rt, alloc, &mut workers, pools, requests, gate);
+    gate.end();
     (workers, answers.ok())
 }
 

@@ -4,16 +4,23 @@ use numa_fault::Gate;
 use std::sync::atomic::{AtomicU64, Ordering};
 use std::thread;
 
-/// How many turns a thread waits for others.
-const TURNS: u64 = 10_000_000;
+/// How many turns a worker waits for the first requests of the others.
+const FIRST_TURNS: u64 = 5_000_000;
+
+/// How many turns workers and policies wait for each other.
+const TURNS: u64 = 1_000_000;
 
 /// How many requests are begun from one policy to the next.
 const STEP: u64 = 32;
 
+/// More requests than a storm has.
+const ALL_CALLED: u64 = 1 << 32;
+
 /// Lets the first request of each worker begin once that of each other worker does. From then on it
 /// lets neither the workers nor the thread of policies run ahead, so that placements of many
 /// versions come of it however the threads are scheduled: policy n begins once 32 n + 16 requests
-/// were called, and request i once i / 32 policies were begun.
+/// were called, and request i once i / 32 policies were begun. Where one side waits in vain, the two
+/// go on apart: without memory for a thread, one has to end before the other begins.
 #[derive(Drop)]
 pub struct Together {
     workers: u32,
@@ -25,11 +32,13 @@ pub struct Together {
     requests: AtomicU64,
     // How many policies were begun.
     policies: AtomicU64,
+    // Whether workers or policies waited in vain for the others: then 1.
+    apart: AtomicU64,
 }
 
 /// Waits until the word is at least so much. Whether that came before the turns ran out.
-fn wait_for(word: &AtomicU64, least: u64) -> bool {
-    for _ in 0..TURNS {
+fn wait_for(word: &AtomicU64, least: u64, turns: u64) -> bool {
+    for _ in 0..turns {
         if word.load(Ordering::SeqCst) >= least {
             return true;
         }
@@ -47,6 +56,7 @@ impl Together {
             late: AtomicU64::new(0),
             requests: AtomicU64::new(0),
             policies: AtomicU64::new(0),
+            apart: AtomicU64::new(0),
         }
     }
 
@@ -60,9 +70,22 @@ impl Together {
         self.called.load(Ordering::SeqCst) == self.all() && self.late.load(Ordering::SeqCst) == 0
     }
 
+    /// No request is called any more, so that no policy waits for one. The crew may have been
+    /// refused before it called any.
+    pub fn end(&self) {
+        self.requests.store(ALL_CALLED, Ordering::SeqCst);
+    }
+
+    /// Waits for the other side, unless one side did so in vain before.
+    fn keep_up(&self, word: &AtomicU64, least: u64) {
+        if self.apart.load(Ordering::SeqCst) == 0 && !wait_for(word, least, TURNS) {
+            self.apart.store(1, Ordering::SeqCst);
+        }
+    }
+
     /// Called before the policy with this place is submitted.
     pub fn begin_policy(&self, place: u32) {
-        wait_for(&self.requests, u64::from(place) * STEP + STEP / 2);
+        self.keep_up(&self.requests, u64::from(place) * STEP + STEP / 2);
         self.policies.fetch_add(1, Ordering::SeqCst);
     }
 }
@@ -73,12 +96,13 @@ impl Gate for Together {
         if request < self.workers as usize {
             let own = 1u64.wrapping_shl(request as u32);
             self.called.fetch_or(own, Ordering::SeqCst);
-            if !wait_for(&self.called, self.all()) {
+            let is_late = self.late.load(Ordering::SeqCst) == 1;
+            if !is_late && !wait_for(&self.called, self.all(), FIRST_TURNS) {
                 self.late.store(1, Ordering::SeqCst);
             }
         }
         let begun = (request as u64 / STEP).min(u64::from(POLICIES));
-        wait_for(&self.policies, begun);
+        self.keep_up(&self.policies, begun);
     }
 
     fn after(&self, _request: usize) {}
