@@ -1,7 +1,6 @@
 -- What a desk keeps, from call to call.
-use Rattle.std.proofs.Common.{◌≡◌, ◌⊎◌, ℕ, Option, Some, None, MatchOption, List, [], ◌∷◌, ◌++◌, length, drop, reverse, sym, ap, ◌∙◌, subst, inl, inr, arith, length-append}
-use Rattle.std.proofs.lemmas.List.{reverse-append, drop-append-le}
-use Rattle.std.specs.List.{fold}
+use Rattle.std.proofs.Common.{◌≡◌, ◌⊎◌, ℕ, ◌+◌, ◌<◌, Option, Some, None, MatchOption, List, [], ◌∷◌, ◌++◌, length, drop, reverse, refl, sym, ap, ◌∙◌, subst, inl, inr, arith, length-append}
+use Rattle.std.proofs.lemmas.List.{length-reverse, reverse-append, drop-append-le, drop_all}
 use Rattle.std.proofs.lemmas.Grind.{fold-append}
 use Rattle.logbook.specs.Pages.{Book}
 use Rattle.std.specs.Arc.{arc_value}
@@ -10,19 +9,34 @@ use Rattle.numa_space.specs.declared.refusal.Refusal.{Refusal}
 use Rattle.numa_space.specs.Standing.{SpaceState, StandsFor}
 use Rattle.numa_publish.specs.declared.issue.Issue.{Issue}
 use Rattle.numa_publish.specs.declared.issue.Shown.{Shown}
-use Rattle.numa_publish.specs.Batches.{history_of}
-use Rattle.numa_publish.specs.Kept.{IsDeskKept}
-use Rattle.numa_publish.specs.Knowing.{IsEarlier, told_by}
+use Rattle.numa_publish.specs.Batches.{history_of, not_logged}
+use Rattle.numa_publish.proofs.Lists.{prefix_self, prefix_trans}
+use Rattle.numa_publish.specs.Kept.{IsDeskKept, IsIssueOf, IsNextIssue}
+use Rattle.numa_publish.specs.Shown.{DeskState, and_newest}
+use Rattle.numa_publish.specs.Knowing.{last_of}
 use mathlib.Core.List.{IsPrefix}
 
--- the last of the operations is what is taken in
-pub fold-last : (s : Issue) (ops : List Shown) (o : Shown) → fold (λ (_ : Issue) (o : Shown). arc_value o.issue) s (ops ++ o ∷ []) ≡ arc_value o.issue
-fold-last s ops o = fold-append (λ (_ : Issue) (o : Shown). arc_value o.issue) s ops (o ∷ [])
+-- the one that was appended last is the last that waits
+pub last_is : (issue : Issue) (waiting waiting' : List Shown) (next : Shown) → waiting' ≡ waiting ++ next ∷ [] → last_of issue waiting' ≡ arc_value next.issue
+last_is issue waiting waiting' next e =
+    ap (λ (w : List Shown). last_of issue w) e ∙ fold-append (λ (_ : Issue) (o : Shown). arc_value o.issue) issue waiting (next ∷ [])
 
 -- a refusal is that of the history, or want of memory
 pub answered : (first : Option Refusal) (refusal : Refusal) → MatchOption first (refusal ≡ Refusal.NoMemory) (λ f. refusal ≡ f) → (refusal ≡ Refusal.NoMemory) ⊎ (first ≡ Some refusal)
 answered None refusal e = inl e
 answered (Some f) refusal e = inr (ap Some (sym e))
+
+-- a desk that differs by one pending command more
+pub with_pending : (old new now : DeskState) (command : Command) → old ≡ now → new.desk ≡ old.desk → new.bounds ≡ old.bounds → new.published ≡ old.published → new.versions ≡ old.versions → new.pending ≡ command ∷ old.pending
+    → new ≡ record now { pending = command ∷ now.pending }
+with_pending old new now command is desk bounds published versions pending =
+    subst (λ (d : DeskState). new ≡ record d { pending = command ∷ d.pending }) is (λ i. record {
+      desk = desk i;
+      bounds = bounds i;
+      published = published i;
+      versions = versions i;
+      pending = pending i;
+    })
 
 -- one command more waits
 pub accepted_kept : (space space' : SpaceState) (issue : Issue) (log : List (List Command)) (book : Book) (commands : List Command) (logged : ℕ) (c : Command) (commands' : List Command)
@@ -41,10 +55,53 @@ accepted_kept space space' issue log book commands logged c commands' h e stands
       room = omega (arith, h.room, ap (λ (w : List Command). length w) e, length-append commands (c ∷ []));
     }
 
--- a new issue with a longer log and one version more comes after the one that is shown
-pub issued_later : (shown next : Issue) (log : List (List Command)) (version : ℕ) → IsPrefix shown.front.log log → next.front.log ≡ log → shown.front.book ≡ next.front.book → shown.machine ≡ next.machine → next.versions ≡ version ∷ shown.versions → IsEarlier (told_by shown) (told_by next)
-issued_later shown next log version p logged book machine versions = record {
-  log = subst (λ (l : List (List Command)). IsPrefix shown.front.log l) (sym logged) p;
-  versions = (version ∷ [], versions);
-  desk = λ _. cc (book, machine);
+-- the issue of a longer log comes after the one that is shown, with all that was pending
+pub next_issue : (space : SpaceState) (shown next : Issue) (log log' : List (List Command)) (book book' : Book) (commands : List Command) (logged : ℕ)
+    → IsDeskKept space shown log book commands logged → IsPrefix log log' → history_of log' ≡ not_logged commands logged ++ history_of log → book' ≡ book
+    → IsIssueOf space log' book' shown.versions next → IsNextIssue space shown next log' book' commands
+next_issue space shown next log log' book book' commands logged h more added same i =
+    let whole : history_of next.front.log ≡ reverse commands ++ history_of shown.front.log = ap history_of i.log_is ∙ (added ∙ h.accepted) in
+    record {
+      later = record {
+        log = subst (λ (l : List (List Command)). IsPrefix shown.front.log l) (sym i.log_is) (prefix_trans _ _ _ h.begins more);
+        versions = (length (history_of log') ∷ [], i.versions);
+        desk = λ _. cc (h.book_is, same, i.book_is, h.machine_is, i.machine_is);
+      };
+      kept = record {
+        stands = subst (λ (w : List Command). StandsFor space w) (sym whole) h.stands;
+        machine_is = i.machine_is;
+        book_is = i.book_is;
+        begins = subst (λ (l : List (List Command)). IsPrefix l log') (sym i.log_is) (prefix_self log');
+        accepted = ap history_of (sym i.log_is);
+        room = omega arith;
+      };
+      whole = whole;
+      versions = i.versions ∙ ap (λ (l : List (List Command)). length (history_of l) ∷ shown.versions) (sym i.log_is);
+    }
+
+-- the version is the number of commands that the log has and lacks
+pub logged_count : (space : SpaceState) (issue : Issue) (log : List (List Command)) (book : Book) (commands : List Command) (logged : ℕ)
+    → IsDeskKept space issue log book commands logged → space.version ≡ length (not_logged commands logged) + length (history_of log)
+logged_count space issue log book commands logged h =
+    h.stands.version ∙ (ap length (sym h.accepted) ∙ length-append (not_logged commands logged) (history_of log))
+
+-- a desk that lacks memory once its log has what is pending
+pub logged_kept : (space : SpaceState) (shown : Issue) (log log' : List (List Command)) (book book' : Book) (commands : List Command) (logged : ℕ)
+    → IsDeskKept space shown log book commands logged → IsPrefix log log' → history_of log' ≡ not_logged commands logged ++ history_of log → book' ≡ book → IsDeskKept space shown log' book' commands (length commands)
+logged_kept space shown log log' book book' commands logged h more added same = record {
+  stands = h.stands;
+  machine_is = h.machine_is;
+  book_is = h.book_is ∙ sym same;
+  begins = prefix_trans _ _ _ h.begins more;
+  accepted = ap (λ (w : List Command). reverse w ++ history_of log') (drop_all (length commands) commands (omega arith)) ∙ (added ∙ h.accepted);
+  room = omega arith;
 }
+
+-- where commands are pending there is a version more
+pub newest_in : (pending : List Command) (version : ℕ) (versions : List ℕ) → 0 < length pending → and_newest (reverse pending) version versions ≡ version ∷ versions
+newest_in pending version versions some =
+    in_front (reverse pending) (omega (arith, some, length-reverse pending))
+  where
+    in_front : (list : List Command) → 0 < length list → and_newest list version versions ≡ version ∷ versions
+    in_front [] l = absurd (omega arith)
+    in_front (command ∷ list) l = refl

@@ -1,5 +1,5 @@
 -- Steps that keep the rule of the published log.
-use Rattle.std.proofs.Common.{Result, Ok, Err, MatchResult, ◌≡◌, ℕ, ◌≢◌, List, set, refl, subst, ⊎_elim, ◌∙◌, ap, true}
+use Rattle.std.proofs.Common.{Result, Ok, Err, MatchResult, is_err, false, ◌≡◌, ℕ, ◌≢◌, List, set, refl, sym, subst, ⊎_elim, ◌∙◌, ap, true}
 use mathlib.Core.Option.{some}
 use lib.ListN.{get_elem?}
 use Rattle.left_right.specs.Register.{Admits, TurnsAt, Forks, Merges}
@@ -8,7 +8,7 @@ use Rattle.std.specs.Arc.{arc_value}
 use Rattle.numa_publish.specs.declared.issue.Issue.{Issue}
 use Rattle.numa_publish.specs.declared.issue.Shown.{Shown}
 use Rattle.numa_publish.specs.declared.rule.Knows.{Knows}
-use Rattle.numa_publish.specs.Knowing.{IsEarlier, KnowsThePast, Sees, told, told_by, newcomer, introduced}
+use Rattle.numa_publish.specs.Knowing.{IsEarlier, KnowsThePast, Sees, MayShow, ShowsOrKeeps, told, told_by, newcomer, introduced}
 use Rattle.numa_publish.proofs.Lists.{prefix_self, prefix_trans, extends_self, extends_trans}
 use Rattle.std.proofs.lemmas.List.{append-nil}
 
@@ -49,8 +49,19 @@ merges seat v other w x views h at apart there =
     set_keeps x (set views seat (introduced v w)) other newcomer (set_keeps x views seat (introduced v w) h n) fresh
 
 -- what a publishing leaves, put together
-pub shown_result : {A E : Type 0} (X Y : Type 0) (r : Result A E) (s s' : Shown) (k k' : Knows) (f i : Issue) → f ≡ i
-    → MatchResult r (λ _. (arc_value s'.issue ≡ f) × X) (λ _. (s' ≡ s) × Y) → MatchResult r (λ _. Sees k s s' k') (λ _. k' ≡ k)
-    → MatchResult r (λ _. (arc_value s'.issue ≡ i) × (k' ≡ told_by i)) (λ _. (s' ≡ s) × (k' ≡ k))
-shown_result X Y (Ok x) s s' k k' f i e v h = (v.0 ∙ e, h.1 ∙ ap told_by (v.0 ∙ e))
-shown_result X Y (Err x) s s' k k' f i e v h = (v.0, h)
+pub shown_result : {A E : Type 0} (X Y : Type 0) (r : Result A E) (s s' : Shown) (k k' : Knows) (i : Issue)
+    → MatchResult r (λ _. (arc_value s'.issue ≡ i) × X) (λ _. (s' ≡ s) × Y) → MatchResult r (λ _. Sees k s s' k') (λ _. k' ≡ k)
+    → ShowsOrKeeps r i s s' k k'
+shown_result X Y (Ok x) s s' k k' i v h = (v.0, h.1 ∙ ap told_by v.0)
+shown_result X Y (Err x) s s' k k' i v h = (v.0, h)
+
+-- what publishes an issue that comes after the shown one
+pub may_show : (seat : ℕ) (v : Knows) (x : Shown) (i : Issue) → IsEarlier (told x) (told_by i) → MayShow seat v x i
+may_show seat v x i up = record {
+  turns = λ y is. sees seat v x y (subst (λ (z : Issue). IsEarlier (told x) (told_by z)) (sym is) up);
+}
+
+-- a step that was not refused shows its issue
+pub shown_ok : {A E : Type 0} (r : Result A E) (s s' : Shown) (k k' : Knows) (i : Issue) → is_err r ≡ false → ShowsOrKeeps r i s s' k k' → (arc_value s'.issue ≡ i) × (k' ≡ told_by i)
+shown_ok (Ok x) s s' k k' i e h = h
+shown_ok (Err x) s s' k k' i e h = absurd (cc)

@@ -1,6 +1,8 @@
 -- Beginnings of a log, and what a history extends.
-use Rattle.std.proofs.Common.{◌≡◌, ◌≤◌, List, [], ◌∷◌, ◌++◌, length, refl, ap, sym, ◌∙◌, arith, append_assoc, length-append}
+use Rattle.std.proofs.Common.{◌≡◌, ◌≤◌, List, [], ◌∷◌, ◌++◌, length, Option, Result, Ok, Err, IfOk, refl, ap, sym, ◌∙◌, arith, append_assoc, length-append}
 use Rattle.std.proofs.lemmas.List.{append-nil}
+use Rattle.core.specs.Option.{ok_or}
+use Rattle.core.specs.Result.{result_ok}
 use mathlib.Core.List.{IsPrefix}
 use Rattle.numa_space.specs.declared.command.Command.{Command}
 use Rattle.numa_publish.specs.Batches.{history_of, Extends}
@@ -17,7 +19,7 @@ extends_self xs = ([], refl)
 pub extends_trans : {A : Type 0} (xs ys zs : List A) → Extends xs ys → Extends ys zs → Extends xs zs
 extends_trans xs ys zs p q = (q.0 ++ p.0, q.1 ∙ (ap (λ w. q.0 ++ w) p.1 ∙ sym (append_assoc q.0 p.0 xs)))
 
-no_length : {A : Type 0} (xs : List A) → length xs ≤ 0 → xs ≡ []
+pub no_length : {A : Type 0} (xs : List A) → length xs ≤ 0 → xs ≡ []
 no_length [] le = refl
 no_length (x ∷ xs) le = absurd (omega arith)
 
@@ -52,3 +54,8 @@ history_whole xs ys p le =
     let a = prefix_extends xs ys p in
     let n : length a.0 ≤ 0 = omega (arith, ap (λ w. length w) a.1, length-append a.0 (history_of xs)) in
     a.1 ∙ ap (λ w. w ++ history_of xs) (no_length a.0 n)
+
+-- what holds of a result's value holds of it under another refusal
+pub ok_or_kept : {A E F : Type 0} (r : Result A E) (o : Option A) (s : Result A F) (f : F) (P : A → Type 0) → o ≡ result_ok r → s ≡ ok_or o f → IfOk r P → IfOk s P
+ok_or_kept (Ok x) o s f P a b p = rw (b, a) p
+ok_or_kept (Err e) o s f P a b p = rw (b, a) tt

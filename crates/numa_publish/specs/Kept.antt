@@ -1,5 +1,5 @@
 -- What holds of every desk, reader and view.
-use Rattle.std.specs.Prelude.{ℕ, ◌≡◌, ◌≤◌, true, List, ◌++◌, length, reverse}
+use Rattle.std.specs.Prelude.{ℕ, ◌≡◌, ◌≤◌, true, List, [], ◌∷◌, ◌++◌, length, reverse}
 use mathlib.Core.List.{IsPrefix}
 use Rattle.logbook.specs.Pages.{Book}
 use Rattle.numa_space.specs.declared.command.Command.{Command}
@@ -7,6 +7,7 @@ use Rattle.numa_space.specs.Standing.{SpaceState, StandsFor}
 use Rattle.numa_publish.specs.declared.issue.Issue.{Issue}
 use Rattle.numa_publish.specs.declared.rule.Knows.{Knows}
 use Rattle.numa_publish.specs.Batches.{history_of, not_logged}
+use Rattle.numa_publish.specs.Knowing.{IsEarlier, told_by}
 
 -- a desk with this space, which shows this issue: `commands` are pending, the oldest first, and the
 -- log of this book has the first `logged` of them
@@ -19,6 +20,24 @@ pub record IsDeskKept (space : SpaceState) (issue : Issue) (log : List (List Com
   pub accepted :
       not_logged commands logged ++ history_of log ≡ reverse commands ++ history_of issue.front.log
   pub room : logged ≤ length commands
+
+-- an issue of a desk with this space, which this beginning of the log of this book stands for, with
+-- these versions published before it
+pub record IsIssueOf (space : SpaceState) (log : List (List Command)) (book : Book)
+    (before : List ℕ) (issue : Issue) : Type 0 where
+  pub machine_is : issue.machine ≡ space.machine
+  pub book_is : issue.front.book ≡ book
+  pub log_is : issue.front.log ≡ log
+  pub versions : issue.versions ≡ length (history_of log) ∷ before
+
+-- after the shown issue, the next one of a desk with this space, once the log of this book has all
+-- that was accepted and these commands were pending
+pub record IsNextIssue (space : SpaceState) (shown next : Issue) (log : List (List Command))
+    (book : Book) (commands : List Command) : Type 0 where
+  pub later : IsEarlier (told_by shown) (told_by next)
+  pub kept : IsDeskKept space next log book [] 0
+  pub whole : history_of next.front.log ≡ reverse commands ++ history_of shown.front.log
+  pub versions : next.versions ≡ length (history_of next.front.log) ∷ shown.versions
 
 -- a reader that has seen this beginning of the log of this book, and knows so much
 pub record IsReaderKept (version : ℕ) (log : List (List Command)) (book : Book)

@@ -1,9 +1,11 @@
 -- What each thread knows was published, and the rule that is kept.
-use Rattle.std.specs.Prelude.{ℕ, ◌≡◌, true, false, List, []}
+use Rattle.std.specs.Prelude.{ℕ, ◌≡◌, true, false, List, [], Result, MatchResult}
+use Rattle.core.specs.List.{fold}
 use mathlib.Core.Option.{some}
 use mathlib.Core.List.{IsPrefix}
 use lib.ListN.{get_elem?}
 use Rattle.std.specs.Arc.{arc_value}
+use Rattle.left_right.specs.Register.{TurnsAt}
 use Rattle.logbook.specs.Pages.{Book}
 use Rattle.numa_publish.specs.declared.issue.Issue.{Issue}
 use Rattle.numa_publish.specs.declared.issue.Shown.{Shown}
@@ -58,6 +60,22 @@ KnowsThePast shown seats =
 -- the thread knew
 abbrev pub Sees : Knows → Shown → Shown → Knows → Type 0
 Sees known before shown after = IsEarlier known (told shown) × (after ≡ told shown)
+
+-- the last of the issues that wait to be shown, or the shown one where none does
+abbrev pub last_of : Issue → List Shown → Issue
+last_of issue waiting = fold (λ _ next. arc_value next.issue) issue waiting
+
+-- a writer at this seat that knows so much, whose readers take one value, may show this issue
+pub record MayShow (seat : ℕ) (known : Knows) (before : Shown) (issue : Issue) : Type 0 where
+  pub turns : (next : Shown) → arc_value next.issue ≡ issue
+      → TurnsAt KnowsThePast seat known before next Sees
+
+-- a step of the writer by which this issue is shown and known to it, or nothing changes
+abbrev pub ShowsOrKeeps : {A E : Type 0} → Result A E → Issue → Shown → Shown → Knows → Knows
+    → Type 0
+ShowsOrKeeps result issue before after knew knows =
+    MatchResult result (λ _. (arc_value after.issue ≡ issue) × (knows ≡ told_by issue))
+    (λ _. (after ≡ before) × (knows ≡ knew))
 
 -- a reader takes in which desk it is of, by a note of the writer, and nothing of what was published
 abbrev pub introduced : Knows → Knows → Knows

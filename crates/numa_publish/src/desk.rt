@@ -10,7 +10,7 @@ ghost use Rattle.numa_publish.specs.Submits.{LeavesAfter};
 
 use crate::issue::Issue;
 use crate::log::{Log, Pending};
-use crate::publishing::{first_issue, next_issue, opened, show_at};
+use crate::publishing::{next_issue, opened, show_at};
 use crate::reader::PlanReader;
 use crate::receipt::Receipt;
 use crate::rule::{Introduces, ShownWriter};
@@ -88,8 +88,9 @@ impl Desk {
     {
         let space = Space::new(alloc, machine, limits);
         let log = Log::new();
-        let issue = first_issue(alloc, &space, &log)?;
-        let writer = opened(rt, alloc, issue, readers as usize)?;
+        let Ok(writer) = opened(rt, alloc, &space, &log.start, readers as usize) else {
+            return Err(NoMemory);
+        };
         Ok(Desk {
             alloc,
             writer,
@@ -146,9 +147,9 @@ impl Desk {
         ensures published { (self.new.published ≡ self.old.published)
             × (self.new.versions ≡ self.old.versions) }
     {
-        if self.pending.commands.reserve(1).is_err() {
+        let Ok(()) = self.pending.commands.reserve(1) else {
             return Err(Refusal::NoMemory);
-        }
+        };
         if let Err(refusal) = self.space.apply(command) {
             return Err(refusal);
         }
@@ -183,14 +184,18 @@ impl Desk {
         if self.pending.commands.is_empty() {
             return Ok(self.receipt());
         }
-        let issue = next_issue(
+        let Ok(issue) = next_issue(
             self.alloc,
             &self.space,
             &mut self.log,
             &mut self.pending,
             &self.writer.published().issue,
-        )?;
-        show_at(&mut self.writer, rt, issue)?;
+        ) else {
+            return Err(NoMemory);
+        };
+        let Ok(()) = show_at(&mut self.writer, rt, issue) else {
+            return Err(NoMemory);
+        };
         self.pending.commands.clear();
         self.pending.logged = 0;
         Ok(self.receipt())

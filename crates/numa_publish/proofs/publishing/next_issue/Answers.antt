@@ -1,37 +1,32 @@
-use Rattle.std.proofs.Common.{◌≡◌, ℕ, ◌++◌, length, reverse, slice_index, sym, subst, ◌∙◌, ap}
+use Rattle.std.proofs.Common.{◌≡◌, sym, subst, List, length, rules, ◌∙◌, refl}
+use Rattle.std.proofs.lemmas.Result.{IfOk-weaker}
 use Rattle.std.specs.Arc.{arc_value}
-use Rattle.numa_space.specs.Policies.{allowed_nodes}
-use Rattle.numa_space.specs.Refusals.{range_count_of}
-use Rattle.numa_space.specs.Standing.{IsNodeList}
-use Rattle.numa_publish.specs.Batches.{history_of}
-use Rattle.numa_publish.specs.declared.issue.Issue.{Issue}
-use Rattle.numa_publish.proofs.Lists.{prefix_trans}
-use Rattle.numa_publish.proofs.Desks.{issued_later}
+use Rattle.numa_space.specs.declared.command.Command.{Command}
+use Rattle.numa_space.specs.Standing.{StandsFor}
+use Rattle.numa_publish.proofs.Desks.{next_issue, logged_kept, logged_count}
 use Rattle.numa_publish.proofs.publishing.next_issue.Goals as goal
 
-pub returns-clause-later : goal.returns-clause-later
-returns-clause-later c =
-    let i = c.in_ok-new.ensures.ok in
-    issued_later c.args.shown.now (arc_value c.in_ok-new.field-0) c.add.new.self.seen.log _ (prefix_trans _ _ _ c.requires.begins c.add.ensures.prefix)
-    (ap (λ (j : Issue). j.front.log) i ∙ ap (λ s. s.log) c.again.ensures)
-    (c.requires.book_is ∙ sym (ap (λ (j : Issue). j.front.book) i ∙ (ap (λ s. s.book) c.again.ensures ∙ c.add.ensures.book)))
-    (c.requires.machine_is ∙ sym (ap (λ (j : Issue). j.machine) i ∙ (c.of.ensures ∙ c.machine.ensures)))
-    (ap (λ (j : Issue). j.versions) i ∙ c.and.ensures)
+pub add-requires : goal.add-requires
+add-requires c = c.version.ensures.version ∙ logged_count _ _ _ _ _ _ c.requires
 
-pub invariant_of-issue-clause-ranges : goal.invariant_of-issue-clause-ranges
-invariant_of-issue-clause-ranges c =
-    let all : history_of c.again.result.log ≡ reverse c.args.pending.now.commands.items ++ history_of c.args.shown.now.front.log = ap (λ s. history_of s.log) c.again.ensures ∙ (c.if-not-add.ensures.added ∙ c.requires.accepted) in
-    let machine = c.of.ensures ∙ c.machine.ensures in
-    c.in_ok-plan.ensures.plan.one_run_each ∙ (sym c.ranges-2.ensures.ranges ∙ (c.ranges-2.ensures.meaning _ c.requires.stands ∙ sym (λ i. range_count_of (machine i) (all i))))
+pub returns-then-not-add : goal.returns-then-not-add
+returns-then-not-add c = record {
+  kept = rw c.if-not-add.ensures.unchanged c.requires;
+  same = (refl, c.add.ensures.book);
+  next = tt;
+}
 
-pub invariant_of-issue-clause-newest : goal.invariant_of-issue-clause-newest
-invariant_of-issue-clause-newest c =
-    let all : history_of c.again.result.log ≡ reverse c.args.pending.now.commands.items ++ history_of c.args.shown.now.front.log = ap (λ s. history_of s.log) c.again.ensures ∙ (c.if-not-add.ensures.added ∙ c.requires.accepted) in
-    ap (λ versions. slice_index versions 0) c.and.ensures ∙ (c.version-2.ensures.version ∙ (c.requires.stands.version ∙ sym (ap length all)))
+pub issued-requires : goal.issued-requires
+issued-requires c = subst (λ (w : List Command). StandsFor c.args.space.now w) (sym (c.if-not-add.ensures.added ∙ c.requires.accepted)) c.requires.stands
 
-pub invariant_of-issue-clause-sound : goal.invariant_of-issue-clause-sound
-invariant_of-issue-clause-sound c task page cpu low nodes is =
-    let all : history_of c.again.result.log ≡ reverse c.args.pending.now.commands.items ++ history_of c.args.shown.now.front.log = ap (λ s. history_of s.log) c.again.ensures ∙ (c.if-not-add.ensures.added ∙ c.requires.accepted) in
-    let machine = c.of.ensures ∙ c.machine.ensures in
-    let allowed : c.args.space.now.allowed ≡ allowed_nodes c.of.result (history_of c.again.result.log) = c.requires.stands.allowed ∙ sym (λ i. allowed_nodes (machine i) (all i)) in
-    subst (λ (set : ℕ). IsNodeList set nodes) allowed (c.in_ok-plan.ensures.sound task page cpu low nodes is)
+pub returns-clause-kept : goal.returns-clause-kept
+returns-clause-kept c =
+    let all : c.len-pending.result ≡ length c.args.pending.now.commands.items = search rules in
+    rw all (logged_kept _ _ _ _ _ _ _ _ c.requires c.add.ensures.prefix c.if-not-add.ensures.added c.add.ensures.book)
+
+pub returns-clause-same : goal.returns-clause-same
+returns-clause-same c = (refl, c.add.ensures.book)
+
+pub returns-clause-next : goal.returns-clause-next
+returns-clause-next c =
+    IfOk-weaker c.issued.result _ _ (λ a i. next_issue _ _ (arc_value a) _ _ _ _ _ _ c.requires c.add.ensures.prefix c.if-not-add.ensures.added c.add.ensures.book i) c.issued.ensures

@@ -1,13 +1,59 @@
-use Rattle.std.proofs.Common.{◌≤◌, ap, subst, arith, length, List}
+use Rattle.std.proofs.Common.{◌≡◌, ◌≤◌, ap, refl, subst, sym, ◌∙◌, arith, length, List}
 use mathlib.Core.List.{IsPrefix}
+use Rattle.std.specs.Arc.{arc_value}
 use Rattle.numa_space.specs.declared.command.Command.{Command}
+use Rattle.numa_publish.specs.declared.issue.Issue.{Issue}
+use Rattle.numa_publish.specs.declared.issue.Shown.{Shown}
 use Rattle.numa_publish.specs.Batches.{history_of}
+use Rattle.numa_publish.specs.Shown.{DeskIdentity}
 use Rattle.numa_publish.proofs.Lists.{history_shorter}
 use Rattle.numa_publish.proofs.Keeping.{sees, earlier_self}
 use Rattle.numa_publish.proofs.reader.PlanReader.enter.Goals as goal
 
 pub enter_as-requires : goal.enter_as-requires
 enter_as-requires c x = sees _ _ x x (earlier_self _)
+
+pub back-requires : goal.back-requires
+back-requires c = rw c.in-Err.ensures.1 c.self.invariant
+
+pub returns-in-Err : goal.returns-in-Err
+returns-in-Err c = record {
+  desk = rw (c.back.ensures, c.in-Err.ensures.1, ← c.self.view_is) refl;
+  seen = rw (c.back.ensures, ← c.self.view_is) refl;
+  published = tt;
+  enters = rw (c.back.ensures, ← c.self.view_is) c.next-enters.ensures;
+  refused = rw (c.back.ensures, ← c.self.view_is) c.next.ensures;
+}
+
+pub learn-requires : goal.learn-requires
+learn-requires c =
+    let is : c.deref-issue.result.now ≡ arc_value c.in-Ok.reading.part.value.issue = c.deref-issue.ensures ∙ ap (λ (s : Shown). arc_value s.issue) c.get.ensures in
+    let known = (c.in-Ok.ensures.1.0).desk c.self.invariant.named in
+    ap (λ s. s.book) c.again-next.ensures ∙ (ap (λ (i : Issue). i.front.book) is ∙ (sym (ap (λ (d : DeskIdentity). d.book) known) ∙ (c.self.invariant.book_is ∙ sym (ap (λ s. s.book) c.again-both.ensures))))
+
+pub back-requires-then-shown-version : goal.back-requires-then-shown-version
+back-requires-then-shown-version c =
+    let known = (c.in-Ok.ensures.1.0).desk c.self.invariant.named in
+    let now = c.leave-reader.ensures.1 ∙ c.in-Ok.ensures.1.1 in
+    record {
+      version_is = c.self.invariant.version_is;
+      named = ap (λ k. k.named) now;
+      book_is = ap (λ k. k.front.book) now ∙ (sym (ap (λ (d : DeskIdentity). d.book) known) ∙ c.self.invariant.book_is);
+    }
+
+pub new-requires : goal.new-requires
+new-requires c =
+    let is : c.deref-issue.result.now ≡ arc_value c.in-Ok.reading.part.value.issue = c.deref-issue.ensures ∙ ap (λ (s : Shown). arc_value s.issue) c.get.ensures in
+    let log = ap (λ s. s.log) c.again-next.ensures ∙ ap (λ (i : Issue). i.front.log) is in
+    record {
+      reader = record {
+        version_is = c.version-shown.ensures ∙ (c.deref-issue.result.now.stands.version ∙ sym (ap (λ s. length (history_of s.log)) c.again-next.ensures));
+        named = ap (λ k. k.named) c.in-Ok.ensures.1.1;
+        book_is = ap (λ k. k.front.book) c.in-Ok.ensures.1.1 ∙ sym (ap (λ s. s.book) c.again-next.ensures ∙ ap (λ (i : Issue). i.front.book) is);
+      };
+      log_is = log;
+      machine_is = ap (λ k. k.machine) c.in-Ok.ensures.1.1;
+    }
 
 pub returns-clause-seen : goal.returns-clause-seen
 returns-clause-seen c =
