@@ -1,9 +1,9 @@
 //! Looks beside a thread that submits.
 ghost use Rattle.std.specs.Prelude.{◌≡◌};
 
-use crate::setting::{Seen, desk_for, look, map_one, prefer, see, wait_until};
+use crate::setting::{Seen, desk_for, look, map_one, prefer, same, see, wait_until};
 use numa_publish::{Desk, DeskName, PlanReader, SharedDesk};
-use numa_space::PlaceRefusal;
+use numa_space::{Command, PlaceRefusal};
 use std::marker::Brand;
 use std::process::Abort;
 use std::sync::Wait;
@@ -40,8 +40,16 @@ fn wait_for_a_look(rt: &impl Wait, progress: &Progress) {
     wait_until(rt, &progress.looks, ended.saturating_add(2));
 }
 
-/// Submits the map, then `prefer:0` and `prefer:1` in turn, and waits for a look at each version
-/// that is awaited. The last version.
+/// The command of this turn: the map, then `prefer:0` and `prefer:1` in turn.
+fn command_of(rt: &impl Abort, turn: u64) -> Command {
+    if turn == 0 {
+        return map_one();
+    }
+    prefer(rt, if turn % 2 == 1 { 0 } else { 1 })
+}
+
+/// Submits the commands of all turns, and waits for a look at each version that is awaited. The
+/// last version.
 fn submit_all<K: DeskName>(
     rt: &(impl Wait + Abort),
     desk: &SharedDesk<K>,
@@ -49,12 +57,7 @@ fn submit_all<K: DeskName>(
 ) -> u64 {
     let mut last = 0;
     for turn in 0..SUBMITS {
-        let command = if turn == 0 {
-            map_one()
-        } else {
-            prefer(rt, if turn % 2 == 1 { 0 } else { 1 })
-        };
-        if let Ok(receipt) = desk.submit(rt, &command) {
+        if let Ok(receipt) = desk.submit(rt, &command_of(rt, turn)) {
             last = receipt.version();
         }
         if is_awaited(last) {
@@ -171,7 +174,7 @@ fn run<K: DeskName + Send + Sync>(rt: &(impl Threads + Wait + Abort + Sync), des
 
 /// Looks at how it went.
 fn judge(rt: &impl Abort, last: u64, tally: Tally) {
-    assert_eq!(rt; (last, tally.wrong), (SUBMITS, 0));
+    same(rt, &(last, tally.wrong), &(SUBMITS, 0));
     assert!(rt;
         tally.versions >= AWAITED,
         "saw {} versions",

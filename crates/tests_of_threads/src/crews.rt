@@ -1,5 +1,6 @@
 //! Crews of fault workers.
 use crate::crew_setting::{Workers, desk, placed, requests};
+use crate::setting::same;
 use numa_fault::{Answer, CrewRefusal, Gate};
 use numa_space::Request;
 use std::alloc::Global;
@@ -82,7 +83,7 @@ fn judge(rt: &impl Abort, gate: &Crossed) {
         after[0].load(Ordering::SeqCst),
         after[1].load(Ordering::SeqCst),
     ];
-    assert_eq!(rt; (calls, late.load(Ordering::SeqCst)), ([1; 4], 0));
+    same(rt, &(calls, late.load(Ordering::SeqCst)), &([1; 4], 0));
 }
 
 #[test]
@@ -95,7 +96,11 @@ fn crew_crossed(rt: HostRuntime) {
     let wanted = requests(&rt, rt.alloc(), 2);
     let answers = run_crew(&rt, rt.alloc(), 1, 3, 2, &wanted, &gate).expect(&rt, "answers");
     let pages = (placed(answers.first()), placed(answers.get(1)));
-    assert_eq!(rt; (answers.len(), pages), (2, (Some((16, 1)), Some((17, 0)))));
+    same(
+        &rt,
+        &(answers.len(), pages),
+        &(2, (Some((16, 1)), Some((17, 0)))),
+    );
     judge(&rt, &gate);
 }
 
@@ -164,7 +169,7 @@ fn answers_in_place(rt: HostRuntime) {
     for (count, pages) in [(3, 5u16), (16, 3), (1, 300), (1, 0)] {
         let all = usize::from(pages);
         let found = in_place(&rt, rt.alloc(), count, u64::from(pages));
-        assert_eq!(rt; found, (all, all, true), "{count} workers");
+        same(&rt, &(count, found), &(count, (all, all, true)));
     }
 }
 
@@ -183,6 +188,10 @@ fn refusal<R: Threads + Wait + Abort + Sync>(
 fn too_few_and_too_many(rt: HostRuntime) {
     let none = Some(CrewRefusal::NoWorkers);
     for (count, want) in [(0, none), (17, none), (16, None)] {
-        assert_eq!(rt; refusal(&rt, rt.alloc(), count), want, "{count} workers");
+        same(
+            &rt,
+            &(count, refusal(&rt, rt.alloc(), count)),
+            &(count, want),
+        );
     }
 }

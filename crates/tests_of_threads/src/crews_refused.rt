@@ -1,6 +1,7 @@
 //! A crew of which one growth is refused, as in `refused`.
 use crate::crew_setting::{Workers, desk, placed, requests};
 use crate::refused::mark;
+use crate::setting::same;
 use numa_fault::{Answer, CrewRefusal, Gate};
 use numa_space::Request;
 use std::alloc::Global;
@@ -49,7 +50,7 @@ fn judge(rt: &impl Abort, first: Run, second: Run) {
     } else {
         (Err(CrewRefusal::NoMemory), Ok(2))
     };
-    assert_eq!(rt; (first, second), wanted);
+    same(rt, &(first, second), &wanted);
 }
 
 #[test]

@@ -4,7 +4,7 @@ ghost use Rattle.std.specs.Prelude.{◌≡◌};
 ghost use Rattle.std.specs.List.{All};
 ghost use Rattle.tests_of_threads.specs.declared.eight_workers.Hand.{Hand};
 
-use crate::setting::{accept_as, limits, nodes, publish_as};
+use crate::setting::{accept_as, limits, nodes, publish_as, same};
 use crate::tally::{frames_not_once, wrong_placements};
 use numa_fault::{FaultRefusal, FaultWorker};
 use numa_machine::Machine;
@@ -258,9 +258,9 @@ impl Crowd {
 /// Each frame was placed once, as its version means.
 fn judge(rt: &impl Abort, alloc: Global, crowd: Crowd) {
     let (hands, taken) = crowd.close();
-    assert_eq!(rt; wrong_placements(rt, alloc, hands.as_slice()), 0);
-    assert_eq!(rt; frames_not_once(rt, alloc, hands.as_slice()), 0);
-    assert_eq!(rt; taken, [FRAMES; 4]);
+    same(rt, &wrong_placements(rt, alloc, hands.as_slice()), &0);
+    same(rt, &frames_not_once(rt, alloc, hands.as_slice()), &0);
+    same(rt, &taken, &[FRAMES; 4]);
 }
 
 /// All of it, on a desk that is shared.
@@ -281,7 +281,7 @@ fn run<K: DeskName + Send + Sync, R: Threads + Wait + Abort + Sync>(
         move || crowd.place(rt, line),
     );
     shared.into_desk().end(rt);
-    assert_eq!(rt; missed, 0);
+    same(rt, &missed, &0);
     judge(rt, alloc, crowd);
 }
 

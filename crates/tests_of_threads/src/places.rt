@@ -1,5 +1,5 @@
 //! The readers' places.
-use crate::setting::{desk_for, look};
+use crate::setting::{desk_for, look, same};
 use numa_publish::NoReader;
 use numa_space::PlaceRefusal;
 
@@ -16,6 +16,6 @@ fn sixty_four_at_once(rt: HostRuntime) {
     drop(readers.pop());
     let again = desk.reader().ok().map(|reader| look(reader).1);
     desk.end(&rt);
-    assert_eq!(rt; refused, Some(NoReader));
-    assert_eq!(rt; again, Some(Some((0, Err(PlaceRefusal::Unmapped)))));
+    same(&rt, &refused, &Some(NoReader));
+    same(&rt, &again, &Some(Some((0, Err(PlaceRefusal::Unmapped)))));
 }

@@ -1,7 +1,7 @@
 //! Pools of two nodes with one frame each, with one worker or two.
 ghost use Rattle.std.specs.Prelude.{◌≡◌};
 
-use crate::setting::{machine_of, new_reader};
+use crate::setting::{machine_of, new_reader, same};
 use numa_fault::{FaultRefusal, FaultWorker, SpanRefusal};
 use numa_pool::Pools;
 use numa_publish::Desk;
@@ -36,7 +36,7 @@ impl Placing {
 
     /// Serves a request, which must be answered so.
     pub fn serve(&mut self, rt: &impl Abort, request: Request, want: Answered) {
-        assert_eq!(rt; self.fault(request), want);
+        same(rt, &self.fault(request), &want);
     }
 
     /// Serves a span of task 1 for faults on this node.
@@ -117,7 +117,7 @@ impl Pair {
     /// They serve these requests, each of which must be answered so.
     pub fn serve(&mut self, rt: &impl Abort, turns: &[(Who, Request, Answered)]) {
         for (who, request, want) in turns {
-            assert_eq!(rt; self.fault(*who, *request), *want);
+            same(rt, &self.fault(*who, *request), want);
         }
     }
 

@@ -3,7 +3,7 @@
 //! one; run by itself, none is refused.
 ghost use Rattle.std.specs.Prelude.{◌≡◌};
 
-use crate::setting::{Seen, accept_both, desk_for, look, new_reader, prefer};
+use crate::setting::{Seen, accept_both, desk_for, look, new_reader, prefer, same};
 use numa_publish::{Desk, DeskName, SharedDesk, SubmitRefusal};
 use numa_space::{PlaceRefusal, Refusal};
 use std::alloc::Global;
@@ -55,8 +55,8 @@ const NOTHING: Option<Seen> = Some((0, Err(PlaceRefusal::Unmapped)));
 /// What the desk shows after a publish with one growth refused, and at the end.
 fn judge(rt: &(impl Wait + Abort), mut desk: Desk, wanted: Shown, all: u64, row: (u8, u8)) {
     let left = shown_by(rt, &mut desk);
-    assert_eq!(rt; left, wanted);
-    assert_eq!(rt; last(rt, desk), (Some(all), Some((all, Ok(row)))));
+    same(rt, &left, &wanted);
+    same(rt, &last(rt, desk), &(Some(all), Some((all, Ok(row)))));
 }
 
 /// A publish between two marks: its version.
@@ -78,7 +78,7 @@ fn publish(rt: HostRuntime) {
         Some(_) => (2, 0, Some((2, Ok((1, 0))))),
         None => (0, 2, NOTHING),
     };
-    assert_eq!(rt; answer.unwrap_or(2), 2);
+    same(&rt, &answer.unwrap_or(2), &2);
     judge(&rt, desk, wanted, 2, (1, 0));
 }
 
@@ -107,7 +107,7 @@ fn meant(rt: &impl Abort, answer: Result<u64, SubmitRefusal>) -> (Shown, u64, (u
         Ok(3) => ((3, 0, Some((3, Ok((0, 1))))), 3, (0, 1)),
         Err(SubmitRefusal::Held(3)) => ((0, 3, NOTHING), 3, (0, 1)),
         _ => {
-            assert_eq!(rt; answer, Err(SubmitRefusal::Refused(Refusal::NoMemory)));
+            same(rt, &answer, &Err(SubmitRefusal::Refused(Refusal::NoMemory)));
             ((0, 2, NOTHING), 2, (1, 0))
         }
     }

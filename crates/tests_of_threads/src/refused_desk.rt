@@ -1,6 +1,6 @@
 //! Desks of which one growth is refused, as in `refused`: a new one, and one that accepts.
 use crate::refused::mark;
-use crate::setting::{accept_both, desk_for, machine_of, map_one, publish_as};
+use crate::setting::{accept_both, desk_for, machine_of, map_one, publish_as, same};
 use numa_machine::NoMemory;
 use numa_publish::Desk;
 use numa_space::{Limits, Refusal};
@@ -50,10 +50,14 @@ fn shown(desk: &Desk) -> (u64, usize, u64) {
 fn accept_map(rt: &impl Abort, alloc: Global, desk: &mut Desk) {
     let first = accept_marked(rt, alloc, desk);
     if first.is_ok() {
-        assert_eq!(rt; (first, shown(desk)), (Ok(1), (0, 1, 1)));
+        same(rt, &(first, shown(desk)), &(Ok(1), (0, 1, 1)));
     } else {
-        assert_eq!(rt; (first, shown(desk)), (Err(Refusal::NoMemory), (0, 0, 0)));
-        assert_eq!(rt; desk.accept(&map_one()), Ok(1));
+        same(
+            rt,
+            &(first, shown(desk)),
+            &(Err(Refusal::NoMemory), (0, 0, 0)),
+        );
+        same(rt, &desk.accept(&map_one()), &Ok(1));
     }
 }
 

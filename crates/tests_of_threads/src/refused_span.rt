@@ -2,6 +2,7 @@
 use crate::one_frame::{desk, on, placed};
 use crate::placing::Placing;
 use crate::refused::mark;
+use crate::setting::same;
 use numa_fault::SpanRefusal;
 use numa_space::Placement;
 use std::alloc::Global;
@@ -9,6 +10,11 @@ use std::process::Abort;
 
 /// A span of three pages, of which two have frames: its answer, and whether both were placed.
 type Asked = (Result<u64, SpanRefusal>, bool, bool);
+
+/// The list is the one that is wanted.
+fn lists(rt: &impl Abort, found: &[Placement], wanted: &[Placement]) {
+    assert_eq!(rt; found, wanted);
+}
 
 /// Asks for it.
 fn ask(alloc: Global, placing: &mut Placing, out: &mut Vec<Placement>) -> Asked {
@@ -42,10 +48,10 @@ fn ask_till_answered(
 ) {
     let mut asked = ask_refused(rt, alloc, placing, out);
     if asked == (Err(SpanRefusal::NoMemory), false, false) {
-        assert_eq!(rt; out.as_slice(), [placed(99, 1, 7)].as_slice());
+        lists(rt, out.as_slice(), [placed(99, 1, 7)].as_slice());
         asked = ask(alloc, placing, out);
     }
-    assert_eq!(rt; asked, (Err(SpanRefusal::Exhausted(1, 2)), true, true));
+    same(rt, &asked, &(Err(SpanRefusal::Exhausted(1, 2)), true, true));
 }
 
 /// A list with one placement, and no room for more.
@@ -63,7 +69,7 @@ fn three_pages(rt: HostRuntime) {
     ask_till_answered(&rt, rt.alloc(), &mut placing, &mut out);
     desk.end(&rt);
     let all = [placed(99, 1, 7), placed(16, 0, 0), placed(17, 1, 1)];
-    assert_eq!(rt; out.as_slice(), all.as_slice());
+    lists(&rt, out.as_slice(), all.as_slice());
 }
 
 /// A span with a page that isn't mapped, and a page that is given up again, with no growth granted.
@@ -78,8 +84,8 @@ fn ask_without_memory(
     let page = placing.fault(on(16));
     placing.release(placed(16, 0, 0));
     mark(rt, alloc);
-    assert_eq!(rt; span, Err(SpanRefusal::Unmapped(1)));
-    assert_eq!(rt; page, Ok(placed(16, 0, 0)));
+    same(rt, &span, &Err(SpanRefusal::Unmapped(1)));
+    same(rt, &page, &Ok(placed(16, 0, 0)));
 }
 
 #[test]
@@ -89,5 +95,9 @@ fn without_memory(rt: HostRuntime) {
     let mut out = Vec::new(rt.alloc());
     ask_without_memory(&rt, rt.alloc(), &mut placing, &mut out);
     desk.end(&rt);
-    assert_eq!(rt; (out.len(), placing.owns(&placed(16, 0, 0))), (0, false));
+    same(
+        &rt,
+        &(out.len(), placing.owns(&placed(16, 0, 0))),
+        &(0, false),
+    );
 }

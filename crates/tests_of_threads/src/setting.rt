@@ -8,10 +8,16 @@ use numa_plan::Steps;
 use numa_publish::{Desk, PlanReader, Receipt};
 use numa_space::{Command, Limits, PlaceRefusal};
 use std::alloc::Global;
+use std::fmt::Debug;
 use std::process::Abort;
 use std::sync::Wait;
 use std::sync::atomic::{AtomicU64, Ordering};
 use std::thread;
+
+/// What was found is what is wanted; else the test ends and prints both.
+pub fn same<T: PartialEq + Debug>(rt: &impl Abort, found: &T, wanted: &T) {
+    assert_eq!(rt; *found, *wanted);
+}
 
 /// The set of one node.
 pub fn node(number: u8) -> NodeMask {
@@ -83,7 +89,7 @@ pub fn prefer(rt: &impl Abort, number: u8) -> Command {
 pub fn accept_as(rt: &impl Abort, desk: &mut Desk, command: &Command, version: u64)
     ensures { desk.new.desk ≡ desk.old.desk }
 {
-    assert_eq!(rt; desk.accept(command), Ok(version));
+    same(rt, &desk.accept(command), &Ok(version));
 }
 
 /// Accepts two commands: a map, and `prefer:1` for task 1.
@@ -114,7 +120,7 @@ pub fn publish_as(rt: &(impl Wait + Abort), desk: &mut Desk, version: u64) -> Re
     ensures receipt { result.desk ≡ desk.new.desk }
 {
     let receipt = desk.publish(rt).expect(rt, "memory");
-    assert_eq!(rt; receipt.version(), version);
+    same(rt, &receipt.version(), &version);
     receipt
 }
 
@@ -153,7 +159,7 @@ pub fn see(rt: &impl Abort, reader: PlanReader, want: Option<Seen>) -> PlanReade
     ensures { result.desk ≡ reader.desk }
 {
     let (reader, seen) = look(reader);
-    assert_eq!(rt; seen, want);
+    same(rt, &seen, &want);
     reader
 }
 

@@ -1,6 +1,7 @@
 //! Workers that place spans, each on fresh pools.
 use crate::one_frame::{desk, placed};
 use crate::placing::Placing;
+use crate::setting::same;
 use numa_fault::SpanRefusal;
 use numa_space::Placement;
 use std::alloc::Global;
@@ -12,7 +13,11 @@ fn judge(rt: &impl Abort, placing: Placing, out: &[Placement]) {
     let (on_node_0, on_node_1, _) = placing.close();
     let count = out.len();
     assert!(rt; [placed(16, 0, 0), placed(17, 1, 1)].starts_with(out));
-    assert_eq!(rt; (on_node_0 == 1, on_node_1 == 1), (count > 0, count > 1));
+    same(
+        rt,
+        &(on_node_0 == 1, on_node_1 == 1),
+        &(count > 0, count > 1),
+    );
 }
 
 /// A span of task 1 for faults on this node: its answer, and how many placements came.
@@ -41,7 +46,11 @@ fn from_page_16(rt: HostRuntime) {
         (1, (Ok(1), 1)),
         (0, (Ok(1), 0)),
     ] {
-        assert_eq!(rt; place(&rt, rt.alloc(), 0, 16, pages), want, "{pages} pages");
+        same(
+            &rt,
+            &(pages, place(&rt, rt.alloc(), 0, 16, pages)),
+            &(pages, want),
+        );
     }
 }
 
@@ -53,6 +62,6 @@ fn refused(rt: HostRuntime) {
         (0, u64::MAX, 2, SpanRefusal::Unmapped(1)),
     ] {
         let found = place(&rt, rt.alloc(), cpu, first, pages);
-        assert_eq!(rt; found, (Err(want), 0), "{pages} pages from {first} on");
+        same(&rt, &(first, pages, found), &(first, pages, (Err(want), 0)));
     }
 }

@@ -1,6 +1,7 @@
 //! Storms: what they print, and to whom.
 ghost use Rattle.numa_fault.specs.Crew.{IsCrew};
 
+use crate::setting::same;
 use numa_script::{RunFault, Watched};
 use numa_storm::storm;
 use std::alloc::Global;
@@ -79,12 +80,21 @@ fn storm_by<R: Threads + Wait + Sync>(
     (answer, output.inner)
 }
 
+/// A storm whose output fails behind so many bytes says so, and has written those.
+fn fails_behind<R: Threads + Wait + Abort + Sync>(rt: &R, alloc: Global, bytes: usize) {
+    let (answer, Narrow { taken, failed, .. }) = storm_by(rt, alloc, bytes);
+    same(
+        rt,
+        &(bytes, answer, failed),
+        &(bytes, Err(RunFault::Write), 1),
+    );
+    let front = WHOLE.as_bytes().get(..bytes).unwrap_or(b"");
+    assert_eq!(rt; taken.as_slice(), front, "{bytes}");
+}
+
 #[test]
 fn failing_writes(rt: HostRuntime) {
     for bytes in 0..WHOLE.len() {
-        let (answer, Narrow { taken, failed, .. }) = storm_by(&rt, rt.alloc(), bytes);
-        assert_eq!(rt; (answer, failed), (Err(RunFault::Write), 1), "{bytes}");
-        let front = WHOLE.as_bytes().get(..bytes).unwrap_or(b"");
-        assert_eq!(rt; taken.as_slice(), front, "{bytes}");
+        fails_behind(&rt, rt.alloc(), bytes);
     }
 }

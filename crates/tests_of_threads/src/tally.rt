@@ -1,6 +1,6 @@
 //! What is wrong with the placements of eight workers.
 use crate::eight_workers::{COMMANDS, FRAMES, Hand, command, machine, request};
-use crate::setting::limits;
+use crate::setting::{limits, same};
 use numa_fault::FaultRefusal;
 use numa_space::{Placement, Space};
 use std::alloc::Global;
@@ -74,7 +74,7 @@ fn empty_space(rt: &impl Abort, alloc: Global) -> Space {
 
 /// Plays the command of this version.
 fn play(rt: &impl Abort, space: &mut Space, version: u64) {
-    assert_eq!(rt; space.apply(&command(rt, version)), Ok(()));
+    same(rt, &space.apply(&command(rt, version)), &Ok(()));
 }
 
 /// How many workers are not orderly, and how many placements are not what the commands up to their

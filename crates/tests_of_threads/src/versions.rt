@@ -3,7 +3,7 @@ ghost use Rattle.std.specs.Prelude.{◌≡◌};
 
 use crate::setting::{
     accept_as, accept_both, bind_a_hole, desk_for, look, map_one, new_reader, prefer, publish_as,
-    see,
+    same, see,
 };
 use numa_publish::{Desk, DeskName, PlanReader, Receipt, SharedDesk, SubmitRefusal};
 use numa_space::{Command, PlaceRefusal, Refusal};
@@ -18,7 +18,7 @@ fn see_pending(rt: &impl Abort, desk: &mut Desk, reader: PlanReader) -> PlanRead
     ensures reader { result.desk ≡ reader.desk }
 {
     accept_both(rt, desk);
-    assert_eq!(rt; (desk.pending(), desk.published()), (2, 0));
+    same(rt, &(desk.pending(), desk.published()), &(2, 0));
     see(rt, reader, Some((0, Err(PlaceRefusal::Unmapped))))
 }
 
@@ -29,7 +29,7 @@ fn see_published(rt: &(impl Wait + Abort), desk: &mut Desk, reader: PlanReader) 
     let receipt = publish_as(rt, desk, 2);
     let reader = see(rt, reader.learn(&receipt), Some((2, Ok((1, 0)))));
     publish_as(rt, desk, 2);
-    assert_eq!(rt; (desk.pending(), desk.published()), (0, 2));
+    same(rt, &(desk.pending(), desk.published()), &(0, 2));
     reader
 }
 
@@ -66,7 +66,7 @@ fn submits<K: DeskName>(rt: &(impl Wait + Abort), desk: Desk)
     let left = (desk.published(), desk.pending());
     desk.end(rt);
     let hole = Err(SubmitRefusal::Refused(Refusal::Hole));
-    assert_eq!(rt; (third, refused, left), (Ok(3), hole, (3, 0)));
+    same(rt, &(third, refused, left), &(Ok(3), hole, (3, 0)));
 }
 
 #[test]
@@ -98,7 +98,7 @@ fn a_million_publishes(rt: HostRuntime) {
     }
     let left = (desk.published(), desk.pending());
     desk.end(&rt);
-    assert_eq!(rt; (refused, left), (0, (PUBLISHES, 0)));
+    same(&rt, &(refused, left), &(0, (PUBLISHES, 0)));
 }
 
 /// What may go to another thread.
@@ -132,5 +132,5 @@ fn a_view_and_a_receipt_go_to_another_thread(rt: HostRuntime) {
     let (reader, receipt, version) = publish_beside(&rt, &mut desk, reader);
     let ((_reader, seen), ()) = join(&rt, move || look(reader.learn(&receipt)), || ());
     desk.end(&rt);
-    assert_eq!(rt; (version, seen), (0, Some((1, Ok((0, 1))))));
+    same(&rt, &(version, seen), &(0, Some((1, Ok((0, 1))))));
 }

@@ -1,6 +1,6 @@
 //! For which views a publish waits.
 use crate::setting::{
-    accept_as, desk_for, new_reader, prefer, publish_as, publish_map, see, wait_until,
+    accept_as, desk_for, new_reader, prefer, publish_as, publish_map, same, see, wait_until,
 };
 use numa_publish::{Desk, PlanReader, PlanView};
 use std::process::Abort;
@@ -37,7 +37,7 @@ fn two_views_at_once(rt: HostRuntime) {
     first.leave();
     second.leave();
     desk.end(&rt);
-    assert_eq!(rt; held, (1, 1));
+    same(&rt, &held, &(1, 1));
 }
 
 /// What the two threads tell each other: that the view is held, that one publish returned beside
@@ -95,6 +95,6 @@ fn a_view_that_leaves_after_a_while(rt: HostRuntime) {
     );
     let published = desk.published();
     desk.end(&rt);
-    assert_eq!(rt; (version, published), (1, 3));
-    assert_eq!(rt; (first, second), (0, 1));
+    same(&rt, &(version, published), &(1, 3));
+    same(&rt, &(first, second), &(0, 1));
 }

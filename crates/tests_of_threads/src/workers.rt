@@ -1,7 +1,7 @@
 //! Workers that place single pages, one call after the other.
 use crate::one_frame::{desk, empty_desk, on, placed};
 use crate::placing::{Answered, Pair, Placing, Who};
-use crate::setting::publish_map;
+use crate::setting::{publish_map, same};
 use numa_fault::{FaultRefusal, SpanRefusal};
 use numa_space::Request;
 use std::alloc::Global;
@@ -25,7 +25,7 @@ fn turns() -> [(Who, Request, Answered); 5] {
 /// The second worker gives up the frame of page 17, and the first one takes it.
 fn give_up(rt: &impl Abort, pair: &mut Pair) {
     let second = placed(17, 1, 1);
-    assert_eq!(rt; pair.owns(&second), (false, true));
+    same(rt, &pair.owns(&second), &(false, true));
     pair.release(second);
     pair.serve(rt, &[(Who::First, on(18), Ok(placed(18, 1, 1)))]);
 }
@@ -36,7 +36,7 @@ fn two_take_turns(rt: HostRuntime) {
     let mut pair = Pair::open(&rt, rt.alloc(), &mut desk);
     pair.serve(&rt, &turns());
     give_up(&rt, &mut pair);
-    assert_eq!(rt; pair.join().close(), (1, 1, true));
+    same(&rt, &pair.join().close(), &(1, 1, true));
     desk.end(&rt);
 }
 
@@ -45,7 +45,7 @@ fn a_seat_that_is_not_joined(rt: HostRuntime) {
     let mut desk = desk(&rt, rt.alloc());
     let mut pair = Pair::open(&rt, rt.alloc(), &mut desk);
     pair.serve(&rt, &turns()[..2]);
-    assert_eq!(rt; pair.first().close(), (1, 1, false));
+    same(&rt, &pair.first().close(), &(1, 1, false));
     desk.end(&rt);
 }
 
@@ -53,7 +53,7 @@ fn a_seat_that_is_not_joined(rt: HostRuntime) {
 fn see_nothing(rt: &impl Abort, alloc: Global, placing: &mut Placing) {
     let mut out = Vec::new(alloc);
     let span = placing.span(alloc, 0, 16, 1, &mut out);
-    assert_eq!(rt; (span, out.len()), (Err(SpanRefusal::NoView), 0));
+    same(rt, &(span, out.len()), &(Err(SpanRefusal::NoView), 0));
     assert!(rt; placing.owns(&placed(16, 0, 0)));
 }
 
@@ -65,7 +65,7 @@ fn after_the_end(rt: HostRuntime) {
     desk.end(&rt);
     placing.serve(&rt, on(17), Err(FaultRefusal::NoView));
     see_nothing(&rt, rt.alloc(), &mut placing);
-    assert_eq!(rt; placing.close(), (1, 0, true));
+    same(&rt, &placing.close(), &(1, 0, true));
 }
 
 #[test]
