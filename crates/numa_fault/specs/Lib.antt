@@ -1,5 +1,4 @@
 pub mod Worker
-pub mod Walked
 pub mod Fault
 pub mod Span
 pub mod Crew

@@ -3,7 +3,6 @@
 //! and never wait for each other. A crew is several workers at once, each in a thread.
 #![tactic(auto)]
 
-mod along;
 pub mod answer;
 pub mod crew;
 mod gathering;

@@ -8,14 +8,14 @@ ghost use Rattle.numa_pool.specs.declared.view.Entry.{Entry};
 ghost use Rattle.numa_space.specs.Policies.{allowed_nodes};
 ghost use Rattle.numa_space.specs.Standing.{IsNodeList};
 ghost use Rattle.numa_fault.specs.Fault.{list_of, refusal_of, FindsNone, Places};
-ghost use Rattle.numa_fault.specs.Walked.{frame_in};
+ghost use Rattle.numa_seat.specs.Seated.{frame_in};
 
-use crate::along::take_along;
 use numa_machine::Frame;
 use numa_plan::Steps;
 use numa_pool::laws::{walk_is_sparing, walks_compose};
 use numa_pool::{PoolSeat, Pools};
 use numa_publish::PlanView;
+use numa_seat::take_along;
 use numa_space::{Placement, Request};
 
 /// Takes a frame of the node with which the page's list begins, or else of the first of the others

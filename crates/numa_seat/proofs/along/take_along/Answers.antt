@@ -2,8 +2,8 @@ use Rattle.std.proofs.Common.{◌++◌, ◌∙◌, ap, sym, subst, refl, List, [
 use Rattle.std.proofs.lemmas.Option.{slice_get-get_or}
 use Rattle.std.proofs.Math.ListN.{drop_of_length-le}
 use Rattle.numa_pool.specs.Walk.{WalksInOrder}
-use Rattle.numa_fault.proofs.Walking.{passes, wins}
-use Rattle.numa_fault.proofs.along.take_along.Goals as goal
+use Rattle.numa_seat.proofs.Walking.{passes, wins}
+use Rattle.numa_seat.proofs.along.take_along.Goals as goal
 
 pub returns-in-Some-clause-walks : goal.returns-in-Some-clause-walks
 returns-in-Some-clause-walks c =

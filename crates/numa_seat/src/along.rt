@@ -3,7 +3,7 @@ ghost use Rattle.std.specs.Prelude.{◌≡◌, ◌++◌, List, Some, IfSome, sli
 ghost use Rattle.numa_pool.specs.Frames.{gained, times};
 ghost use Rattle.numa_pool.specs.Walk.{WalksInOrder};
 ghost use Rattle.numa_pool.specs.declared.view.Entry.{Entry};
-ghost use Rattle.numa_fault.specs.Walked.{frame_in};
+ghost use Rattle.numa_seat.specs.Seated.{frame_in};
 
 use numa_machine::Frame;
 use numa_pool::{PoolSeat, Pools};
@@ -11,7 +11,7 @@ use numa_pool::{PoolSeat, Pools};
 /// Takes a frame of the first node of the list that has one, and tells the node's place in the
 /// list, from 0. `None` where no node has one. A node may stand in the list twice; its words are
 /// then loaded twice.
-pub(crate) fn take_along(pools: &Pools, seat: &mut PoolSeat, nodes: &[u8]) -> Option<(usize, Frame)>
+pub fn take_along(pools: &Pools, seat: &mut PoolSeat, nodes: &[u8]) -> Option<(usize, Frame)>
     requires { seat.old.table ≡ pools.now.table }
     ensures table { seat.new.table ≡ seat.old.table }
     ensures walks { (es : List Entry) × (seat.new.log ≡ es ++ seat.old.log)

@@ -1,0 +1,71 @@
+-- What a seat that carries its pools shows, and what its calls do.
+use Rattle.std.specs.Prelude.{◌≡◌, ℕ, ◌+◌, ◌++◌, Bool, true, false, List, [], ◌∷◌, IsTrue, ◌↔◌}
+use Rattle.std.specs.Prelude.{Option, Some, IfSome, slice_get}
+use Rattle.std.specs.Option.{option_map}
+use Rattle.atomic_table.specs.Seated.{TableId}
+use Rattle.numa_machine.specs.declared.frame.Frame.{Frame}
+use Rattle.numa_pool.specs.Frames.{gained, times, without, Holds}
+use Rattle.numa_pool.specs.Seats.{SeatView}
+use Rattle.numa_pool.specs.Walk.{WalksInOrder}
+use Rattle.numa_pool.specs.declared.view.Entry.{Entry}
+use Rattle.numa_pool.specs.declared.view.Entry.TheVariants.{Gave}
+
+-- how many frames each node of the pools has, and the seat at them
+pub record Seated : Type 0 where
+  pub frames : List ℕ
+  pub seat : SeatView
+
+-- a seat that holds nothing and has made no step
+abbrev pub at_first : List ℕ → TableId → Seated
+at_first counts pools = record {
+  frames = counts;
+  seat = record { table = pools; held = []; log = []; unlogged = 0 };
+}
+
+-- such a seat at the same pools
+abbrev pub newcomer : Seated → Seated
+newcomer s = at_first s.frames s.seat.table
+
+-- after a split: one step more, which the log leaves out
+abbrev pub divided : Seated → Seated
+divided s = record s { seat = record s.seat { unlogged = s.seat.unlogged + 1 } }
+
+-- after a join: the frames of both, and one step more, which the log leaves out
+abbrev pub joined : Seated → Seated → Seated
+joined s other = record s {
+  seat = record s.seat {
+    held = s.seat.held ++ other.seat.held;
+    unlogged = s.seat.unlogged + 1;
+  };
+}
+
+-- after the frame was given back
+abbrev pub given : Frame → Seated → Seated
+given f s = record s {
+  seat = record s.seat {
+    held = without f.node f.number s.seat.held;
+    log = Gave f ∷ s.seat.log;
+  };
+}
+
+-- a seat gave a frame back where it holds it, and told whether it does
+pub record Gives (frame : Frame) (held : Bool) (before after : Seated) : Type 0 where
+  pub told : IsTrue held ↔ Holds before.seat.held frame
+  pub given : held ≡ true → after ≡ given frame before
+  pub kept : held ≡ false → after ≡ before
+
+-- the frame that was found, without the place of its node
+abbrev pub frame_in : Option (ℕ × Frame) → Option Frame
+frame_in found = option_map (λ f. f.1) found
+
+-- A seat walked the nodes of a list one after the other up to the first of which it won a frame, if
+-- of any; it holds this frame now and did not before, and made no other step
+pub record TakesAlong (nodes : List ℕ) (found : Option (ℕ × Frame)) (before after : Seated)
+    : Type 0 where
+  pub pools : (after.frames ≡ before.frames) × (after.seat.table ≡ before.seat.table)
+  pub walks : (es : List Entry) × (after.seat.log ≡ es ++ before.seat.log)
+      × WalksInOrder before.frames nodes (frame_in found) es
+  pub no_other : after.seat.unlogged ≡ before.seat.unlogged
+  pub held : after.seat.held ≡ gained (frame_in found) before.seat.held
+  pub rank : IfSome found (λ f. slice_get nodes f.0 ≡ Some f.1.node)
+  pub fresh : IfSome found (λ f. times f.1.node f.1.number before.seat.held ≡ 0)
