@@ -1,29 +1,32 @@
 /* numaplan.h: the placement planner of numaplan, for C99 and C++.
  *
- * Units. Addresses and lengths of spans are in bytes; a page is 4,096 bytes, and its number is its
- * address divided by 4,096. Offsets, page numbers and counts are in pages. A frame is a unit of any
- * size. Nodes are numbered from 0 to 255, tasks by any number of 32 bits, workers from 0.
+ * Units. Addresses and lengths of spans are in bytes; a page is 4,096 bytes, and its number is
+ * its address divided by 4,096. Offsets, page numbers and counts are in pages. A frame is a
+ * unit of any size. Nodes are numbered from 0 to 255, tasks by any number of 32 bits, workers
+ * from 0.
  *
- * Handles. A core and a plan are kept by handles of 16 bytes that begin as zero bytes, as in
- * `np_core core = {0};`. A handle owns what it keeps until it is closed. It is not to be copied, and
- * its fields are the library's: C neither reads nor writes them. Closing a closed handle does
- * nothing.
+ * Handles. A core, a plan, a seat and a script are kept by handles of 16 bytes that begin as
+ * zero bytes, as in `np_core core = {0};`. A handle owns what it keeps until it is closed. It
+ * is not to be copied, and its fields are the library's: C neither reads nor writes them.
+ * Closing a closed handle does nothing.
  *
- * Threads. A handle may go to another thread, ordered by a lock, a start or a join, and is given to
- * one call at a time. A plan never changes: np_plan_share keeps it in a handle for each thread that
- * reads it. The library starts no thread, waits for nothing and never ends the process. So it has no
+ * Threads. A handle may go to another thread, ordered by a lock, a start or a join, and is
+ * given to one call at a time. A plan never changes: np_plan_share keeps it in a handle for
+ * each thread that reads it, and np_seat_split makes a seat for each thread that takes frames.
+ * The library starts no thread, waits for nothing and never ends the process. So it has no
  * desk and no reader: who swaps the plan of running threads does that under a lock of his own.
  *
- * Pointers are not null, not even where a length is 0, and hold for the call; no two of one call
- * overlap. Texts are bytes with a length, without a zero at the end.
+ * Pointers are not null, not even where a length is 0, and hold for the call; no two of one
+ * call overlap. Texts are bytes with a length, without a zero at the end.
  *
- * Answers. Each function that can fail answers one of the numbers below. NP_OK is 0. A call that
- * answers another one changed nothing, but for NP_STILL and NP_EXHAUSTED, which are no failures, and
- * NP_NO_ROOM, which tells the length that is needed. After NP_NO_MEMORY every handle is as it was.
+ * Answers. Each function that can fail answers one of the numbers below. NP_OK is 0. A call
+ * that answers another one changed nothing, but for NP_STILL and NP_EXHAUSTED, which are no
+ * failures, NP_NO_ROOM, which tells the length that is needed, and NP_ANSWER_LOST. After
+ * NP_NO_MEMORY every handle is as it was.
  *
- * Memory comes from malloc, realloc and free by three functions in libnumaplan.a (rattle_alloc,
- * rattle_realloc, rattle_dealloc), which another object that is linked before it can supply.
- */
+ * Memory comes from malloc, realloc and free by three functions in libnumaplan.a
+ * (rattle_alloc, rattle_realloc, rattle_dealloc), which another object that is linked before
+ * it can supply. */
 #ifndef NUMAPLAN_H
 #define NUMAPLAN_H
 
@@ -43,6 +46,8 @@ enum {
     NP_OPEN = 2,      /* the handle that is to be opened keeps something */
     NP_NO_MEMORY = 3, /* out of memory */
     NP_NO_ROOM = 4,   /* the answer is longer than the room for it */
+    NP_UNKNOWN = 5,   /* no answer has this number */
+    NP_ANSWER_LOST = 6, /* a script's line was served; there was no memory for its answer */
 
     /* a command is refused, in the order in which the causes are looked for */
     NP_COMMANDS_SPENT = 10,    /* ENOSPC: as many commands as the limits allow were accepted */
@@ -64,14 +69,17 @@ enum {
     NP_BUSY = 31,           /* the worker still looks for a frame */
     NP_IDLE = 32,           /* the worker looks for no frame */
     NP_BAD_TRY = 33,        /* a frame, or a word of frames, that the worker can't try now */
-    NP_NOT_OWNED = 34,      /* the frame isn't the worker's */
+    NP_NOT_OWNED = 34,      /* the frame isn't the worker's, or isn't held by the seat */
     NP_BAD_CPU = 35,        /* the faulting node is none of the machine's */
     NP_UNMAPPED = 36,       /* the page isn't mapped */
+    NP_NO_RANGE = 37,       /* there are not so many ranges */
+    NP_PLACED_TWICE = 38,   /* two of the placements are of one page */
 
     NP_STILL = 40,     /* the worker has a current node, and goes on */
     NP_EXHAUSTED = 41, /* each frame of each listed node was met, and the worker is idle */
+    NP_ALL_TAKEN = 42, /* each frame of each listed node was found taken by the seat's call */
 
-    /* a core can't be opened */
+    /* a core, or the pools of a machine's frames, can't be opened */
     NP_BAD_NODE_COUNT = 50,     /* no node, more than 256, or not nodes times nodes distances */
     NP_NO_MEMORY_NODE = 51,     /* no node has memory, or one that the machine lacks */
     NP_BAD_DISTANCE = 52,       /* not 10 from a node to itself, or below 11 to another */
@@ -90,7 +98,10 @@ enum {
     NP_BOTH_FLAGS = 71,
     NP_NODES_FORBIDDEN = 72,
     NP_FLAGS_FORBIDDEN = 73,
-    NP_NODES_MISSING = 74
+    NP_NODES_MISSING = 74,
+
+    NP_NO_POLICY = 75,      /* the word says "default", which is no policy */
+    NP_NO_NODE_ALLOWED = 76 /* the set of allowed nodes is empty */
 };
 
 /* ---- types */
@@ -107,13 +118,36 @@ typedef struct np_plan {
     void *at_;
 } np_plan;
 
+/* A seat at pools of frames: what one thread takes frames with, and the frames that it holds. */
+typedef struct np_seat {
+    bool is_open_;
+    void *at_;
+} np_seat;
+
+/* A frame: its node, and its number among the node's frames, from 0. */
+typedef struct np_frame {
+    uint8_t node;
+    uint16_t number;
+} np_frame;
+
+/* A script that is given line by line, with the answer to its last line. */
+typedef struct np_script {
+    bool is_open_;
+    void *at_;
+} np_script;
+
+/* A set of nodes: node n is a member where bit n % 64 of word n / 64 is 1. */
+typedef struct np_nodes {
+    uint64_t words[4];
+} np_nodes;
+
 /* How large a core may grow: at most 65,536 ranges and 1,024 tasks with a policy. */
 typedef struct np_limits {
     uint32_t max_ranges, max_tasks, max_commands;
 } np_limits;
 
-/* Where a page was placed: by this version, for this page and task, on this frame of this node. The
- * rank is the node's place in the page's list, from 0. */
+/* Where a page was placed: by this version, for this page and task, on this frame of this
+ * node. The rank is the node's place in the page's list, from 0. */
 typedef struct np_placement {
     uint64_t version, page;
     uint32_t task, rank;
@@ -126,23 +160,31 @@ typedef struct np_counts {
     uint64_t pages[256];
 } np_counts;
 
+/* A range of pages: its address and length in bytes, and the index of its first page, in pages. */
+typedef struct np_range {
+    uint64_t start, length, offset;
+} np_range;
+
 /* (the library's own sizes are proved where the types are written) */
 #if defined(__cplusplus) && __cplusplus >= 201103L
 static_assert(sizeof(np_core) == 16 && sizeof(np_plan) == 16, "a handle");
+static_assert(sizeof(np_seat) == 16 && sizeof(np_frame) == 4, "a seat, a frame");
 static_assert(sizeof(np_limits) == 12 && sizeof(np_placement) == 32, "a struct");
-static_assert(sizeof(np_counts) == 2048, "a struct");
+static_assert(sizeof(np_counts) == 2048 && sizeof(np_range) == 24, "a struct");
+static_assert(sizeof(np_nodes) == 32 && sizeof(np_script) == 16, "a struct, a handle");
 #elif defined(__STDC_VERSION__) && __STDC_VERSION__ >= 201112L
 _Static_assert(sizeof(np_core) == 16 && sizeof(np_plan) == 16, "a handle");
+_Static_assert(sizeof(np_seat) == 16 && sizeof(np_frame) == 4, "a seat, a frame");
 _Static_assert(sizeof(np_limits) == 12 && sizeof(np_placement) == 32, "a struct");
-_Static_assert(sizeof(np_counts) == 2048, "a struct");
+_Static_assert(sizeof(np_counts) == 2048 && sizeof(np_range) == 24, "a struct");
 #endif
 
 /* ---- opening and closing */
 
-/* Opens a core of a machine with as many nodes as there are frame counts. `memory` is the list of the
- * nodes that have memory ("0-3"), `frames` how many frames each node has, `distances` the table of
- * distances, row by row. Nothing is mapped, version 0 is published, each worker is idle.
- * NP_OPEN; 60 to 63; 50 to 55; NP_NO_MEMORY. */
+/* Opens a core of a machine with as many nodes as there are frame counts. `memory` is the list
+ * of the nodes that have memory ("0-3"), `frames` how many frames each node has, `distances`
+ * the table of distances, row by row. Nothing is mapped, version 0 is published, each worker
+ * is idle. NP_OPEN; 60 to 63; 50 to 55; NP_NO_MEMORY. */
 uint32_t np_core_open(np_core *core, const uint8_t *memory, size_t memory_length,
                       const uint32_t *frames, size_t nodes, const uint8_t *distances,
                       size_t distances_count, const np_limits *limits, uint32_t workers);
@@ -150,10 +192,17 @@ uint32_t np_core_open(np_core *core, const uint8_t *memory, size_t memory_length
 /* Frees the core, where one is kept. */
 void np_core_close(np_core *core);
 
+/* Keeps a copy of the core in `copy`, to be asked "what if": it has the same ranges, policies
+ * and published version, and its workers have the same frames and go on with the same hunts.
+ * What is then done to one of the two doesn't change the other. NP_OPEN where `copy` keeps a
+ * core, NP_CLOSED where `core` keeps none, NP_NO_MEMORY. */
+uint32_t np_core_copy(np_core *core, np_core *copy);
+
 /* How many commands are accepted, and how many of them are published. NP_CLOSED. */
 uint32_t np_core_versions(np_core *core, uint64_t *accepted, uint64_t *published);
 
-/* ---- commands: each that is accepted adds one to the version. NP_CLOSED; 10 to 22; NP_NO_MEMORY */
+/* ---- commands: each that is accepted adds one to the version. NP_CLOSED; 10 to 22;
+ * NP_NO_MEMORY */
 
 /* Maps `length` bytes of unmapped pages from `start` on; the first page has the index `offset`. */
 uint32_t np_core_map(np_core *core, uint64_t start, uint64_t length, uint64_t offset);
@@ -161,9 +210,10 @@ uint32_t np_core_map(np_core *core, uint64_t start, uint64_t length, uint64_t of
 /* Unmaps the pages of a span, those among them that are mapped. */
 uint32_t np_core_unmap(np_core *core, uint64_t start, uint64_t length);
 
-/* Gives the pages of a span a policy of their own (mbind(2)): a word as "interleave=static:0-3", by
- * name (default, prefer, bind, interleave, local, many, weighted), flags and nodes. "default" takes
- * the policy away. A faulty word is told first, also by a closed handle: 60 to 63, 70 to 74. */
+/* Gives the pages of a span a policy of their own (mbind(2)): a word as
+ * "interleave=static:0-3", by name (default, prefer, bind, interleave, local, many, weighted),
+ * flags and nodes. "default" takes the policy away. A faulty word is told first, also by a
+ * closed handle: 60 to 63, 70 to 74. */
 uint32_t np_core_mbind(np_core *core, uint64_t start, uint64_t length, const uint8_t *policy,
                        size_t policy_length);
 
@@ -184,18 +234,44 @@ uint32_t np_core_set_mems(np_core *core, const uint8_t *nodes, size_t nodes_leng
 /* Publishes all accepted commands. NP_CLOSED, NP_NO_MEMORY. */
 uint32_t np_core_publish(np_core *core);
 
+/* ---- ranges, by all accepted commands, published or not */
+
+/* How many ranges of pages there are: a range is as many pages as follow each other, with indexes
+ * that do so too, and with the same policy of their own or none. At most 65,536. NP_CLOSED. */
+uint32_t np_core_ranges(np_core *core, size_t *count);
+
+/* Writes the range at a place, from 0, in order of address; in front of `policy` the policy of
+ * its own, as numa_maps shows it with the nodes that it has at present
+ * ("interleave=static:0-3", but also "weighted interleave:0-1"; at most 1,024 bytes, and none
+ * where it has no policy of its own); and to `policy_length` how many bytes these are. The
+ * time grows with the place. NP_NO_ROOM where `room` is less: then `policy_length` is what is
+ * needed, and `range` and `policy` are as they were. NP_CLOSED, NP_NO_RANGE. */
+uint32_t np_core_range(np_core *core, size_t index, np_range *range, uint8_t *policy, size_t room,
+                       size_t *policy_length);
+
+/* Writes one line for each range, in order of address, as /proc/PID/numa_maps has it
+ * (numa(7)): "00010000 bind:0-1 anon=2 N0=1 N1=1 kernelpagesize_kB=4" and a line feed. These
+ * are its address in hexadecimal, the policy by which a fault of this task is served, and of
+ * the placements' pages how many are in it, in all and on each node. Placements come from
+ * np_core_touch and np_core_try, or are the caller's own; those of pages that aren't mapped
+ * are left out. The text stands in front of `text`, and its length in `length`. NP_NO_ROOM
+ * where `room` is less: then `length` is what is needed, and `text` is as it was. NP_CLOSED,
+ * NP_PLACED_TWICE, NP_NO_MEMORY. */
+uint32_t np_core_maps(np_core *core, uint32_t task, const np_placement *placements, size_t count,
+                      uint8_t *text, size_t room, size_t *length);
+
 /* ---- workers */
 
-/* A worker places a page that a task touched on the node `cpu`: on the lowest free frame of the
- * first node of the page's list that has one, by the newest published version. NP_EXHAUSTED where no
- * listed node has a free frame. NP_CLOSED, NP_NO_SUCH_WORKER, NP_BUSY, NP_BAD_CPU, NP_UNMAPPED.
- * `placed` is written where NP_OK is answered. */
+/* A worker places a page that a task touched on the node `cpu`: on the lowest free frame of
+ * the first node of the page's list that has one, by the newest published version.
+ * NP_EXHAUSTED where no listed node has a free frame. NP_CLOSED, NP_NO_SUCH_WORKER, NP_BUSY,
+ * NP_BAD_CPU, NP_UNMAPPED. `placed` is written where NP_OK is answered. */
 uint32_t np_core_touch(np_core *core, uint32_t worker, uint32_t task, uint64_t page, uint32_t cpu,
                        np_placement *placed);
 
-/* The same step by step: a worker takes up a request (NP_STILL), looks at the 64 frames of a word of
- * its current node, and tries a frame until one is free (NP_OK) or none is left (NP_EXHAUSTED).
- * NP_CLOSED; 30 to 36. */
+/* The same step by step: a worker takes up a request (NP_STILL), looks at the 64 frames of a
+ * word of its current node, and tries a frame until one is free (NP_OK) or none is left
+ * (NP_EXHAUSTED). NP_CLOSED; 30 to 36. */
 uint32_t np_core_begin(np_core *core, uint32_t worker, uint32_t task, uint64_t page, uint32_t cpu);
 uint32_t np_core_look(np_core *core, uint32_t worker, uint32_t word);
 uint32_t np_core_try(np_core *core, uint32_t worker, uint8_t node, uint16_t frame,
@@ -219,9 +295,10 @@ void np_plan_close(np_plan *plan);
 /* How many commands the plan was made of. NP_CLOSED. */
 uint32_t np_plan_version(np_plan *plan, uint64_t *version);
 
-/* Writes the list of nodes of a page in front of `nodes`, in the order in which memory is looked for
- * on them, and how many they are (1 to 256) to `count`. NP_NO_ROOM where `room` is less: then `count`
- * is what is needed, and `nodes` is as it was. NP_CLOSED, NP_BAD_CPU, NP_UNMAPPED. */
+/* Writes the list of nodes of a page in front of `nodes`, in the order in which memory is
+ * looked for on them, and how many they are (1 to 256) to `count`. NP_NO_ROOM where `room` is
+ * less: then `count` is what is needed, and `nodes` is as it was. NP_CLOSED, NP_BAD_CPU,
+ * NP_UNMAPPED. */
 uint32_t np_plan_choice(np_plan *plan, uint32_t task, uint64_t page, uint32_t cpu, uint8_t *nodes,
                         size_t room, size_t *count);
 
@@ -234,6 +311,114 @@ uint32_t np_plan_fill(np_plan *plan, uint32_t task, uint32_t cpu, uint64_t first
  * with the pages. NP_CLOSED, NP_BAD_CPU, NP_UNMAPPED. */
 uint32_t np_plan_counts(np_plan *plan, uint32_t task, uint32_t cpu, uint64_t first, uint64_t pages,
                         np_counts *counts);
+
+/* ---- pools of frames, which threads share without a lock: each has a seat of its own. Every
+ * frame is free at first, and held by one seat from where that takes it until that gives it
+ * back. A call waits for no other. Pools are apart from the frames of any core. */
+
+/* Opens pools of the frames of a machine, described as for np_core_open, with a first seat
+ * that holds nothing. They need 512 bytes for each node, and as much again for each seat. They
+ * are freed with the last of their seats. NP_OPEN; 60 to 63; 50 to 53; NP_NO_MEMORY. */
+uint32_t np_seat_open(np_seat *seat, const uint8_t *memory, size_t memory_length,
+                      const uint32_t *frames, size_t nodes, const uint8_t *distances,
+                      size_t distances_count);
+
+/* Makes a seat at the same pools, which holds nothing, in `other`: for another thread. NP_OPEN
+ * where `other` keeps one, NP_CLOSED where `seat` keeps none, NP_NO_MEMORY. */
+uint32_t np_seat_split(np_seat *seat, np_seat *other);
+
+/* Takes a free frame of the first of the listed nodes that has one. `nodes` is a list as
+ * np_plan_choice writes it; a node that the machine lacks has no frame. `frame` gets the
+ * frame, and `rank` the node's place in the list, from 0. NP_ALL_TAKEN where each frame of
+ * each listed node was found taken at a moment of this call, also for an empty list: the call
+ * took none, and `frame` and `rank` are as they were. Needs no memory. NP_CLOSED. */
+uint32_t np_seat_take(np_seat *seat, const uint8_t *nodes, size_t count, np_frame *frame,
+                      size_t *rank);
+
+/* Gives back a frame that the seat holds. NP_NOT_OWNED where the seat doesn't hold it: it is
+ * free, or another seat's, or no frame of the machine. Needs no memory. NP_CLOSED. */
+uint32_t np_seat_give(np_seat *seat, uint8_t node, uint16_t number);
+
+/* Gives all frames that `other` holds to `seat`, and closes `other`. Both have to be seats at
+ * the same pools, from one np_seat_open by np_seat_split: this is for the caller to see to, as
+ * no call can tell. Needs no memory. NP_CLOSED where either keeps none, and then both are as
+ * they were. */
+uint32_t np_seat_join(np_seat *seat, np_seat *other);
+
+/* Lets go of the seat. Frames that it still holds stay taken as long as the pools last, so
+ * give them back first, or join the seat to another. */
+void np_seat_close(np_seat *seat);
+
+/* ---- sets of nodes, and policy words. A set is a value: nothing is to be freed. */
+
+/* Reads a list of nodes, as "0-2,5". 60 to 63. */
+uint32_t np_nodes_read(const uint8_t *text, size_t length, np_nodes *nodes);
+
+/* Writes a set as a list, "0-2,5", in front of `text`, and how many bytes that are (at most
+ * 1,024) to `length`. The empty set is the empty text, which np_nodes_read refuses. NP_NO_ROOM
+ * where `room` is less: then `length` is what is needed, and `text` is as it was. */
+uint32_t np_nodes_write(const np_nodes *nodes, uint8_t *text, size_t room, size_t *length);
+
+/* The nodes that a policy has (a word as np_core_mbind takes it) once it is set where the
+ * nodes of the list `allowed` are allowed: set_mempolicy(2). `nodes` is written where NP_OK is
+ * answered. In this order: 60 to 63 and 70 to 74 for the word, 60 to 63 for the list,
+ * NP_NO_POLICY, NP_NODES_NOT_ALLOWED where the policy would have no node. "local" has none and
+ * is taken. */
+uint32_t np_policy_effective(const uint8_t *policy, size_t policy_length, const uint8_t *allowed,
+                             size_t allowed_length, np_nodes *nodes);
+
+/* The same once the allowed nodes have then changed from `old_allowed` to `new_allowed`, as
+ * when cpuset.mems does (cpusets(7)): with =static or =relative the word's nodes are read
+ * again, without a flag the nodes that the policy had move to the same places among the new
+ * ones. May be empty. First what np_policy_effective answers of the word and the old nodes,
+ * then 60 to 63 for the new ones. */
+uint32_t np_policy_rebind(const uint8_t *policy, size_t policy_length, const uint8_t *old_allowed,
+                          size_t old_length, const uint8_t *new_allowed, size_t new_length,
+                          np_nodes *nodes);
+
+/* The same policy as numa_maps shows it (proc_pid_numa_maps(5)), as "prefer:1"; written as a
+ * list is by np_nodes_write, and answered as by np_policy_effective. At most 1,024 bytes. */
+uint32_t np_policy_text(const uint8_t *policy, size_t policy_length, const uint8_t *allowed,
+                        size_t allowed_length, uint8_t *text, size_t room, size_t *length);
+
+/* ---- scripts: the language of `numaplan run`, docs/SCRIPT.md */
+
+/* Answers a whole script, from a fresh start: writes what `numaplan run` prints in front of
+ * `answers`, and how many bytes that are to `written`. NP_NO_ROOM where `room` is less: then
+ * `written` is what is needed, and `answers` is as it was. NP_NO_MEMORY. */
+uint32_t np_script_run(const uint8_t *script, size_t length, uint8_t *answers, size_t room,
+                       size_t *written);
+
+/* Opens a script before its first line. NP_OPEN, NP_NO_MEMORY. */
+uint32_t np_script_open(np_script *script);
+
+/* Frees the script, where one is kept. */
+void np_script_close(np_script *script);
+
+/* Serves a line (without its line feed), keeps its answer in place of the last one, and writes
+ * to `needed` how many bytes it has: none for a comment or an empty line. That a line is
+ * faulty or refused is told in the answer. NP_CLOSED; NP_NO_MEMORY: nothing has changed;
+ * NP_ANSWER_LOST: the line was served, there was no memory for its answer, and none is kept.
+ * Only a question or `maps` has an answer of over 4,096 bytes that can be lost so; it changed
+ * nothing, and can be asked again. */
+uint32_t np_script_line(np_script *script, const uint8_t *line, size_t length, size_t *needed);
+
+/* Copies the answer to the last line in front of `answer`, with its line feed, and how many
+ * bytes that are to `length`. It is kept until the next line. NP_CLOSED; NP_NO_ROOM where
+ * `room` is less: then `length` is what is needed, and `answer` is as it was. */
+uint32_t np_script_answer(np_script *script, uint8_t *answer, size_t room, size_t *length);
+
+/* ---- answers as names */
+
+/* Writes the name of an answer in front of `name`, as "Unaligned" for NP_UNALIGNED, and how
+ * many bytes it has (at most 32) to `length`. NP_NO_ROOM as above; NP_UNKNOWN where no answer
+ * has this number. */
+uint32_t np_answer_name(uint32_t code, uint8_t *name, size_t room, size_t *length);
+
+/* Writes the error number that Linux gives for the cause of an answer (errno(3)): EINVAL,
+ * ENOMEM, EEXIST, EFAULT, ENOSPC or EOPNOTSUPP for what mmap(2), mbind(2) and set_mempolicy(2)
+ * refuse, else 0. NP_UNKNOWN where no answer has this number. */
+uint32_t np_answer_errno(uint32_t code, uint32_t *number);
 
 #ifdef __cplusplus
 }

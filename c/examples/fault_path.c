@@ -1,6 +1,7 @@
 /* The page-fault path of a memory manager: four threads place pages by a plan, while the manager changes
- * the policy and hands them a new plan. A thread has a handle of its own, so a fault takes no lock; it
- * looks at the newest version, and takes a new share under the lock only where that has changed.
+ * the policy and hands them a new plan. A thread has handles of its own: of the plan, and of a seat at
+ * the frames, which all share. So a fault takes no lock; it looks at the newest version, and takes a new
+ * share of the plan under the lock only where that has changed.
  *
  *     cc fault_path.c $(pkg-config --cflags --libs numaplan) -lpthread
  */
@@ -9,23 +10,28 @@
 #include <pthread.h>
 #include <stdatomic.h>
 #include <stdio.h>
+#include <string.h>
 
-enum { THREADS = 4, FAULTS = 10000, PAGES = 1000, FIRST = 16, NODES = 2, FRAMES = 40000 };
+enum { THREADS = 4, FAULTS = 10000, PAGES = 1000, FIRST = 16, NODES = 2 };
 
-/* What the threads share: the newest plan under its lock, its version, and the frames of each node that
- * are left. */
+static const uint32_t frames[NODES] = {4096, 4096};
+static const uint8_t distances[NODES * NODES] = {10, 20, 20, 10};
+
+/* What the threads share: the newest plan under its lock, and its version. */
 static pthread_mutex_t lock = PTHREAD_MUTEX_INITIALIZER;
 static np_plan newest;
 static atomic_ullong newest_version;
-static atomic_int frames_left[NODES] = {FRAMES, FRAMES};
 
-/* A thread, with its own handle of a plan. */
+/* A thread, with its own handles, and the frame of each page of its task that has one. */
 struct worker {
     pthread_t thread;
     uint32_t task, node;
     np_plan plan;
     uint64_t version;
-    long placed[NODES];
+    np_seat seat;
+    np_frame placed[PAGES];
+    bool is_placed[PAGES];
+    long faults;
     int failed;
 };
 
@@ -41,34 +47,33 @@ static int refresh(struct worker *worker) {
     return code != NP_OK || np_plan_version(&worker->plan, &worker->version) != NP_OK;
 }
 
-/* A frame of the node, if one is left. */
-static int take_frame(uint8_t node) {
-    int left = atomic_load(&frames_left[node]);
-    while (left > 0)
-        if (atomic_compare_exchange_weak(&frames_left[node], &left, left - 1))
-            return 1;
-    return 0;
+/* Gives back the frame of a page that has one. */
+static int unmap(struct worker *worker, int page) {
+    np_frame frame = worker->placed[page];
+    if (!worker->is_placed[page])
+        return 0;
+    worker->is_placed[page] = false;
+    return np_seat_give(&worker->seat, frame.node, frame.number) != NP_OK;
 }
 
-/* Places a page on the first node of its list that has a frame left. */
-static int fault(struct worker *worker, uint64_t page) {
+/* Places a page on the first node of its list that has a free frame. */
+static int fault(struct worker *worker, int page) {
     uint8_t nodes[NODES];
-    size_t count;
-    if (refresh(worker) ||
-        np_plan_choice(&worker->plan, worker->task, page, worker->node, nodes, NODES, &count))
+    size_t count, rank;
+    if (refresh(worker) || np_plan_choice(&worker->plan, worker->task, FIRST + page, worker->node,
+                                          nodes, NODES, &count))
         return 1;
-    for (size_t rank = 0; rank < count; rank++)
-        if (take_frame(nodes[rank])) {
-            worker->placed[nodes[rank]]++;
-            return 0;
-        }
-    return 1;
+    if (np_seat_take(&worker->seat, nodes, count, &worker->placed[page], &rank) != NP_OK)
+        return 1;
+    worker->is_placed[page] = true;
+    worker->faults++;
+    return 0;
 }
 
 static void *run(void *argument) {
     struct worker *worker = argument;
-    for (uint64_t k = 0; k < FAULTS && !worker->failed; k++)
-        worker->failed = fault(worker, FIRST + k % PAGES);
+    for (int k = 0; k < FAULTS && !worker->failed; k++)
+        worker->failed = unmap(worker, k % PAGES) || fault(worker, k % PAGES);
     np_plan_close(&worker->plan);
     return NULL;
 }
@@ -89,42 +94,70 @@ static int hand_out(np_core *core) {
 }
 
 static int open_core(np_core *core) {
-    static const uint32_t frames[NODES] = {4096, 4096};
-    static const uint8_t distances[NODES * NODES] = {10, 20, 20, 10};
     static const np_limits limits = {65536, 1024, UINT32_MAX};
     return np_core_open(core, (const uint8_t *)"0-1", 3, frames, NODES, distances, NODES * NODES,
                         &limits, 1) ||
            np_core_map(core, FIRST * 4096, PAGES * 4096, FIRST);
 }
 
-int main(void) {
-    static const char *policies[] = {"bind:1", "interleave:0-1", "local"};
-    static struct worker workers[THREADS];
-    np_core core = {0};
-    long placed = 0, frames = 0;
-    int failed = open_core(&core) || hand_out(&core);
+/* Opens the pools, with a seat for each thread. */
+static int open_seats(struct worker *workers) {
+    int failed = np_seat_open(&workers[0].seat, (const uint8_t *)"0-1", 3, frames, NODES, distances,
+                              NODES * NODES) != NP_OK;
+    for (int k = 1; k < THREADS && !failed; k++)
+        failed = np_seat_split(&workers[0].seat, &workers[k].seat) != NP_OK;
+    return failed;
+}
+
+static int start(struct worker *workers) {
+    int failed = 0;
     for (uint32_t k = 0; k < THREADS && !failed; k++) {
         workers[k].task = k;
         workers[k].node = k % NODES;
         failed = pthread_create(&workers[k].thread, NULL, run, &workers[k]);
     }
-    for (int change = 0; change < 300 && !failed; change++) {
-        const char *policy = policies[change % 3];
-        size_t length = 0;
-        while (policy[length])
-            length++;
-        failed = np_core_mbind(&core, FIRST * 4096, PAGES * 4096, (const uint8_t *)policy, length) ||
-                 hand_out(&core);
+    return failed;
+}
+
+/* Changes the policy 300 times, and hands out a plan each time. */
+static int change(np_core *core) {
+    static const char *policies[] = {"bind:1", "interleave:0-1", "local"};
+    int failed = 0;
+    for (int turn = 0; turn < 300 && !failed; turn++) {
+        const char *policy = policies[turn % 3];
+        size_t length = strlen(policy);
+        failed = np_core_mbind(core, FIRST * 4096, PAGES * 4096, (const uint8_t *)policy, length) ||
+                 hand_out(core);
     }
+    return failed;
+}
+
+/* Waits for the threads, whose frames the first one's seat then holds: it gives all back. */
+static int finish(struct worker *workers, long *faults, long *given) {
+    int failed = 0;
     for (int k = 0; k < THREADS && !failed; k++) {
         failed = pthread_join(workers[k].thread, NULL) || workers[k].failed;
-        for (int node = 0; node < NODES; node++)
-            placed += workers[k].placed[node];
+        if (k > 0)
+            failed = failed || np_seat_join(&workers[0].seat, &workers[k].seat) != NP_OK;
+        *faults += workers[k].faults;
     }
-    for (int node = 0; node < NODES; node++)
-        frames += FRAMES - frames_left[node];
+    for (int k = 0; k < THREADS * PAGES && !failed; k++) {
+        np_frame frame = workers[k / PAGES].placed[k % PAGES];
+        failed = np_seat_give(&workers[0].seat, frame.node, frame.number) != NP_OK;
+        ++*given;
+    }
+    np_seat_close(&workers[0].seat);
+    return failed;
+}
+
+int main(void) {
+    static struct worker workers[THREADS];
+    np_core core = {0};
+    long faults = 0, given = 0;
+    int failed = open_core(&core) || hand_out(&core) || open_seats(workers) || start(workers) ||
+                 change(&core) || finish(workers, &faults, &given);
     np_plan_close(&newest);
     np_core_close(&core);
-    printf("%ld faults placed on %ld frames\n", placed, frames);
-    return failed || placed != frames || placed != (long)THREADS * FAULTS;
+    printf("%ld faults placed, %ld frames given back at the end\n", faults, given);
+    return failed || faults != (long)THREADS * FAULTS || given != (long)THREADS * PAGES;
 }

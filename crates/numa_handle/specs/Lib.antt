@@ -1,7 +1,12 @@
+pub mod Asked
+pub mod Dialogs
 pub mod Held
 pub mod Kinds
 pub mod Ownership
 pub mod Plans
+pub mod Seats
 pub mod Steps
 pub use Rattle.numa_core.specs.Standing
 pub use Rattle.numa_plan.specs.Meaning
+pub use Rattle.numa_run.specs.Answers
+pub use Rattle.numa_run.specs.Scripts

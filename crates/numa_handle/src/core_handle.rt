@@ -18,7 +18,7 @@ fn step_kept(kept: &mut Kept, event: Event) -> Result<CoreReply, CoreRefusal>
 {
     match kept {
         Kept::Core(core) => core.step(event),
-        Kept::Plan(_) => unreachable!(),
+        _ => unreachable!(),
     }
 }
 
@@ -31,7 +31,7 @@ fn touch_kept(kept: &mut Kept, worker: u32, request: Request) -> Result<CoreRepl
 {
     match kept {
         Kept::Core(core) => core.touch(worker, request),
-        Kept::Plan(_) => unreachable!(),
+        _ => unreachable!(),
     }
 }
 

@@ -1,6 +1,6 @@
 //! The handles of each kind.
 ghost use Rattle.std.specs.Prelude.{◌≡◌, true};
-ghost use Rattle.numa_handle.specs.Kinds.{is_core, is_plan};
+ghost use Rattle.numa_handle.specs.Kinds.{is_core, is_plan, is_script, is_seat};
 
 use crate::handle::Handle;
 
@@ -16,4 +16,18 @@ pub struct CoreHandle {
 pub struct PlanHandle {
     pub(crate) handle: Handle,
     ghost kind: { is_plan handle.held.kept ≡ true },
+}
+
+/// A seat at pools of frames that a C caller keeps, or none.
+#[repr(C)]
+pub struct SeatHandle {
+    pub(crate) handle: Handle,
+    ghost kind: { is_seat handle.held.kept ≡ true },
+}
+
+/// A script that a C caller is giving, line by line, or none.
+#[repr(C)]
+pub struct ScriptHandle {
+    pub(crate) handle: Handle,
+    ghost kind: { is_script handle.held.kept ≡ true },
 }

@@ -1,6 +1,8 @@
 //! What a handle may keep.
+use crate::dialog::Dialog;
 use numa_core::Core;
 use numa_plan::Plan;
+use numa_seat::Seat;
 use std::alloc::Global;
 use std::sync::Arc;
 
@@ -11,4 +13,8 @@ pub enum Kept {
     Core(Core),
     /// A plan, which handles of several threads share.
     Plan(Arc<Plan, Global>),
+    /// A seat at pools of frames, which seats of other handles share.
+    Seat(Seat),
+    /// A script, with the answer to its last line.
+    Script(Dialog),
 }

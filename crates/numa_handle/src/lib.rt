@@ -1,17 +1,23 @@
-//! Handles: what a C caller keeps of a core, or of a plan. A handle is sixteen bytes, which begin
-//! as 0: whether it is open, and one pointer. What it keeps lies on the heap, and the handle owns it.
+//! Handles: what a C caller keeps of a core, of a plan, of pools of frames, or of a script. A handle
+//! is sixteen bytes, which begin as 0: whether it is open, and one pointer. What it keeps lies on the
+//! heap, and the handle owns it.
 #![tactic(auto)]
 
 mod core_handle;
+mod core_questions;
+mod dialog;
 mod handle;
 mod handles;
 mod held;
 mod kept;
 mod place;
 mod plan_handle;
+mod script_handle;
+mod seat_handle;
 
+pub use dialog::{Dialog, LineRefusal};
 pub use handle::Handle;
-pub use handles::{CoreHandle, PlanHandle};
+pub use handles::{CoreHandle, PlanHandle, ScriptHandle, SeatHandle};
 pub use held::Held;
 pub use kept::Kept;
 pub use plan_handle::ChoiceRefusal;

@@ -2,9 +2,11 @@
 -- another cause.
 --     0          it is done
 --     1 to 4     the handle is closed; it is open; out of memory; no room for the answer
+--     5, 6       no such number; the line was served, out of memory for its answer
 --     10 to 22   a command is refused
---     30 to 36   an event or a question is refused
+--     30 to 38   an event or a question is refused
 --     40, 41     the worker goes on; every frame of every listed node is met
+--     42         every frame of every listed node was found taken
 --     50 to 55   the machine, the limits or the workers are refused
 --     60 to 63   a list of nodes is faulty
 --     70 to 76   a policy word is faulty, says no policy, or no node is allowed

@@ -1,3 +1,9 @@
 pub mod Codes
 pub mod Border
 pub mod Questions
+pub mod Names
+pub mod Policies
+pub mod Scripts
+pub mod Texts
+pub mod Ranges
+pub mod Pools

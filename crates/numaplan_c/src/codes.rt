@@ -22,6 +22,30 @@ pub(crate) const NO_MEMORY: u32 = 3;
 /// The answer is longer than the room for it.
 pub(crate) const NO_ROOM: u32 = 4;
 
+/// No answer has this number.
+pub(crate) const UNKNOWN: u32 = 5;
+
+/// The line was served, and there was no memory for its whole answer.
+pub(crate) const ANSWER_LOST: u32 = 6;
+
+/// The seat doesn't hold the frame.
+pub(crate) const NOT_OWNED: u32 = 34;
+
+/// There is no range at this place.
+pub(crate) const NO_RANGE: u32 = 37;
+
+/// Two placements are of one page.
+pub(crate) const PLACED_TWICE: u32 = 38;
+
+/// Each frame of each listed node was found taken.
+pub(crate) const ALL_TAKEN: u32 = 42;
+
+/// The policy word says that there is no policy.
+pub(crate) const NO_POLICY: u32 = 75;
+
+/// No node is allowed.
+pub(crate) const NO_NODE_ALLOWED: u32 = 76;
+
 /// The number of a command's refusal.
 pub(crate) fn refusal_code(refusal: Refusal) -> u32
     ensures { result ≡ refusal_code refusal }

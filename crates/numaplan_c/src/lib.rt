@@ -6,6 +6,14 @@
 
 mod codes;
 mod commands;
+mod listings;
+mod names;
+mod nodes;
 mod opening;
 mod plans;
+mod policies;
+mod pools;
+mod ranges;
+mod scripts;
+mod texts;
 mod workers;

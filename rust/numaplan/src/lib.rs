@@ -4,10 +4,21 @@
 
 mod raw;
 
-use raw::{Counts, Handle, Limits};
+use raw::{Counts, Handle, Limits, Nodes, Span};
 use std::fmt;
+use std::sync::Arc;
 
-pub use raw::Placement;
+pub use raw::{Frame, Placement};
+
+/// A range of pages: its address and length in bytes, the index of its first page, and the policy of
+/// its own as a word, if it has one.
+#[derive(Clone, Debug, PartialEq, Eq)]
+pub struct Range {
+    pub start: u64,
+    pub length: u64,
+    pub offset: u64,
+    pub policy: Option<String>,
+}
 
 /// Why a call was refused: a number of numaplan.h.
 #[derive(Clone, Copy, Debug, PartialEq, Eq)]
@@ -16,8 +27,21 @@ pub struct Refused(pub u32);
 impl Refused {
     /// Out of memory.
     pub const NO_MEMORY: Refused = Refused(3);
+    /// The answer is longer than the room for it.
+    const NO_ROOM: Refused = Refused(4);
     /// Every frame of every listed node is taken.
     pub const EXHAUSTED: Refused = Refused(41);
+    /// Every frame of every listed node was found taken.
+    pub const ALL_TAKEN: Refused = Refused(42);
+    /// The seat doesn't hold the frame.
+    pub const NOT_OWNED: Refused = Refused(34);
+
+    /// The name of the cause, as "Unaligned"; empty where no answer has this number.
+    pub fn name(self) -> String {
+        let (mut name, mut length) = ([0; 32], 0);
+        unsafe { raw::np_answer_name(self.0, name.as_mut_ptr(), name.len(), &mut length) };
+        String::from_utf8_lossy(&name[..length]).into_owned()
+    }
 }
 
 impl fmt::Display for Refused {
@@ -35,11 +59,33 @@ fn done(code: u32) -> Result<(), Refused> {
     }
 }
 
+/// Whether a worker still looks for a frame.
+fn is_still(code: u32) -> Result<bool, Refused> {
+    match code {
+        40 => Ok(true),
+        code => done(code).map(|()| false),
+    }
+}
+
+/// Bytes of the library, which are ASCII.
+fn text_of(bytes: &[u8]) -> String {
+    String::from_utf8_lossy(bytes).into_owned()
+}
+
 /// A core: commands, published versions, and workers that look for frames.
 pub struct Core(Handle);
 
 /// A plan, which never changes: the list of nodes of each page.
 pub struct Plan(Handle);
+
+/// A seat at pools of frames, for one thread: it takes frames, and gives back those that it holds.
+/// Frames of a seat that is dropped stay taken.
+#[derive(Debug)]
+pub struct Seat {
+    handle: Handle,
+    // (one for all seats at the same pools)
+    pools: Arc<()>,
+}
 
 // SAFETY: what a handle keeps is proved `Send` (numa_handle, `Held`), and `&mut` gives it to one call
 // at a time.
@@ -48,8 +94,18 @@ unsafe impl Send for Core {}
 // SAFETY: as for a core.
 unsafe impl Send for Plan {}
 
+// SAFETY: as for a core.
+unsafe impl Send for Seat {}
+
+/// A script that is given line by line, in the language of `numaplan run`.
+pub struct Script(Handle);
+
+// SAFETY: as for a core.
+unsafe impl Send for Script {}
+
 // SAFETY of each call below: a slice's pointer isn't null and holds for the call, references are
-// apart, and a handle begins closed and is the library's alone; the exports require nothing more.
+// apart, and a handle begins closed and is the library's alone; the exports require nothing more,
+// but for np_seat_join, where it is told.
 
 impl Core {
     /// A core of a machine: the nodes with memory as a list ("0-1"), the frames of each node, the
@@ -80,6 +136,14 @@ impl Core {
             )
         })?;
         Ok(core)
+    }
+
+    /// A core that stands as this one does, to be asked "what if": what is done to one of the two
+    /// doesn't change the other.
+    pub fn copy(&mut self) -> Result<Core, Refused> {
+        let mut other = Core(Handle::closed());
+        done(unsafe { raw::np_core_copy(&mut self.0, &mut other.0) })?;
+        Ok(other)
     }
 
     /// Maps a span of unmapped pages; the first has the index `offset`.
@@ -133,6 +197,58 @@ impl Core {
         (accepted, published)
     }
 
+    /// The range at a place, from 0, in order of address. The time grows with the place.
+    fn range(&mut self, place: usize) -> Result<Range, Refused> {
+        let (mut policy, mut length) = ([0; 1024], 0);
+        let mut found = Span::default();
+        done(unsafe {
+            raw::np_core_range(
+                &mut self.0,
+                place,
+                &mut found,
+                policy.as_mut_ptr(),
+                policy.len(),
+                &mut length,
+            )
+        })?;
+        Ok(Range {
+            start: found.start,
+            length: found.length,
+            offset: found.offset,
+            policy: (length > 0).then(|| text_of(&policy[..length])),
+        })
+    }
+
+    /// The ranges of pages by all accepted commands, in order of address.
+    pub fn ranges(&mut self) -> Result<Vec<Range>, Refused> {
+        let mut count = 0;
+        done(unsafe { raw::np_core_ranges(&mut self.0, &mut count) })?;
+        (0..count).map(|place| self.range(place)).collect()
+    }
+
+    /// The ranges as /proc/PID/numa_maps shows them, with the policy by which a fault of this task is
+    /// served, and with the pages of these placements.
+    pub fn maps(&mut self, task: u32, placements: &[Placement]) -> Result<String, Refused> {
+        let (mut text, mut length) = (vec![0; 4096], 0);
+        loop {
+            let answer = done(unsafe {
+                raw::np_core_maps(
+                    &mut self.0,
+                    task,
+                    placements.as_ptr(),
+                    placements.len(),
+                    text.as_mut_ptr(),
+                    text.len(),
+                    &mut length,
+                )
+            });
+            match answer {
+                Err(Refused::NO_ROOM) => text.resize(length, 0),
+                answer => return answer.map(|()| text_of(&text[..length])),
+            }
+        }
+    }
+
     /// A worker places a page that a task touched on the node `cpu`.
     pub fn touch(
         &mut self,
@@ -144,6 +260,31 @@ impl Core {
         let mut placed = Placement::default();
         done(unsafe { raw::np_core_touch(&mut self.0, worker, task, page, cpu, &mut placed) })?;
         Ok(placed)
+    }
+
+    /// An idle worker begins to look for a frame for a page; `EXHAUSTED` where no node of its list
+    /// has a frame.
+    pub fn begin(&mut self, worker: u32, task: u32, page: u64, cpu: u32) -> Result<(), Refused> {
+        is_still(unsafe { raw::np_core_begin(&mut self.0, worker, task, page, cpu) }).map(|_| ())
+    }
+
+    /// A worker looks at the 64 frames of a word of its current node, and meets those that are taken;
+    /// `EXHAUSTED` where it has then met each frame of each listed node.
+    pub fn look(&mut self, worker: u32, word: u32) -> Result<(), Refused> {
+        is_still(unsafe { raw::np_core_look(&mut self.0, worker, word) }).map(|_| ())
+    }
+
+    /// A worker tries a frame of its current node: None where it is taken, and the worker goes on;
+    /// `EXHAUSTED` as for `look`.
+    pub fn try_frame(
+        &mut self,
+        worker: u32,
+        node: u8,
+        frame: u16,
+    ) -> Result<Option<Placement>, Refused> {
+        let mut placed = Placement::default();
+        let code = unsafe { raw::np_core_try(&mut self.0, worker, node, frame, &mut placed) };
+        Ok(if is_still(code)? { None } else { Some(placed) })
     }
 
     /// A worker gives one of its frames back.
@@ -206,9 +347,81 @@ impl Plan {
     }
 }
 
+impl Seat {
+    /// The first seat at new pools of a machine's frames, described as for a core.
+    pub fn open(memory: &str, frames: &[u32], distances: &[u8]) -> Result<Seat, Refused> {
+        let mut seat = Seat {
+            handle: Handle::closed(),
+            pools: Arc::new(()),
+        };
+        done(unsafe {
+            raw::np_seat_open(
+                &mut seat.handle,
+                memory.as_ptr(),
+                memory.len(),
+                frames.as_ptr(),
+                frames.len(),
+                distances.as_ptr(),
+                distances.len(),
+            )
+        })?;
+        Ok(seat)
+    }
+
+    /// A seat at the same pools, for another thread; it holds nothing.
+    pub fn split(&mut self) -> Result<Seat, Refused> {
+        let mut other = Seat {
+            handle: Handle::closed(),
+            pools: Arc::clone(&self.pools),
+        };
+        done(unsafe { raw::np_seat_split(&mut self.handle, &mut other.handle) })?;
+        Ok(other)
+    }
+
+    /// Takes a free frame of the first of the listed nodes that has one, and tells the node's place
+    /// in the list. `ALL_TAKEN` where each frame of each of them was found taken.
+    pub fn take(&mut self, nodes: &[u8]) -> Result<(Frame, usize), Refused> {
+        let (mut frame, mut rank) = (Frame::default(), 0);
+        done(unsafe {
+            raw::np_seat_take(
+                &mut self.handle,
+                nodes.as_ptr(),
+                nodes.len(),
+                &mut frame,
+                &mut rank,
+            )
+        })?;
+        Ok((frame, rank))
+    }
+
+    /// Gives back a frame that the seat holds. `NOT_OWNED` where it doesn't.
+    pub fn give(&mut self, frame: Frame) -> Result<(), Refused> {
+        done(unsafe { raw::np_seat_give(&mut self.handle, frame.node, frame.number) })
+    }
+
+    /// Gets the frames that another seat at the same pools holds. A seat at other pools is handed
+    /// back.
+    pub fn join(&mut self, mut other: Seat) -> Result<(), Seat> {
+        // (the one thing that np_seat_join leaves to its caller)
+        if !Arc::ptr_eq(&self.pools, &other.pools) {
+            return Err(other);
+        }
+        match done(unsafe { raw::np_seat_join(&mut self.handle, &mut other.handle) }) {
+            Ok(()) => Ok(()),
+            Err(_) => Err(other),
+        }
+    }
+}
+
 impl Drop for Core {
     fn drop(&mut self) {
         unsafe { raw::np_core_close(&mut self.0) }
+    }
+}
+
+impl Drop for Seat {
+    fn drop(&mut self) {
+        unsafe { raw::np_seat_close(&mut self.handle) }
     }
 }
 
@@ -216,4 +429,61 @@ impl Drop for Plan {
     fn drop(&mut self) {
         unsafe { raw::np_plan_close(&mut self.0) }
     }
+}
+
+impl Script {
+    /// A script before its first line.
+    pub fn open() -> Result<Script, Refused> {
+        let mut script = Script(Handle::closed());
+        done(unsafe { raw::np_script_open(&mut script.0) })?;
+        Ok(script)
+    }
+
+    /// Serves a line, which comes without its line feed, and gives its answer, which has one. What is
+    /// faulty or refused is told in the answer.
+    pub fn line(&mut self, line: &str) -> Result<Vec<u8>, Refused> {
+        let mut needed = 0;
+        done(unsafe {
+            raw::np_script_line(&mut self.0, line.as_ptr(), line.len(), &mut needed)
+        })?;
+        let mut answer = vec![0; needed];
+        done(unsafe {
+            raw::np_script_answer(&mut self.0, answer.as_mut_ptr(), needed, &mut needed)
+        })?;
+        Ok(answer)
+    }
+}
+
+impl Drop for Script {
+    fn drop(&mut self) {
+        unsafe { raw::np_script_close(&mut self.0) }
+    }
+}
+
+/// The members of a set.
+fn members(nodes: &Nodes) -> Vec<u8> {
+    let has = |node: &u8| nodes.words[usize::from(*node) / 64] >> (*node % 64) & 1 == 1;
+    (0..=255).filter(has).collect()
+}
+
+/// The nodes of a list, as "0-2,5".
+pub fn nodes(text: &str) -> Result<Vec<u8>, Refused> {
+    let mut nodes = Nodes { words: [0; 4] };
+    done(unsafe { raw::np_nodes_read(text.as_ptr(), text.len(), &mut nodes) })?;
+    Ok(members(&nodes))
+}
+
+/// The nodes that a policy has once it is set where these are allowed.
+pub fn effective(policy: &str, allowed: &str) -> Result<Vec<u8>, Refused> {
+    let mut nodes = Nodes { words: [0; 4] };
+    done(unsafe {
+        raw::np_policy_effective(
+            policy.as_ptr(),
+            policy.len(),
+            allowed.as_ptr(),
+            allowed.len(),
+            &mut nodes,
+        )
+    })?;
+    Ok(members(&nodes))
 }

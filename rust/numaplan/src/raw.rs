@@ -4,6 +4,7 @@ use std::ffi::c_void;
 use std::mem::size_of;
 
 #[repr(C)]
+#[derive(Debug)]
 pub(crate) struct Handle {
     is_open: bool,
     at: *mut c_void,
@@ -30,6 +31,27 @@ pub(crate) struct Counts {
     pub pages: [u64; 256],
 }
 
+#[repr(C)]
+#[derive(Default)]
+pub(crate) struct Span {
+    pub start: u64,
+    pub length: u64,
+    pub offset: u64,
+}
+
+/// A frame: its node, and its number among the node's frames.
+#[repr(C)]
+#[derive(Clone, Copy, Debug, Default, PartialEq, Eq, Hash)]
+pub struct Frame {
+    pub node: u8,
+    pub number: u16,
+}
+
+#[repr(C)]
+pub(crate) struct Nodes {
+    pub words: [u64; 4],
+}
+
 /// Where a page was placed: by this version, on this frame of this node, at this rank of its list.
 #[repr(C)]
 #[derive(Clone, Copy, Debug, Default, PartialEq, Eq)]
@@ -43,13 +65,17 @@ pub struct Placement {
 }
 
 const _: () = assert!(size_of::<Handle>() == 16 && size_of::<Limits>() == 12);
+const _: () = assert!(size_of::<Frame>() == 4);
 const _: () = assert!(size_of::<Placement>() == 32 && size_of::<Counts>() == 2048);
+const _: () = assert!(size_of::<Span>() == 24);
+const _: () = assert!(size_of::<Nodes>() == 32);
 
 #[rustfmt::skip]
 #[link(name = "numaplan", kind = "static")]
 extern "C" {
     pub(crate) fn np_core_open(core: &mut Handle, memory: *const u8, memory_length: usize, frames: *const u32, nodes: usize, distances: *const u8, distances_count: usize, limits: &Limits, workers: u32) -> u32;
     pub(crate) fn np_core_close(core: &mut Handle);
+    pub(crate) fn np_core_copy(core: &mut Handle, copy: &mut Handle) -> u32;
     pub(crate) fn np_core_versions(core: &mut Handle, accepted: &mut u64, published: &mut u64) -> u32;
     pub(crate) fn np_core_map(core: &mut Handle, start: u64, length: u64, offset: u64) -> u32;
     pub(crate) fn np_core_unmap(core: &mut Handle, start: u64, length: u64) -> u32;
@@ -59,7 +85,13 @@ extern "C" {
     pub(crate) fn np_core_set_weight(core: &mut Handle, node: u32, weight: u32) -> u32;
     pub(crate) fn np_core_set_mems(core: &mut Handle, nodes: *const u8, nodes_length: usize) -> u32;
     pub(crate) fn np_core_publish(core: &mut Handle) -> u32;
+    pub(crate) fn np_core_ranges(core: &mut Handle, count: &mut usize) -> u32;
+    pub(crate) fn np_core_range(core: &mut Handle, index: usize, range: &mut Span, policy: *mut u8, room: usize, policy_length: &mut usize) -> u32;
+    pub(crate) fn np_core_maps(core: &mut Handle, task: u32, placements: *const Placement, count: usize, text: *mut u8, room: usize, length: &mut usize) -> u32;
     pub(crate) fn np_core_touch(core: &mut Handle, worker: u32, task: u32, page: u64, cpu: u32, placed: &mut Placement) -> u32;
+    pub(crate) fn np_core_begin(core: &mut Handle, worker: u32, task: u32, page: u64, cpu: u32) -> u32;
+    pub(crate) fn np_core_look(core: &mut Handle, worker: u32, word: u32) -> u32;
+    pub(crate) fn np_core_try(core: &mut Handle, worker: u32, node: u8, frame: u16, placed: &mut Placement) -> u32;
     pub(crate) fn np_core_give(core: &mut Handle, worker: u32, node: u8, frame: u16) -> u32;
     pub(crate) fn np_core_compile(core: &mut Handle, plan: &mut Handle) -> u32;
     pub(crate) fn np_plan_share(plan: &mut Handle, other: &mut Handle) -> u32;
@@ -68,4 +100,17 @@ extern "C" {
     pub(crate) fn np_plan_choice(plan: &mut Handle, task: u32, page: u64, cpu: u32, nodes: *mut u8, room: usize, count: &mut usize) -> u32;
     pub(crate) fn np_plan_fill(plan: &mut Handle, task: u32, cpu: u32, first: u64, nodes: *mut u8, pages: usize) -> u32;
     pub(crate) fn np_plan_counts(plan: &mut Handle, task: u32, cpu: u32, first: u64, pages: u64, counts: &mut Counts) -> u32;
+    pub(crate) fn np_seat_open(seat: &mut Handle, memory: *const u8, memory_length: usize, frames: *const u32, nodes: usize, distances: *const u8, distances_count: usize) -> u32;
+    pub(crate) fn np_seat_split(seat: &mut Handle, other: &mut Handle) -> u32;
+    pub(crate) fn np_seat_take(seat: &mut Handle, nodes: *const u8, count: usize, frame: &mut Frame, rank: &mut usize) -> u32;
+    pub(crate) fn np_seat_give(seat: &mut Handle, node: u8, number: u16) -> u32;
+    pub(crate) fn np_seat_join(seat: &mut Handle, other: &mut Handle) -> u32;
+    pub(crate) fn np_seat_close(seat: &mut Handle);
+    pub(crate) fn np_nodes_read(text: *const u8, length: usize, nodes: &mut Nodes) -> u32;
+    pub(crate) fn np_policy_effective(policy: *const u8, policy_length: usize, allowed: *const u8, allowed_length: usize, nodes: &mut Nodes) -> u32;
+    pub(crate) fn np_script_open(script: &mut Handle) -> u32;
+    pub(crate) fn np_script_close(script: &mut Handle);
+    pub(crate) fn np_script_line(script: &mut Handle, line: *const u8, length: usize, needed: &mut usize) -> u32;
+    pub(crate) fn np_script_answer(script: &mut Handle, answer: *mut u8, room: usize, length: &mut usize) -> u32;
+    pub(crate) fn np_answer_name(code: u32, name: *mut u8, room: usize, length: &mut usize) -> u32;
 }

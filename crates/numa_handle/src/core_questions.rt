@@ -1,0 +1,151 @@
+//! What a handle of a core answers: a copy of the core, its ranges, and their listing.
+ghost use Rattle.std.specs.Prelude.{◌≡◌, ◌≤◌, ◌^◌, Some, None, true, MatchOption, IfSome, List};
+ghost use Rattle.std.specs.Prelude.{IfOk, OnOk, OnErr, is_some, length, slice_get};
+ghost use Rattle.numa_maps.specs.Listing.{AreRangesOf, IsListing, listing_in};
+ghost use Rattle.numa_ranges.specs.Runs.{end_of};
+ghost use Rattle.numa_space.specs.Standing.{StandsFor};
+ghost use Rattle.numa_space.specs.declared.command.Command.{Command};
+ghost use Rattle.numa_handle.specs.Asked.{HasRanges, HasRangeAt, HasListing};
+ghost use Rattle.numa_handle.specs.Kinds.{core_of, is_core};
+ghost use Rattle.numa_handle.specs.Steps.{core_in};
+
+use crate::handles::CoreHandle;
+use crate::kept::Kept;
+use numa_core::Core;
+use numa_maps::{Resident, Watched, write_maps};
+use numa_space::{RangeRecord, Run, Space};
+use std::alloc::{AllocError, Global};
+
+/// A core that is kept.
+fn core_kept(kept: &Kept) -> &Core
+    requires core { is_core (Some kept.now) ≡ true }
+    ensures core { core_of (Some kept.now) ≡ Some result.now }
+{
+    let Kept::Core(core) = kept else {
+        unreachable!()
+    };
+    core
+}
+
+/// A kept core once more.
+fn copy_kept(kept: &Kept, alloc: Global) -> Result<Box<Kept>, AllocError>
+    requires core { is_core (Some kept.now) ≡ true }
+    ensures core { IfOk result (λ other. is_core (Some other.value) ≡ true) }
+    ensures same { IfOk result (λ other.
+        core_of (Some other.value) ≡ core_of (Some kept.now)) }
+{
+    let Ok(other) = core_kept(kept).copy() else {
+        return Err(AllocError);
+    };
+    let other = Box::new(alloc, Kept::Core(other))?;
+    Ok(other)
+}
+
+/// The range at a place, the lowest being at 0.
+fn range_of(space: &Space, place: usize) -> Option<Run<RangeRecord>>
+    ensures range { result ≡ slice_get space.now.ranges place }
+    ensures end { IfSome result (λ range. end_of range ≤ 2 ^ 35) }
+    ensures meaning { (history : List Command) → StandsFor space.now history
+        → AreRangesOf space.now.machine history space.now.ranges }
+{
+    space.range_iter().nth(place).copied()
+}
+
+/// The ranges as a text.
+fn listing_of(
+    alloc: Global,
+    space: &Space,
+    task: u32,
+    placed: &Resident,
+) -> Result<Vec<u8>, AllocError>
+    ensures text { IfOk result (λ text.
+        text.items ≡ listing_in space.now task placed.now) }
+    ensures meaning { (history : List Command) → StandsFor space.now history
+        → IsListing space.now.machine history task placed.now
+        (listing_in space.now task placed.now) }
+{
+    let mut output = Watched::new(Vec::new(alloc));
+    let Ok(()) = write_maps(space, task, placed, &mut output) else {
+        return Err(AllocError);
+    };
+    Ok(output.inner)
+}
+
+impl CoreHandle {
+    /// Keeps a copy of the core in another handle, where that keeps none; None where this keeps
+    /// none. What happens to one of the two leaves the other as it is.
+    ///
+    /// # Errors
+    /// There was no memory for it.
+    pub fn copy(&mut self, alloc: Global, other: &mut CoreHandle) -> Option<Result<(), AllocError>>
+        requires closed { core_in other.old ≡ None }
+        ensures same { core_in self.new ≡ core_in self.old }
+        ensures closed { core_in self.old ≡ None → result ≡ None }
+        ensures open { MatchOption result (core_in self.old ≡ None)
+            (λ answer. is_some (core_in self.old) ≡ true) }
+        ensures copied { MatchOption result (core_in other.new ≡ None) (λ answer.
+            (OnOk answer (core_in other.new ≡ core_in self.old))
+            × (OnErr answer (core_in other.new ≡ None))) }
+    {
+        let kept = self.handle.take(alloc)?;
+        let copied = copy_kept(&kept, alloc);
+        self.handle.put(kept);
+        match copied {
+            Ok(copied) => {
+                other.handle.put(copied);
+                Some(Ok(()))
+            }
+            Err(fault) => Some(Err(fault)),
+        }
+    }
+
+    /// How many ranges of pages there are, by all accepted commands; None where it keeps no core.
+    pub fn ranges(&mut self, alloc: Global) -> Option<usize>
+        ensures same { core_in self.new ≡ core_in self.old }
+        ensures closed { core_in self.old ≡ None → result ≡ None }
+        ensures ranges { MatchOption result (core_in self.old ≡ None)
+            (λ count. HasRanges (core_in self.old) count) }
+    {
+        let kept = self.handle.take(alloc)?;
+        let count = core_kept(&kept).space().ranges();
+        self.handle.put(kept);
+        Some(count)
+    }
+
+    /// The range at a place, the lowest being at 0, or no range; None where it keeps no core. The
+    /// time grows with the place.
+    pub fn range(&mut self, alloc: Global, place: usize) -> Option<Option<Run<RangeRecord>>>
+        ensures same { core_in self.new ≡ core_in self.old }
+        ensures closed { core_in self.old ≡ None → result ≡ None }
+        ensures range { MatchOption result (core_in self.old ≡ None)
+            (λ found. HasRangeAt (core_in self.old) place found) }
+        ensures end { IfSome result (λ found. IfSome found (λ range. end_of range ≤ 2 ^ 35)) }
+    {
+        let kept = self.handle.take(alloc)?;
+        let found = range_of(core_kept(&kept).space(), place);
+        self.handle.put(kept);
+        Some(found)
+    }
+
+    /// The ranges as a text, for a task and with the pages that are placed, as [`write_maps`]
+    /// writes it; None where it keeps no core.
+    ///
+    /// # Errors
+    /// There was no memory for the text.
+    pub fn listing(
+        &mut self,
+        alloc: Global,
+        task: u32,
+        placed: &Resident,
+    ) -> Option<Result<Vec<u8>, AllocError>>
+        ensures same { core_in self.new ≡ core_in self.old }
+        ensures closed { core_in self.old ≡ None → result ≡ None }
+        ensures text { MatchOption result (core_in self.old ≡ None) (λ answer.
+            IfOk answer (λ text. HasListing (core_in self.old) task placed.now text.items)) }
+    {
+        let kept = self.handle.take(alloc)?;
+        let answer = listing_of(alloc, core_kept(&kept).space(), task, placed);
+        self.handle.put(kept);
+        Some(answer)
+    }
+}

@@ -1,0 +1,97 @@
+//! A handle of a script.
+ghost use Rattle.std.specs.Prelude.{◌≡◌, [], Some, None, true, MatchOption, IfSome, OnOk, OnErr};
+ghost use Rattle.std.specs.Prelude.{is_some, is_ok};
+ghost use Rattle.numa_handle.specs.Dialogs.{dialog_in, IsFresh, ServesKept, CopiesKept};
+ghost use Rattle.numa_handle.specs.Kinds.{dialog_of, is_script};
+
+use crate::dialog::{Dialog, LineRefusal};
+use crate::handles::ScriptHandle;
+use crate::kept::Kept;
+use std::alloc::{AllocError, Global};
+
+/// Serves a line of a kept script.
+fn line_kept(kept: &mut Kept, alloc: Global, line: &[u8]) -> Result<usize, LineRefusal>
+    requires script { is_script (Some kept.old) ≡ true }
+    ensures script { is_script (Some kept.new) ≡ true }
+    ensures serves { ServesKept (dialog_of (Some kept.old)) line.now result
+        (dialog_of (Some kept.new)) }
+{
+    match kept {
+        Kept::Script(dialog) => dialog.line(alloc, line),
+        _ => unreachable!(),
+    }
+}
+
+/// Copies the answer of a kept script.
+fn copy_kept(kept: &Kept, room: &mut [u8]) -> Result<usize, usize>
+    requires script { is_script (Some kept.now) ≡ true }
+    ensures copies { CopiesKept (dialog_of (Some kept.now)) result room.old room.new }
+{
+    let Kept::Script(dialog) = kept else {
+        unreachable!()
+    };
+    dialog.copy(room)
+}
+
+impl ScriptHandle {
+    /// Whether it keeps a script.
+    pub fn is_open(&self) -> bool
+        ensures { result ≡ is_some (dialog_in self.now) }
+    {
+        self.handle.is_open()
+    }
+
+    /// Keeps a script before its first line, where it keeps none.
+    ///
+    /// # Errors
+    /// There was no memory for it.
+    pub fn open(&mut self, alloc: Global) -> Result<(), AllocError>
+        requires closed { dialog_in self.old ≡ None }
+        ensures kept { is_some (dialog_in self.new) ≡ is_ok result }
+        ensures fresh { IfSome (dialog_in self.new) IsFresh }
+    {
+        let kept = Box::new(alloc, Kept::Script(Dialog::new(alloc)))?;
+        self.handle.put(kept);
+        Ok(())
+    }
+
+    /// Frees the script, where it keeps one.
+    pub fn close(&mut self, alloc: Global)
+        ensures { dialog_in self.new ≡ None }
+    {
+        drop(self.handle.take(alloc));
+    }
+
+    /// Serves a line, keeps its answer, and tells how long that is; None where it keeps no script.
+    ///
+    /// # Errors
+    /// `NoMemory` where nothing has changed; `AnswerLost` where the line was served and there was
+    /// no memory for its answer: then no answer is kept.
+    pub fn line(&mut self, alloc: Global, line: &[u8]) -> Option<Result<usize, LineRefusal>>
+        ensures closed { dialog_in self.old ≡ None → (result ≡ None)
+            × (dialog_in self.new ≡ None) }
+        ensures serves { MatchOption result (dialog_in self.old ≡ None) (λ answer.
+            ServesKept (dialog_in self.old) line.now answer (dialog_in self.new)) }
+    {
+        let mut kept = self.handle.take(alloc)?;
+        let answer = line_kept(&mut kept, alloc, line);
+        self.handle.put(kept);
+        Some(answer)
+    }
+
+    /// Copies the answer to the last line, and tells how long it is; None where it keeps no script.
+    ///
+    /// # Errors
+    /// How long it is, where it is longer than the room for it.
+    pub fn answer(&mut self, alloc: Global, room: &mut [u8]) -> Option<Result<usize, usize>>
+        ensures same { dialog_in self.new ≡ dialog_in self.old }
+        ensures closed { dialog_in self.old ≡ None → (result ≡ None) × (room.new ≡ room.old) }
+        ensures copies { MatchOption result (dialog_in self.old ≡ None) (λ told.
+            CopiesKept (dialog_in self.old) told room.old room.new) }
+    {
+        let kept = self.handle.take(alloc)?;
+        let told = copy_kept(&kept, room);
+        self.handle.put(kept);
+        Some(told)
+    }
+}

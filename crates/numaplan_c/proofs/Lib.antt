@@ -1,0 +1,3 @@
+pub mod NameLemmas
+mod Placing
+pub mod WordSets

@@ -1,0 +1,40 @@
+-- The names and numbers of refusals are those that a script's answers have.
+use Rattle.std.proofs.Common.{◌≡◌, Some, refl}
+use Rattle.numa_run.specs.Texts.{refusal_name}
+use Rattle.numa_space.specs.declared.refusal.Refusal.{Refusal}
+use Rattle.numa_space.specs.declared.refusal.Refusal.TheVariants as refusal
+use Rattle.numaplan_c.specs.Codes.{refusal_code}
+use Rattle.numaplan_c.specs.Names.{answer_name, refusal_numbered}
+
+pub name-same : (cause : Refusal) → answer_name (refusal_code cause) ≡ refusal_name cause
+unfolding answer_name
+name-same refusal.CommandsSpent = refl
+name-same refusal.Unaligned = refl
+name-same refusal.OutOfSpace = refl
+name-same refusal.EmptyLength = refl
+name-same refusal.BadOffset = refl
+name-same refusal.Overlap = refl
+name-same refusal.Hole = refl
+name-same refusal.NoSuchNode = refl
+name-same refusal.BadWeight = refl
+name-same refusal.NodesNotAllowed = refl
+name-same refusal.NotSupported = refl
+name-same refusal.TooManyTasks = refl
+name-same refusal.TooManyRanges = refl
+name-same refusal.NoMemory = refl
+
+pub numbered-same : (cause : Refusal) → refusal_numbered (refusal_code cause) ≡ Some cause
+numbered-same refusal.CommandsSpent = refl
+numbered-same refusal.Unaligned = refl
+numbered-same refusal.OutOfSpace = refl
+numbered-same refusal.EmptyLength = refl
+numbered-same refusal.BadOffset = refl
+numbered-same refusal.Overlap = refl
+numbered-same refusal.Hole = refl
+numbered-same refusal.NoSuchNode = refl
+numbered-same refusal.BadWeight = refl
+numbered-same refusal.NodesNotAllowed = refl
+numbered-same refusal.NotSupported = refl
+numbered-same refusal.TooManyTasks = refl
+numbered-same refusal.TooManyRanges = refl
+numbered-same refusal.NoMemory = refl

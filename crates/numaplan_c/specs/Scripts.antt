@@ -1,0 +1,22 @@
+-- What an exported call about scripts answers.
+use Rattle.std.specs.Prelude.{◌≡◌, ℕ, Bool, List, Result, Ok, Err}
+use Rattle.line_server.specs.Output.{output_of}
+use Rattle.numa_run.specs.Answers.{start, answer_to, after_bytes}
+use Rattle.numa_handle.specs.declared.dialog.LineRefusal.{LineRefusal}
+use Rattle.numa_handle.specs.declared.dialog.LineRefusal.TheVariants as refused
+
+-- the answers to a whole script, where some of its lines were refused a growth
+abbrev pub AreAnswers : List ℕ → List ℕ → Type 0
+AreAnswers script answers =
+    (growth_refused : ℕ → Bool)
+    × (answers ≡ output_of answer_to after_bytes start growth_refused script)
+
+abbrev pub line_code : Result ℕ LineRefusal → ℕ
+line_code (Ok count) = 0
+line_code (Err refused.NoMemory) = 3
+line_code (Err refused.AnswerLost) = 6
+
+-- how long the answer is is told where there is one
+abbrev pub length_told : Result ℕ LineRefusal → ℕ → ℕ
+length_told (Ok count) old = count
+length_told (Err refusal) old = old

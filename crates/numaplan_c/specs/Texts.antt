@@ -1,0 +1,16 @@
+-- What an exported call that writes a text does.
+use Rattle.std.specs.Prelude.{◌≡◌, ℕ, List, Result, Ok, Err}
+use Rattle.numa_handle.specs.Dialogs.{Copies}
+
+abbrev pub copy_code : Result ℕ ℕ → ℕ
+copy_code (Ok count) = 0
+copy_code (Err count) = 4
+
+abbrev pub length_copied : Result ℕ ℕ → ℕ
+length_copied (Ok count) = count
+length_copied (Err count) = count
+
+-- the text stands in front of the room, or there was no room for it: it is told how long it is
+abbrev pub IsWritten : List ℕ → ℕ → List ℕ → List ℕ → ℕ → Type 0
+IsWritten text code old new count = (told : Result ℕ ℕ) × (code ≡ copy_code told)
+    × (count ≡ length_copied told) × Copies text told old new

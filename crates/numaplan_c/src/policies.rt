@@ -1,0 +1,123 @@
+//! Policy words: the nodes that they have, and how numa_maps shows them.
+ghost use Rattle.std.specs.Prelude.{◌≡◌, MatchResult, Ok};
+ghost use Rattle.numa_mask.specs.Lists.{list_of};
+ghost use Rattle.numa_mask.specs.Words.{number_of};
+ghost use Rattle.numa_mode.specs.Policy.{policy_text};
+ghost use Rattle.numaplan_c.specs.Policies.{record_of, standing, rebound};
+ghost use Rattle.numaplan_c.specs.Texts.{IsWritten};
+
+use crate::codes::{NO_NODE_ALLOWED, NO_POLICY, list_code, refusal_code, word_code};
+use crate::nodes::{NpNodes, words_of};
+use crate::texts::write;
+use numa_mask::{NodeMask, read_list};
+use numa_mode::{PolicySpec, Record};
+use numa_script::policy::read_policy;
+use numa_space::Refusal;
+
+/// The record of a policy that is set where these nodes are allowed.
+fn record_of(spec: PolicySpec, allowed: &NodeMask) -> Result<Record, u32>
+    ensures { result ≡ record_of spec allowed.now }
+{
+    if spec.is_default() {
+        return Err(NO_POLICY);
+    }
+    if allowed.is_empty() {
+        return Err(NO_NODE_ALLOWED);
+    }
+    match Record::set(spec, allowed) {
+        Ok(record) => Ok(record),
+        Err(_) => Err(refusal_code(Refusal::NodesNotAllowed)),
+    }
+}
+
+/// The same of a word and a list of nodes.
+fn standing(policy: &[u8], allowed: &[u8]) -> Result<Record, u32>
+    ensures { result ≡ standing policy.now allowed.now }
+{
+    let spec = match read_policy(policy) {
+        Ok(spec) => spec,
+        Err(fault) => return Err(word_code(fault)),
+    };
+    match read_list(allowed) {
+        Ok(allowed) => record_of(spec, &allowed),
+        Err(fault) => Err(list_code(fault)),
+    }
+}
+
+/// The record once the allowed nodes have changed.
+fn rebound(standing: Record, old: &[u8], new: &[u8]) -> Result<Record, u32>
+    ensures { result ≡ rebound (Ok standing) (list_of old.now) (list_of new.now) }
+{
+    let old = match read_list(old) {
+        Ok(old) => old,
+        Err(fault) => return Err(list_code(fault)),
+    };
+    let new = match read_list(new) {
+        Ok(new) => new,
+        Err(fault) => return Err(list_code(fault)),
+    };
+    if new.is_empty() {
+        return Err(NO_NODE_ALLOWED);
+    }
+    Ok(standing.rebind(&old, &new))
+}
+
+/// The nodes that a policy has once it is set.
+#[unsafe(no_mangle)]
+pub extern "C" fn np_policy_effective(policy: &[u8], allowed: &[u8], nodes: &mut NpNodes) -> u32
+    ensures { MatchResult (standing policy.now allowed.now)
+        (λ r. (result ≡ 0) × (number_of nodes.new.words ≡ r.effective))
+        (λ code. (result ≡ code) × (nodes.new ≡ nodes.old)) }
+{
+    match standing(policy, allowed) {
+        Ok(record) => {
+            nodes.words = words_of(&record.effective());
+            0
+        }
+        Err(code) => code,
+    }
+}
+
+/// The nodes that a policy has once the allowed nodes have changed.
+#[unsafe(no_mangle)]
+pub extern "C" fn np_policy_rebind(
+    policy: &[u8],
+    old: &[u8],
+    new: &[u8],
+    nodes: &mut NpNodes,
+) -> u32
+    ensures { MatchResult
+        (rebound (standing policy.now old.now) (list_of old.now) (list_of new.now))
+        (λ r. (result ≡ 0) × (number_of nodes.new.words ≡ r.effective))
+        (λ code. (result ≡ code) × (nodes.new ≡ nodes.old)) }
+{
+    let record = match standing(policy, old) {
+        Ok(record) => record,
+        Err(code) => return code,
+    };
+    match rebound(record, old, new) {
+        Ok(record) => {
+            nodes.words = words_of(&record.effective());
+            0
+        }
+        Err(code) => code,
+    }
+}
+
+/// A policy as numa_maps shows it once it is set.
+#[unsafe(no_mangle)]
+pub extern "C" fn np_policy_text(
+    policy: &[u8],
+    allowed: &[u8],
+    room: &mut [u8],
+    length: &mut usize,
+) -> u32
+    ensures { MatchResult (standing policy.now allowed.now)
+        (λ r. IsWritten (policy_text r) result room.old room.new length.new)
+        (λ code. (result ≡ code) × (room.new ≡ room.old) × (length.new ≡ length.old)) }
+{
+    match standing(policy, allowed) {
+        Ok(record) => write(record.policy_text().as_str().as_bytes(), room, length),
+        Err(code) => code,
+    }
+}

@@ -1,0 +1,185 @@
+//! Seats at pools of frames.
+ghost use Rattle.std.specs.Prelude.{◌≡◌, ◌≢◌, ℕ, Bool, Some, None, Option, true, is_some};
+ghost use Rattle.std.specs.Prelude.{IfOk, IfErr, IfSome, MatchOption};
+ghost use Rattle.numa_machine.specs.declared.frame.Frame.{Frame};
+ghost use Rattle.numa_mask.specs.Lists.{list_of};
+ghost use Rattle.numa_seat.specs.Seated.{Seated, at_first};
+ghost use Rattle.numa_handle.specs.Seats.{seat_in, Takes, Returns, Splits, Stays, Joins};
+ghost use Rattle.numa_handle.specs.Seats.{AreTogether};
+ghost use Rattle.numaplan_c.specs.Border.{is_done};
+ghost use Rattle.numaplan_c.specs.Pools.{pools_cause, found_code, returned_code, Tells};
+
+use crate::codes::{ALL_TAKEN, CLOSED, NO_MEMORY, NOT_OWNED, OPEN, list_code, machine_code};
+use numa_handle::SeatHandle;
+use numa_machine::{Frame, Machine};
+use numa_mask::read_list;
+use numa_seat::Seat;
+use std::alloc::Global;
+
+/// A frame of a node.
+#[repr(C)]
+#[derive(Clone, Copy)]
+pub struct NpFrame {
+    pub node: u8,
+    pub number: u16,
+}
+
+const _: () = prove!(size_of::<NpFrame>() == 4);
+
+/// The first seat at new pools of the frames of a described machine, or the number of what is wrong
+/// with the description.
+fn make(alloc: Global, memory: &[u8], frames: &[u32], distances: &[u8]) -> Result<Seat, u32>
+    ensures first { IfOk result (λ seat. seat ≡ at_first frames.now seat.seat.table) }
+    ensures cause { IfErr result (λ code. MatchOption (pools_cause (list_of memory.now) frames.now
+        distances.now) (code ≡ 3) (λ first. code ≡ first)) }
+    ensures none { IfOk result (λ seat. pools_cause (list_of memory.now) frames.now
+        distances.now ≡ None) }
+    ensures refused { IfErr result (λ code. code ≢ 0) }
+{
+    let memory = match read_list(memory) {
+        Ok(memory) => memory,
+        Err(fault) => return Err(list_code(fault)),
+    };
+    if frames.len() > 256 {
+        return Err(50);
+    }
+    let nodes = frames.len() as u32;
+    let machine = match Machine::new(alloc, nodes, memory, distances, frames) {
+        Ok(machine) => machine,
+        Err(fault) => return Err(machine_code(fault)),
+    };
+    match Seat::open(alloc, &machine) {
+        Ok(seat) => Ok(seat),
+        Err(_) => Err(NO_MEMORY),
+    }
+}
+
+/// Opens pools of a machine's frames.
+#[unsafe(no_mangle)]
+pub extern "C" fn np_seat_open(
+    alloc: Global,
+    seat: &mut SeatHandle,
+    memory: &[u8],
+    frames: &[u32],
+    distances: &[u8],
+) -> u32
+    ensures opened { result ≡ 0 → is_some (seat_in seat.new) ≡ true }
+    ensures first { seat_in seat.old ≡ None → IfSome (seat_in seat.new) (λ made.
+        made ≡ at_first frames.now made.seat.table) }
+    ensures cause { seat_in seat.old ≡ None → result ≢ 0 →
+        MatchOption (pools_cause (list_of memory.now) frames.now distances.now) (result ≡ 3)
+        (λ first. result ≡ first) }
+    ensures none { result ≡ 0 →
+        pools_cause (list_of memory.now) frames.now distances.now ≡ None }
+    ensures open { is_some (seat_in seat.old) ≡ true → result ≡ 2 }
+    ensures unchanged { result ≢ 0 → seat_in seat.new ≡ seat_in seat.old }
+{
+    if seat.is_open() {
+        return OPEN;
+    }
+    let made = match make(alloc, memory, frames, distances) {
+        Ok(made) => made,
+        Err(code) => return code,
+    };
+    match seat.open(alloc, made) {
+        Ok(()) => 0,
+        Err(_) => NO_MEMORY,
+    }
+}
+
+/// Lets go of a seat.
+#[unsafe(no_mangle)]
+pub extern "C" fn np_seat_close(alloc: Global, seat: &mut SeatHandle)
+    ensures { seat_in seat.new ≡ None }
+{
+    seat.close(alloc)
+}
+
+/// Splits off a seat at the same pools.
+#[unsafe(no_mangle)]
+pub extern "C" fn np_seat_split(alloc: Global, seat: &mut SeatHandle, other: &mut SeatHandle) -> u32
+    ensures split { result ≡ 0 → Splits (seat_in seat.old) (seat_in seat.new) (seat_in other.new)
+        × (is_some (seat_in seat.old) ≡ true) }
+    ensures unchanged { result ≢ 0 → Stays (seat_in seat.old) (seat_in seat.new)
+        × (seat_in other.new ≡ seat_in other.old) }
+    ensures open { is_some (seat_in other.old) ≡ true →
+        (result ≡ 2) × (seat_in seat.new ≡ seat_in seat.old) }
+    ensures closed { seat_in other.old ≡ None → seat_in seat.old ≡ None →
+        (result ≡ 1) × (seat_in seat.new ≡ None) }
+    ensures done { seat_in other.old ≡ None → (kept : Seated) → seat_in seat.old ≡ Some kept →
+        is_done result ≡ true }
+{
+    if other.is_open() {
+        return OPEN;
+    }
+    match seat.split(alloc, other) {
+        None => CLOSED,
+        Some(Ok(())) => 0,
+        Some(Err(_)) => NO_MEMORY,
+    }
+}
+
+/// Takes a frame of the first node of a list that has one.
+#[unsafe(no_mangle)]
+pub extern "C" fn np_seat_take(
+    alloc: Global,
+    seat: &mut SeatHandle,
+    nodes: &[u8],
+    frame: &mut NpFrame,
+    rank: &mut usize,
+) -> u32
+    ensures closed { seat_in seat.old ≡ None → (result ≡ 1) × (seat_in seat.new ≡ None)
+        × (frame.new ≡ frame.old) × (rank.new ≡ rank.old) }
+    ensures takes { (kept : Seated) → seat_in seat.old ≡ Some kept →
+        (found : Option (ℕ × Frame)) × (result ≡ found_code found)
+        × Takes (seat_in seat.old) nodes.now found (seat_in seat.new)
+        × Tells found frame.old frame.new rank.old rank.new }
+{
+    match seat.take(alloc, nodes) {
+        None => CLOSED,
+        Some(None) => ALL_TAKEN,
+        Some(Some(found)) => {
+            *frame = NpFrame {
+                node: found.1.node,
+                number: found.1.number,
+            };
+            *rank = found.0;
+            0
+        }
+    }
+}
+
+/// Gives back a frame.
+#[unsafe(no_mangle)]
+pub extern "C" fn np_seat_give(alloc: Global, seat: &mut SeatHandle, node: u8, number: u16) -> u32
+    ensures closed { seat_in seat.old ≡ None → (result ≡ 1) × (seat_in seat.new ≡ None) }
+    ensures returns { (kept : Seated) → seat_in seat.old ≡ Some kept →
+        (held : Bool) × (result ≡ returned_code held)
+        × Returns (seat_in seat.old) (record { node = node; number = number }) held
+        (seat_in seat.new) }
+{
+    match seat.give(alloc, Frame { node, number }) {
+        None => CLOSED,
+        Some(true) => 0,
+        Some(false) => NOT_OWNED,
+    }
+}
+
+/// Gives the frames of a seat to another one at the same pools.
+#[unsafe(no_mangle)]
+pub extern "C" fn np_seat_join(alloc: Global, seat: &mut SeatHandle, other: &mut SeatHandle) -> u32
+    requires together { AreTogether (seat_in seat.old) (seat_in other.old) }
+    ensures joins { result ≡ 0 → Joins (seat_in seat.old) (seat_in other.old) (seat_in seat.new)
+        × (seat_in other.new ≡ None) }
+    ensures unchanged { result ≢ 0 → (result ≡ 1) × (seat_in seat.new ≡ seat_in seat.old)
+        × (seat_in other.new ≡ seat_in other.old) }
+    ensures seat { seat_in seat.old ≡ None → result ≡ 1 }
+    ensures other { seat_in other.old ≡ None → result ≡ 1 }
+    ensures done { is_some (seat_in seat.old) ≡ true → is_some (seat_in other.old) ≡ true →
+        result ≡ 0 }
+{
+    if seat.join(alloc, other) {
+        return 0;
+    }
+    CLOSED
+}

@@ -1,0 +1,131 @@
+//! Copies of cores, and their ranges of pages.
+ghost use Rattle.std.specs.Prelude.{◌≡◌, ◌≢◌, ◌≤◌, ◌^◌, Some, None, is_some, true, List, ℕ, length};
+ghost use Rattle.std.specs.Prelude.{slice_get};
+ghost use Rattle.numa_core.specs.Standing.{CoreState};
+ghost use Rattle.numa_handle.specs.Asked.{HasRanges};
+ghost use Rattle.numa_handle.specs.Steps.{core_in};
+ghost use Rattle.numa_maps.specs.Listing.{AreRangesOf};
+ghost use Rattle.numa_ranges.specs.Runs.{end_of};
+ghost use Rattle.numa_space.specs.Standing.{StandsFor};
+ghost use Rattle.numa_space.specs.declared.command.Command.{Command};
+ghost use Rattle.numaplan_c.specs.Border.{is_done};
+ghost use Rattle.numaplan_c.specs.Ranges.{TellsRange, own_word, range_span};
+ghost use Rattle.numaplan_c.specs.Texts.{IsWritten};
+
+use crate::codes::{CLOSED, NO_MEMORY, NO_RANGE, OPEN};
+use crate::texts::write;
+use numa_handle::CoreHandle;
+use numa_mode::Record;
+use numa_space::{PAGE_BYTES, RangeRecord, Run};
+use std::alloc::Global;
+
+/// Keeps a copy of a core in another handle.
+#[unsafe(no_mangle)]
+pub extern "C" fn np_core_copy(alloc: Global, core: &mut CoreHandle, copy: &mut CoreHandle) -> u32
+    ensures same { core_in core.new ≡ core_in core.old }
+    ensures copied { result ≡ 0 → (core_in copy.new ≡ core_in core.old)
+        × (is_some (core_in core.old) ≡ true) }
+    ensures unchanged { result ≢ 0 → core_in copy.new ≡ core_in copy.old }
+    ensures open { is_some (core_in copy.old) ≡ true → result ≡ 2 }
+    ensures closed { core_in copy.old ≡ None → core_in core.old ≡ None → result ≡ 1 }
+    ensures done { core_in copy.old ≡ None → (kept : CoreState) → core_in core.old ≡ Some kept →
+        is_done result ≡ true }
+{
+    if copy.is_open() {
+        return OPEN;
+    }
+    match core.copy(alloc, copy) {
+        None => CLOSED,
+        Some(Ok(())) => 0,
+        Some(Err(_)) => NO_MEMORY,
+    }
+}
+
+/// How many ranges of pages there are.
+#[unsafe(no_mangle)]
+pub extern "C" fn np_core_ranges(alloc: Global, core: &mut CoreHandle, count: &mut usize) -> u32
+    ensures same { core_in core.new ≡ core_in core.old }
+    ensures closed { core_in core.old ≡ None → (result ≡ 1) × (count.new ≡ count.old) }
+    ensures told { is_some (core_in core.old) ≡ true → (result ≡ 0)
+        × HasRanges (core_in core.old) count.new }
+{
+    match core.ranges(alloc) {
+        None => CLOSED,
+        Some(found) => {
+            *count = found;
+            0
+        }
+    }
+}
+
+/// A range of pages: its address and length in bytes, and the index of its first page.
+#[repr(C)]
+#[derive(Clone, Copy)]
+pub struct NpRange {
+    pub start: u64,
+    pub length: u64,
+    pub offset: u64,
+}
+
+const _: () = prove!(size_of::<NpRange>() == 24);
+
+/// Tells the policy of a range's own as a word.
+fn tell_word(policy: Option<Record>, room: &mut [u8], length: &mut usize) -> u32
+    ensures { IsWritten (own_word policy) result room.old room.new length.new }
+{
+    match policy {
+        Some(policy) => write(policy.policy_text().as_str().as_bytes(), room, length),
+        None => write(b"", room, length),
+    }
+}
+
+/// Tells a range, and the word of its policy.
+fn tell_range(
+    found: &Run<RangeRecord>,
+    range: &mut NpRange,
+    policy: &mut [u8],
+    length: &mut usize,
+) -> u32
+    requires end { end_of found.now ≤ 2 ^ 35 }
+    ensures word { IsWritten (own_word found.now.value) result policy.old policy.new length.new }
+    ensures told { result ≡ 0 → range.new ≡ range_span found.now }
+    ensures untold { result ≢ 0 → range.new ≡ range.old }
+{
+    let code = tell_word(found.value.policy(), policy, length);
+    if code != 0 {
+        return code;
+    }
+    *range = NpRange {
+        start: found.first * PAGE_BYTES,
+        length: found.pages * PAGE_BYTES,
+        offset: found.index,
+    };
+    0
+}
+
+/// The range at a place, and the policy of its own.
+#[unsafe(no_mangle)]
+pub extern "C" fn np_core_range(
+    alloc: Global,
+    core: &mut CoreHandle,
+    index: usize,
+    range: &mut NpRange,
+    policy: &mut [u8],
+    length: &mut usize,
+) -> u32
+    ensures same { core_in core.new ≡ core_in core.old }
+    ensures closed { core_in core.old ≡ None → (result ≡ 1) × (range.new ≡ range.old)
+        × (policy.new ≡ policy.old) × (length.new ≡ length.old) }
+    ensures told { (kept : CoreState) → core_in core.old ≡ Some kept →
+        TellsRange (slice_get kept.space.ranges index) result range.old range.new
+        policy.old policy.new length.old length.new }
+    ensures meaning { (kept : CoreState) → core_in core.old ≡ Some kept →
+        (history : List Command) → StandsFor kept.space history
+        → AreRangesOf kept.space.machine history kept.space.ranges }
+{
+    match core.range(alloc, index) {
+        None => CLOSED,
+        Some(None) => NO_RANGE,
+        Some(Some(found)) => tell_range(&found, range, policy, length),
+    }
+}

@@ -1,0 +1,140 @@
+//! Scripts: whole ones, and those that are given line by line.
+ghost use Rattle.std.specs.Prelude.{◌≡◌, ◌≢◌, ℕ, Bool, List, None, Some, true, Result};
+ghost use Rattle.std.specs.Prelude.{is_some, IfSome};
+ghost use Rattle.numa_handle.specs.Dialogs.{dialog_in, IsFresh, ServesKept};
+ghost use Rattle.numa_handle.specs.declared.dialog.Dialog.{Dialog};
+ghost use Rattle.numa_handle.specs.declared.dialog.LineRefusal.{LineRefusal};
+ghost use Rattle.numaplan_c.specs.Border.{is_done};
+ghost use Rattle.numaplan_c.specs.Scripts.{AreAnswers, line_code, length_told};
+ghost use Rattle.numaplan_c.specs.Texts.{IsWritten};
+
+use crate::codes::{ANSWER_LOST, CLOSED, NO_MEMORY, OPEN};
+use crate::texts::{copy_code, length_copied, write};
+use line_server::Watched;
+use numa_handle::{LineRefusal, ScriptHandle};
+use numa_run::run;
+use std::alloc::Global;
+
+/// The answers to a whole script, where there is memory for them.
+fn answers_to(alloc: Global, script: &[u8]) -> Option<Vec<u8>>
+    ensures { IfSome result (λ answers. AreAnswers script.now answers.items) }
+{
+    let mut input = Watched::new(script);
+    let mut output = Watched::new(Vec::new(alloc));
+    match run(alloc, &mut input, &mut output) {
+        Ok(()) => Some(output.inner),
+        Err(_) => None,
+    }
+}
+
+/// Answers a whole script.
+#[unsafe(no_mangle)]
+pub extern "C" fn np_script_run(
+    alloc: Global,
+    script: &[u8],
+    room: &mut [u8],
+    length: &mut usize,
+) -> u32
+    ensures answers { result ≢ 3 → (answers : List ℕ) × AreAnswers script.now answers
+        × IsWritten answers result room.old room.new length.new }
+    ensures starved { result ≡ 3 → (room.new ≡ room.old) × (length.new ≡ length.old) }
+{
+    match answers_to(alloc, script) {
+        Some(answers) => write(&answers, room, length),
+        None => NO_MEMORY,
+    }
+}
+
+/// Opens a script before its first line.
+#[unsafe(no_mangle)]
+pub extern "C" fn np_script_open(alloc: Global, script: &mut ScriptHandle) -> u32
+    ensures opened { result ≡ 0 → is_some (dialog_in script.new) ≡ true }
+    ensures fresh { dialog_in script.old ≡ None → IfSome (dialog_in script.new) IsFresh }
+    ensures unchanged { result ≢ 0 → dialog_in script.new ≡ dialog_in script.old }
+    ensures open { is_some (dialog_in script.old) ≡ true → result ≡ 2 }
+    ensures done { dialog_in script.old ≡ None → is_done result ≡ true }
+{
+    if script.is_open() {
+        return OPEN;
+    }
+    match script.open(alloc) {
+        Ok(()) => 0,
+        Err(_) => NO_MEMORY,
+    }
+}
+
+/// Frees a script.
+#[unsafe(no_mangle)]
+pub extern "C" fn np_script_close(alloc: Global, script: &mut ScriptHandle)
+    ensures { dialog_in script.new ≡ None }
+{
+    script.close(alloc)
+}
+
+/// The number of an answer to a line.
+fn line_code(answer: Result<usize, LineRefusal>) -> u32
+    ensures { result ≡ line_code answer }
+{
+    match answer {
+        Ok(_) => 0,
+        Err(LineRefusal::NoMemory) => NO_MEMORY,
+        Err(LineRefusal::AnswerLost) => ANSWER_LOST,
+    }
+}
+
+/// How long the answer to a line is, where there is one.
+fn length_told(answer: Result<usize, LineRefusal>, length: usize) -> usize
+    ensures { result ≡ length_told answer length }
+{
+    match answer {
+        Ok(told) => told,
+        Err(_) => length,
+    }
+}
+
+/// Serves a line, and keeps its answer.
+#[unsafe(no_mangle)]
+pub extern "C" fn np_script_line(
+    alloc: Global,
+    script: &mut ScriptHandle,
+    line: &[u8],
+    length: &mut usize,
+) -> u32
+    ensures closed { dialog_in script.old ≡ None → (result ≡ 1) × (dialog_in script.new ≡ None)
+        × (length.new ≡ length.old) }
+    ensures serves { (kept : Dialog) → dialog_in script.old ≡ Some kept →
+        (answer : Result ℕ LineRefusal) × (result ≡ line_code answer)
+        × ServesKept (dialog_in script.old) line.now answer (dialog_in script.new)
+        × (length.new ≡ length_told answer length.old) }
+{
+    match script.line(alloc, line) {
+        None => CLOSED,
+        Some(answer) => {
+            *length = length_told(answer, *length);
+            line_code(answer)
+        }
+    }
+}
+
+/// Copies the answer to the last line.
+#[unsafe(no_mangle)]
+pub extern "C" fn np_script_answer(
+    alloc: Global,
+    script: &mut ScriptHandle,
+    room: &mut [u8],
+    length: &mut usize,
+) -> u32
+    ensures same { dialog_in script.new ≡ dialog_in script.old }
+    ensures closed { dialog_in script.old ≡ None → (result ≡ 1) × (room.new ≡ room.old)
+        × (length.new ≡ length.old) }
+    ensures copies { (kept : Dialog) → dialog_in script.old ≡ Some kept →
+        IsWritten kept.answer.items result room.old room.new length.new }
+{
+    match script.answer(alloc, room) {
+        None => CLOSED,
+        Some(told) => {
+            *length = length_copied(told);
+            copy_code(told)
+        }
+    }
+}
