@@ -5,6 +5,7 @@ asked of both. The program's path is the first argument. Not proved."""
 import random
 import subprocess
 import sys
+from itertools import zip_longest
 
 import numaplan
 
@@ -98,10 +99,12 @@ def round_of(program, dice):
         for line, found in questions(core, nodes):
             lines.append(line)
             mine.append(found)
+        lines += ["ranges", "maps 1"]
+        mine += [f"ranges {len(core.ranges())}", *core.maps(1).splitlines()]
     run = subprocess.run([program, "run"], input="\n".join(lines) + "\n", text=True, capture_output=True)
     theirs = [told(line) for line in run.stdout.splitlines()]
-    wrong = [each for each in zip(lines, theirs, mine) if each[1] != each[2]]
-    return wrong + ([] if len(theirs) == len(mine) else [("all", len(theirs), len(mine))]), len(mine)
+    asked = zip_longest(lines, theirs, mine, fillvalue="")
+    return [each for each in asked if each[1] != each[2]], len(mine)
 
 
 def main():

@@ -52,10 +52,13 @@ void rattle_dealloc(void *at) {
     } while (0)
 
 /* The round: how many calls were refused; -1 where one answered anything else. */
-static int round_of(np_core *core, np_plan *plan, np_plan *other) {
+static int round_of(np_core *core, np_core *copy, np_plan *plan, np_plan *other, np_seat seats[2]) {
     static const uint32_t frames[2] = {8, 8};
     static const uint8_t distances[4] = {10, 20, 20, 10};
     static const np_limits limits = {65536, 1024, UINT32_MAX};
+    static const np_placement placed = {2, 16, 1, 0, 0, 0};
+    uint8_t text[200];
+    size_t length;
     int count = 0;
     MAKE(np_core_open(core, TEXT("0-1"), frames, 2, distances, 4, &limits, 2));
     MAKE(np_core_map(core, 0x10000, 0x8000, 16));
@@ -63,16 +66,21 @@ static int round_of(np_core *core, np_plan *plan, np_plan *other) {
     MAKE(np_core_publish(core));
     MAKE(np_core_compile(core, plan));
     MAKE(np_plan_share(plan, other));
+    MAKE(np_seat_open(&seats[0], TEXT("0-1"), frames, 2, distances, 4));
+    MAKE(np_seat_split(&seats[0], &seats[1]));
+    MAKE(np_core_copy(core, copy));
+    MAKE(np_core_maps(copy, 1, &placed, 1, text, sizeof text, &length));
     return count;
 }
 
 int main(void) {
     for (long growth = 0;; growth++) {
-        np_core core = {0};
+        np_core core = {0}, copy = {0};
         np_plan plan = {0}, other = {0};
+        np_seat seats[2] = {{0}, {0}};
         static int refused_calls;
         left = growth;
-        int refusals = round_of(&core, &plan, &other);
+        int refusals = round_of(&core, &copy, &plan, &other, seats);
         bool all = left >= 0;
         refused_calls += refusals > 0;
         left = -1;
@@ -80,8 +88,11 @@ int main(void) {
             printf("growth %ld: %d calls were refused\n", growth, refusals);
             return 1;
         }
+        np_seat_close(&seats[1]);
+        np_seat_close(&seats[0]);
         np_plan_close(&other);
         np_plan_close(&plan);
+        np_core_close(&copy);
         np_core_close(&core);
         if (blocks != 0) {
             printf("growth %ld: %ld blocks are held\n", growth, blocks);

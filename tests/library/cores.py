@@ -1,0 +1,52 @@
+#!/usr/bin/env python3
+"""Copies, ranges, listings and the steps of a worker by the Python module: the values of cores.c.
+Not proved."""
+
+import numaplan
+from numaplan import Core, Range
+
+FIRST = [Range(0x10000, 0x1000, 16, None), Range(0x11000, 0x2000, 17, "interleave:0-1"),
+         Range(0x13000, 0x1000, 19, None), Range(0x20000, 0x2000, 32, None)]
+LISTED = """00010000 default
+00011000 interleave:0-1 anon=2 N0=1 N1=1 kernelpagesize_kB=4
+00013000 default
+00020000 default
+"""
+
+
+def is_refused(cause, call, *arguments):
+    """Whether a call raises this cause."""
+    try:
+        call(*arguments)
+    except cause:
+        return True
+    return False
+
+
+with Core([2, 1], [[10, 20], [20, 10]], workers=2) as core:
+    core.map(0x10000, 0x4000)
+    core.map(0x20000, 0x2000)
+    core.mbind(0x11000, 0x2000, "interleave:0-1")
+    assert core.ranges() == FIRST
+    with core.copy() as copy:
+        copy.mbind(0x20000, 0x2000, "bind=static:1")
+        assert copy.ranges() == FIRST[:3] + [Range(0x20000, 0x2000, 32, "bind=static:1")]
+        assert (core.ranges(), core.versions, copy.versions) == (FIRST, (3, 0), (4, 0))
+        # more lines than the first room for a text has
+        for k in range(300):
+            copy.map(0x1000000 + k * 0x2000, 0x1000)
+        assert copy.maps(1).count("\n") == 304
+    core.publish()
+    placed = [core.touch(0, 1, 17, 0), core.touch(1, 1, 18, 0)]
+    assert [(one.node, one.frame) for one in placed] == [(1, 0), (0, 0)]
+    assert core.maps(1, placed) == LISTED
+    assert is_refused(numaplan.PlacedTwice, core.maps, 1, placed + placed)
+    core.begin(0, 1, 16, 0)
+    assert core.try_frame(0, 0, 0) is None
+    core.look(0, 0)
+    assert core.try_frame(0, 0, 1)[4:] == (1, 0)
+    core.begin(0, 1, 16, 0)
+    core.look(0, 0)
+    assert is_refused(numaplan.Exhausted, core.look, 0, 0)
+    assert is_refused(numaplan.NotOwned, core.give, 0, 0, 0)
+    core.give(1, 0, 0)
