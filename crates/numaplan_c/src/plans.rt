@@ -1,5 +1,5 @@
 //! Plans.
-ghost use Rattle.std.specs.Prelude.{◌≡◌, ◌≢◌, Some, None, IfSome, is_some, true, Result, Ok, ℕ};
+ghost use Rattle.std.specs.Prelude.{◌≡◌, ◌≢◌, Some, None, IfSome, is_some, true, Result, Ok, Err, ℕ};
 ghost use Rattle.numa_core.specs.Standing.{CoreState};
 ghost use Rattle.numa_plan.specs.Meaning.{PlanData};
 ghost use Rattle.numaplan_c.specs.Border.{is_done};
@@ -7,6 +7,7 @@ ghost use Rattle.numa_handle.specs.Steps.{core_in, Compiles};
 ghost use Rattle.numa_handle.specs.Plans.{plan_in, Chooses, Fills, Counts};
 ghost use Rattle.numa_handle.specs.declared.plan_handle.ChoiceRefusal.{ChoiceRefusal};
 ghost use Rattle.numa_space.specs.declared.refusal.PlaceRefusal.{PlaceRefusal};
+ghost use Rattle.numaplan_c.specs.Codes.{place_code};
 ghost use Rattle.numaplan_c.specs.Questions.{choice_code, fill_code, AreTold};
 
 use crate::codes::{CLOSED, NO_MEMORY, NO_ROOM, OPEN, place_code};
@@ -190,6 +191,9 @@ pub extern "C" fn np_plan_counts(
     ensures ok { result ≡ 0 → (kept : PlanData) → plan_in plan.old ≡ Some kept →
         Counts (plan_in plan.old) task cpu first pages (Ok counts.new.pages) }
     ensures err { result ≢ 0 → counts.new ≡ counts.old }
+    ensures refused { result ≢ 0 → (kept : PlanData) → plan_in plan.old ≡ Some kept →
+        (cause : PlaceRefusal) × (result ≡ place_code cause)
+        × Counts (plan_in plan.old) task cpu first pages (Err cause) }
 {
     match plan.counts(alloc, task, cpu, first, pages) {
         None => CLOSED,
