@@ -26,7 +26,7 @@ ghost use Rattle.std.specs.List.{sum_by};
 ghost use Rattle.std.specs.Cmp.Rules.{comparing, hashing};
 ghost use Rattle.std.specs.Hash as fed;
 ghost use Rattle.std.proofs.Common.{rules};
-ghost use Rattle.numa_mask.specs.Words.{words_of};
+ghost use Rattle.numa_mask.specs.Words.{words_of, number_of, AreFour};
 ghost use Rattle.numa_mask.specs.NodeSet.{has, members, weight_of, nth_member, ordinal_of};
 ghost use Rattle.numa_mask.specs.NodeSet.{with_node, both, fold_set, onto_set, remap_set};
 
@@ -97,6 +97,22 @@ impl NodeMask {
         ensures { result ≡ 0 }
     {
         NodeMask { words: [0; 4] }
+    }
+
+    /// The set of four words: node n is a member where bit n % 64 of word n / 64 is 1. Each four
+    /// words are a set.
+    pub fn from_words(words: [u64; 4]) -> NodeMask
+        ensures { result ≡ number_of words }
+    {
+        NodeMask { words }
+    }
+
+    /// The four words of the set: bit n % 64 of word n / 64 is 1 where node n is a member.
+    pub fn words(&self) -> [u64; 4]
+        ensures words { number_of result ≡ self.now }
+        ensures four { AreFour result }
+    {
+        self.words
     }
 
     /// Adds a node.
