@@ -286,6 +286,11 @@ uint32_t np_core_give(np_core *core, uint32_t worker, uint8_t node, uint16_t fra
  * keeps one, NP_CLOSED where `core` keeps none, NP_NO_MEMORY. */
 uint32_t np_core_compile(np_core *core, np_plan *plan);
 
+/* Keeps the plan of the published commands of the core, by which its workers place pages: the
+ * newest published version, as np_core_versions tells it. Compiles nothing. NP_OPEN, NP_CLOSED,
+ * NP_NO_MEMORY. */
+uint32_t np_core_plan(np_core *core, np_plan *plan);
+
 /* Keeps the same plan in `other`, for another thread. NP_OPEN, NP_CLOSED, NP_NO_MEMORY. */
 uint32_t np_plan_share(np_plan *plan, np_plan *other);
 

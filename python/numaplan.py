@@ -132,6 +132,7 @@ _SIGNATURES = {
     "core_try": [_HANDLE, _U32, c_uint8, c_uint16, POINTER(_Placement)],
     "core_give": [_HANDLE, _U32, c_uint8, c_uint16],
     "core_compile": [_HANDLE, _HANDLE],
+    "core_plan": [_HANDLE, _HANDLE],
     "plan_share": [_HANDLE, _HANDLE],
     "plan_version": [_HANDLE, POINTER(_U64)],
     "plan_choice": [_HANDLE, _U32, _U64, _U32, *_ROOM],
@@ -478,6 +479,12 @@ class Core(_Owner):
         _call("core_compile", byref(self._handle), byref(plan._handle))
         return plan
 
+    def published_plan(self) -> Plan:
+        """The plan of the published commands, by which workers place pages."""
+        plan = Plan()
+        _call("core_plan", byref(self._handle), byref(plan._handle))
+        return plan
+
 
 class Script(_Owner):
     """A script that is given line by line, in the language of `numaplan run`."""
@@ -488,22 +495,29 @@ class Script(_Owner):
         super().__init__()
         # (kept from line to line: making them anew takes as long as the two calls)
         self._at, self._length = ctypes.pointer(self._handle), c_size_t()
-        self._told, self._room = ctypes.pointer(self._length), ctypes.create_string_buffer(4096)
+        self._told = ctypes.pointer(self._length)
+        self._serve, self._copy = _LIBRARY.np_script_line, _LIBRARY.np_script_answer
+        self._make_room(4096)
         _call("script_open", self._at)
+
+    def _make_room(self, size):
+        """A room for answers of so many bytes."""
+        self._room, self._size = ctypes.create_string_buffer(size), size
+        self._answer = memoryview(self._room)
 
     def line(self, text: str) -> str:
         """Serves a line, and gives its answer, with its line feed; "" for a comment."""
         data = text.encode()
-        code = _LIBRARY.np_script_line(self._at, data, len(data), self._told)
+        code = self._serve(self._at, data, len(data), self._told)
         if code:
             raise CAUSES[code](NAMES[code])
         needed = self._length.value
-        if needed > len(self._room):
-            self._room = ctypes.create_string_buffer(needed)
-        code = _LIBRARY.np_script_answer(self._at, self._room, len(self._room), self._told)
+        if needed > self._size:
+            self._make_room(needed)
+        code = self._copy(self._at, self._room, self._size, self._told)
         if code:
             raise CAUSES[code](NAMES[code])
-        return ctypes.string_at(self._room, needed).decode("utf-8", "surrogateescape")
+        return str(self._answer[:needed], "utf-8", "surrogateescape")
 
     @staticmethod
     def run(text: str) -> str:

@@ -41,6 +41,7 @@ static void closed(void) {
     WANT(a, 7);
     WANT(b, 8);
     WANT(np_core_compile(&core, &plan), NP_CLOSED);
+    WANT(np_core_plan(&core, &plan), NP_CLOSED);
     WANT(np_plan_fill(&plan, 1, 0, 16, nodes, 2), NP_CLOSED);
     WANT(nodes[0], 9);
     WANT(memcmp(&core, &zero, sizeof core) == 0, 1);
@@ -186,11 +187,42 @@ static void plans(void) {
     np_plan_close(&other);
 }
 
+/* The published plan stands while commands are accepted, and is another once they are published. */
+static void published(void) {
+    np_core core = {0};
+    np_plan plan = {0}, next = {0};
+    uint8_t nodes[2] = {9, 9};
+    size_t count = 0;
+    uint64_t version = 9;
+    WANT(open_core(&core), NP_OK);
+    WANT(np_core_map(&core, 0x10000, 0x1000, 16), NP_OK);
+    WANT(np_core_publish(&core), NP_OK);
+    WANT(np_core_mbind(&core, 0x10000, 0x1000, TEXT("bind:1")), NP_OK);
+    WANT(np_core_plan(&core, &plan), NP_OK);
+    WANT(np_core_plan(&core, &plan), NP_OPEN);
+    WANT(np_core_publish(&core), NP_OK);
+    WANT(np_core_plan(&core, &next), NP_OK);
+    np_core_close(&core);
+    WANT(np_plan_version(&plan, &version), NP_OK);
+    WANT(version, 1);
+    WANT(np_plan_choice(&plan, 1, 16, 0, nodes, 2, &count), NP_OK);
+    WANT(count, 2);
+    WANT(nodes[0], 0);
+    WANT(np_plan_version(&next, &version), NP_OK);
+    WANT(version, 2);
+    WANT(np_plan_choice(&next, 1, 16, 0, nodes, 2, &count), NP_OK);
+    WANT(count, 1);
+    WANT(nodes[0], 1);
+    np_plan_close(&plan);
+    np_plan_close(&next);
+}
+
 int main(void) {
     closed();
     machines();
     commands();
     workers();
     plans();
+    published();
     return wrong;
 }

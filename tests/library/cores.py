@@ -37,6 +37,10 @@ with Core([2, 1], [[10, 20], [20, 10]], workers=2) as core:
             copy.map(0x1000000 + k * 0x2000, 0x1000)
         assert copy.maps(1).count("\n") == 304
     core.publish()
+    with core.published_plan() as plan:
+        core.mbind(0x20000, 0x1000, "bind:1")
+        assert (plan.version, plan.choice(1, 32, 0)) == (3, [0, 1])
+    core.mbind(0x20000, 0x1000, "default")
     placed = [core.touch(0, 1, 17, 0), core.touch(1, 1, 18, 0)]
     assert [(one.node, one.frame) for one in placed] == [(1, 0), (0, 0)]
     assert core.maps(1, placed) == LISTED

@@ -34,6 +34,10 @@ fn main() -> Result<(), Refused> {
     }
     assert_eq!(copy.maps(1, &[])?.lines().count(), 304);
     core.publish()?;
+    let mut plan = core.published_plan()?;
+    core.mbind(0x20000, 0x1000, "bind:1")?;
+    assert_eq!((plan.version(), plan.choice(1, 32, 0)?), (3, vec![0, 1]));
+    core.mbind(0x20000, 0x1000, "default")?;
     let placed = [core.touch(0, 1, 17, 0)?, core.touch(1, 1, 18, 0)?];
     assert_eq!(core.maps(1, &placed)?, LISTED);
     assert_eq!(core.maps(1, &[placed[0], placed[0]]), Err(Refused(38)));

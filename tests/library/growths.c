@@ -66,6 +66,8 @@ static int round_of(np_core *core, np_core *copy, np_plan *plan, np_plan *other,
     MAKE(np_core_publish(core));
     MAKE(np_core_compile(core, plan));
     MAKE(np_plan_share(plan, other));
+    np_plan_close(plan);
+    MAKE(np_core_plan(core, plan));
     MAKE(np_seat_open(&seats[0], TEXT("0-1"), frames, 2, distances, 4));
     MAKE(np_seat_split(&seats[0], &seats[1]));
     MAKE(np_core_copy(core, copy));

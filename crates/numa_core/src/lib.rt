@@ -5,7 +5,8 @@
 
 ghost use Rattle.std.specs.Prelude.{◌≡◌, ℕ, ◌≤◌, List, [], ◌∷◌, ◌++◌, IfOk, OnErr};
 ghost use Rattle.numa_space.specs.Standing.{StandsFor};
-ghost use Rattle.numa_core.specs.World.{World, newest_published};
+ghost use Rattle.numa_compile.specs.Standing.{PlanStandsFor};
+ghost use Rattle.numa_core.specs.World.{World, first_commands, newest_published};
 ghost use Rattle.numa_core.specs.Steps.{IsAnswer, world_after};
 ghost use Rattle.numa_core.specs.Executions.{Moment};
 ghost use Rattle.numa_core.specs.Standing.{CoreState, CoreStandsFor, HasPast};
@@ -24,6 +25,7 @@ use crate::state::State;
 use numa_machine::Machine;
 pub use numa_machine::NoMemory;
 pub use numa_machine::frame::{self, Frame};
+use numa_plan::Plan;
 pub use numa_space::event::{self, CoreRefusal, CoreReply, Event};
 pub use numa_space::placement::{self, Placement};
 pub use numa_space::request::{self, Request};
@@ -158,5 +160,15 @@ impl Core {
         ensures past { HasPast self.now }
     {
         self.state.plan.version()
+    }
+
+    /// The plan of the published commands, by which a Begin and a touch find their lists.
+    pub fn plan(&self) -> &Plan
+        ensures plan { result.now ≡ self.now.plan }
+        ensures meaning { (world : World) → CoreStandsFor self.now world →
+            PlanStandsFor self.now.space.machine result.now
+            (first_commands (newest_published world) world.history) }
+    {
+        &self.state.plan
     }
 }

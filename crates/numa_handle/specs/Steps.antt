@@ -1,8 +1,9 @@
 -- What a handle of a core keeps, and what an event does to it.
 use Rattle.std.specs.Prelude.{◌≡◌, ℕ, Option, Some, Result, List, ◌∷◌, ◌++◌, OnErr}
 use Rattle.numa_core.specs.Executions.{Moment}
-use Rattle.numa_core.specs.Standing.{CoreState, LeadsTo, moment_after, setup_of}
+use Rattle.numa_core.specs.Standing.{CoreState, CoreStandsFor, LeadsTo, moment_after, setup_of}
 use Rattle.numa_core.specs.Touching.{IsTouch}
+use Rattle.numa_core.specs.World.{World, first_commands, newest_published}
 use Rattle.numa_compile.specs.Standing.{IsPlanOf, PlanStandsFor}
 use Rattle.numa_plan.specs.Meaning.{PlanData}
 use Rattle.numa_space.specs.Standing.{StandsFor}
@@ -54,6 +55,12 @@ abbrev pub Compiles : Option CoreState → PlanData → Type 0
 Compiles kept plan = (core : CoreState) → kept ≡ Some core → IsPlanOf core.space plan
     × ((history : List Command) → StandsFor core.space history
     → PlanStandsFor core.space.machine plan history)
+
+-- the plan is that of the core's published commands
+abbrev pub Publishes : Option CoreState → PlanData → Type 0
+Publishes kept plan = (core : CoreState) → kept ≡ Some core → (plan ≡ core.plan)
+    × ((world : World) → CoreStandsFor core world → PlanStandsFor core.space.machine plan
+    (first_commands (newest_published world) world.history))
 
 -- so many commands are accepted, and so many of them are published
 abbrev pub HasVersions : Option CoreState → ℕ → ℕ → Type 0

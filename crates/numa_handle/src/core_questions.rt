@@ -7,12 +7,14 @@ ghost use Rattle.numa_space.specs.Standing.{StandsFor};
 ghost use Rattle.numa_space.specs.declared.command.Command.{Command};
 ghost use Rattle.numa_handle.specs.Asked.{HasRanges, HasRangeAt, HasListing};
 ghost use Rattle.numa_handle.specs.Kinds.{core_of, is_core};
-ghost use Rattle.numa_handle.specs.Steps.{core_in};
+ghost use Rattle.numa_handle.specs.Steps.{core_in, Publishes};
 
 use crate::handles::CoreHandle;
 use crate::kept::Kept;
 use numa_core::Core;
+use numa_machine::NoMemory;
 use numa_maps::{Resident, Watched, write_maps};
+use numa_plan::Plan;
 use numa_space::{RangeRecord, Run, Space};
 use std::alloc::{AllocError, Global};
 
@@ -39,6 +41,14 @@ fn copy_kept(kept: &Kept, alloc: Global) -> Result<Box<Kept>, AllocError>
     };
     let other = Box::new(alloc, Kept::Core(other))?;
     Ok(other)
+}
+
+/// The published plan of a kept core once more.
+fn plan_kept(kept: &Kept, alloc: Global) -> Result<Plan, NoMemory>
+    requires core { is_core (Some kept.now) ≡ true }
+    ensures plan { IfOk result (Publishes (core_of (Some kept.now))) }
+{
+    core_kept(kept).plan().copy(alloc)
 }
 
 /// The range at a place, the lowest being at 0.
@@ -97,6 +107,23 @@ impl CoreHandle {
             }
             Err(fault) => Some(Err(fault)),
         }
+    }
+
+    /// The plan of the published commands, once more; None where it keeps no core. It takes no
+    /// compiling: the copy shares the plan's runs and rules.
+    ///
+    /// # Errors
+    /// There was no memory for it.
+    pub fn published_plan(&mut self, alloc: Global) -> Option<Result<Plan, NoMemory>>
+        ensures same { core_in self.new ≡ core_in self.old }
+        ensures closed { core_in self.old ≡ None → result ≡ None }
+        ensures plan { MatchOption result (core_in self.old ≡ None)
+            (λ answer. IfOk answer (Publishes (core_in self.old))) }
+    {
+        let kept = self.handle.take(alloc)?;
+        let answer = plan_kept(&kept, alloc);
+        self.handle.put(kept);
+        Some(answer)
     }
 
     /// How many ranges of pages there are, by all accepted commands; None where it keeps no core.

@@ -3,7 +3,7 @@ ghost use Rattle.std.specs.Prelude.{◌≡◌, ◌≢◌, Some, None, IfSome, is
 ghost use Rattle.numa_core.specs.Standing.{CoreState};
 ghost use Rattle.numa_plan.specs.Meaning.{PlanData};
 ghost use Rattle.numaplan_c.specs.Border.{is_done};
-ghost use Rattle.numa_handle.specs.Steps.{core_in, Compiles};
+ghost use Rattle.numa_handle.specs.Steps.{core_in, Compiles, Publishes};
 ghost use Rattle.numa_handle.specs.Plans.{plan_in, Chooses, Fills, Counts};
 ghost use Rattle.numa_handle.specs.declared.plan_handle.ChoiceRefusal.{ChoiceRefusal};
 ghost use Rattle.numa_space.specs.declared.refusal.PlaceRefusal.{PlaceRefusal};
@@ -12,8 +12,30 @@ ghost use Rattle.numaplan_c.specs.Questions.{choice_code, fill_code, AreTold};
 
 use crate::codes::{CLOSED, NO_MEMORY, NO_ROOM, OPEN, place_code};
 use numa_handle::{ChoiceRefusal, CoreHandle, PlanHandle};
+use numa_machine::NoMemory;
+use numa_plan::Plan;
 use numa_space::PlaceRefusal;
 use std::alloc::Global;
+
+/// Keeps a plan that was made of a core, where there is one.
+fn keep(alloc: Global, made: Option<Result<Plan, NoMemory>>, plan: &mut PlanHandle) -> u32
+    requires closed { plan_in plan.old ≡ None }
+    ensures opened { result ≡ 0 → is_some (plan_in plan.new) ≡ true }
+    ensures kept { IfSome (plan_in plan.new) (λ kept. made ≡ Some (Ok kept)) }
+    ensures unchanged { result ≢ 0 → plan_in plan.new ≡ None }
+    ensures closed { made ≡ None → result ≡ 1 }
+    ensures done { is_some made ≡ true → is_done result ≡ true }
+{
+    let made = match made {
+        None => return CLOSED,
+        Some(Err(_)) => return NO_MEMORY,
+        Some(Ok(made)) => made,
+    };
+    match plan.open(alloc, made) {
+        Ok(()) => 0,
+        Err(_) => NO_MEMORY,
+    }
+}
 
 /// Compiles the accepted commands of a core.
 #[unsafe(no_mangle)]
@@ -35,15 +57,28 @@ pub extern "C" fn np_core_compile(
     if plan.is_open() {
         return OPEN;
     }
-    let made = match core.compile(alloc) {
-        None => return CLOSED,
-        Some(Err(_)) => return NO_MEMORY,
-        Some(Ok(made)) => made,
-    };
-    match plan.open(alloc, made) {
-        Ok(()) => 0,
-        Err(_) => NO_MEMORY,
+    let made = core.compile(alloc);
+    keep(alloc, made, plan)
+}
+
+/// Keeps the plan of the published commands of a core.
+#[unsafe(no_mangle)]
+pub extern "C" fn np_core_plan(alloc: Global, core: &mut CoreHandle, plan: &mut PlanHandle) -> u32
+    ensures same { core_in core.new ≡ core_in core.old }
+    ensures opened { result ≡ 0 → is_some (plan_in plan.new) ≡ true }
+    ensures published { plan_in plan.old ≡ None →
+        IfSome (plan_in plan.new) (Publishes (core_in core.old)) }
+    ensures unchanged { result ≢ 0 → plan_in plan.new ≡ plan_in plan.old }
+    ensures open { is_some (plan_in plan.old) ≡ true → result ≡ 2 }
+    ensures closed { plan_in plan.old ≡ None → core_in core.old ≡ None → result ≡ 1 }
+    ensures done { plan_in plan.old ≡ None → (kept : CoreState) → core_in core.old ≡ Some kept →
+        is_done result ≡ true }
+{
+    if plan.is_open() {
+        return OPEN;
     }
+    let made = core.published_plan(alloc);
+    keep(alloc, made, plan)
 }
 
 /// Keeps a plan in another handle too.

@@ -7,7 +7,7 @@ ghost use Rattle.numaplan_c.specs.Policies.{record_of, standing, rebound};
 ghost use Rattle.numaplan_c.specs.Texts.{IsWritten};
 
 use crate::codes::{NO_NODE_ALLOWED, NO_POLICY, list_code, refusal_code, word_code};
-use crate::nodes::{NpNodes, words_of};
+use crate::nodes::NpNodes;
 use crate::texts::write;
 use numa_mask::{NodeMask, read_list};
 use numa_mode::{PolicySpec, Record};
@@ -71,7 +71,7 @@ pub extern "C" fn np_policy_effective(policy: &[u8], allowed: &[u8], nodes: &mut
 {
     match standing(policy, allowed) {
         Ok(record) => {
-            nodes.words = words_of(&record.effective());
+            nodes.words = record.effective().words();
             0
         }
         Err(code) => code,
@@ -97,7 +97,7 @@ pub extern "C" fn np_policy_rebind(
     };
     match rebound(record, old, new) {
         Ok(record) => {
-            nodes.words = words_of(&record.effective());
+            nodes.words = record.effective().words();
             0
         }
         Err(code) => code,

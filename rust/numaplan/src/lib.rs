@@ -72,6 +72,20 @@ fn text_of(bytes: &[u8]) -> String {
     String::from_utf8_lossy(bytes).into_owned()
 }
 
+/// What a call writes into a room of bytes: at first of this size, then of the size that it needs.
+fn written(
+    room: usize,
+    mut call: impl FnMut(&mut [u8], &mut usize) -> u32,
+) -> Result<String, Refused> {
+    let (mut text, mut length) = (vec![0; room], 0);
+    loop {
+        match done(call(&mut text, &mut length)) {
+            Err(Refused::NO_ROOM) => text.resize(length, 0),
+            answer => return answer.map(|()| text_of(&text[..length])),
+        }
+    }
+}
+
 /// A core: commands, published versions, and workers that look for frames.
 pub struct Core(Handle);
 
@@ -229,24 +243,17 @@ impl Core {
     /// The ranges as /proc/PID/numa_maps shows them, with the policy by which a fault of this task is
     /// served, and with the pages of these placements.
     pub fn maps(&mut self, task: u32, placements: &[Placement]) -> Result<String, Refused> {
-        let (mut text, mut length) = (vec![0; 4096], 0);
-        loop {
-            let answer = done(unsafe {
-                raw::np_core_maps(
-                    &mut self.0,
-                    task,
-                    placements.as_ptr(),
-                    placements.len(),
-                    text.as_mut_ptr(),
-                    text.len(),
-                    &mut length,
-                )
-            });
-            match answer {
-                Err(Refused::NO_ROOM) => text.resize(length, 0),
-                answer => return answer.map(|()| text_of(&text[..length])),
-            }
-        }
+        written(4_096, |text, length| unsafe {
+            raw::np_core_maps(
+                &mut self.0,
+                task,
+                placements.as_ptr(),
+                placements.len(),
+                text.as_mut_ptr(),
+                text.len(),
+                length,
+            )
+        })
     }
 
     /// A worker places a page that a task touched on the node `cpu`.
@@ -296,6 +303,13 @@ impl Core {
     pub fn compile(&mut self) -> Result<Plan, Refused> {
         let mut plan = Plan(Handle::closed());
         done(unsafe { raw::np_core_compile(&mut self.0, &mut plan.0) })?;
+        Ok(plan)
+    }
+
+    /// The plan of the published commands, by which workers place pages.
+    pub fn published_plan(&mut self) -> Result<Plan, Refused> {
+        let mut plan = Plan(Handle::closed());
+        done(unsafe { raw::np_core_plan(&mut self.0, &mut plan.0) })?;
         Ok(plan)
     }
 }
@@ -439,6 +453,19 @@ impl Script {
         Ok(script)
     }
 
+    /// The answers to a whole script, as `numaplan run` prints them.
+    pub fn run(script: &str) -> Result<String, Refused> {
+        written(65_536, |answers, length| unsafe {
+            raw::np_script_run(
+                script.as_ptr(),
+                script.len(),
+                answers.as_mut_ptr(),
+                answers.len(),
+                length,
+            )
+        })
+    }
+
     /// Serves a line, which comes without its line feed, and gives its answer, which has one. What is
     /// faulty or refused is told in the answer.
     pub fn line(&mut self, line: &str) -> Result<Vec<u8>, Refused> {
@@ -486,4 +513,47 @@ pub fn effective(policy: &str, allowed: &str) -> Result<Vec<u8>, Refused> {
         )
     })?;
     Ok(members(&nodes))
+}
+
+/// Nodes as a list: 0, 1, 2 and 5 are "0-2,5".
+pub fn nodes_text(numbers: &[u8]) -> Result<String, Refused> {
+    let mut nodes = Nodes { words: [0; 4] };
+    for &node in numbers {
+        nodes.words[usize::from(node) / 64] |= 1 << (node % 64);
+    }
+    written(1_024, |text, length| unsafe {
+        raw::np_nodes_write(&nodes, text.as_mut_ptr(), text.len(), length)
+    })
+}
+
+/// The nodes that a policy has once the allowed nodes have changed from `old` to `new`.
+pub fn rebind(policy: &str, old: &str, new: &str) -> Result<Vec<u8>, Refused> {
+    let mut nodes = Nodes { words: [0; 4] };
+    done(unsafe {
+        raw::np_policy_rebind(
+            policy.as_ptr(),
+            policy.len(),
+            old.as_ptr(),
+            old.len(),
+            new.as_ptr(),
+            new.len(),
+            &mut nodes,
+        )
+    })?;
+    Ok(members(&nodes))
+}
+
+/// A policy as numa_maps shows it once it is set where these nodes are allowed.
+pub fn policy_text(policy: &str, allowed: &str) -> Result<String, Refused> {
+    written(1_024, |text, length| unsafe {
+        raw::np_policy_text(
+            policy.as_ptr(),
+            policy.len(),
+            allowed.as_ptr(),
+            allowed.len(),
+            text.as_mut_ptr(),
+            text.len(),
+            length,
+        )
+    })
 }

@@ -94,6 +94,7 @@ extern "C" {
     pub(crate) fn np_core_try(core: &mut Handle, worker: u32, node: u8, frame: u16, placed: &mut Placement) -> u32;
     pub(crate) fn np_core_give(core: &mut Handle, worker: u32, node: u8, frame: u16) -> u32;
     pub(crate) fn np_core_compile(core: &mut Handle, plan: &mut Handle) -> u32;
+    pub(crate) fn np_core_plan(core: &mut Handle, plan: &mut Handle) -> u32;
     pub(crate) fn np_plan_share(plan: &mut Handle, other: &mut Handle) -> u32;
     pub(crate) fn np_plan_close(plan: &mut Handle);
     pub(crate) fn np_plan_version(plan: &mut Handle, version: &mut u64) -> u32;
@@ -107,7 +108,11 @@ extern "C" {
     pub(crate) fn np_seat_join(seat: &mut Handle, other: &mut Handle) -> u32;
     pub(crate) fn np_seat_close(seat: &mut Handle);
     pub(crate) fn np_nodes_read(text: *const u8, length: usize, nodes: &mut Nodes) -> u32;
+    pub(crate) fn np_nodes_write(nodes: &Nodes, text: *mut u8, room: usize, length: &mut usize) -> u32;
     pub(crate) fn np_policy_effective(policy: *const u8, policy_length: usize, allowed: *const u8, allowed_length: usize, nodes: &mut Nodes) -> u32;
+    pub(crate) fn np_policy_rebind(policy: *const u8, policy_length: usize, old: *const u8, old_length: usize, new: *const u8, new_length: usize, nodes: &mut Nodes) -> u32;
+    pub(crate) fn np_policy_text(policy: *const u8, policy_length: usize, allowed: *const u8, allowed_length: usize, text: *mut u8, room: usize, length: &mut usize) -> u32;
+    pub(crate) fn np_script_run(script: *const u8, length: usize, answers: *mut u8, room: usize, written: &mut usize) -> u32;
     pub(crate) fn np_script_open(script: &mut Handle) -> u32;
     pub(crate) fn np_script_close(script: &mut Handle);
     pub(crate) fn np_script_line(script: &mut Handle, line: *const u8, length: usize, needed: &mut usize) -> u32;
