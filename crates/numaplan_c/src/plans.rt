@@ -1,5 +1,6 @@
 //! Plans.
-ghost use Rattle.std.specs.Prelude.{◌≡◌, ◌≢◌, Some, None, IfSome, is_some, true, Result, Ok, Err, ℕ};
+ghost use Rattle.std.specs.Prelude.{◌≡◌, ◌≢◌, Some, None, IfSome, is_some, true, Result, Ok, Err};
+ghost use Rattle.std.specs.Prelude.{ℕ};
 ghost use Rattle.numa_core.specs.Standing.{CoreState};
 ghost use Rattle.numa_plan.specs.Meaning.{PlanData};
 ghost use Rattle.numaplan_c.specs.Border.{is_done};
