@@ -503,7 +503,6 @@ class Script(_Owner):
     def _make_room(self, size):
         """A room for answers of so many bytes."""
         self._room, self._size = ctypes.create_string_buffer(size), size
-        self._answer = memoryview(self._room)
 
     def line(self, text: str) -> str:
         """Serves a line, and gives its answer, with its line feed; "" for a comment."""
@@ -517,7 +516,7 @@ class Script(_Owner):
         code = self._copy(self._at, self._room, self._size, self._told)
         if code:
             raise CAUSES[code](NAMES[code])
-        return str(self._answer[:needed], "utf-8", "surrogateescape")
+        return self._room[:needed].decode("utf-8", "surrogateescape")
 
     @staticmethod
     def run(text: str) -> str:
