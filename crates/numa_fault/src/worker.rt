@@ -91,7 +91,8 @@ impl FaultWorker {
             unreachable!()
         };
         let (reader, answer) = fault_by(reader, pools, &mut self.seat, request);
-        self.reader = Some(reader);
+        // (what it replaces is `None`: forgotten, it isn't looked at for something to drop)
+        mem::forget(self.reader.replace(reader));
         answer
     }
 
