@@ -15,14 +15,14 @@ not-true true h = cc
 not-true false h = refl
 
 -- a page that is in a run's pages is among them
-inside : (first pages page : ℕ) → in_pages first pages page ≡ true → (first ≤ page) × (page < first + pages)
+pub inside : (first pages page : ℕ) → in_pages first pages page ≡ true → (first ≤ page) × (page < first + pages)
 inside first pages page h =
     let both = and_split (nat_le first page) (nat_lt page (first + pages)) h in
     (leb-true first page both.0, ltb-true page (first + pages) both.1)
 
 module _ {T : Type 0} where
   -- where a page is mapped, a run of the list has it
-  found : (runs : List (Run T)) (page : ℕ) (p : ℕ × T) (d : Run T) → page_at runs page ≡ Some p → (k : ℕ) × (k < length runs) × (in_pages (get_or runs k d).first (get_or runs k d).pages page ≡ true)
+  pub found : (runs : List (Run T)) (page : ℕ) (p : ℕ × T) (d : Run T) → page_at runs page ≡ Some p → (k : ℕ) × (k < length runs) × (in_pages (get_or runs k d).first (get_or runs k d).pages page ≡ true)
   found [] page p d h = cc
   found (run ∷ runs) page p d h =
       elim (cases_Bool (in_pages run.first run.pages page)) [
@@ -38,7 +38,7 @@ module _ {T : Type 0} (same : T → T → Bool) (exact : (a b : T) → same a b 
   stops-none None = refl
   stops-none (Some p) = refl
 
-  stops-start : (at : ℕ → Option (ℕ × T)) (page : ℕ) → 0 < page → is_start same at page ≡ true → goes_on same (at (page - 1)) (at page) ≡ false
+  pub stops-start : (at : ℕ → Option (ℕ × T)) (page : ℕ) → 0 < page → is_start same at page ≡ true → goes_on same (at (page - 1)) (at page) ≡ false
   stops-start at zero some h = absurd (omega arith)
   stops-start at (suc page) some h =
       let before : suc page - 1 ≡ page = omega arith in
@@ -57,7 +57,7 @@ module _ {T : Type 0} (same : T → T → Bool) (exact : (a b : T) → same a b 
         | inr beside ↦ stops-start (page_at all) (end_of run) (omega arith) (starts same exact itself run next runs (end_of run) (omega (arith, apart.0)) some apart.1 apart.0 apart.3 first)
       ]
 
-  range-head : (from : ℕ) (run : Run T) (runs : List (Run T)) → AreApart from (run ∷ runs) → AreMaximal (run ∷ runs) → IsRange same (page_at (run ∷ runs)) run
+  pub range-head : (from : ℕ) (run : Run T) (runs : List (Run T)) → AreApart from (run ∷ runs) → AreMaximal (run ∷ runs) → IsRange same (page_at (run ∷ runs)) run
   range-head from run runs apart maximal = record {
     some = apart.1;
     pages = λ page low high. rw (in_pages-true run.first run.pages page low high) refl;
@@ -93,7 +93,7 @@ module _ {T : Type 0} (same : T → T → Bool) (exact : (a b : T) → same a b 
       range-behind run (next ∷ runs) range (omega arith) (start-behind same exact itself run (next ∷ runs) range.first ahead ∙ inner.begins) inner
 
   -- inside a range each page goes on where the one before it stands
-  goes-inside : (at : ℕ → Option (ℕ × T)) (run : Run T) (page : ℕ) → IsRange same at run → run.first ≤ page → page + 1 < end_of run → goes_on same (at page) (at (page + 1)) ≡ true
+  pub goes-inside : (at : ℕ → Option (ℕ × T)) (run : Run T) (page : ℕ) → IsRange same at run → run.first ≤ page → page + 1 < end_of run → goes_on same (at page) (at (page + 1)) ≡ true
   goes-inside at run page is low high =
       let here = is.pages page low (omega arith) in
       let next = is.pages (page + 1) (omega arith) high in

@@ -1,12 +1,17 @@
 pub mod Apart
+pub mod Beside
+pub mod Changed
 pub mod Counted
 pub mod Cut
+pub mod Fewer
+pub mod Found
 pub mod Gather
 pub mod InPlace
 pub mod Insert
 pub mod Joined
 pub mod Laws
 pub mod Pages
+pub mod Moves
 pub mod Placed
 pub mod Spans
 pub mod Walked

@@ -4,3 +4,4 @@ pub mod Gathered
 pub mod Maps
 pub mod Ranges
 pub mod Runs
+pub mod Windows

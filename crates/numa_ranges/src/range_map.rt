@@ -1,7 +1,7 @@
 //! The map from pages to an index and a value.
 ghost use Rattle.std.specs.Prelude.{true, ◌↔◌, Contains, IfOk, OnOk, OnErr, IfErr, MatchOption};
 ghost use Rattle.std.specs.Prelude.{◌≡◌, ◌+◌, ◌-◌, ◌<◌, ◌≤◌, ◌^◌, ℕ, Option, List, length, [], not};
-ghost use Rattle.std.specs.Prelude.{is_some, IsSomeAnd, IfNone, IfSome, OnSome, false};
+ghost use Rattle.std.specs.Prelude.{is_some, IsSomeAnd, IfNone, IfSome, OnSome, false, slice_get};
 ghost use Rattle.std.specs.List.{splice, slice_range};
 ghost use Rattle.std.specs.Fn.{FnReturnsAt};
 ghost use Rattle.numa_ranges.specs.Runs.{end_of, page_at, AreApart, AreMaximal};
@@ -107,6 +107,17 @@ impl<T: Exact> RangeMap<T> {
             → others ≡ self.now.runs }
     {
         self.runs.iter()
+    }
+
+    /// The range at a place, where the ranges stand in the order of their first pages and are
+    /// counted from 0: the k-th that `iter` lends. None from `len` on.
+    pub fn range_at(&self, place: usize) -> Option<Run<T>>
+        ensures range { result ≡ slice_get self.now.runs place }
+    {
+        if place >= self.runs.len() {
+            return None;
+        }
+        Some(*self.runs.get(place))
     }
 
     /// The index and the value of a page, where it is mapped. The search is binary.

@@ -1,13 +1,13 @@
 -- The space after a command, and what a caller learns from an answer.
-use Rattle.std.proofs.Common.{◌≡◌, ℕ, List, [], ◌∷◌, length, Option, Some, None, Result, Ok, Err, MatchOption, MatchResult, OnOk, OnErr, IfErr, sym, ap, ◌∙◌, arith}
+use Rattle.std.proofs.Common.{◌≡◌, ℕ, List, [], ◌∷◌, length, Option, Some, None, Result, Ok, Err, MatchOption, MatchResult, OnOk, OnErr, IfErr, ◌≤◌, refl, sym, ap, ◌∙◌, arith}
 use Rattle.numa_machine.specs.Machine.{Hardware}
 use Rattle.numa_machine.specs.Weights.{weight_at}
-use Rattle.numa_ranges.specs.Runs.{page_at}
+use Rattle.numa_ranges.specs.Runs.{page_at, AreApart, AreMaximal}
 use Rattle.numa_space.specs.Policies.{allowed_nodes, task_record, node_weight}
 use Rattle.numa_space.specs.Pages.{page_in}
 use Rattle.numa_space.specs.Refusals.{refusal_in, refusal_of}
 use Rattle.numa_space.specs.Standing.{SpaceState, StandsFor, record_of}
-use Rattle.numa_space.specs.Steps.{allowed_next, pages_next, task_next, task_count_next, weight_next, IsNext, scene_in, IsAnswer}
+use Rattle.numa_space.specs.Steps.{allowed_next, pages_next, task_next, task_count_next, weight_next, IsNext, scene_in, IsAnswer, IsStep}
 use Rattle.numa_space.specs.declared.command.Command.{Command}
 use Rattle.numa_space.specs.declared.refusal.Refusal.{Refusal}
 use Rattle.numa_space.specs.declared.refusal.Refusal.TheVariants.{NoMemory}
@@ -88,3 +88,13 @@ answer-kept old new command result answer = go (refusal_in (scene_in old command
     go None (Ok u) h = (h.machine, h.bounds)
     go None (Err r) h = (ap (λ s. s.machine) h.1, ap (λ s. s.bounds) h.1)
     go (Some r) result h = (ap (λ s. s.machine) h.1, ap (λ s. s.bounds) h.1)
+
+-- an accepted command is a step
+pub answer-step : (old new : SpaceState) (command : Command) (result : Result (Unit {0}) Refusal) → AreApart 0 old.ranges → AreMaximal old.ranges → length old.ranges ≤ 65536 → length old.tasks ≤ 1024 → IsAnswer old command result new → OnOk result (IsStep old command new)
+answer-step old new command result rising maximal few_ranges few_tasks answer = go (refusal_in (scene_in old command) command) refl result answer
+  where
+    go : (o : Option Refusal) → refusal_in (scene_in old command) command ≡ o → (result : Result (Unit {0}) Refusal) → AnswersBy o old command result new → OnOk result (IsStep old command new)
+    go None e (Ok u) h = record { accepted = e; next = h; rising = rising; maximal = maximal; few_ranges = few_ranges; few_tasks = few_tasks }
+    go None e (Err r) h = tt
+    go (Some r) e (Ok u) h = let odd : ◌≡◌ {A = Result (Unit {0}) Refusal} (Ok u) (Err r) = h.0 in absurd (cc)
+    go (Some r) e (Err s) h = tt

@@ -1,5 +1,6 @@
 pub mod Editing
 pub mod Moved
+pub mod Moving
 pub mod SameTest
 pub mod Homes
 pub mod Rows

@@ -11,4 +11,5 @@ pub mod Refusals
 pub mod Edits
 pub mod Standing
 pub mod Steps
+pub mod Spans
 pub mod Inside

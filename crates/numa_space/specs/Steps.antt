@@ -1,14 +1,14 @@
 -- What one command makes of what a space shows.
 use Rattle.std.specs.Prelude.{◌≡◌, ◌≢◌, ℕ, false, ◌+◌, ◌-◌, ◌==◌, is_some, Option, Some, None}
 use Rattle.std.specs.Prelude.{Result, Err, MatchOption, MatchResult, List, length, slice_get, take}
-use Rattle.std.specs.Prelude.{if◌then◌else◌}
+use Rattle.std.specs.Prelude.{if◌then◌else◌, ◌≤◌}
 use Rattle.std.specs.Option.{option_map}
 use Rattle.numa_mask.specs.NodeSet.{both}
 use Rattle.numa_machine.specs.Machine.{Hardware}
 use Rattle.numa_machine.specs.Weights.{weight_at}
 use Rattle.numa_mode.specs.Policy.{Specification, PolicyRecord, is_default, takes_home, with_home}
 use Rattle.numa_mode.specs.Policy.{record_when_set, record_after}
-use Rattle.numa_ranges.specs.Runs.{page_at}
+use Rattle.numa_ranges.specs.Runs.{page_at, AreApart, AreMaximal}
 use Rattle.numa_ranges.specs.Maps.{with_span, without_span, changed_page, changed_span}
 use Rattle.numa_space.specs.Limited.{Bounds}
 use Rattle.numa_space.specs.declared.command.Command.{Command}
@@ -120,3 +120,12 @@ IsAnswer old command result new =
     (MatchResult result (λ _. IsNext old command new)
     (λ refusal. (refusal ≡ NoMemory) × (new ≡ old)))
     (λ refusal. (result ≡ Err refusal) × (new ≡ old))
+
+-- one accepted command: what stood before it, and what it made of that
+pub record IsStep (old : SpaceState) (command : Command) (new : SpaceState) : Type 0 where
+  pub accepted : refusal_in (scene_in old command) command ≡ None
+  pub next : IsNext old command new
+  pub rising : AreApart 0 old.ranges
+  pub maximal : AreMaximal old.ranges
+  pub few_ranges : length old.ranges ≤ 65536
+  pub few_tasks : length old.tasks ≤ 1024

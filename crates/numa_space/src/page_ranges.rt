@@ -1,6 +1,7 @@
 //! The pages of a space: a map that splits and joins, with refusals as a space gives them.
 ghost use Rattle.std.specs.Prelude.{◌≡◌, ◌≢◌, ◌+◌, ◌<◌, ◌≤◌, ◌^◌, ℕ, Some, None, Option, Ok, Err};
 ghost use Rattle.std.specs.Prelude.{IfOk, MatchResult, is_some, not, [], length, Contains, ◌↔◌};
+ghost use Rattle.std.specs.Prelude.{slice_get};
 ghost use Rattle.numa_mode.specs.Policy.{PolicyRecord};
 ghost use Rattle.numa_ranges.specs.Runs.{AreApart, AreMaximal, page_at};
 ghost use Rattle.numa_ranges.specs.declared.run.Run.{Run};
@@ -73,6 +74,13 @@ impl Pages {
             ↔ IsRange same_record (page_at self.now.runs) run }
     {
         self.map.iter()
+    }
+
+    /// The range at a place, by rising first pages; None from `len` on.
+    pub(crate) fn range_at(&self, place: usize) -> Option<Run<RangeRecord>>
+        ensures { result ≡ slice_get self.now.runs place }
+    {
+        self.map.range_at(place)
     }
 
     /// The index of a page and its range's policy, where it is mapped.

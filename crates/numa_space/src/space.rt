@@ -15,7 +15,7 @@ ghost use Rattle.numa_space.specs.Refusals.{refusal_of, range_count_of};
 ghost use Rattle.numa_space.specs.Same.{same_record};
 ghost use Rattle.numa_space.specs.Standing.{HasHistory, IsSound, SpaceState, StandsFor};
 ghost use Rattle.numa_space.specs.Standing.{accepted_of, record_of};
-ghost use Rattle.numa_space.specs.Steps.{IsAnswer, MayNeedRoom, MayStopAt};
+ghost use Rattle.numa_space.specs.Steps.{IsAnswer, IsStep, MayNeedRoom, MayStopAt};
 
 use crate::command::Command;
 use crate::limits::Limits;
@@ -119,9 +119,14 @@ impl Space {
         ensures unchanged { OnErr result (self.new ≡ self.old) }
         ensures room { IfErr result (λ refusal. refusal ≡ Refusal.NoMemory
             → MayNeedRoom command.now) }
+        ensures step { OnOk result (IsStep self.old command.now self.new) }
         ensures machine { self.new.machine ≡ self.old.machine }
         ensures bounds { self.new.bounds ≡ self.old.bounds }
     {
+        // Tell the proof how the ranges stand, and how many ranges and tasks there may be.
+        let _ = self.range_iter();
+        let _ = self.ranges();
+        let _ = self.task_count();
         self.answer(command)
     }
 
@@ -217,6 +222,18 @@ impl Space {
         self.pages.iter()
     }
 
+    /// The range at a place, where the ranges stand in the order of their first pages and are
+    /// counted from 0: the k-th that `range_iter` lends. None from `ranges` on.
+    pub fn range_at(&self, place: usize) -> Option<Run<RangeRecord>>
+        ensures range { result ≡ slice_get self.now.ranges place }
+        ensures rising { AreApart 0 self.now.ranges }
+        ensures maximal { AreMaximal self.now.ranges }
+    {
+        // Tells the proof that the ranges rise and are maximal.
+        let _ = self.pages.iter();
+        self.pages.range_at(place)
+    }
+
     /// How many tasks have a policy. Each task is there once.
     pub fn task_count(&self) -> usize
         ensures tasks { result ≡ length self.now.tasks }
@@ -243,5 +260,14 @@ impl Space {
             → IfSome result (λ held. task_record self.now.machine history held.0 ≡ Some held.1) }
     {
         self.tasks.at(k)
+    }
+
+    /// The policy of a task, where it has one of its own.
+    pub fn task_policy(&self, task: u32) -> Option<Record>
+        ensures policy { result ≡ record_of self.now.tasks task }
+        ensures meaning { (history : List Command) → StandsFor self.now history
+            → result ≡ task_record self.now.machine history task }
+    {
+        self.tasks.get(task)
     }
 }
