@@ -11,7 +11,7 @@ use Rattle.std.specs.List.Sorted.{IsStrictlySortedBy}
 use Rattle.std.specs.Option.{option_map}
 use Rattle.numa_ranges.specs.Runs.{page_at, in_pages}
 use Rattle.numa_ranges.specs.declared.run.Run.{Run}
-use Rattle.numa_plan.specs.Rows.{RuleData, HasRows, row_of}
+use Rattle.numa_plan.specs.Rows.{Kept, RuleData, HasRows, row_of}
 use Rattle.numa_plan.specs.Slots.{slot_at, rule_of_slot, uses_of_slot, rule_in, uses_in, put_slot, used, unused, IsLowestFree}
 use Rattle.numa_plan.specs.Meaning.{PlanData, number_of, number_for, rule_for, planned_list, is_number}
 use Rattle.numa_plan.specs.Building.{with_rule}
@@ -23,37 +23,37 @@ use Rattle.numa_plan.proofs.SlotLemmas.{same_or_not, put-same, put-other, length
 -- a free slot counts no use
 free-unused : (slot : Slot) → rule_of_slot slot ≡ None → uses_of_slot slot ≡ 0
 free-unused Free free = refl
-free-unused (Taken uses rule) free = absurd (let odd : ◌≡◌ {A = Option RuleData} (Some rule) None = free in cc)
+free-unused (Taken uses kept) free = absurd (let odd : ◌≡◌ {A = Option RuleData} (Some kept.rule) None = free in cc)
 
 -- the lowest free slot is written
-pub keeps_with_rule : (nodes : ℕ) (runs : List (Run (Option ℕ))) (slots : List Slot) (low : ℕ) (tasks : List (ℕ × ℕ)) (local : RuleData) (number : ℕ) (rule : RuleData) → IsPlan nodes runs slots low tasks local → IsLowestFree slots number → HasRows nodes rule
-    → IsPlan nodes runs (put_slot slots number (Taken 0 rule)) (number + 1) tasks local
-keeps_with_rule nodes runs slots low tasks local number rule plan lowest has = record {
+pub keeps_with_rule : (nodes : ℕ) (runs : List (Run (Option ℕ))) (slots : List Slot) (low : ℕ) (tasks : List (ℕ × ℕ)) (local : RuleData) (number : ℕ) (kept : Kept) → IsPlan nodes runs slots low tasks local → IsLowestFree slots number → HasRows nodes kept.rule
+    → IsPlan nodes runs (put_slot slots number (Taken 0 kept)) (number + 1) tasks local
+keeps_with_rule nodes runs slots low tasks local number kept plan lowest has = record {
   counted = λ k. elim (same_or_not k number) [
     | inl e ↦ rw e (ap uses_of_slot here ∙ sym (free-unused (slot_at slots number) lowest.free) ∙ plan.counted number)
     | inr ne ↦ ap uses_of_slot (there k ne) ∙ plan.counted k
   ];
   rows = λ k r is. elim (same_or_not k number) [
     | inl e ↦
-        let own : rule_in (put_slot slots number (Taken 0 rule)) k ≡ Some rule = rw e (ap rule_of_slot here) in
-        let same : r ≡ rule = cc in
+        let own : rule_in (put_slot slots number (Taken 0 kept)) k ≡ Some kept.rule = rw e (ap rule_of_slot here) in
+        let same : r ≡ kept.rule = cc in
         rw same has
     | inr ne ↦ plan.rows k r (sym (ap rule_of_slot (there k ne)) ∙ is)
   ];
   local_rows = plan.local_rows;
-  within = omega (arith, (length-put slots number (Taken 0 rule) lowest.within).1);
+  within = omega (arith, (length-put slots number (Taken 0 kept) lowest.within).1);
   taken_below = λ k lt. elim (same_or_not k number) [
     | inl e ↦ rw e (ap (λ s. is_some (rule_of_slot s)) here)
     | inr ne ↦ ap (λ s. is_some (rule_of_slot s)) (there k ne) ∙ lowest.taken_below k (omega arith)
   ];
-  ends = ends-put slots number 0 rule lowest.within plan.ends;
+  ends = ends-put slots number 0 kept lowest.within plan.ends;
 }
   where
-    here : slot_at (put_slot slots number (Taken 0 rule)) number ≡ Taken 0 rule
-    here = put-same slots number (Taken 0 rule) lowest.within
+    here : slot_at (put_slot slots number (Taken 0 kept)) number ≡ Taken 0 kept
+    here = put-same slots number (Taken 0 kept) lowest.within
 
-    there : (k : ℕ) → (k ≡ number → ⊥) → slot_at (put_slot slots number (Taken 0 rule)) k ≡ slot_at slots k
-    there k ne = put-other slots number k (Taken 0 rule) lowest.within ne
+    there : (k : ℕ) → (k ≡ number → ⊥) → slot_at (put_slot slots number (Taken 0 kept)) k ≡ slot_at slots k
+    there k ne = put-other slots number k (Taken 0 kept) lowest.within ne
 
 -- the rules stay, and the uses are counted anew
 pub keeps : (nodes : ℕ) (runs runs' : List (Run (Option ℕ))) (slots slots' : List Slot) (low : ℕ) (tasks tasks' : List (ℕ × ℕ)) (local : RuleData) → IsPlan nodes runs slots low tasks local
@@ -167,9 +167,9 @@ lists-kept plan slots kept task page cpu = go (page_at plan.runs page) refl
         (serves (number_for plan.tasks task at.1) (λ named here. served-uses plan.runs plan.tasks task page at.0 named at.1 is here))
 
 -- the lowest free slot serves no page, so that a rule written there changes no list
-pub lists-with_rule : (plan : PlanData) (low number : ℕ) (rule : RuleData) → IsPlan plan.nodes plan.runs plan.slots low plan.tasks plan.local → IsLowestFree plan.slots number
-    → (task page cpu : ℕ) → planned_list (with_rule plan number rule) task page cpu ≡ planned_list plan task page cpu
-lists-with_rule plan low number rule sound lowest = lists-kept plan (put_slot plan.slots number (Taken 0 rule)) (λ named some.
-    ap rule_of_slot (put-other plan.slots number named (Taken 0 rule) lowest.within (λ is.
+pub lists-with_rule : (plan : PlanData) (low number : ℕ) (kept : Kept) → IsPlan plan.nodes plan.runs plan.slots low plan.tasks plan.local → IsLowestFree plan.slots number
+    → (task page cpu : ℕ) → planned_list (with_rule plan number kept) task page cpu ≡ planned_list plan task page cpu
+lists-with_rule plan low number kept sound lowest = lists-kept plan (put_slot plan.slots number (Taken 0 kept)) (λ named some.
+    ap rule_of_slot (put-other plan.slots number named (Taken 0 kept) lowest.within (λ is.
     let none : uses_in plan.slots named ≡ 0 = ap (uses_in plan.slots) is ∙ free-unused (slot_at plan.slots number) lowest.free in
     absurd (omega (arith, sound.counted named, none)))))

@@ -8,14 +8,14 @@ use Rattle.std.proofs.lemmas.List.{drop-drop, drop_more, take_more, get_or-set_s
 use Rattle.std.proofs.lemmas.List.Sums.{sum_by-append, sum_by-cons, sum_by-take-drop}
 use Rattle.std.proofs.Math.ListN.{length-set}
 use Rattle.numa_ranges.specs.declared.run.Run.{Run}
-use Rattle.numa_plan.specs.Rows.{RuleData, HasRows}
-use Rattle.numa_plan.specs.Slots.{slot_at, rule_of_slot, uses_of_slot, rule_in, uses_in, put_slot, one_use_more, used, unused, AreTaken, IsLowestFree, EndsTaken}
+use Rattle.numa_plan.specs.Rows.{Kept, RuleData, HasRows}
+use Rattle.numa_plan.specs.Slots.{slot_at, kept_of_slot, rule_of_slot, uses_of_slot, kept_in, rule_in, uses_in, put_slot, one_use_more, used, unused, AreTaken, IsLowestFree, EndsTaken}
 use Rattle.numa_plan.specs.Meaning.{PlanData, is_number, planned_list}
 use Rattle.numa_plan.specs.Editing.{all_used, all_unused, with_other, before_others, trimmed, without_rule}
 use Rattle.numa_plan.specs.Sound.{IsPlan}
 use Rattle.numa_plan.specs.declared.slots.Slot.{Slot}
 use Rattle.numa_plan.specs.declared.slots.Slot.TheVariants.{Free, Taken}
-use Rattle.numa_plan.proofs.SlotLemmas.{same_or_not, change-same, rule_in-used, rule_in-unused, length-used, length-unused, uses_in-used, uses_in-unused}
+use Rattle.numa_plan.proofs.SlotLemmas.{same_or_not, change-same, rule_of-kept, kept_in-used, kept_in-unused, rule_in-used, length-used, length-unused, uses_in-used, uses_in-unused}
 use Rattle.numa_plan.proofs.BuildLemmas.{keeps, lists-kept}
 
 -- ---- uses by many runs
@@ -38,17 +38,20 @@ pub uses_in-one_less : (slots : List Slot) (named : Option ℕ) (k : ℕ) → us
 uses_in-one_less slots None k = omega arith
 uses_in-one_less slots (Some number) k = uses_in-unused slots number k
 
-rule_in-all_used : (slots : List Slot) (runs : List (Run (Option ℕ))) (k : ℕ) → rule_in (all_used slots runs) k ≡ rule_in slots k
-rule_in-all_used slots [] k = refl
-rule_in-all_used slots (run ∷ runs) k = rule_in-all_used (used slots run.value) runs k ∙ rule_in-used slots run.value k
+kept_in-all_used : (slots : List Slot) (runs : List (Run (Option ℕ))) (k : ℕ) → kept_in (all_used slots runs) k ≡ kept_in slots k
+kept_in-all_used slots [] k = refl
+kept_in-all_used slots (run ∷ runs) k = kept_in-all_used (used slots run.value) runs k ∙ kept_in-used slots run.value k
 
-rule_in-all_unused : (slots : List Slot) (runs : List (Run (Option ℕ))) (k : ℕ) → rule_in (all_unused slots runs) k ≡ rule_in slots k
-rule_in-all_unused slots [] k = refl
-rule_in-all_unused slots (run ∷ runs) k = rule_in-all_unused (unused slots run.value) runs k ∙ rule_in-unused slots run.value k
+kept_in-all_unused : (slots : List Slot) (runs : List (Run (Option ℕ))) (k : ℕ) → kept_in (all_unused slots runs) k ≡ kept_in slots k
+kept_in-all_unused slots [] k = refl
+kept_in-all_unused slots (run ∷ runs) k = kept_in-all_unused (unused slots run.value) runs k ∙ kept_in-unused slots run.value k
 
--- runs put in and taken out change no rule
-pub rule_in-spliced : (slots : List Slot) (runs gone : List (Run (Option ℕ))) (k : ℕ) → rule_in (all_unused (all_used slots runs) gone) k ≡ rule_in slots k
-rule_in-spliced slots runs gone k = rule_in-all_unused (all_used slots runs) gone k ∙ rule_in-all_used slots runs k
+-- runs put in and taken out change no policy and no rule
+pub kept_in-spliced : (slots : List Slot) (runs gone : List (Run (Option ℕ))) (k : ℕ) → kept_in (all_unused (all_used slots runs) gone) k ≡ kept_in slots k
+kept_in-spliced slots runs gone k = kept_in-all_unused (all_used slots runs) gone k ∙ kept_in-all_used slots runs k
+
+rule_in-spliced : (slots : List Slot) (runs gone : List (Run (Option ℕ))) (k : ℕ) → rule_in (all_unused (all_used slots runs) gone) k ≡ rule_in slots k
+rule_in-spliced slots runs gone k = rule_of-kept _ _ (kept_in-spliced slots runs gone k)
 
 length-all_used : (slots : List Slot) (runs : List (Run (Option ℕ))) → length (all_used slots runs) ≡ length slots
 length-all_used slots [] = refl
@@ -134,29 +137,36 @@ window-used nodes runs new gone slots low tasks local from to plan rises is ther
 
 -- ---- a rule written in the place of another
 
-uses-other : (slot : Slot) (rule : RuleData) → uses_of_slot (with_other slot rule) ≡ uses_of_slot slot
-uses-other Free rule = refl
-uses-other (Taken uses old) rule = refl
+uses-other : (slot : Slot) (kept : Kept) → uses_of_slot (with_other slot kept) ≡ uses_of_slot slot
+uses-other Free kept = refl
+uses-other (Taken uses old) kept = refl
 
-some-other : (slot : Slot) (rule : RuleData) → is_some (rule_of_slot (with_other slot rule)) ≡ is_some (rule_of_slot slot)
-some-other Free rule = refl
-some-other (Taken uses old) rule = refl
+some-other : (slot : Slot) (kept : Kept) → is_some (rule_of_slot (with_other slot kept)) ≡ is_some (rule_of_slot slot)
+some-other Free kept = refl
+some-other (Taken uses old) kept = refl
 
-rule-other : (slot : Slot) (rule : RuleData) → IsSome (rule_of_slot slot) → rule_of_slot (with_other slot rule) ≡ Some rule
-rule-other Free rule some = absurd (let odd : is_some {T = RuleData} None ≡ true = some in cc)
-rule-other (Taken uses old) rule some = refl
+kept-other : (slot : Slot) (kept : Kept) → IsSome (rule_of_slot slot) → kept_of_slot (with_other slot kept) ≡ Some kept
+kept-other Free kept some = absurd (let odd : is_some {T = RuleData} None ≡ true = some in cc)
+kept-other (Taken uses old) kept some = refl
 
-pub keeps_written : (nodes : ℕ) (runs : List (Run (Option ℕ))) (slots : List Slot) (low : ℕ) (tasks : List (ℕ × ℕ)) (local : RuleData) (number : ℕ) (rule : RuleData) → IsPlan nodes runs slots low tasks local → IsSome (rule_in slots number) → HasRows nodes rule
-    → IsPlan nodes runs (set slots number (with_other (slot_at slots number) rule)) low tasks local
-keeps_written nodes runs slots low tasks local number rule plan there has = record {
+-- the new rule is there, and each other is there still
+pub kept_in-written : (slots : List Slot) (number : ℕ) (kept : Kept) → IsSome (rule_in slots number) → kept_in (set slots number (with_other (slot_at slots number) kept)) number ≡ Some kept
+kept_in-written slots number kept some = ap kept_of_slot (change-same (λ s. with_other s kept) refl slots number) ∙ kept-other (slot_at slots number) kept some
+
+pub kept_in-unwritten : (slots : List Slot) (number k : ℕ) (kept : Kept) → (k ≡ number → ⊥) → kept_in (set slots number (with_other (slot_at slots number) kept)) k ≡ kept_in slots k
+kept_in-unwritten slots number k kept ne = ap kept_of_slot (get_or-set_other slots number k (with_other (slot_at slots number) kept) Free ne)
+
+pub keeps_written : (nodes : ℕ) (runs : List (Run (Option ℕ))) (slots : List Slot) (low : ℕ) (tasks : List (ℕ × ℕ)) (local : RuleData) (number : ℕ) (kept : Kept) → IsPlan nodes runs slots low tasks local → IsSome (rule_in slots number) → HasRows nodes kept.rule
+    → IsPlan nodes runs (set slots number (with_other (slot_at slots number) kept)) low tasks local
+keeps_written nodes runs slots low tasks local number kept plan there has = record {
   counted = λ k. elim (same_or_not k number) [
-    | inl e ↦ rw e (ap uses_of_slot here ∙ uses-other (slot_at slots number) rule ∙ plan.counted number)
+    | inl e ↦ rw e (ap uses_of_slot here ∙ uses-other (slot_at slots number) kept ∙ plan.counted number)
     | inr ne ↦ ap uses_of_slot (others k ne) ∙ plan.counted k
   ];
   rows = λ k r is. elim (same_or_not k number) [
     | inl e ↦
-        let own : rule_in new k ≡ Some rule = rw e (ap rule_of_slot here ∙ rule-other (slot_at slots number) rule there) in
-        let same : r ≡ rule = cc in
+        let own : rule_in new k ≡ Some kept.rule = rw e (rule_of-kept _ _ (kept_in-written slots number kept there)) in
+        let same : r ≡ kept.rule = cc in
         rw same has
     | inr ne ↦ plan.rows k r (sym (ap rule_of_slot (others k ne)) ∙ is)
   ];
@@ -167,20 +177,20 @@ keeps_written nodes runs slots low tasks local number rule plan there has = reco
 }
   where
     new : List Slot
-    new = set slots number (with_other (slot_at slots number) rule)
+    new = set slots number (with_other (slot_at slots number) kept)
 
     long : length new ≡ length slots
-    long = length-set slots number (with_other (slot_at slots number) rule)
+    long = length-set slots number (with_other (slot_at slots number) kept)
 
-    here : slot_at new number ≡ with_other (slot_at slots number) rule
-    here = change-same (λ s. with_other s rule) refl slots number
+    here : slot_at new number ≡ with_other (slot_at slots number) kept
+    here = change-same (λ s. with_other s kept) refl slots number
 
     others : (k : ℕ) → (k ≡ number → ⊥) → slot_at new k ≡ slot_at slots k
-    others k ne = get_or-set_other slots number k (with_other (slot_at slots number) rule) Free ne
+    others k ne = get_or-set_other slots number k (with_other (slot_at slots number) kept) Free ne
 
     taken : (k : ℕ) → is_some (rule_in new k) ≡ is_some (rule_in slots k)
     taken k = elim (same_or_not k number) [
-      | inl e ↦ rw e (ap (λ (s : Slot). is_some (rule_of_slot s)) here ∙ some-other (slot_at slots number) rule)
+      | inl e ↦ rw e (ap (λ (s : Slot). is_some (rule_of_slot s)) here ∙ some-other (slot_at slots number) kept)
       | inr ne ↦ ap (λ (s : Slot). is_some (rule_of_slot s)) (others k ne)
     ]
 
@@ -190,7 +200,7 @@ slot_at-before : (slot : Slot) (slots : List Slot) (k : ℕ) → slot_at (before
 slot_at-before Free [] zero = refl
 slot_at-before Free [] (suc k) = refl
 slot_at-before Free (s ∷ slots) k = refl
-slot_at-before (Taken uses rule) slots k = refl
+slot_at-before (Taken uses kept) slots k = refl
 
 slot_at-trimmed : (slots : List Slot) (k : ℕ) → slot_at (trimmed slots) k ≡ slot_at slots k
 slot_at-trimmed [] k = refl
@@ -201,8 +211,8 @@ ends-before : (slot : Slot) (slots : List Slot) → EndsTaken slots → EndsTake
 ends-before Free [] ends last is = absurd (omega arith)
 ends-before Free (s ∷ slots) ends zero is = absurd (omega arith)
 ends-before Free (s ∷ slots) ends (suc last) is = ends last (omega arith)
-ends-before (Taken uses rule) slots ends zero is = refl
-ends-before (Taken uses rule) slots ends (suc last) is = ends last (omega arith)
+ends-before (Taken uses kept) slots ends zero is = refl
+ends-before (Taken uses kept) slots ends (suc last) is = ends last (omega arith)
 
 ends-trimmed : (slots : List Slot) → EndsTaken (trimmed slots)
 ends-trimmed [] last is = absurd (omega arith)
@@ -215,7 +225,7 @@ trimmed-free (slot ∷ slots) = ap (before_others slot) (trimmed-free slots)
 before-ended : (slot : Slot) (slots : List Slot) → EndsTaken (slot ∷ slots) → before_others slot slots ≡ slot ∷ slots
 before-ended Free [] ends = absurd (let odd : is_some {T = RuleData} None ≡ true = ends 0 refl in cc)
 before-ended Free (s ∷ slots) ends = refl
-before-ended (Taken uses rule) slots ends = refl
+before-ended (Taken uses kept) slots ends = refl
 
 pub trimmed-ended : (slots : List Slot) → EndsTaken slots → trimmed slots ≡ slots
 trimmed-ended [] ends = refl
@@ -232,11 +242,11 @@ taken-within slots (suc n) taken = omega (arith, some-within slots n (taken n (o
 
 free-is : (slot : Slot) → not (is_some (rule_of_slot slot)) ≡ true → slot ≡ Free
 free-is Free free = refl
-free-is (Taken uses rule) free = absurd (let odd : false ≡ true = free in cc)
+free-is (Taken uses kept) free = absurd (let odd : false ≡ true = free in cc)
 
 some-is : (slot : Slot) → not (is_some (rule_of_slot slot)) ≡ false → is_some (rule_of_slot slot) ≡ true
 some-is Free taken = absurd (let odd : true ≡ false = taken in cc)
-some-is (Taken uses rule) taken = refl
+some-is (Taken uses kept) taken = refl
 
 -- a free slot behind others is none of those up to the last that is taken
 pub trim-on : (slots : List Slot) (kept : ℕ) (slot : Slot) → 0 < kept → kept ≤ length slots → slot ≡ get_or slots (kept - 1) slot → not (is_some (rule_of_slot slot)) ≡ true → trimmed (take kept slots) ≡ trimmed slots → trimmed (take (kept - 1) slots) ≡ trimmed slots
@@ -291,30 +301,36 @@ keeps_without nodes runs slots low tasks local number plan there none = record {
     below : AreTaken new (min low number)
     below k lt = ap (λ (s : Slot). is_some (rule_of_slot s)) (others k (λ e. absurd (omega arith))) ∙ plan.taken_below k (omega arith)
 
--- the rule of each other number is there still
-pub rule_in-without : (slots : List Slot) (number k : ℕ) → (k ≡ number → ⊥) → rule_in (trimmed (set slots number Free)) k ≡ rule_in slots k
-rule_in-without slots number k ne = ap rule_of_slot (slot_at-trimmed (set slots number Free) k ∙ get_or-set_other slots number k Free Free ne)
+-- the slot is free, and each other holds what it held
+pub kept_in-freed : (slots : List Slot) (number : ℕ) → IsSome (rule_in slots number) → kept_in (trimmed (set slots number Free)) number ≡ None
+kept_in-freed slots number some = ap kept_of_slot (slot_at-trimmed (set slots number Free) number ∙ get_or-set_same slots number Free Free (some-within slots number some))
+
+pub kept_in-without : (slots : List Slot) (number k : ℕ) → (k ≡ number → ⊥) → kept_in (trimmed (set slots number Free)) k ≡ kept_in slots k
+kept_in-without slots number k ne = ap kept_of_slot (slot_at-trimmed (set slots number Free) k ∙ get_or-set_other slots number k Free Free ne)
+
+rule_in-without : (slots : List Slot) (number k : ℕ) → (k ≡ number → ⊥) → rule_in (trimmed (set slots number Free)) k ≡ rule_in slots k
+rule_in-without slots number k ne = rule_of-kept _ _ (kept_in-without slots number k ne)
 
 -- ---- a rule added and taken out again
 
 set-back : (slots : List Slot) (number : ℕ) (slot : Slot) → rule_in slots number ≡ None → set (set slots number slot) number Free ≡ slots
 set-back [] number slot free = refl
 set-back (Free ∷ slots) zero slot free = refl
-set-back (Taken uses rule ∷ slots) zero slot free = absurd (let odd : ◌≡◌ {A = Option RuleData} (Some rule) None = free in cc)
+set-back (Taken uses kept ∷ slots) zero slot free = absurd (let odd : ◌≡◌ {A = Option RuleData} (Some kept.rule) None = free in cc)
 set-back (s ∷ slots) (suc number) slot free = ap (λ (l : List Slot). s ∷ l) (set-back slots number slot free)
 
 set-last : (slots : List Slot) (slot : Slot) → set (slots ++ slot ∷ []) (length slots) Free ≡ slots ++ Free ∷ []
 set-last [] slot = refl
 set-last (s ∷ slots) slot = ap (λ (l : List Slot). s ∷ l) (set-last slots slot)
 
-pub undone : (slots : List Slot) (number : ℕ) (rule : RuleData) → IsLowestFree slots number → EndsTaken slots → trimmed (set (put_slot slots number (Taken 0 rule)) number Free) ≡ slots
-undone slots number rule lowest ends =
+pub undone : (slots : List Slot) (number : ℕ) (kept : Kept) → IsLowestFree slots number → EndsTaken slots → trimmed (set (put_slot slots number (Taken 0 kept)) number Free) ≡ slots
+undone slots number kept lowest ends =
     elim (cases_lt number (length slots)) [
-      | inl lt ↦ rw (lt-ltb number (length slots) lt) (ap trimmed (set-back slots number (Taken 0 rule) lowest.free) ∙ trimmed-ended slots ends)
+      | inl lt ↦ rw (lt-ltb number (length slots) lt) (ap trimmed (set-back slots number (Taken 0 kept) lowest.free) ∙ trimmed-ended slots ends)
       | inr ge ↦
           let e : number ≡ length slots = omega (arith, lowest.within) in
           rw (le-ltb number (length slots) ge)
-          (ap (λ n. trimmed (set (slots ++ Taken 0 rule ∷ []) n Free)) e ∙ ap trimmed (set-last slots (Taken 0 rule)) ∙ trimmed-free slots ∙ trimmed-ended slots ends)
+          (ap (λ n. trimmed (set (slots ++ Taken 0 kept ∷ []) n Free)) e ∙ ap trimmed (set-last slots (Taken 0 kept)) ∙ trimmed-free slots ∙ trimmed-ended slots ends)
     ]
 
 -- a rule that nothing uses serves no page

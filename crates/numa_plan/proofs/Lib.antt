@@ -6,3 +6,4 @@ pub mod RowLemmas
 pub mod RuleLemmas
 pub mod Searching
 pub mod SlotLemmas
+pub mod UseLemmas

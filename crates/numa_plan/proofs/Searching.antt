@@ -1,13 +1,15 @@
 -- A search by halves.
-use Rattle.std.proofs.Common.{◌≡◌, ℕ, zero, suc, ◌+◌, ◌-◌, ◌*◌, ◌/◌, ◌<◌, ◌≤◌, ◌^◌, Option, Some, None, List, [], ◌∷◌, length, get_or, is_some, pow-suc, add-sub_cancel, refl, sym, ap, ◌∙◌, arith}
+use Rattle.std.proofs.Common.{◌≡◌, ℕ, zero, suc, ◌+◌, ◌-◌, ◌*◌, ◌/◌, ◌<◌, ◌≤◌, ◌^◌, pow-add, Option, Some, None, List, [], ◌∷◌, length, get_or, is_some, pow-suc, add-sub_cancel, refl, sym, ap, subst, ◌∙◌, arith, inl, inr}
 use Rattle.std.specs.Prelude.{IsSome}
 use Rattle.std.specs.List.{AllWithin}
+use Rattle.std.proofs.lemmas.Bool.{cases_lt}
 use Rattle.std.proofs.lemmas.List.{get_or_default}
-use Rattle.std.proofs.Math.Nat.{mul-le-mul_left}
+use Rattle.std.proofs.Math.Nat.{mul-le-mul_left, mul-le-mul}
 use Rattle.numa_ranges.specs.Runs.{AreApart, end_of, page_at}
 use Rattle.numa_ranges.specs.declared.run.Run.{Run}
 use Rattle.numa_ranges.proofs.Apart.{apart-rising, apart-from, apart-bounds, page_at-last, page_at-none, in_pages-true, in_pages-above}
-use Rattle.numa_plan.specs.Found.{IsPartOf, IsAt}
+use Rattle.numa_plan.specs.Counted.{Counted, FindsQuickly, FindsTwice}
+use Rattle.numa_plan.specs.Found.{IsPartOf, IsAt, IsSplit}
 use Rattle.numa_plan.specs.declared.runs.Found.{Found}
 
 -- the runs before `low` begin at the page or before it, and those from `high` on behind it; the run before `low` begins `far` before the page
@@ -70,23 +72,32 @@ apart-ends from (run ∷ runs) apart (suc i) (suc j) d lt l = apart-ends (end_of
 blank : Run (Option ℕ)
 blank = record { first = 0; pages = 0; index = 0; value = None }
 
-pub none_found : (runs : List (Run (Option ℕ))) (page low high far : ℕ) → AreApart 0 runs → low ≡ 0 → high ≤ low → IsNarrowed runs page low high far → page_at runs page ≡ None
-none_found runs page low high far apart is le h = page_at-none 0 runs page apart (λ k d k_low k_high. h.after k d (omega arith) k_high)
+-- a search that is at its end
+pub is_split : (runs : List (Run (Option ℕ))) (page low high far : ℕ) → high ≤ low → IsNarrowed runs page low high far → IsSplit runs page low far
+is_split runs page low high far le h = record {
+  within = omega (arith, h.within, h.top);
+  before = h.before;
+  behind = λ k d k_low k_high. h.after k d (omega arith) k_high;
+  lies = h.lies;
+}
+
+pub none_found : (runs : List (Run (Option ℕ))) (page place far : ℕ) → AreApart 0 runs → place ≡ 0 → IsSplit runs page place far → page_at runs page ≡ None
+none_found runs page place far apart is h = page_at-none 0 runs page apart (λ k d k_low k_high. h.behind k d (omega arith) k_high)
 
 -- the run before `low` has the page
-pub part_found : (runs : List (Run (Option ℕ))) (page low high far : ℕ) (found : Found) → AreApart 0 runs → 0 < low → high ≤ low → IsNarrowed runs page low high far → ((d : Run (Option ℕ)) → IsPartOf (get_or runs (low - 1) d) far found) → IsAt runs page found
-part_found runs page low high far found apart some le h part =
+pub part_found : (runs : List (Run (Option ℕ))) (page low far : ℕ) (found : Found) → AreApart 0 runs → 0 < low → IsSplit runs page low far → ((d : Run (Option ℕ)) → IsPartOf (get_or runs (low - 1) d) far found) → IsAt runs page found
+part_found runs page low far found apart some h part =
     let run : Run (Option ℕ) = get_or runs (low - 1) blank in
-    let is : run ≡ get_or runs (low - 1) run = get_or_default runs (low - 1) _ _ (omega (arith, h.within, h.top)) in
+    let is : run ≡ get_or runs (low - 1) run = get_or_default runs (low - 1) _ _ (omega (arith, h.within)) in
     let own : IsPartOf run far found = part blank in
     let first : run.first + far ≡ page = h.lies blank some in
-    let bounds : (end_of run ≤ 2 ^ 35) × (run.index + run.pages ≤ 2 ^ 36) = apart-bounds 0 runs (low - 1) blank apart (omega (arith, h.within, h.top)) in
+    let bounds : (end_of run ≤ 2 ^ 35) × (run.index + run.pages ≤ 2 ^ 36) = apart-bounds 0 runs (low - 1) blank apart (omega (arith, h.within)) in
     record {
       some = own.some;
       few = omega (arith, own.index, own.left, bounds.1);
       low = omega (arith, own.left, bounds.0, first);
       each = λ q short.
-          page_at-last 0 runs (low - 1) (page + q) run apart (omega (arith, h.within, h.top)) is
+          page_at-last 0 runs (low - 1) (page + q) run apart (omega (arith, h.within)) is
           (λ k d k_low k_high. omega (arith, h.before k d k_low (omega arith)))
           (λ k d k_low k_high. omega (arith, apart-ends 0 runs apart (low - 1) k d (omega arith) k_high, (part d).left, h.lies d some))
           ∙ rw (in_pages-true run.first run.pages (page + q) (omega (arith, first)) (omega (arith, first, own.left)))
@@ -96,14 +107,14 @@ part_found runs page low high far found apart some le h part =
     }
 
 -- the run before `low` ends before the page
-pub past_found : (runs : List (Run (Option ℕ))) (page low high far : ℕ) → AreApart 0 runs → 0 < low → high ≤ low → IsNarrowed runs page low high far → ((d : Run (Option ℕ)) → (get_or runs (low - 1) d).pages ≤ far) → page_at runs page ≡ None
-past_found runs page low high far apart some le h short =
+pub past_found : (runs : List (Run (Option ℕ))) (page low far : ℕ) → AreApart 0 runs → 0 < low → IsSplit runs page low far → ((d : Run (Option ℕ)) → (get_or runs (low - 1) d).pages ≤ far) → page_at runs page ≡ None
+past_found runs page low far apart some h short =
     let run : Run (Option ℕ) = get_or runs (low - 1) blank in
-    let is : run ≡ get_or runs (low - 1) run = get_or_default runs (low - 1) _ _ (omega (arith, h.within, h.top)) in
+    let is : run ≡ get_or runs (low - 1) run = get_or_default runs (low - 1) _ _ (omega (arith, h.within)) in
     let first : run.first + far ≡ page = h.lies blank some in
-    page_at-last 0 runs (low - 1) page run apart (omega (arith, h.within, h.top)) is
+    page_at-last 0 runs (low - 1) page run apart (omega (arith, h.within)) is
     (λ k d k_low k_high. h.before k d k_low (omega arith))
-    (λ k d k_low k_high. h.after k d (omega arith) k_high)
+    (λ k d k_low k_high. h.behind k d (omega arith) k_high)
     ∙ rw (in_pages-above run.first run.pages page (omega (arith, first, short blank))) refl
 
 -- what a search found, of its page
@@ -119,3 +130,47 @@ is_mapped runs page found q h low high =
     let e : page + (q - page) ≡ q = omega arith in
     let here : page_at runs q ≡ Some (found.index + (q - page), found.rule) = sym (ap (page_at runs) e) ∙ h.each (q - page) (omega arith) in
     ap is_some here
+
+-- ---- windows
+
+module _ (runs : List (Run (Option ℕ))) (page place far : ℕ) (apart : AreApart 0 runs) (some : 0 < place) (split : IsSplit runs page place far) where
+  -- the run before the place reaches over the page
+  pub reaching : (found : Found) → ((d : Run (Option ℕ)) → IsPartOf (get_or runs (place - 1) d) far found)
+      → AllWithin (λ run. end_of run < page + 1) runs 0 (place - 1) × AllWithin (λ run. page + 1 ≤ end_of run) runs (place - 1) (length runs)
+  reaching found part = (
+    λ k d low high. omega (arith, apart-ends 0 runs apart k (place - 1) d high (omega (arith, split.within)), split.lies d some),
+    λ k d low high. elim (cases_lt k place) [
+      | inl early ↦
+          let is : k ≡ place - 1 = omega arith in
+          subst (λ (n : ℕ). page + 1 ≤ end_of (get_or runs n d)) (sym is) (omega (arith, split.lies d some, (part d).left, (part d).some))
+      | inr late ↦ omega (arith, split.behind k d late high)
+    ],
+  )
+
+  -- the run before the place ends at the page or before it
+  pub ending : ((d : Run (Option ℕ)) → (get_or runs (place - 1) d).pages ≤ far) → AllWithin (λ run. end_of run < page + 1) runs 0 place
+  ending short k d low high = elim (cases_lt k (place - 1)) [
+    | inl early ↦ omega (arith, apart-ends 0 runs apart k (place - 1) d early (omega (arith, split.within)), split.lies d some)
+    | inr late ↦
+        let is : k ≡ place - 1 = omega arith in
+        subst (λ (n : ℕ). end_of (get_or runs n d) < page + 1) (sym is) (omega (arith, split.lies d some, short d))
+  ]
+
+-- two searches, one behind the other
+pub twice : (old middle new : Counted) (runs : ℕ) → FindsQuickly old middle runs → FindsQuickly middle new runs → FindsTwice old new runs
+twice old middle new runs first second = record {
+  compares = omega (arith, first.compares, second.compares);
+  few =
+      let both : new.comparisons - old.comparisons ≡ middle.comparisons - old.comparisons + (new.comparisons - middle.comparisons) = omega (arith, first.compares, second.compares) in
+      rw (both, pow-add 2 (middle.comparisons - old.comparisons) (new.comparisons - middle.comparisons)) (mul-le-mul first.few second.few);
+  writes_no_run = second.writes_no_run ∙ first.writes_no_run;
+  writes_no_rule = second.writes_no_rule ∙ first.writes_no_rule;
+}
+
+-- a run that ends before `first` begins before `end`
+pub window_rises : (runs : List (Run (Option ℕ))) (first end from to : ℕ) → first ≤ end → from ≤ length runs → AllWithin (λ run. end_of run < first) runs 0 from → AllWithin (λ run. end < run.first) runs to (length runs) → from ≤ to
+window_rises runs first end from to le within before behind =
+    elim (cases_lt to from) [
+      | inl lt ↦ absurd (omega (arith, before to blank (omega arith) lt, behind to blank (omega arith) (omega arith)))
+      | inr ge ↦ ge
+    ]

@@ -4,8 +4,10 @@ use Rattle.std.specs.Prelude.{IsSome, is_some, ◌⊎◌, ◌==◌}
 use Rattle.std.proofs.lemmas.Bool.{cases_lt, lt-ltb, le-ltb, ne_eqb}
 use Rattle.std.proofs.lemmas.List.{get_or_default, get_or-set_same, get_or-set_other}
 use Rattle.std.proofs.Math.ListN.{length-set}
-use Rattle.numa_plan.specs.Rows.{RuleData}
-use Rattle.numa_plan.specs.Slots.{slot_at, rule_of_slot, uses_of_slot, rule_in, uses_in, put_slot, one_use_more, one_use_less, used, unused, IsLowestFree, EndsTaken}
+use Rattle.std.specs.Option.{option_map}
+use Rattle.numa_mode.specs.Policy.{PolicyRecord}
+use Rattle.numa_plan.specs.Rows.{Kept, RuleData}
+use Rattle.numa_plan.specs.Slots.{slot_at, kept_of_slot, rule_of_slot, uses_of_slot, kept_in, policy_in, rule_in, uses_in, put_slot, one_use_more, one_use_less, used, unused, IsLowestFree, EndsTaken}
 use Rattle.numa_plan.specs.declared.slots.Slot.{Slot}
 use Rattle.numa_plan.specs.declared.slots.Slot.TheVariants.{Free, Taken}
 
@@ -64,51 +66,57 @@ put-sized slots number slot =
     ]
 
 -- the last slot is taken still
-pub ends-put : (slots : List Slot) (number uses : ℕ) (rule : RuleData) → number ≤ length slots → EndsTaken slots → EndsTaken (put_slot slots number (Taken uses rule))
-ends-put slots number uses rule le ends last is =
+pub ends-put : (slots : List Slot) (number uses : ℕ) (kept : Kept) → number ≤ length slots → EndsTaken slots → EndsTaken (put_slot slots number (Taken uses kept))
+ends-put slots number uses kept le ends last is =
     elim (same_or_not last number) [
-      | inl e ↦ rw e (ap (λ (s : Slot). is_some (rule_of_slot s)) (put-same slots number (Taken uses rule) le))
-      | inr ne ↦ ap (λ (s : Slot). is_some (rule_of_slot s)) (put-other slots number last (Taken uses rule) le ne) ∙ ends last (long ne)
+      | inl e ↦ rw e (ap (λ (s : Slot). is_some (rule_of_slot s)) (put-same slots number (Taken uses kept) le))
+      | inr ne ↦ ap (λ (s : Slot). is_some (rule_of_slot s)) (put-other slots number last (Taken uses kept) le ne) ∙ ends last (long ne)
     ]
   where
     long : (last ≡ number → ⊥) → length slots ≡ last + 1
     long ne = elim (cases_lt number (length slots)) [
       | inl lt ↦
-          let same : length (put_slot slots number (Taken uses rule)) ≡ length slots = rw (lt-ltb number (length slots) lt) (length-set slots number (Taken uses rule)) in
+          let same : length (put_slot slots number (Taken uses kept)) ≡ length slots = rw (lt-ltb number (length slots) lt) (length-set slots number (Taken uses kept)) in
           omega (arith, same, is)
       | inr ge ↦
-          let more : length (put_slot slots number (Taken uses rule)) ≡ length slots + 1 = rw (le-ltb number (length slots) ge) (omega (arith, length-append slots (Taken uses rule ∷ []))) in
+          let more : length (put_slot slots number (Taken uses kept)) ≡ length slots + 1 = rw (le-ltb number (length slots) ge) (omega (arith, length-append slots (Taken uses kept ∷ []))) in
           absurd (ne (omega (arith, more, is)))
     ]
 
 -- the rule that was written is there, and each that was there is there still
-pub rule_in-put : (slots : List Slot) (number : ℕ) (rule : RuleData) → number ≤ length slots → rule_in (put_slot slots number (Taken 0 rule)) number ≡ Some rule
-rule_in-put slots number rule le = ap rule_of_slot (put-same slots number (Taken 0 rule) le)
+pub kept_in-put : (slots : List Slot) (number : ℕ) (kept : Kept) → number ≤ length slots → kept_in (put_slot slots number (Taken 0 kept)) number ≡ Some kept
+kept_in-put slots number kept le = ap kept_of_slot (put-same slots number (Taken 0 kept) le)
 
-pub keeps-put : (slots : List Slot) (number k : ℕ) (rule rule' : RuleData) → IsLowestFree slots number → rule_in slots k ≡ Some rule → rule_in (put_slot slots number (Taken 0 rule')) k ≡ Some rule
-keeps-put slots number k rule rule' lowest has =
+pub rule_in-put : (slots : List Slot) (number : ℕ) (kept : Kept) → number ≤ length slots → rule_in (put_slot slots number (Taken 0 kept)) number ≡ Some kept.rule
+rule_in-put slots number kept le = ap rule_of_slot (put-same slots number (Taken 0 kept) le)
+
+pub kept_in-put_other : (slots : List Slot) (number k : ℕ) (kept : Kept) → number ≤ length slots → (k ≡ number → ⊥) → kept_in (put_slot slots number (Taken 0 kept)) k ≡ kept_in slots k
+kept_in-put_other slots number k kept le ne = ap kept_of_slot (put-other slots number k (Taken 0 kept) le ne)
+
+pub keeps-put : (slots : List Slot) (number k : ℕ) (rule : RuleData) (kept : Kept) → IsLowestFree slots number → rule_in slots k ≡ Some rule → rule_in (put_slot slots number (Taken 0 kept)) k ≡ Some rule
+keeps-put slots number k rule kept lowest has =
     elim (same_or_not k number) [
       | inl is ↦ absurd (let odd : ◌≡◌ {A = Option RuleData} None (Some rule) = sym lowest.free ∙ sym (ap (rule_in slots) is) ∙ has in cc)
-      | inr ne ↦ ap rule_of_slot (put-other slots number k (Taken 0 rule') lowest.within ne) ∙ has
+      | inr ne ↦ ap rule_of_slot (put-other slots number k (Taken 0 kept) lowest.within ne) ∙ has
     ]
 
 -- ---- uses
 
-rule-more : (slot : Slot) → rule_of_slot (one_use_more slot) ≡ rule_of_slot slot
-rule-more Free = refl
-rule-more (Taken uses rule) = refl
+kept-more : (slot : Slot) → kept_of_slot (one_use_more slot) ≡ kept_of_slot slot
+kept-more Free = refl
+kept-more (Taken uses kept) = refl
 
-rule-less : (slot : Slot) → rule_of_slot (one_use_less slot) ≡ rule_of_slot slot
-rule-less Free = refl
-rule-less (Taken uses rule) = refl
+kept-less : (slot : Slot) → kept_of_slot (one_use_less slot) ≡ kept_of_slot slot
+kept-less Free = refl
+kept-less (Taken uses kept) = refl
 
 uses-more : (slot : Slot) → IsSome (rule_of_slot slot) → uses_of_slot (one_use_more slot) ≡ uses_of_slot slot + 1
 uses-more Free some = absurd (let odd : is_some {T = RuleData} None ≡ true = some in cc)
-uses-more (Taken uses rule) some = refl
+uses-more (Taken uses kept) some = refl
 
 uses-less : (slot : Slot) → uses_of_slot (one_use_less slot) ≡ uses_of_slot slot - 1
 uses-less Free = omega arith
-uses-less (Taken uses rule) = refl
+uses-less (Taken uses kept) = refl
 
 -- a slot changed, where a free one stays free
 pub change-same : (change : Slot → Slot) → change Free ≡ Free → (slots : List Slot) (number : ℕ) → slot_at (set slots number (change (slot_at slots number))) number ≡ change (slot_at slots number)
@@ -116,22 +124,52 @@ change-same change free [] number = sym free
 change-same change free (s ∷ slots) zero = refl
 change-same change free (s ∷ slots) (suc number) = change-same change free slots number
 
--- one use more or less of a number changes no rule
-pub rule_in-used : (slots : List Slot) (number : Option ℕ) (k : ℕ) → rule_in (used slots number) k ≡ rule_in slots k
-rule_in-used slots None k = refl
-rule_in-used slots (Some number) k =
+-- one use more or less of a number changes no policy and no rule
+pub kept_in-used : (slots : List Slot) (number : Option ℕ) (k : ℕ) → kept_in (used slots number) k ≡ kept_in slots k
+kept_in-used slots None k = refl
+kept_in-used slots (Some number) k =
     elim (same_or_not k number) [
-      | inl is ↦ rw is (ap rule_of_slot (change-same one_use_more refl slots number) ∙ rule-more (slot_at slots number))
-      | inr ne ↦ ap rule_of_slot (get_or-set_other slots number k (one_use_more (slot_at slots number)) Free ne)
+      | inl is ↦ rw is (ap kept_of_slot (change-same one_use_more refl slots number) ∙ kept-more (slot_at slots number))
+      | inr ne ↦ ap kept_of_slot (get_or-set_other slots number k (one_use_more (slot_at slots number)) Free ne)
     ]
 
-pub rule_in-unused : (slots : List Slot) (number : Option ℕ) (k : ℕ) → rule_in (unused slots number) k ≡ rule_in slots k
-rule_in-unused slots None k = refl
-rule_in-unused slots (Some number) k =
+pub kept_in-unused : (slots : List Slot) (number : Option ℕ) (k : ℕ) → kept_in (unused slots number) k ≡ kept_in slots k
+kept_in-unused slots None k = refl
+kept_in-unused slots (Some number) k =
     elim (same_or_not k number) [
-      | inl is ↦ rw is (ap rule_of_slot (change-same one_use_less refl slots number) ∙ rule-less (slot_at slots number))
-      | inr ne ↦ ap rule_of_slot (get_or-set_other slots number k (one_use_less (slot_at slots number)) Free ne)
+      | inl is ↦ rw is (ap kept_of_slot (change-same one_use_less refl slots number) ∙ kept-less (slot_at slots number))
+      | inr ne ↦ ap kept_of_slot (get_or-set_other slots number k (one_use_less (slot_at slots number)) Free ne)
     ]
+
+-- equal policies and rules are equal rules
+pub rule_of-kept : (a b : Option Kept) → a ≡ b → option_map (λ kept. kept.rule) a ≡ option_map (λ kept. kept.rule) b
+rule_of-kept a b is = ap (option_map (λ (kept : Kept). kept.rule)) is
+
+pub rule_in-used : (slots : List Slot) (number : Option ℕ) (k : ℕ) → rule_in (used slots number) k ≡ rule_in slots k
+rule_in-used slots number k = rule_of-kept _ _ (kept_in-used slots number k)
+
+pub rule_in-unused : (slots : List Slot) (number : Option ℕ) (k : ℕ) → rule_in (unused slots number) k ≡ rule_in slots k
+rule_in-unused slots number k = rule_of-kept _ _ (kept_in-unused slots number k)
+
+-- as a task's rule changes, the policies and rules stay
+pub kept_in-changed : (slots : List Slot) (number had : Option ℕ) (k : ℕ) → kept_in (unused (used slots number) had) k ≡ kept_in slots k
+kept_in-changed slots number had k = kept_in-unused (used slots number) had k ∙ kept_in-used slots number k
+
+-- where there is no rule there is no policy
+kept-none : (o : Option Kept) → option_map (λ kept. kept.rule) o ≡ None → o ≡ None
+kept-none None is = refl
+kept-none (Some kept) is = absurd (let odd : ◌≡◌ {A = Option RuleData} (Some kept.rule) None = is in cc)
+
+pub none-kept : (slots : List Slot) (number : ℕ) → rule_in slots number ≡ None → kept_in slots number ≡ None
+none-kept slots number is = kept-none (kept_in slots number) is
+
+-- a rule stands beside each policy
+some-rule : (o : Option Kept) (policy : PolicyRecord) → option_map (λ kept. kept.policy) o ≡ Some policy → IsSome (option_map (λ kept. kept.rule) o)
+some-rule None policy is = absurd (let odd : ◌≡◌ {A = Option PolicyRecord} None (Some policy) = is in cc)
+some-rule (Some kept) policy is = refl
+
+pub rule-there : (slots : List Slot) (number : ℕ) (policy : PolicyRecord) → policy_in slots number ≡ Some policy → IsSome (rule_in slots number)
+rule-there slots number policy is = some-rule (kept_in slots number) policy is
 
 pub length-used : (slots : List Slot) (number : Option ℕ) → length (used slots number) ≡ length slots
 length-used slots None = refl

@@ -4,7 +4,7 @@ use Rattle.std.specs.Ordering.{nat_cmp}
 use Rattle.std.specs.BTreeMap.{is_at, insert_entry}
 use Rattle.std.specs.Map.{remove_entry}
 use Rattle.numa_ranges.specs.declared.run.Run.{Run}
-use Rattle.numa_plan.specs.Rows.{RuleData}
+use Rattle.numa_plan.specs.Rows.{Kept, RuleData}
 use Rattle.numa_plan.specs.Meaning.{PlanData, number_of}
 use Rattle.numa_plan.specs.Slots.{put_slot, used, unused}
 use Rattle.numa_plan.specs.declared.slots.Slot.TheVariants.{Taken}
@@ -20,9 +20,9 @@ empty_plan nodes local = record {
   local = local;
 }
 
--- the plan with a rule in a slot, which nothing uses yet
-abbrev pub with_rule : PlanData → ℕ → RuleData → PlanData
-with_rule plan number rule = record plan { slots = put_slot plan.slots number (Taken 0 rule) }
+-- the plan with a policy's rule in a slot, which nothing uses yet
+abbrev pub with_rule : PlanData → ℕ → Kept → PlanData
+with_rule plan number kept = record plan { slots = put_slot plan.slots number (Taken 0 kept) }
 
 -- the plan with one run more, behind the others
 abbrev pub with_run : PlanData → Run (Option ℕ) → PlanData

@@ -30,3 +30,10 @@ pub record FindsQuickly (old new : Counted) (runs : ℕ) : Type 0 where
   pub few : 2 ^ (new.comparisons - old.comparisons) ≤ 2 * runs + 1
   pub writes_no_run : new.runs ≡ old.runs
   pub writes_no_rule : new.rules ≡ old.rules
+
+-- at most as many comparisons more as two such searches make, and nothing else
+pub record FindsTwice (old new : Counted) (runs : ℕ) : Type 0 where
+  pub compares : old.comparisons ≤ new.comparisons
+  pub few : 2 ^ (new.comparisons - old.comparisons) ≤ (2 * runs + 1) * (2 * runs + 1)
+  pub writes_no_run : new.runs ≡ old.runs
+  pub writes_no_rule : new.rules ≡ old.rules

@@ -1,12 +1,17 @@
 -- What the editing calls make of a plan's data.
-use Rattle.std.specs.Prelude.{ℕ, Option, List, [], ◌∷◌, slice_set}
+use Rattle.std.specs.Prelude.{◌≢◌, ℕ, Option, Some, List, [], ◌∷◌, All, slice_set}
 use Rattle.std.specs.List.{slice_range, splice}
 use Rattle.numa_ranges.specs.declared.run.Run.{Run}
-use Rattle.numa_plan.specs.Rows.{RuleData}
-use Rattle.numa_plan.specs.Meaning.{PlanData}
+use Rattle.numa_plan.specs.Rows.{Kept}
+use Rattle.numa_plan.specs.Meaning.{PlanData, number_of}
 use Rattle.numa_plan.specs.Slots.{slot_at, used, unused}
 use Rattle.numa_plan.specs.declared.slots.Slot.{Slot}
 use Rattle.numa_plan.specs.declared.slots.Slot.TheVariants.{Free, Taken}
+
+-- no run and no task names the number
+pub record IsUnnamed (plan : PlanData) (number : ℕ) : Type 0 where
+  pub runs : All (λ run. run.value ≢ Some number) plan.runs
+  pub tasks : (task : ℕ) → number_of plan.tasks task ≢ Some number
 
 -- the slots with one use more of a number for each run that names it
 abbrev pub all_used : List Slot → List (Run (Option ℕ)) → List Slot
@@ -26,21 +31,21 @@ with_runs plan from to runs = record plan {
 }
 
 -- a taken slot with another rule, and its uses
-abbrev pub with_other : Slot → RuleData → Slot
-with_other Free rule = Free
-with_other (Taken uses old) rule = Taken uses rule
+abbrev pub with_other : Slot → Kept → Slot
+with_other Free kept = Free
+with_other (Taken uses old) kept = Taken uses kept
 
 -- the plan with another rule in a slot
-abbrev pub with_written : PlanData → ℕ → RuleData → PlanData
-with_written plan number rule = record plan {
-  slots = slice_set plan.slots number (with_other (slot_at plan.slots number) rule);
+abbrev pub with_written : PlanData → ℕ → Kept → PlanData
+with_written plan number kept = record plan {
+  slots = slice_set plan.slots number (with_other (slot_at plan.slots number) kept);
 }
 
 -- a slot before others, but none where it is free and there are no others
 abbrev pub before_others : Slot → List Slot → List Slot
 before_others Free [] = []
 before_others Free (slot ∷ slots) = Free ∷ slot ∷ slots
-before_others (Taken uses rule) slots = Taken uses rule ∷ slots
+before_others (Taken uses kept) slots = Taken uses kept ∷ slots
 
 -- the slots up to the last that is taken
 abbrev pub trimmed : List Slot → List Slot

@@ -1,6 +1,7 @@
 -- What a search for a page finds.
-use Rattle.std.specs.Prelude.{◌≡◌, ℕ, ◌+◌, ◌^◌, ◌<◌, ◌≤◌, Option, Some}
-use Rattle.std.specs.Prelude.{None, IsSome, List, MatchOption}
+use Rattle.std.specs.Prelude.{◌≡◌, ℕ, ◌+◌, ◌-◌, ◌^◌, ◌<◌, ◌≤◌, Option, Some}
+use Rattle.std.specs.Prelude.{None, IsSome, List, MatchOption, length, slice_index_or}
+use Rattle.std.specs.List.{AllWithin}
 use Rattle.numa_ranges.specs.Runs.{page_at}
 use Rattle.numa_ranges.specs.declared.run.Run.{Run}
 use Rattle.numa_plan.specs.declared.runs.Found.{Found}
@@ -23,6 +24,15 @@ pub record IsAt (runs : List (Run (Option ℕ))) (page : ℕ) (found : Found) : 
 abbrev pub IsFound : List (Run (Option ℕ)) → ℕ → Option Found → Type 0
 IsFound runs page result = MatchOption result (page_at runs page ≡ None) (λ found.
     IsAt runs page found)
+
+-- the runs before a place begin at the page or before it, and those from the place on behind it;
+-- the run before the place begins so far before the page
+pub record IsSplit (runs : List (Run (Option ℕ))) (page place far : ℕ) : Type 0 where
+  pub within : place ≤ length runs
+  pub before : AllWithin (λ run. run.first ≤ page) runs 0 place
+  pub behind : AllWithin (λ run. page < run.first) runs place (length runs)
+  pub lies : (d : Run (Option ℕ)) → 0 < place → (slice_index_or runs (place - 1) d).first + far
+      ≡ page
 
 -- each page of the span has a run
 abbrev pub IsMapped : List (Run (Option ℕ)) → ℕ → ℕ → Type 0

@@ -15,8 +15,8 @@ use Rattle.numa_plan.specs.Rows.{RuleData, row_of}
 use Rattle.numa_plan.specs.Slots.{rule_in}
 use Rattle.numa_plan.specs.declared.slots.Slot.{Slot}
 
--- the number of nodes; runs in rising order, each with the number of its rule or none; rules in
--- slots; the number of the rule of some tasks; the local rule
+-- the number of nodes; runs in rising order, each with the number of its rule or none; policies and
+-- their rules in slots; the number of the rule of some tasks; the local rule
 pub record PlanData : Type 0 where
   pub version : ℕ
   pub nodes : ℕ

@@ -1,5 +1,6 @@
--- A rule: rows of nodes, and which of them serves a page.
+-- A rule: rows of nodes, and which of them serves a page; and the policy that it is for.
 use Rattle.std.specs.Prelude.{ℕ, ◌+◌, ◌*◌, ◌%◌, ◌<◌, ◌≤◌, List, length, slice_index, slice_range}
+use Rattle.numa_mode.specs.Policy.{PolicyRecord}
 
 -- which row serves: that of the faulting node, the only one, or the one whose number stands in the
 -- cycle at the page's index modulo the cycle's length
@@ -13,6 +14,11 @@ pub record RuleData : Type 0 where
   pub key : Key
   pub width : ℕ
   pub rows : List ℕ
+
+-- a policy and its rule
+pub record Kept : Type 0 where
+  pub policy : PolicyRecord
+  pub rule : RuleData
 
 abbrev pub number_by : Key → ℕ → ℕ → ℕ
 number_by Faulting cpu index = cpu

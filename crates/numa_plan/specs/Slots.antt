@@ -1,7 +1,9 @@
--- Rules in numbered slots, which count the runs and tasks that use them.
+-- Policies and their rules in numbered slots, which count the runs and tasks that use them.
 use Rattle.std.specs.Prelude.{◌≡◌, ℕ, ◌+◌, ◌-◌, ◌<◌, ◌≤◌, Option, Some, None, IsSome, List, [], ◌∷◌}
 use Rattle.std.specs.Prelude.{◌++◌, length, slice_set, slice_index_or, nat_lt, if◌then◌else◌}
-use Rattle.numa_plan.specs.Rows.{RuleData}
+use Rattle.std.specs.Option.{option_map}
+use Rattle.numa_mode.specs.Policy.{PolicyRecord}
+use Rattle.numa_plan.specs.Rows.{Kept, RuleData}
 use Rattle.numa_plan.specs.declared.slots.Slot.{Slot}
 use Rattle.numa_plan.specs.declared.slots.Slot.TheVariants.{Free, Taken}
 
@@ -9,17 +11,28 @@ use Rattle.numa_plan.specs.declared.slots.Slot.TheVariants.{Free, Taken}
 abbrev pub slot_at : List Slot → ℕ → Slot
 slot_at slots number = slice_index_or slots number Free
 
+abbrev pub kept_of_slot : Slot → Option Kept
+kept_of_slot Free = None
+kept_of_slot (Taken uses kept) = Some kept
+
 abbrev pub rule_of_slot : Slot → Option RuleData
-rule_of_slot Free = None
-rule_of_slot (Taken uses rule) = Some rule
+rule_of_slot slot = option_map (λ kept. kept.rule) (kept_of_slot slot)
 
 abbrev pub uses_of_slot : Slot → ℕ
 uses_of_slot Free = 0
-uses_of_slot (Taken uses rule) = uses
+uses_of_slot (Taken uses kept) = uses
+
+-- the policy and the rule in a slot
+abbrev pub kept_in : List Slot → ℕ → Option Kept
+kept_in slots number = kept_of_slot (slot_at slots number)
 
 -- the rule in a slot
 abbrev pub rule_in : List Slot → ℕ → Option RuleData
-rule_in slots number = rule_of_slot (slot_at slots number)
+rule_in slots number = option_map (λ kept. kept.rule) (kept_in slots number)
+
+-- the policy whose rule is in a slot
+abbrev pub policy_in : List Slot → ℕ → Option PolicyRecord
+policy_in slots number = option_map (λ kept. kept.policy) (kept_in slots number)
 
 -- how many uses a slot counts
 abbrev pub uses_in : List Slot → ℕ → ℕ
@@ -48,11 +61,11 @@ put_slot slots number slot = if nat_lt number (length slots) then slice_set slot
 
 abbrev pub one_use_more : Slot → Slot
 one_use_more Free = Free
-one_use_more (Taken uses rule) = Taken (uses + 1) rule
+one_use_more (Taken uses kept) = Taken (uses + 1) kept
 
 abbrev pub one_use_less : Slot → Slot
 one_use_less Free = Free
-one_use_less (Taken uses rule) = Taken (uses - 1) rule
+one_use_less (Taken uses kept) = Taken (uses - 1) kept
 
 -- the slots with one use more of a number, if one is given
 abbrev pub used : List Slot → Option ℕ → List Slot

@@ -11,7 +11,9 @@ ghost use Rattle.numa_plan.specs.Meaning.{number_for, planned_first, CountsFirst
 
 mod build;
 mod edit;
+mod read;
 
+use crate::numbers::Numbers;
 use crate::rule::Rule;
 use crate::runs::Runs;
 use crate::slots::{Slot, copies};
@@ -23,7 +25,8 @@ use std::collections::BTreeMap;
 use std::marker::Model;
 
 /// The lists of nodes of a space's pages: runs of pages, each with the number of its rule or none,
-/// rules in numbered slots, the number of a rule for some tasks, and a local rule.
+/// rules in numbered slots, each beside its policy, the number of a rule for some tasks, and a local
+/// rule.
 ///
 /// The list of a page, for a task and a faulting node, is the row that the key of a rule picks by
 /// the node and the page's index: of the rule of the run that has the page; where the run has none,
@@ -39,6 +42,7 @@ pub struct Plan {
     lowest_free: usize,
     tasks: BTreeMap<u32, u32>,
     local: Rule,
+    numbers: Numbers,
 }
 
 impl Model for Plan {
@@ -84,6 +88,7 @@ impl Plan {
             lowest_free: self.lowest_free,
             tasks,
             local,
+            numbers: Numbers::new(alloc),
         })
     }
 
@@ -111,6 +116,7 @@ impl Plan {
     ///
     /// # Errors
     /// `BadCpu` where `cpu` is none of the plan's nodes; else `Unmapped` where no run has the page.
+    #[inline(always)]
     pub fn choice(
         &self,
         task: u32,
@@ -218,7 +224,7 @@ impl Plan {
             return None;
         }
         match &self.slots[number as usize] {
-            Slot::Taken { rule, .. } => Some(rule.get()),
+            Slot::Taken { kept, .. } => Some(kept.rule()),
             Slot::Free => None,
         }
     }

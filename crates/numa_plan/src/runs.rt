@@ -1,13 +1,15 @@
 //! The runs of a plan, in rising order.
 ghost use Rattle.std.specs.Prelude.{◌≡◌, ℕ, ◌+◌, ◌-◌, ◌<◌, ◌≤◌, ◌^◌, List, [], ◌∷◌};
-ghost use Rattle.std.specs.Prelude.{◌++◌, length, slice_index_or, MatchOption, Option};
+ghost use Rattle.std.specs.Prelude.{◌++◌, length, slice_index_or, MatchOption, Option, slice_get};
 ghost use Rattle.std.specs.Prelude.{IfOk, OnOk, OnErr, Some, None, IsSome};
 ghost use Rattle.std.specs.Bool.{OnTrue, OnFalse};
 ghost use Rattle.numa_ranges.specs.Runs.{AreApart, end_of, page_at};
 ghost use Rattle.numa_ranges.specs.declared.run.Run.{Run};
-ghost use Rattle.std.specs.List.{slice_range, splice};
+ghost use Rattle.std.specs.List.{slice_range, splice, AllWithin};
+ghost use Rattle.numa_ranges.specs.Windows.{IsWindow};
 ghost use Rattle.numa_plan.specs.Counted.{one_comparison, one_run, more_runs, FindsQuickly};
-ghost use Rattle.numa_plan.specs.Found.{IsFound, IsPartOf, IsMapped, HasHole};
+ghost use Rattle.numa_plan.specs.Counted.{FindsTwice};
+ghost use Rattle.numa_plan.specs.Found.{IsFound, IsPartOf, IsMapped, IsSplit, HasHole};
 
 use crate::steps::Steps;
 use numa_machine::NoMemory;
@@ -114,18 +116,19 @@ impl Runs {
         }
     }
 
-    /// What the runs say of a page.
-    pub(crate) fn find(&self, page: u64, steps: &mut Steps) -> Option<Found>
-        ensures found { IsFound self.now page result }
+    /// The place behind the last run that begins at a page or before it, and how far the page lies
+    /// behind the first page of that run.
+    fn split(&self, page: u64, near: &mut Near, steps: &mut Steps) -> (usize, u64)
+        ensures split { IsSplit self.now page result.0 result.1 }
+        ensures apart { AreApart 0 self.now }
         ensures quick { FindsQuickly steps.old steps.new (length self.now) }
     {
-        let mut near = self.items.near();
         let mut low = 0usize;
         let mut high = self.len();
         let mut far = 0u64;
         while low < high {
             let middle = low + (high - low) / 2;
-            match self.behind_first(middle, page, &mut near, steps) {
+            match self.behind_first(middle, page, near, steps) {
                 Some(distance) => {
                     far = distance;
                     low = middle + 1;
@@ -133,10 +136,73 @@ impl Runs {
                 None => high = middle,
             }
         }
-        if low == 0 {
+        (low, far)
+    }
+
+    /// What the runs say of a page.
+    pub(crate) fn find(&self, page: u64, steps: &mut Steps) -> Option<Found>
+        ensures found { IsFound self.now page result }
+        ensures quick { FindsQuickly steps.old steps.new (length self.now) }
+    {
+        let mut near = self.items.near();
+        let at = self.split(page, &mut near, steps);
+        if at.0 == 0 {
             return None;
         }
-        self.found_at(low - 1, far, &mut near)
+        self.found_at(at.0 - 1, at.1, &mut near)
+    }
+
+    /// How many runs begin at a page or before it.
+    fn count_begun(&self, page: u64, steps: &mut Steps) -> usize
+        ensures within { result ≤ length self.now }
+        ensures begun { AllWithin (λ run. run.first ≤ page) self.now 0 result }
+        ensures behind { AllWithin (λ run. page < run.first) self.now result (length self.now) }
+        ensures quick { FindsQuickly steps.old steps.new (length self.now) }
+    {
+        self.split(page, &mut self.items.near(), steps).0
+    }
+
+    /// How many runs end before a page.
+    fn count_ended(&self, page: u64, steps: &mut Steps) -> usize
+        ensures within { result ≤ length self.now }
+        ensures ended { AllWithin (λ run. end_of run < page) self.now 0 result }
+        ensures reach { AllWithin (λ run. page ≤ end_of run) self.now result (length self.now) }
+        ensures quick { FindsQuickly steps.old steps.new (length self.now) }
+    {
+        if page == 0 {
+            return 0;
+        }
+        let mut near = self.items.near();
+        let at = self.split(page - 1, &mut near, steps);
+        if at.0 == 0 {
+            return 0;
+        }
+        match self.found_at(at.0 - 1, at.1, &mut near) {
+            Some(_) => at.0 - 1,
+            None => at.0,
+        }
+    }
+
+    /// The places of the runs that end at `first` or behind it and begin at `end` or before it: the
+    /// first place, and the one behind the last.
+    pub(crate) fn window(&self, first: u64, end: u64, steps: &mut Steps) -> (usize, usize)
+        ensures window { first ≤ end → IsWindow self.now first end result.0 result.1 }
+        ensures quick { FindsTwice steps.old steps.new (length self.now) }
+    {
+        let from = self.count_ended(first, steps);
+        let to = self.count_begun(end, steps);
+        (from, to)
+    }
+
+    /// The run at a place.
+    pub(crate) fn at(&self, place: usize) -> Option<Run<Option<u32>>>
+        ensures { result ≡ slice_get self.now place }
+    {
+        if place < self.items.len() {
+            Some(*self.items.get(place))
+        } else {
+            None
+        }
     }
 
     /// Whether each page of the span is mapped.

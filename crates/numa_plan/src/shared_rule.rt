@@ -1,52 +1,71 @@
-//! Rules that plans share.
+//! Rules that plans share, with their policies.
 ghost use Rattle.std.specs.Prelude.{◌≡◌, IfOk};
 
 use crate::rule::Rule;
 use numa_machine::NoMemory;
+use numa_mode::Record;
 use std::alloc::{AllocError, Global};
 use std::marker::Model;
 use std::sync::Arc;
 
-/// A rule that plans share, so that a copy of a plan takes no memory for its rows.
+/// A policy and its rule.
+#[derive(Drop)]
+struct RuleOfPolicy {
+    policy: Record,
+    rule: Rule,
+}
+
+/// A policy and its rule, which plans share, so that a copy of a plan takes no memory for them.
 #[derive(Drop)]
 pub struct SharedRule {
-    rule: Arc<Rule>,
+    shared: Arc<RuleOfPolicy>,
 }
 
 impl Model for SharedRule {
-    ghost use Rattle.numa_plan.specs.Rows.{RuleData};
+    ghost use Rattle.numa_plan.specs.Rows.{Kept};
 
-    ghost Value = { RuleData };
+    ghost Value = { Kept };
 
-    ghost view = { λ a. a.rule.value };
+    ghost view = { λ a. record { policy = a.shared.value.policy; rule = a.shared.value.rule } };
 }
 
 impl SharedRule {
-    /// The rule, to be shared.
+    /// The rule of a policy, to be shared.
     ///
     /// # Errors
     /// `NoMemory` where there is none for the rule's place.
-    pub fn new(alloc: Global, rule: Rule) -> Result<SharedRule, NoMemory>
-        ensures { IfOk result (λ shared. shared ≡ rule) }
+    pub fn new(alloc: Global, policy: Record, rule: Rule) -> Result<SharedRule, NoMemory>
+        ensures { IfOk result (λ shared. shared ≡ record { policy = policy; rule = rule }) }
     {
-        let rule = Arc::new(alloc, rule)?;
-        Ok(SharedRule { rule })
+        let shared = Arc::new(alloc, RuleOfPolicy { policy, rule })?;
+        Ok(SharedRule { shared })
     }
 
-    /// The rule once more, of which there is one still.
+    /// The policy and its rule once more, of which there is one still.
     pub(crate) fn share(&self) -> Result<SharedRule, AllocError>
         ensures { IfOk result (λ shared. shared ≡ self.now) }
     {
-        let rule = Arc::try_clone(&self.rule)?;
-        Ok(SharedRule { rule })
+        let shared = Arc::try_clone(&self.shared)?;
+        Ok(SharedRule { shared })
     }
 
     /// The rule.
     #[inline]
-    pub(crate) fn get(&self) -> &Rule
-        ensures { result.now ≡ self.now }
+    pub(crate) fn rule(&self) -> &Rule
+        ensures { result.now ≡ self.now.rule }
     {
-        let rule: &Rule = &self.rule;
-        rule
+        let shared: &RuleOfPolicy = &self.shared;
+        &shared.rule
+    }
+
+    /// The policy that the rule is for.
+    #[inline]
+    pub(crate) fn policy(&self) -> Record
+        ensures { result ≡ self.now.policy }
+    {
+        let shared: &RuleOfPolicy = &self.shared;
+        shared.policy
     }
 }
+
+const _: () = prove!(size_of::<RuleOfPolicy>() == 168);

@@ -1,16 +1,17 @@
-//! Rules in numbered slots, which count the runs and tasks that use them. A free slot is used
-//! again.
+//! Policies and their rules in numbered slots, which count the runs and tasks that use them. A free
+//! slot is used again.
 ghost use Rattle.std.specs.Prelude.{◌≡◌, ℕ, ◌+◌, ◌-◌, ◌<◌, ◌≤◌, ◌^◌, length, All, count_by};
 ghost use Rattle.std.specs.Prelude.{Some, IsSome, is_some, IfOk, OnOk, OnErr, slice_set, take, not};
 ghost use Rattle.std.specs.Option.{ForSome};
 ghost use Rattle.numa_plan.specs.Slots.{rule_in, rule_of_slot, uses_in, AreTaken, IsLowestFree};
-ghost use Rattle.numa_plan.specs.Slots.{put_slot, slot_at, used, unused};
+ghost use Rattle.numa_plan.specs.Slots.{policy_in, put_slot, slot_at, used, unused};
 ghost use Rattle.numa_plan.specs.Editing.{all_used, all_unused, trimmed, with_other};
 ghost use Rattle.numa_plan.specs.Meaning.{is_number};
 ghost use Rattle.numa_plan.specs.declared.slots.Slot.TheVariants.{Free, Taken};
 
 use crate::shared_rule::SharedRule;
 use numa_machine::NoMemory;
+use numa_mode::Record;
 use numa_ranges::Run;
 use std::alloc::Global;
 
@@ -19,8 +20,8 @@ use std::alloc::Global;
 pub(crate) enum Slot {
     /// There is no rule.
     Free,
-    /// A rule, and how many runs and tasks use it.
-    Taken { uses: u32, rule: SharedRule },
+    /// A policy and its rule, and how many runs and tasks use it.
+    Taken { uses: u32, kept: SharedRule },
 }
 
 /// The same slot once more, with the same rule.
@@ -29,9 +30,9 @@ fn slot_copy(slot: &Slot) -> Result<Slot, NoMemory>
 {
     match slot {
         Slot::Free => Ok(Slot::Free),
-        Slot::Taken { uses, rule } => {
-            let rule = rule.share()?;
-            Ok(Slot::Taken { uses: *uses, rule })
+        Slot::Taken { uses, kept } => {
+            let kept = kept.share()?;
+            Ok(Slot::Taken { uses: *uses, kept })
         }
     }
 }
@@ -65,13 +66,13 @@ pub(crate) fn lowest_free(slots: &Vec<Slot>, from: usize) -> usize
 pub(crate) fn put_rule(
     slots: &mut Vec<Slot>,
     number: usize,
-    rule: SharedRule,
+    kept: SharedRule,
 ) -> Result<(), NoMemory>
     requires { number ≤ length slots.old.items }
-    ensures ok { OnOk result (slots.new.items ≡ put_slot slots.old.items number (Taken 0 rule)) }
+    ensures ok { OnOk result (slots.new.items ≡ put_slot slots.old.items number (Taken 0 kept)) }
     ensures err { OnErr result (slots.new.items ≡ slots.old.items) }
 {
-    let slot = Slot::Taken { uses: 0, rule };
+    let slot = Slot::Taken { uses: 0, kept };
     if number < slots.len() {
         slots[number] = slot;
     } else {
@@ -154,8 +155,8 @@ pub(crate) fn write_other(slots: &mut Vec<Slot>, number: u32, other: SharedRule)
         ≡ slice_set slots.old.items number (with_other (slot_at slots.old.items number) other) }
 {
     let slot = &mut slots[number as usize];
-    if let Slot::Taken { rule, .. } = slot {
-        *rule = other;
+    if let Slot::Taken { kept, .. } = slot {
+        *kept = other;
     }
 }
 
@@ -167,6 +168,45 @@ fn is_free(slot: &Slot) -> bool
         Slot::Free => true,
         Slot::Taken { .. } => false,
     }
+}
+
+/// The policy whose rule is in a slot.
+pub(crate) fn policy_at(slots: &[Slot], number: u32) -> Option<Record>
+    ensures { result ≡ policy_in slots.now number }
+{
+    if number as usize >= slots.len() {
+        return None;
+    }
+    match &slots[number as usize] {
+        Slot::Taken { kept, .. } => Some(kept.policy()),
+        Slot::Free => None,
+    }
+}
+
+/// How many uses a slot counts.
+pub(crate) fn uses_at(slots: &[Slot], number: u32) -> u32
+    ensures { result ≡ uses_in slots.now number }
+{
+    if number as usize >= slots.len() {
+        return 0;
+    }
+    match &slots[number as usize] {
+        Slot::Taken { uses, .. } => *uses,
+        Slot::Free => 0,
+    }
+}
+
+/// How many slots are taken.
+pub(crate) fn taken_count(slots: &[Slot]) -> usize
+    ensures { result ≡ count_by (λ slot. is_some (rule_of_slot slot)) slots.now }
+{
+    let mut count = 0usize;
+    for slot in slots {
+        if !is_free(slot) {
+            count += 1;
+        }
+    }
+    count
 }
 
 /// How many slots there are up to the last that is taken.

@@ -6,9 +6,10 @@ ghost use Rattle.numa_ranges.specs.Runs.{AreApart};
 ghost use Rattle.numa_plan.specs.Counted.{one_rule, one_run};
 ghost use Rattle.numa_plan.specs.Rows.{HasRows};
 ghost use Rattle.numa_plan.specs.Meaning.{number_of, planned_list};
-ghost use Rattle.numa_plan.specs.Slots.{rule_in, IsLowestFree};
+ghost use Rattle.numa_plan.specs.Slots.{kept_in, rule_in, IsLowestFree, EndsTaken};
 ghost use Rattle.numa_plan.specs.Building.{empty_plan, with_rule, with_run, with_task};
 
+use crate::numbers::Numbers;
 use crate::plan::Plan;
 use crate::rule::Rule;
 use crate::runs::Runs;
@@ -16,6 +17,7 @@ use crate::shared_rule::SharedRule;
 use crate::slots::{leave_rule, lowest_free, put_rule, use_rule};
 use crate::steps::Steps;
 use numa_machine::NoMemory;
+use numa_mode::Record;
 use numa_ranges::Run;
 use std::alloc::Global;
 use std::collections::BTreeMap;
@@ -36,31 +38,49 @@ impl Plan {
             lowest_free: 0,
             tasks: BTreeMap::new(alloc),
             local,
+            numbers: Numbers::new(alloc),
         }
     }
 
-    /// Writes a rule, with a row for each of the plan's nodes at each index, into the lowest free
-    /// slot, or behind the others where none is free. Answers the slot's number. No run and no task
-    /// uses the rule yet, so that no list changes.
+    /// Writes the rule of a policy, with a row for each of the plan's nodes at each index, into the
+    /// lowest free slot, or behind the others where none is free. Answers the slot's number. No run
+    /// and no task uses the rule yet, so that no list changes; `drop_rule` of that number, before
+    /// anything else is done, leaves the plan as it was.
     ///
     /// # Errors
-    /// `NoMemory` where there is none for the rule's place or a slot more; the plan is as it was.
-    pub fn add_rule(&mut self, rule: Rule, steps: &mut Steps) -> Result<u32, NoMemory>
+    /// `NoMemory` where there is none for the rule's place or a slot more, or where the slots are
+    /// 2^32 already; the plan is as it was.
+    pub fn add_rule(
+        &mut self,
+        policy: Record,
+        rule: Rule,
+        steps: &mut Steps,
+    ) -> Result<u32, NoMemory>
         requires rows { HasRows self.old.nodes rule }
-        requires few { length self.old.slots < 2 ^ 32 }
         ensures ok { IfOk result (λ number. IsLowestFree self.old.slots number
-            × (self.new ≡ with_rule self.old number rule) × (steps.new ≡ one_rule steps.old)) }
+            × (self.new ≡ with_rule self.old number (record { policy = policy; rule = rule }))
+            × (steps.new ≡ one_rule steps.old)) }
+        ensures here { IfOk result (λ number. kept_in self.new.slots number
+            ≡ Some (record { policy = policy; rule = rule })) }
+        ensures others { IfOk result (λ number. (other : ℕ) → other ≢ number
+            → kept_in self.new.slots other ≡ kept_in self.old.slots other) }
+        ensures ends { IfOk result (λ number. (number < length self.new.slots)
+            × (kept_in self.old.slots number ≡ None) × EndsTaken self.old.slots) }
         ensures sized { OnOk result (length self.new.slots ≤ length self.old.slots + 1) }
         ensures lists { OnOk result ((task page cpu : ℕ)
             → planned_list self.new task page cpu ≡ planned_list self.old task page cpu) }
         ensures err { OnErr result ((self.new ≡ self.old) × (steps.new ≡ steps.old)) }
     {
         let place = lowest_free(&self.slots, self.lowest_free);
-        let shared = SharedRule::new(self.alloc, rule)?;
+        let Ok(number) = u32::try_from(place) else {
+            return Err(NoMemory);
+        };
+        let shared = SharedRule::new(self.alloc, policy, rule)?;
         put_rule(&mut self.slots, place, shared)?;
         self.lowest_free = place + 1;
+        self.numbers.enter(policy, number);
         steps.rule_written();
-        Ok(place as u32)
+        Ok(number)
     }
 
     /// Adds a run behind the others. It begins where they end or later, has a page, ends below page
@@ -88,16 +108,18 @@ impl Plan {
     /// None the task has no rule of its own any more. Writes no run and no rule.
     ///
     /// # Errors
-    /// `NoMemory` where there is none for a task more, never with None; the plan is as it was.
+    /// `NoMemory` where there is none for a task more, or where the rule has 2^32 - 1 uses already;
+    /// never with None; the plan is as it was.
     pub fn set_task(&mut self, task: u32, number: Option<u32>) -> Result<(), NoMemory>
         requires named { ForSome number (λ number. IsSome (rule_in self.old.slots number)) }
-        requires few { length self.old.runs + length self.old.tasks < 2 ^ 32 - 1 }
         ensures ok { OnOk result (self.new ≡ with_task self.old task number) }
         ensures given { OnOk result (number_of self.new.tasks task ≡ number) }
         ensures others { OnOk result ((other : ℕ) → other ≢ task
             → number_of self.new.tasks other ≡ number_of self.old.tasks other) }
         ensures sized { OnOk result (length self.new.tasks ≤ length self.old.tasks + 1) }
         ensures slots { OnOk result (length self.new.slots ≡ length self.old.slots) }
+        ensures kept { OnOk result ((number : ℕ)
+            → kept_in self.new.slots number ≡ kept_in self.old.slots number) }
         ensures err { OnErr result (self.new ≡ self.old) }
         ensures room { OnErr result (number ≢ None) }
     {
@@ -113,7 +135,6 @@ impl Plan {
     /// Gives a task a rule, in place of the one that it had.
     fn give_rule(&mut self, task: u32, number: u32) -> Result<(), NoMemory>
         requires named { IsSome (rule_in self.old.slots number) }
-        requires few { length self.old.runs + length self.old.tasks < 2 ^ 32 - 1 }
         ensures ok { OnOk result (self.new ≡ with_task self.old task (Some number)) }
         ensures given { OnOk result (number_of self.new.tasks task ≡ Some number) }
         ensures others { OnOk result ((other : ℕ) → other ≢ task
@@ -121,6 +142,9 @@ impl Plan {
         ensures sized { OnOk result (length self.new.tasks ≤ length self.old.tasks + 1) }
         ensures err { OnErr result (self.new ≡ self.old) }
     {
+        if self.uses(number) == u32::MAX {
+            return Err(NoMemory);
+        }
         let had = self.tasks.insert(task, number)?;
         use_rule(&mut self.slots, number);
         if let Some(had) = had {

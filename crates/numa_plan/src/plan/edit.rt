@@ -1,22 +1,33 @@
 //! How a plan is edited in place.
-ghost use Rattle.std.specs.Prelude.{◌≡◌, ℕ, ◌+◌, ◌<◌, ◌≤◌, ◌^◌, ◌-◌, length, All};
-ghost use Rattle.std.specs.Prelude.{IsSome, OnOk, OnErr};
+ghost use Rattle.std.specs.Prelude.{◌≡◌, ◌≢◌, ℕ, ◌+◌, ◌<◌, ◌≤◌, ◌^◌, length, All};
+ghost use Rattle.std.specs.Prelude.{IsSome, IfSome, Some, None, OnOk, OnErr};
+ghost use Rattle.std.specs.Bool.{OnTrue};
 ghost use Rattle.std.specs.Option.{ForSome};
 ghost use Rattle.std.specs.List.{splice};
 ghost use Rattle.numa_ranges.specs.Runs.{AreApart};
 ghost use Rattle.numa_plan.specs.Counted.{more_runs, one_rule};
-ghost use Rattle.numa_plan.specs.Rows.{HasRows, RuleData};
+ghost use Rattle.numa_plan.specs.Rows.{HasRows, Kept};
 ghost use Rattle.numa_plan.specs.Meaning.{PlanData, planned_list};
-ghost use Rattle.numa_plan.specs.Slots.{rule_in, uses_in, IsLowestFree, EndsTaken};
+ghost use Rattle.numa_plan.specs.Slots.{kept_in, policy_in, rule_in, uses_in, IsLowestFree};
+ghost use Rattle.numa_plan.specs.Slots.{EndsTaken};
 ghost use Rattle.numa_plan.specs.Building.{with_rule};
 ghost use Rattle.numa_plan.specs.Editing.{with_runs, with_written, without_rule};
 
 use crate::plan::Plan;
 use crate::shared_rule::SharedRule;
-use crate::slots::{Slot, free_slot, leave_all, use_all, write_other};
+use crate::slots::{free_slot, leave_all, policy_at, use_all, write_other};
 use crate::steps::Steps;
 use numa_machine::NoMemory;
+use numa_mode::Record;
 use numa_ranges::Run;
+
+/// Whether the uses of a rule by so many runs and tasks, and so many runs more, can be counted.
+fn can_count(runs: usize, tasks: usize, more: usize) -> bool
+    ensures { OnTrue result (runs + tasks + more < 2 ^ 32) }
+{
+    let limit = u32::MAX as usize;
+    runs.saturating_add(tasks).saturating_add(more) <= limit
+}
 
 impl Plan {
     /// Puts runs in the place of those from one place to another (the second is the place behind
@@ -24,7 +35,8 @@ impl Plan {
     /// each run that it puts in.
     ///
     /// # Errors
-    /// `NoMemory` where there is none for the runs; the plan is as it was.
+    /// `NoMemory` where there is none for the runs, or where the plan's runs and tasks and these
+    /// runs are 2^32 or more; the plan is as it was.
     pub fn splice_runs(
         &mut self,
         from: usize,
@@ -37,13 +49,15 @@ impl Plan {
         requires apart { AreApart 0 (splice self.old.runs from to runs.now) }
         requires named { All (λ run. ForSome run.value (λ number.
             IsSome (rule_in self.old.slots number))) runs.now }
-        requires few { length self.old.runs + length self.old.tasks + length runs.now < 2 ^ 32 }
         ensures ok { OnOk result ((self.new ≡ with_runs self.old from to runs.now)
             × (steps.new ≡ more_runs (length runs.now) steps.old)) }
-        ensures rules { OnOk result ((number : ℕ)
-            → rule_in self.new.slots number ≡ rule_in self.old.slots number) }
+        ensures kept { OnOk result ((number : ℕ)
+            → kept_in self.new.slots number ≡ kept_in self.old.slots number) }
         ensures err { OnErr result ((self.new ≡ self.old) × (steps.new ≡ steps.old)) }
     {
+        if !can_count(self.runs.len(), self.tasks.len(), runs.len()) {
+            return Err(NoMemory);
+        }
         let gone = self.runs.splice(from, to, runs, steps)?;
         use_all(&mut self.slots, runs);
         leave_all(&mut self.slots, &gone);
@@ -51,14 +65,19 @@ impl Plan {
     }
 
     /// Writes a rule, with a row for each of the plan's nodes at each index, in the place of that
-    /// in a slot, whose runs and tasks use it from now on. Takes no memory.
-    pub fn write_rule(&mut self, number: u32, rule: SharedRule, steps: &mut Steps)
-        requires there { IsSome (rule_in self.old.slots number) }
-        requires rows { HasRows self.old.nodes rule }
-        ensures ok { self.new ≡ with_written self.old number rule }
+    /// in a slot, which is for the same policy. Its runs and tasks use the new rule from now on.
+    /// Takes no memory.
+    pub fn write_rule(&mut self, number: u32, shared: SharedRule, steps: &mut Steps)
+        requires there { policy_in self.old.slots number ≡ Some shared.policy }
+        requires rows { HasRows self.old.nodes shared.rule }
+        ensures ok { self.new ≡ with_written self.old number shared }
+        ensures here { kept_in self.new.slots number ≡ Some shared }
+        ensures others { (other : ℕ) → other ≢ number
+            → kept_in self.new.slots other ≡ kept_in self.old.slots other }
+        ensures slots { length self.new.slots ≡ length self.old.slots }
         ensures written { steps.new ≡ one_rule steps.old }
     {
-        write_other(&mut self.slots, number, rule);
+        write_other(&mut self.slots, number, shared);
         steps.rule_written();
     }
 
@@ -71,10 +90,14 @@ impl Plan {
         ensures ok { self.new ≡ without_rule self.old number }
         ensures lists { (task page cpu : ℕ)
             → planned_list self.new task page cpu ≡ planned_list self.old task page cpu }
-        ensures undone { (plan : PlanData) (rule : RuleData) → IsLowestFree plan.slots number
-            → EndsTaken plan.slots → self.old ≡ with_rule plan number rule → self.new ≡ plan }
+        ensures gone { kept_in self.new.slots number ≡ None }
+        ensures others { (other : ℕ) → other ≢ number
+            → kept_in self.new.slots other ≡ kept_in self.old.slots other }
+        ensures undone { (plan : PlanData) (kept : Kept) → IsLowestFree plan.slots number
+            → EndsTaken plan.slots → self.old ≡ with_rule plan number kept → self.new ≡ plan }
     {
         let place = number as usize;
+        self.numbers.forget(policy_at(&self.slots, number));
         free_slot(&mut self.slots, place);
         self.lowest_free = self.lowest_free.min(place);
     }
@@ -91,16 +114,14 @@ impl Plan {
         Ok(())
     }
 
-    /// How many runs and tasks use the rule in a slot.
-    pub fn uses(&self, number: u32) -> u32
-        ensures { result ≡ uses_in self.now.slots number }
+    /// The number of a slot that holds the rule of this policy, where one is known. Looks into a
+    /// private table, which a plan that was copied fills first; a rule that was added while there
+    /// was no memory for its entry isn't found. The plan is as it was.
+    pub fn number_for_policy(&mut self, policy: &Record) -> Option<u32>
+        ensures number { IfSome result (λ number.
+            policy_in self.new.slots number ≡ Some policy.now) }
+        ensures same { self.new ≡ self.old }
     {
-        if number as usize >= self.slots.len() {
-            return 0;
-        }
-        match &self.slots[number as usize] {
-            Slot::Taken { uses, .. } => *uses,
-            Slot::Free => 0,
-        }
+        self.numbers.number_for(&self.slots, policy)
     }
 }

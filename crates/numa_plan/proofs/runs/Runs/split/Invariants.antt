@@ -1,6 +1,6 @@
 use Rattle.std.proofs.Common.{◌≡◌, ◌-◌, length}
 use Rattle.numa_plan.proofs.Searching.{IsNarrowed, IsSparing}
-use Rattle.numa_plan.proofs.runs.Runs.find.Given as goal
+use Rattle.numa_plan.proofs.runs.Runs.split.Given as goal
 
 abbrev pub invariant-loop-low : goal.invariant-loop-low
 invariant-loop-low l = record {

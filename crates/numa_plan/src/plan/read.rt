@@ -1,0 +1,89 @@
+//! What an editor of a plan reads in it.
+ghost use Rattle.std.specs.Prelude.{◌≡◌, ◌≢◌, ◌↔◌, ℕ, ◌<◌, ◌≤◌, length, All, Some, slice_get};
+ghost use Rattle.std.specs.Prelude.{count_by, is_some};
+ghost use Rattle.std.specs.Option.{option_map};
+ghost use Rattle.numa_ranges.specs.Runs.{page_at};
+ghost use Rattle.numa_ranges.specs.Windows.{IsWindow};
+ghost use Rattle.numa_plan.specs.Counted.{FindsQuickly, FindsTwice};
+ghost use Rattle.numa_plan.specs.Editing.{IsUnnamed};
+ghost use Rattle.numa_plan.specs.Meaning.{number_of};
+ghost use Rattle.numa_plan.specs.Slots.{policy_in, rule_of_slot, uses_in};
+
+use crate::plan::Plan;
+use crate::slots::{policy_at, taken_count, uses_at};
+use crate::steps::Steps;
+use numa_mode::Record;
+use numa_ranges::Run;
+
+impl Plan {
+    /// The policy whose rule is in a slot.
+    pub fn policy_of(&self, number: u32) -> Option<Record>
+        ensures { result ≡ policy_in self.now.slots number }
+    {
+        policy_at(&self.slots, number)
+    }
+
+    /// How many rules stand in slots.
+    pub fn rule_count(&self) -> usize
+        ensures { result ≡ count_by (λ slot. is_some (rule_of_slot slot)) self.now.slots }
+    {
+        taken_count(&self.slots)
+    }
+
+    /// How many slots there are, free or taken: one more than the highest number of a rule.
+    pub fn slot_count(&self) -> usize
+        ensures { result ≡ length self.now.slots }
+    {
+        self.slots.len()
+    }
+
+    /// How many runs and tasks use the rule in a slot; none use one whose number none of them
+    /// names.
+    pub fn uses(&self, number: u32) -> u32
+        ensures uses { result ≡ uses_in self.now.slots number }
+        ensures named { (result ≡ 0) ↔ IsUnnamed self.now number }
+    {
+        // Tells the proof that no task stands there twice.
+        let _ = self.tasks.len();
+        uses_at(&self.slots, number)
+    }
+
+    /// The number of a task's rule, where the task has one of its own.
+    pub fn task_number(&self, task: u32) -> Option<u32>
+        ensures { result ≡ number_of self.now.tasks task }
+    {
+        self.tasks.get(&task).copied()
+    }
+
+    /// The run at a place, in rising order.
+    pub fn run_at(&self, place: usize) -> Option<Run<Option<u32>>>
+        ensures { result ≡ slice_get self.now.runs place }
+    {
+        self.runs.at(place)
+    }
+
+    /// The number of the rule of the run that has a page; none where no run has it. The page is
+    /// compared as by [`Plan::choice`].
+    pub fn number_at(&self, page: u64, steps: &mut Steps) -> Option<Option<u32>>
+        ensures number { result ≡ option_map (λ at. at.1) (page_at self.now.runs page) }
+        ensures quick { FindsQuickly steps.old steps.new (length self.now.runs) }
+    {
+        match self.runs.find(page, steps) {
+            Some(found) => Some(found.rule),
+            None => None,
+        }
+    }
+
+    /// The places of the runs that have a page of those from `first` on, up to the one before
+    /// `end`, or stand right beside them: from the first place on, up to the one before the second.
+    /// The runs before end before `first`, those behind begin behind `end`, and those in between
+    /// do neither. `first` is `end` or before it; else the places mean nothing.
+    ///
+    /// Two searches find them; `steps` counts their comparisons, for contracts alone.
+    pub fn window(&self, first: u64, end: u64, steps: &mut Steps) -> (usize, usize)
+        ensures window { first ≤ end → IsWindow self.now.runs first end result.0 result.1 }
+        ensures quick { FindsTwice steps.old steps.new (length self.now.runs) }
+    {
+        self.runs.window(first, end, steps)
+    }
+}
