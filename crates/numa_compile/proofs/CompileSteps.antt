@@ -1,17 +1,19 @@
 -- One more run, and one more task.
-use Rattle.std.proofs.Common.{◌≡◌, ◌≢◌, ℕ, ◌+◌, ◌<◌, ◌≤◌, Option, Some, None, List, [], ◌∷◌, ◌++◌, length, take, drop, get_or, AllPairs, refl, sym, ap, subst, ◌∙◌, arith}
+use Rattle.std.proofs.Common.{◌≡◌, ◌≢◌, ℕ, ◌+◌, ◌<◌, ◌≤◌, Option, Some, None, List, [], ◌∷◌, ◌++◌, length, take, drop, get_or, AllPairs, slice_get, refl, sym, ap, subst, ◌∙◌, arith}
 use Rattle.numa_mode.specs.Policy.{PolicyRecord}
 use Rattle.numa_ranges.specs.declared.run.Run.{Run}
 use Rattle.numa_space.specs.Policies.{where_live}
 use Rattle.numa_space.specs.Standing.{SpaceState, setting_in}
 use Rattle.numa_plan.specs.Building.{empty_plan, with_run, with_task}
 use Rattle.numa_plan.specs.Meaning.{PlanData}
-use Rattle.numa_plan.specs.Rows.{RuleData}
+use Rattle.numa_plan.specs.Rows.{Kept, RuleData}
+use Rattle.numa_plan.specs.Slots.{policy_in}
 use Rattle.numa_compile.specs.Copies.{AreCopies, AreUsed, Grows, HasTasks, IsCopy, IsNumber, IsUnderWay, Serves, SharesRules}
+use Rattle.numa_compile.specs.Follows.{Follows}
 use Rattle.numa_compile.specs.Rules.{IsRuleOf}
-use Rattle.numa_compile.specs.Standing.{IsPlanOf}
 use Rattle.numa_compile.proofs.CopyLemmas.{copies-grow, copies-next}
-use Rattle.numa_compile.proofs.PlanLemmas.{plan-of, shares}
+use Rattle.numa_compile.proofs.FollowLemmas.{serving-served}
+use Rattle.numa_compile.proofs.PlanLemmas.{shares}
 use Rattle.numa_compile.proofs.ServeLemmas.{serves-run, serves-task}
 
 -- what holds while the runs of the first k ranges are there, and the rest is ahead
@@ -20,23 +22,23 @@ pub record HasAdded (space : SpaceState) (rest : List (Run (Option PolicyRecord)
   pub within : k ≤ length space.ranges
   pub left : rest ≡ drop k space.ranges
   pub under_way : IsUnderWay space plan records
-  pub copies : AreCopies records (take k space.ranges) plan.runs
+  pub copies : AreCopies (slice_get records) (take k space.ranges) plan.runs
   pub tasks : plan.tasks ≡ []
   pub room : length records ≤ k
 
 -- a range and its run behind the others
 pub copied-next : (old keys : List PolicyRecord) (ranges : List (Run (Option PolicyRecord))) (runs before : List (Run (Option ℕ))) (i : ℕ) (range : Run (Option PolicyRecord)) (policy : Option PolicyRecord) (number : Option ℕ)
-    → i < length ranges → range ≡ get_or ranges i range → policy ≡ range.value → runs ≡ before → Grows old policy keys → IsNumber keys (where_live policy) number → AreCopies old (take i ranges) before
-    → AreCopies keys (take (i + 1) ranges) (runs ++ record { first = range.first; pages = range.pages; index = range.index; value = number } ∷ [])
+    → i < length ranges → range ≡ get_or ranges i range → policy ≡ range.value → runs ≡ before → Grows old policy keys → IsNumber (slice_get keys) (where_live policy) number → AreCopies (slice_get old) (take i ranges) before
+    → AreCopies (slice_get keys) (take (i + 1) ranges) (runs ++ record { first = range.first; pages = range.pages; index = range.index; value = number } ∷ [])
 copied-next old keys ranges runs before i range policy number lt at value same grows numbered copies =
     let run : Run (Option ℕ) = record { first = range.first; pages = range.pages; index = range.index; value = number } in
-    let copy : IsCopy keys range run = record { first = refl; pages = refl; index = refl; value = subst (λ (p : Option PolicyRecord). IsNumber keys (where_live p) number) value numbered } in
-    subst (λ (rs : List (Run (Option ℕ))). AreCopies keys (take (i + 1) ranges) (rs ++ run ∷ [])) (sym same)
-    (copies-next keys ranges before i range run lt (copies-grow old keys policy (take i ranges) before grows copies)
-    (subst (λ (r : Run (Option PolicyRecord)). IsCopy keys r run) at copy))
+    let copy : IsCopy (slice_get keys) range run = record { first = refl; pages = refl; index = refl; value = subst (λ (p : Option PolicyRecord). IsNumber (slice_get keys) (where_live p) number) value numbered } in
+    subst (λ (rs : List (Run (Option ℕ))). AreCopies (slice_get keys) (take (i + 1) ranges) (rs ++ run ∷ [])) (sym same)
+    (copies-next (slice_get keys) ranges before i range run lt (copies-grow old keys policy (take i ranges) before grows copies)
+    (subst (λ (r : Run (Option PolicyRecord)). IsCopy (slice_get keys) r run) at copy))
 
 -- the plan with the rule that was looked up
-under-rest : (space : SpaceState) (plan middle : PlanData) (records keys : List PolicyRecord) → IsUnderWay space plan records → Serves (setting_in space) middle keys → AreUsed space keys → middle ≡ record plan { slots = middle.slots } → IsUnderWay space middle keys
+under-rest : (space : SpaceState) (plan middle : PlanData) (records keys : List PolicyRecord) → IsUnderWay space plan records → Serves space middle keys → AreUsed space keys → middle ≡ record plan { slots = middle.slots } → IsUnderWay space middle keys
 under-rest space plan middle records keys under serves used rest = record {
   nodes = ap (λ (p : PlanData). p.nodes) rest ∙ under.nodes;
   local = subst (λ (r : RuleData). IsRuleOf (setting_in space) r None) (sym (ap (λ (p : PlanData). p.local) rest)) under.local;
@@ -45,19 +47,19 @@ under-rest space plan middle records keys under serves used rest = record {
 }
 
 -- with one run more
-pub under-run : (space : SpaceState) (plan middle new : PlanData) (run : Run (Option ℕ)) (records keys : List PolicyRecord) → IsUnderWay space plan records → Serves (setting_in space) middle keys → AreUsed space keys → middle ≡ record plan { slots = middle.slots } → new ≡ with_run middle run
+pub under-run : (space : SpaceState) (plan middle new : PlanData) (run : Run (Option ℕ)) (records keys : List PolicyRecord) → IsUnderWay space plan records → Serves space middle keys → AreUsed space keys → middle ≡ record plan { slots = middle.slots } → new ≡ with_run middle run
     → IsUnderWay space new keys
 under-run space plan middle new run records keys under serves used rest is =
     let one : IsUnderWay space middle keys = under-rest space plan middle records keys under serves used rest in
-    let more : IsUnderWay space (with_run middle run) keys = record { nodes = one.nodes; local = one.local; serves = serves-run (setting_in space) middle run keys serves; used = used } in
+    let more : IsUnderWay space (with_run middle run) keys = record { nodes = one.nodes; local = one.local; serves = serves-run space middle run keys serves; used = used } in
     subst (λ (p : PlanData). IsUnderWay space p keys) (sym is) more
 
 -- with one task more
-pub under-task : (space : SpaceState) (plan middle new : PlanData) (task : ℕ) (number : Option ℕ) (records keys : List PolicyRecord) → IsUnderWay space plan records → Serves (setting_in space) middle keys → AreUsed space keys → middle ≡ record plan { slots = middle.slots } → new ≡ with_task middle task number
+pub under-task : (space : SpaceState) (plan middle new : PlanData) (task : ℕ) (number : Option ℕ) (records keys : List PolicyRecord) → IsUnderWay space plan records → Serves space middle keys → AreUsed space keys → middle ≡ record plan { slots = middle.slots } → new ≡ with_task middle task number
     → IsUnderWay space new keys
 under-task space plan middle new task number records keys under serves used rest is =
     let one : IsUnderWay space middle keys = under-rest space plan middle records keys under serves used rest in
-    let more : IsUnderWay space (with_task middle task number) keys = record { nodes = one.nodes; local = one.local; serves = serves-task (setting_in space) middle task number keys serves; used = used } in
+    let more : IsUnderWay space (with_task middle task number) keys = record { nodes = one.nodes; local = one.local; serves = serves-task space middle task number keys serves; used = used } in
     subst (λ (p : PlanData). IsUnderWay space p keys) (sym is) more
 
 -- ---- the beginning and the end
@@ -68,19 +70,28 @@ under-empty space plan nodes local keys is same rule none =
     let empty : IsUnderWay space (empty_plan nodes local) [] = record {
       nodes = same;
       local = rule;
-      serves = record { as_many = refl; served = λ number r there. absurd (let odd : ◌≡◌ {A = Option PolicyRecord} None (Some r) = there in cc) };
+      serves = record { as_many = refl; policies = λ number. refl; serving = λ number kept there. absurd (let odd : ◌≡◌ {A = Option Kept} None (Some kept) = there in cc) };
       used = λ r there. absurd (let odd : there.0 < 0 = there.1 in omega (arith, odd));
     } in
     subst (λ (ks : List PolicyRecord). IsUnderWay space plan ks) (sym none) (subst (λ (p : PlanData). IsUnderWay space p []) (sym is) empty)
 
 module _ (space : SpaceState) (plan new : PlanData) (keys : List PolicyRecord) (version : ℕ) (same : version ≡ space.version) (is : new ≡ record plan { version = version })
-    (under : IsUnderWay space plan keys) (copies : AreCopies keys space.ranges plan.runs) (tasks : HasTasks keys space.tasks plan) where
-  serves-done : Serves (setting_in space) (record plan { version = version }) keys
-  serves-done = record { as_many = under.serves.as_many; served = under.serves.served }
-
+    (under : IsUnderWay space plan keys) (copies : AreCopies (slice_get keys) space.ranges plan.runs) (tasks : HasTasks (slice_get keys) space.tasks plan) where
   -- all is copied
-  pub plan-done : IsPlanOf space new
-  plan-done = subst (λ (p : PlanData). IsPlanOf space p) (sym is) (plan-of space (record plan { version = version }) keys same under.nodes under.local copies tasks serves-done)
+  pub follows-done : Follows space new
+  follows-done = subst (λ (p : PlanData). Follows space p) (sym is) (record {
+    version = same;
+    nodes = under.nodes;
+    local = under.local;
+    rules = under.serves.serving;
+    copies = subst (λ (at : ℕ → Option PolicyRecord). AreCopies at space.ranges plan.runs) by_slots copies;
+    tasks = subst (λ (at : ℕ → Option PolicyRecord). HasTasks at space.tasks plan) by_slots tasks;
+  })
+    where
+      by_slots : slice_get keys ≡ policy_in plan.slots
+      by_slots = λ i number. sym (under.serves.policies number) i
 
   pub shares-done : AllPairs (λ earlier later. earlier ≢ later) keys → SharesRules space new
-  shares-done once = subst (λ (p : PlanData). SharesRules space p) (sym is) (shares space (record plan { version = version }) keys once under.used copies tasks serves-done)
+  shares-done once =
+      subst (λ (p : PlanData). SharesRules space p) (sym is)
+      (shares space (record plan { version = version }) keys once under.used copies tasks under.serves.as_many (serving-served space (record plan { version = version }) (slice_get keys) under.serves.policies under.serves.serving))

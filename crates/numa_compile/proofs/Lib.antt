@@ -1,8 +1,14 @@
+pub mod AddedLemmas
 pub mod AllowedLemmas
+pub mod CommandLemmas
 pub mod CompileSteps
 pub mod CopyLemmas
+pub mod FollowLemmas
+pub mod GrownLemmas
+pub mod HomeLemmas
 pub mod Meaning
 pub mod PlanLemmas
+pub mod PutLemmas
 pub mod RangeLemmas
 pub mod Replies
 pub mod RowLemmas
@@ -11,5 +17,12 @@ pub mod RuleSteps
 pub mod SeenLemmas
 pub mod ServeLemmas
 pub mod Soundness
+pub mod SpanLemmas
+pub mod StepLemmas
+pub mod TaskLemmas
 pub mod TurnLemmas
 pub mod Widths
+pub mod WindowLemmas
+pub mod WeightLemmas
+pub mod WeightSteps
+pub mod WeightFollows

@@ -3,47 +3,46 @@ use Rattle.std.specs.Prelude.{◌≡◌, ◌≢◌, ◌↔◌, AllPairs, ℕ, �
 use Rattle.std.specs.Prelude.{◌++◌, length, Contains, slice_get}
 use Rattle.numa_mode.specs.Policy.{PolicyRecord}
 use Rattle.numa_ranges.specs.declared.run.Run.{Run}
-use Rattle.numa_space.specs.Lists.{Setting}
 use Rattle.numa_space.specs.Policies.{where_live}
 use Rattle.numa_space.specs.Standing.{SpaceState, record_of, setting_in}
 use Rattle.numa_plan.specs.Meaning.{PlanData, number_of}
 use Rattle.numa_compile.specs.Rules.{IsRuleOf}
-use Rattle.numa_compile.specs.Sharing.{IsServed, IsUsed}
+use Rattle.numa_plan.specs.Slots.{policy_in}
+use Rattle.numa_compile.specs.Sharing.{AreServed, AreServing, IsUsed}
 
--- the number of a rule for a policy: the place of its record among the records; none without a
--- policy
-abbrev pub IsNumber : List PolicyRecord → Option PolicyRecord → Option ℕ → Type 0
-IsNumber records None number = number ≡ None
-IsNumber records (Some r) number = (place : ℕ) × (number ≡ Some place)
-    × (slice_get records place ≡ Some r)
+-- the number of a rule for a policy: one at which its record stands; none without a policy
+abbrev pub IsNumber : (ℕ → Option PolicyRecord) → Option PolicyRecord → Option ℕ → Type 0
+IsNumber at None number = number ≡ None
+IsNumber at (Some r) number = (place : ℕ) × (number ≡ Some place) × (at place ≡ Some r)
 
 -- the run has the pages and indexes of the range, and the rule of its policy, where that is live
-pub record IsCopy (records : List PolicyRecord) (range : Run (Option PolicyRecord))
+pub record IsCopy (at : ℕ → Option PolicyRecord) (range : Run (Option PolicyRecord))
     (run : Run (Option ℕ)) : Type 0 where
   pub first : run.first ≡ range.first
   pub pages : run.pages ≡ range.pages
   pub index : run.index ≡ range.index
-  pub value : IsNumber records (where_live range.value) run.value
+  pub value : IsNumber at (where_live range.value) run.value
 
 -- one run for each range
-abbrev pub AreCopies : List PolicyRecord → List (Run (Option PolicyRecord)) → List (Run (Option ℕ))
-    → Type 0
-AreCopies records [] [] = Unit {0}
-AreCopies records [] (run ∷ runs) = ⊥
-AreCopies records (range ∷ ranges) [] = ⊥
-AreCopies records (range ∷ ranges) (run ∷ runs) =
-    IsCopy records range run × AreCopies records ranges runs
+abbrev pub AreCopies : (ℕ → Option PolicyRecord) → List (Run (Option PolicyRecord))
+    → List (Run (Option ℕ)) → Type 0
+AreCopies at [] [] = Unit {0}
+AreCopies at [] (run ∷ runs) = ⊥
+AreCopies at (range ∷ ranges) [] = ⊥
+AreCopies at (range ∷ ranges) (run ∷ runs) =
+    IsCopy at range run × AreCopies at ranges runs
 
 -- each task has the rule of its policy, where that is live
-abbrev pub HasTasks : List PolicyRecord → List (ℕ × PolicyRecord) → PlanData → Type 0
-HasTasks records tasks plan = (task : ℕ) → IsNumber records (where_live (record_of tasks task))
+abbrev pub HasTasks : (ℕ → Option PolicyRecord) → List (ℕ × PolicyRecord) → PlanData → Type 0
+HasTasks at tasks plan = (task : ℕ) → IsNumber at (where_live (record_of tasks task))
     (number_of plan.tasks task)
 
--- there are as many slots as records, and the slot of each record's place serves it
-pub record Serves (setting : Setting) (plan : PlanData) (records : List PolicyRecord) : Type 0 where
+-- there are as many slots as records, the policy in the slot of each place is the record there, and
+-- its rule serves it
+pub record Serves (space : SpaceState) (plan : PlanData) (records : List PolicyRecord) : Type 0 where
   pub as_many : length plan.slots ≡ length records
-  pub served : (number : ℕ) (r : PolicyRecord) → slice_get records number ≡ Some r
-      → IsServed setting plan number r
+  pub policies : (number : ℕ) → policy_in plan.slots number ≡ slice_get records number
+  pub serving : AreServing space plan.slots
 
 -- the records once one more policy was looked up: the same, or with its record behind them
 abbrev pub Grows : List PolicyRecord → Option PolicyRecord → List PolicyRecord → Type 0
@@ -59,7 +58,7 @@ pub record IsUnderWay (space : SpaceState) (plan : PlanData)
     (records : List PolicyRecord) : Type 0 where
   pub nodes : plan.nodes ≡ space.machine.nodes
   pub local : IsRuleOf (setting_in space) plan.local None
-  pub serves : Serves (setting_in space) plan records
+  pub serves : Serves space plan records
   pub used : AreUsed space records
 
 -- the plan's rules are one for each distinct live record of ranges and tasks, and no more: the
@@ -70,7 +69,6 @@ pub record SharesRules (space : SpaceState) (plan : PlanData) : Type 0 where
   pub each_once : AllPairs (λ earlier later. earlier ≢ later) records
   pub exactly : (r : PolicyRecord) → Contains records r ↔ IsUsed space r
   pub as_many : length plan.slots ≡ length records
-  pub served : (number : ℕ) (r : PolicyRecord) → slice_get records number ≡ Some r
-      → IsServed (setting_in space) plan number r
-  pub copies : AreCopies records space.ranges plan.runs
-  pub tasks : HasTasks records space.tasks plan
+  pub served : AreServed (setting_in space) plan (slice_get records)
+  pub copies : AreCopies (slice_get records) space.ranges plan.runs
+  pub tasks : HasTasks (slice_get records) space.tasks plan

@@ -1,11 +1,14 @@
 //! Compiling.
 ghost use Rattle.std.specs.Prelude.{◌≡◌, ℕ, ◌+◌, ◌-◌, ◌^◌, ◌<◌, ◌≤◌, IfOk, OnOk, List, [], length};
+ghost use Rattle.std.specs.Prelude.{slice_get};
 ghost use Rattle.std.specs.Option.{ForSome};
+ghost use Rattle.numa_ranges.specs.Runs.{AreApart, AreMaximal};
 ghost use Rattle.numa_plan.specs.Meaning.{planned_list};
 ghost use Rattle.numa_space.specs.declared.command.Command.{Command};
 ghost use Rattle.numa_space.specs.Policies.{allowed_nodes};
 ghost use Rattle.numa_space.specs.Standing.{StandsFor, IsNodeList, accepted_of};
 ghost use Rattle.numa_compile.specs.Copies.{AreCopies, HasTasks, IsUnderWay, SharesRules};
+ghost use Rattle.numa_compile.specs.Follows.{Follows};
 ghost use Rattle.numa_compile.specs.Rules.{IsReady};
 ghost use Rattle.numa_compile.specs.Standing.{IsPlanOf, PlanStandsFor};
 
@@ -21,18 +24,21 @@ use numa_space::{Command, Limits, Space};
 use std::alloc::Global;
 
 /// Looks at what holds of every space and its machine.
-fn survey(space: &Space)
+pub(crate) fn survey(space: &Space)
     ensures ready { IsReady space.now }
+    ensures rising { AreApart 0 space.now.ranges }
+    ensures maximal { AreMaximal space.now.ranges }
     ensures ranges { length space.now.ranges ≤ 65536 }
     ensures tasks { length space.now.tasks ≤ 1024 }
 {
-    // Tells the proof that the space and its machine are sound, and how many ranges and tasks there
-    // can be.
+    // Tells the proof that the space and its machine are sound, how its ranges stand, and how many
+    // ranges and tasks there can be.
     let machine = space.machine();
     let _ = machine.nodes();
     let _ = machine.memory().weight();
     let _ = space.allowed();
     let _ = space.ranges();
+    let _ = space.range_iter();
     let _ = space.task_count();
 }
 
@@ -42,6 +48,7 @@ fn add_runs(
     space: &Space,
     plan: &mut Plan,
     records: &mut IndexSet<Record>,
+    steps: &mut Steps,
 ) -> Result<(), NoMemory>
     requires ready { IsReady space.now }
     requires few { length space.now.ranges < 2 ^ 31 }
@@ -50,20 +57,29 @@ fn add_runs(
     requires runs { plan.old.runs ≡ [] }
     requires tasks { plan.old.tasks ≡ [] }
     ensures under_way { OnOk result (IsUnderWay space.now plan.new records.new.keys) }
-    ensures copies { OnOk result (AreCopies records.new.keys space.now.ranges plan.new.runs) }
+    ensures copies { OnOk result
+        (AreCopies (slice_get records.new.keys) space.now.ranges plan.new.runs) }
     ensures tasks { OnOk result (plan.new.tasks ≡ []) }
     ensures room { OnOk result (length records.new.keys ≤ length space.now.ranges) }
 {
     let mut guesses = Guesses::new();
     for range in space.range_iter() {
-        let value = number_for_range(alloc, space, &range.value, plan, records, &mut guesses)?;
+        let value = number_for_range(
+            alloc,
+            space,
+            &range.value,
+            plan,
+            records,
+            &mut guesses,
+            steps,
+        )?;
         let run = Run {
             first: range.first,
             pages: range.pages,
             index: range.index,
             value,
         };
-        plan.push_run(run, &mut Steps::new())?;
+        plan.push_run(run, steps)?;
     }
     Ok(())
 }
@@ -74,26 +90,53 @@ fn set_tasks(
     space: &Space,
     plan: &mut Plan,
     records: &mut IndexSet<Record>,
+    steps: &mut Steps,
 ) -> Result<(), NoMemory>
     requires ready { IsReady space.now }
     requires few { length plan.old.runs + length space.now.tasks < 2 ^ 32 - 1 }
     requires room { length records.old.keys + length space.now.tasks < 2 ^ 32 }
     requires under_way { IsUnderWay space.now plan.old records.old.keys }
-    requires copies { AreCopies records.old.keys space.now.ranges plan.old.runs }
+    requires copies { AreCopies (slice_get records.old.keys) space.now.ranges plan.old.runs }
     requires tasks { plan.old.tasks ≡ [] }
     ensures under_way { OnOk result (IsUnderWay space.now plan.new records.new.keys) }
-    ensures copies { OnOk result (AreCopies records.new.keys space.now.ranges plan.new.runs) }
-    ensures tasks { OnOk result (HasTasks records.new.keys space.now.tasks plan.new) }
+    ensures copies { OnOk result
+        (AreCopies (slice_get records.new.keys) space.now.ranges plan.new.runs) }
+    ensures tasks { OnOk result (HasTasks (slice_get records.new.keys) space.now.tasks plan.new) }
 {
     for k in 0..space.task_count() {
         let Some(held) = space.task_at(k) else {
             unreachable!()
         };
         let (task, policy) = (held.0, Some(held.1));
-        let number = number_for(alloc, space, policy, plan, records)?;
+        let number = number_for(alloc, space, policy, plan, records, steps)?;
         plan.set_task(task, number)?;
     }
     Ok(())
+}
+
+/// The plan of a space, as [`compile`] makes it. `steps` counts the runs and the rules that are
+/// written.
+///
+/// # Errors
+/// `NoMemory` where there is none for the plan.
+pub(crate) fn compile_counted(
+    alloc: Global,
+    space: &Space,
+    steps: &mut Steps,
+) -> Result<Plan, NoMemory>
+    ensures follows { IfOk result (λ plan. Follows space.now plan) }
+    ensures rules { IfOk result (λ plan. SharesRules space.now plan) }
+{
+    survey(space);
+    let local = local_rule(alloc, space)?;
+    let mut plan = Plan::new(alloc, space.machine().nodes(), local);
+    let mut records = IndexSet::new(alloc);
+    add_runs(alloc, space, &mut plan, &mut records, steps)?;
+    set_tasks(alloc, space, &mut plan, &mut records, steps)?;
+    plan.set_version(space.version());
+    // Tells the proof that no record is there twice.
+    let _ = records.len();
+    Ok(plan)
 }
 
 /// The plan of a space: one run for each of its ranges, and one rule for each policy that is live,
@@ -107,20 +150,13 @@ pub fn compile(alloc: Global, space: &Space) -> Result<Plan, NoMemory>
     ensures stands { (history : List Command) → StandsFor space.now history
         → IfOk result (λ plan. PlanStandsFor space.now.machine plan history) }
     ensures plan { IfOk result (λ plan. IsPlanOf space.now plan) }
+    ensures follows { IfOk result (λ plan. Follows space.now plan) }
     ensures rules { IfOk result (λ plan. SharesRules space.now plan) }
     ensures sound { IfOk result (λ plan. (task page cpu : ℕ) → cpu < plan.nodes
         → ForSome (planned_list plan task page cpu) (IsNodeList space.now.allowed)) }
 {
     survey(space);
-    let local = local_rule(alloc, space)?;
-    let mut plan = Plan::new(alloc, space.machine().nodes(), local);
-    let mut records = IndexSet::new(alloc);
-    add_runs(alloc, space, &mut plan, &mut records)?;
-    set_tasks(alloc, space, &mut plan, &mut records)?;
-    plan.set_version(space.version());
-    // Tells the proof that no record is there twice.
-    let _ = records.len();
-    Ok(plan)
+    compile_counted(alloc, space, &mut Steps::new())
 }
 
 /// The plan of a new space of the machine, after these commands, the first first; those that are

@@ -6,9 +6,11 @@ mod guesses;
 mod laws;
 mod numbers;
 mod reach;
+mod recompiler;
 mod rows;
 mod rules;
 mod turns;
 
 pub use compiler::{compile, compile_commands};
 pub use laws::every_plan;
+pub use recompiler::recompile;

@@ -4,7 +4,7 @@ ghost use Rattle.std.specs.Prelude.{true};
 ghost use Rattle.std.specs.Option.{ForSome};
 ghost use Rattle.numa_mode.specs.Policy.{is_live};
 ghost use Rattle.numa_space.specs.Policies.{where_live};
-ghost use Rattle.numa_space.specs.Standing.{setting_in, IsInForce};
+ghost use Rattle.numa_space.specs.Standing.{IsInForce};
 ghost use Rattle.numa_compile.specs.Copies.{Grows, IsNumber, Serves};
 ghost use Rattle.numa_compile.specs.Rules.{IsReady};
 
@@ -24,15 +24,16 @@ fn number_of(
     policy: Record,
     plan: &mut Plan,
     records: &mut IndexSet<Record>,
+    steps: &mut Steps,
 ) -> Result<u32, NoMemory>
     requires ready { IsReady space.now }
     requires in_force { IsInForce space.now.machine space.now.allowed policy }
     requires live { is_live policy ≡ true }
     requires nodes { plan.old.nodes ≡ space.now.machine.nodes }
-    requires serves { Serves (setting_in space.now) plan.old records.old.keys }
+    requires serves { Serves space.now plan.old records.old.keys }
     requires room { length records.old.keys < 2 ^ 32 }
     ensures number { IfOk result (λ number. slice_get records.new.keys number ≡ Some policy) }
-    ensures serves { OnOk result (Serves (setting_in space.now) plan.new records.new.keys) }
+    ensures serves { OnOk result (Serves space.now plan.new records.new.keys) }
     ensures grows { OnOk result (Grows records.old.keys (Some policy) records.new.keys) }
     ensures rest { OnOk result (plan.new ≡ record plan.old { slots = plan.new.slots }) }
 {
@@ -42,7 +43,7 @@ fn number_of(
     };
     if is_new {
         let rule = rule_of(alloc, space, &policy)?;
-        plan.add_rule(rule, &mut Steps::new())?;
+        plan.add_rule(policy, rule, steps)?;
     }
     Ok(number)
 }
@@ -54,14 +55,16 @@ pub(crate) fn number_for(
     policy: Option<Record>,
     plan: &mut Plan,
     records: &mut IndexSet<Record>,
+    steps: &mut Steps,
 ) -> Result<Option<u32>, NoMemory>
     requires ready { IsReady space.now }
     requires in_force { ForSome policy (IsInForce space.now.machine space.now.allowed) }
     requires nodes { plan.old.nodes ≡ space.now.machine.nodes }
-    requires serves { Serves (setting_in space.now) plan.old records.old.keys }
+    requires serves { Serves space.now plan.old records.old.keys }
     requires room { length records.old.keys < 2 ^ 32 }
-    ensures number { IfOk result (λ number. IsNumber records.new.keys (where_live policy) number) }
-    ensures serves { OnOk result (Serves (setting_in space.now) plan.new records.new.keys) }
+    ensures number { IfOk result (λ number.
+        IsNumber (slice_get records.new.keys) (where_live policy) number) }
+    ensures serves { OnOk result (Serves space.now plan.new records.new.keys) }
     ensures grows { OnOk result (Grows records.old.keys policy records.new.keys) }
     ensures rest { OnOk result (plan.new ≡ record plan.old { slots = plan.new.slots }) }
 {
@@ -71,14 +74,14 @@ pub(crate) fn number_for(
     if !policy.is_live() {
         return Ok(None);
     }
-    let number = number_of(alloc, space, policy, plan, records)?;
+    let number = number_of(alloc, space, policy, plan, records, steps)?;
     Ok(Some(number))
 }
 
 /// The number that is guessed, where its record is that of a range's live policy.
 #[inline]
 fn guessed(records: &IndexSet<Record>, guesses: &Guesses, value: &RangeRecord) -> Option<u32>
-    ensures { OnSome result (IsNumber records.now.keys (where_live value.now) result) }
+    ensures { OnSome result (IsNumber (slice_get records.now.keys) (where_live value.now) result) }
 {
     let number = guesses.next();
     let record: &Record = records.get_index(number as usize)?;
@@ -99,15 +102,16 @@ pub(crate) fn number_for_range(
     plan: &mut Plan,
     records: &mut IndexSet<Record>,
     guesses: &mut Guesses,
+    steps: &mut Steps,
 ) -> Result<Option<u32>, NoMemory>
     requires ready { IsReady space.now }
     requires in_force { ForSome value.now (IsInForce space.now.machine space.now.allowed) }
     requires nodes { plan.old.nodes ≡ space.now.machine.nodes }
-    requires serves { Serves (setting_in space.now) plan.old records.old.keys }
+    requires serves { Serves space.now plan.old records.old.keys }
     requires room { length records.old.keys < 2 ^ 32 }
     ensures number { IfOk result (λ number.
-        IsNumber records.new.keys (where_live value.now) number) }
-    ensures serves { OnOk result (Serves (setting_in space.now) plan.new records.new.keys) }
+        IsNumber (slice_get records.new.keys) (where_live value.now) number) }
+    ensures serves { OnOk result (Serves space.now plan.new records.new.keys) }
     ensures grows { OnOk result (Grows records.old.keys value.now records.new.keys) }
     ensures rest { OnOk result (plan.new ≡ record plan.old { slots = plan.new.slots }) }
 {
@@ -115,7 +119,7 @@ pub(crate) fn number_for_range(
         guesses.came(number);
         return Ok(Some(number));
     }
-    let number = number_for(alloc, space, value.policy(), plan, records)?;
+    let number = number_for(alloc, space, value.policy(), plan, records, steps)?;
     guesses.came(number.unwrap_or(0));
     Ok(number)
 }

@@ -1,4 +1,4 @@
-use Rattle.std.proofs.Common.{◌≡◌, ℕ, ◌+◌, [], List, Option, take, length, get_or, Contains, refl, sym, ap, subst, ◌∙◌, arith}
+use Rattle.std.proofs.Common.{◌≡◌, ℕ, ◌+◌, [], List, Option, take, length, get_or, Contains, refl, sym, ap, subst, ◌∙◌, arith, slice_get}
 use Rattle.std.proofs.lemmas.List.{length-take, take_all, length-drop}
 use Rattle.numa_mode.specs.Policy.{PolicyRecord}
 use Rattle.numa_ranges.specs.declared.run.Run.{Run}
@@ -17,7 +17,7 @@ loop-range-init c = record {
   within = omega arith;
   left = c.into_iter-range-iterator.ensures.into_iter_gives ∙ c.range_iter-range-items.ensures.runs;
   under_way = c.requires.under_way;
-  copies = subst (λ (rs : List (Run (Option ℕ))). AreCopies c.args.records.now.keys [] rs) (sym c.requires.runs) tt;
+  copies = subst (λ (rs : List (Run (Option ℕ))). AreCopies (slice_get c.args.records.now.keys) [] rs) (sym c.requires.runs) tt;
   tasks = c.requires.tasks;
   room = omega (arith, ap length c.requires.none);
 }
@@ -39,7 +39,7 @@ push_run-requires-clause-apart c =
     let inv = c.loop-range.invariant in
     let short = step-short ranges c.loop-range.range-iterator c.next.new.self inv.k range inv.left c.in-Some.ensures.steps in
     let read = step-read ranges c.loop-range.range-iterator c.next.new.self inv.k range range inv.left c.in-Some.ensures.steps in
-    copies-apart c.number_for_range.new.records.keys 0 (take (inv.k + 1) ranges) _
+    copies-apart (slice_get c.number_for_range.new.records.keys) 0 (take (inv.k + 1) ranges) _
     (copied-next c.loop-range.records.keys c.number_for_range.new.records.keys ranges c.number_for_range.new.plan.runs c.loop-range.plan.runs inv.k range range.value c.in_ok-value.value
     short read refl (ap (λ (p : PlanData). p.runs) c.in_ok-value.ensures.rest) c.in_ok-value.ensures.grows c.in_ok-value.ensures.number inv.copies)
     (apart-take 0 (inv.k + 1) ranges c.range_iter-range-items.ensures.rising)
@@ -47,7 +47,7 @@ push_run-requires-clause-apart c =
 pub push_run-requires-clause-few : goal.push_run-requires-clause-few
 push_run-requires-clause-few c =
     let inv = c.loop-range.invariant in
-    let runs = copies-length c.loop-range.records.keys (take inv.k c.args.space.now.ranges) c.loop-range.plan.runs inv.copies in
+    let runs = copies-length (slice_get c.loop-range.records.keys) (take inv.k c.args.space.now.ranges) c.loop-range.plan.runs inv.copies in
     let tasks : length c.number_for_range.new.plan.tasks ≡ 0 = ap (λ (p : PlanData). length p.tasks) c.in_ok-value.ensures.rest ∙ ap length inv.tasks in
     omega (arith, runs, tasks, length-take inv.k c.args.space.now.ranges, ap (λ (p : PlanData). length p.runs) c.in_ok-value.ensures.rest, c.requires.few)
 
@@ -67,7 +67,7 @@ loop-range-preserved c =
       within = omega (arith, short);
       left = step-left ranges c.loop-range.range-iterator c.next.new.self inv.k range inv.left c.in-Some.ensures.steps;
       under_way = under-run c.args.space.now c.loop-range.plan c.number_for_range.new.plan c.push_run.new.self _ c.loop-range.records.keys c.number_for_range.new.records.keys inv.under_way c.in_ok-value.ensures.serves used c.in_ok-value.ensures.rest pushed;
-      copies = subst (λ (rs : List (Run (Option ℕ))). AreCopies c.number_for_range.new.records.keys (take (inv.k + 1) ranges) rs) (sym (ap (λ (p : PlanData). p.runs) pushed))
+      copies = subst (λ (rs : List (Run (Option ℕ))). AreCopies (slice_get c.number_for_range.new.records.keys) (take (inv.k + 1) ranges) rs) (sym (ap (λ (p : PlanData). p.runs) pushed))
           (copied-next c.loop-range.records.keys c.number_for_range.new.records.keys ranges c.number_for_range.new.plan.runs c.loop-range.plan.runs inv.k range range.value c.in_ok-value.value
           short read refl (ap (λ (p : PlanData). p.runs) c.in_ok-value.ensures.rest) c.in_ok-value.ensures.grows c.in_ok-value.ensures.number inv.copies);
       tasks = ap (λ (p : PlanData). p.tasks) pushed ∙ ap (λ (p : PlanData). p.tasks) c.in_ok-value.ensures.rest ∙ inv.tasks;
@@ -79,7 +79,7 @@ returns-clause-copies c =
     let ranges : List (Run (Option PolicyRecord)) = c.args.space.now.ranges in
     let inv = c.loop-range.invariant in
     let whole : take inv.k ranges ≡ ranges = take_all inv.k ranges (omega (arith, ap length inv.left, ap length c.in-None.ensures.steps.0, length-drop inv.k ranges)) in
-    subst (λ (rs : List (Run (Option PolicyRecord))). AreCopies c.loop-range.records.keys rs c.loop-range.plan.runs) whole inv.copies
+    subst (λ (rs : List (Run (Option PolicyRecord))). AreCopies (slice_get c.loop-range.records.keys) rs c.loop-range.plan.runs) whole inv.copies
 
 pub returns-clause-room : goal.returns-clause-room
 returns-clause-room c = omega (arith, c.loop-range.invariant.room, c.loop-range.invariant.within)

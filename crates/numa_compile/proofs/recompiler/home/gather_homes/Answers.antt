@@ -1,0 +1,71 @@
+use Rattle.std.proofs.Common.{◌+◌, ℕ, List, Option, sym, ap, subst, ◌∙◌, arith}
+use Rattle.std.proofs.lemmas.Option.{slice_get_within, get_or_from_slice_get}
+use Rattle.std.specs.List.{slice_range}
+use Rattle.numa_mode.specs.Policy.{PolicyRecord}
+use Rattle.numa_ranges.specs.Windows.{begins_in}
+use Rattle.numa_ranges.specs.declared.run.Run.{Run}
+use Rattle.numa_plan.specs.Slots.{policy_in}
+use Rattle.numa_compile.specs.Copies.{AreCopies}
+use Rattle.numa_compile.specs.Windows.{IsNumbered}
+use Rattle.numa_compile.proofs.GrownLemmas.{open-grown}
+use Rattle.numa_compile.proofs.HomeLemmas.{begun-take, begun-writes, copies-grown, open-nodes, writes-less}
+use Rattle.numa_compile.proofs.RangeLemmas.{range-in_force}
+use Rattle.numa_compile.proofs.SpanLemmas.{gathered-next, open-numbered}
+use Rattle.numa_compile.proofs.recompiler.home.gather_homes.Goals as goal
+
+pub number_of_home-requires-clause-in_force : goal.number_of_home-requires-clause-in_force
+number_of_home-requires-clause-in_force c =
+    let ranges = c.args.space.now.ranges in
+    let short = slice_get_within ranges c.loop-k.k c.in-Some.range (sym c.in-Some.ensures.range) in
+    let there = get_or_from_slice_get ranges c.loop-k.k c.in-Some.range c.in-Some.range (sym c.in-Some.ensures.range) in
+    λ r is. range-in_force c.args.space.now c.loop-k.k c.in-Some.range short c.in-Some.ensures.rising c.requires.ready.sound r (ap (λ (run : Run (Option PolicyRecord)). run.value) there ∙ is)
+
+pub number_of_home-requires-clause-nodes : goal.number_of_home-requires-clause-nodes
+number_of_home-requires-clause-nodes c =
+    open-nodes c.args.space.now c.loop-k.plan c.args.window.now (open-grown c.args.space.now c.args.plan.now c.loop-k.plan c.args.window.now c.loop-k.added.items c.requires.of c.loop-k.invariant.added)
+
+pub number_of_home-requires-clause-outside : goal.number_of_home-requires-clause-outside
+number_of_home-requires-clause-outside c =
+    let ranges = c.args.space.now.ranges in
+    let window = c.args.window.now in
+    let short = slice_get_within ranges c.loop-k.k c.in-Some.range (sym c.in-Some.ensures.range) in
+    let there = get_or_from_slice_get ranges c.loop-k.k c.in-Some.range c.in-Some.range (sym c.in-Some.ensures.range) in
+    let of = open-grown c.args.space.now c.args.plan.now c.loop-k.plan window c.loop-k.added.items c.requires.of c.loop-k.invariant.added in
+    λ out. subst (λ (run : Run (Option PolicyRecord)). IsNumbered c.loop-k.plan run) there
+    (open-numbered c.args.space.now c.loop-k.plan window of c.in-Some.ensures.rising c.in-Some.ensures.maximal c.loop-k.k c.in-Some.range short (ap (λ (run : Run (Option PolicyRecord)). begins_in window.first window.end run) there ∙ out))
+
+pub returns-in_err-value-clause-few : goal.returns-in_err-value-clause-few
+returns-in_err-value-clause-few c =
+    let ranges = c.args.space.now.ranges in
+    let window = c.args.window.now in
+    let short = slice_get_within ranges c.loop-k.k c.in-Some.range (sym c.in-Some.ensures.range) in
+    let there = get_or_from_slice_get ranges c.loop-k.k c.in-Some.range c.in-Some.range (sym c.in-Some.ensures.range) in
+    writes-less c.args.steps.now c.number_of_home.new.steps _ _
+    (begun-writes c.args.steps.now c.loop-k.steps c.number_of_home.new.steps window.first window.end c.loop-k.k ranges c.in-Some.range short there c.loop-k.invariant.writes c.number_of_home.ensures.few)
+    (begun-take window.first window.end (c.loop-k.k + 1) ranges)
+
+pub returns-in_err-push-clause-few : goal.returns-in_err-push-clause-few
+returns-in_err-push-clause-few c =
+    let ranges = c.args.space.now.ranges in
+    let window = c.args.window.now in
+    let short = slice_get_within ranges c.loop-k.k c.in-Some.range (sym c.in-Some.ensures.range) in
+    let there = get_or_from_slice_get ranges c.loop-k.k c.in-Some.range c.in-Some.range (sym c.in-Some.ensures.range) in
+    writes-less c.args.steps.now c.number_of_home.new.steps _ _
+    (begun-writes c.args.steps.now c.loop-k.steps c.number_of_home.new.steps window.first window.end c.loop-k.k ranges c.in-Some.range short there c.loop-k.invariant.writes c.number_of_home.ensures.few)
+    (begun-take window.first window.end (c.loop-k.k + 1) ranges)
+
+pub loop-k-preserved : goal.loop-k-preserved
+loop-k-preserved c =
+    let ranges = c.args.space.now.ranges in
+    let window = c.args.window.now in
+    let range = c.in-Some.range in
+    let at = policy_in c.number_of_home.new.plan.slots in
+    let short = slice_get_within ranges c.loop-k.k range (sym c.in-Some.ensures.range) in
+    let there = get_or_from_slice_get ranges c.loop-k.k range range (sym c.in-Some.ensures.range) in
+    let before = copies-grown c.loop-k.plan.slots c.number_of_home.new.plan.slots (slice_range ranges window.from c.loop-k.k) c.loop-k.runs.items c.number_of_home.ensures.kept c.loop-k.invariant.copies in
+    record {
+      copies = subst (λ (runs : List (Run (Option ℕ))). AreCopies at (slice_range ranges window.from (c.loop-k.k + 1)) runs) (sym c.in_ok-push.ensures.items)
+          (gathered-next at ranges c.loop-k.runs.items window.from c.loop-k.k range c.in_ok-value.value (omega arith) short there c.in_ok-value.ensures.number before);
+      added = c.number_of_home.ensures.added c.args.plan.now c.loop-k.invariant.added;
+      writes = begun-writes c.args.steps.now c.loop-k.steps c.number_of_home.new.steps window.first window.end c.loop-k.k ranges range short there c.loop-k.invariant.writes c.number_of_home.ensures.few;
+    }

@@ -1,0 +1,16 @@
+use Rattle.numa_compile.proofs.AddedLemmas.{follows-dropped}
+use Rattle.numa_compile.proofs.TaskLemmas.{task-follows}
+use Rattle.numa_compile.proofs.recompiler.task.recompile_task.Goals as goal
+use Rattle.std.proofs.Common.{Option, ap, subst, ◌∙◌}
+use Rattle.numa_mode.specs.Policy.{PolicyRecord}
+use Rattle.numa_space.specs.Policies.{where_live}
+use Rattle.numa_plan.specs.Slots.{policy_in}
+use Rattle.numa_compile.specs.Copies.{IsNumber}
+
+pub returns-clause-follows : goal.returns-clause-follows
+returns-clause-follows c =
+    let numbered = subst (λ (p : Option PolicyRecord). IsNumber (policy_in c.number_or_add.new.plan.slots) (where_live p) c.in_ok-number.number) c.task_policy-policy.ensures.policy c.in_ok-number.ensures.number in
+    follows-dropped c.args.space.now c.set_version.new.self c.drop_unused.new.plan c.drop_unused.ensures.rest c.drop_unused.ensures.slots
+    (task-follows c.args.space.now c.args.task c.requires.behind.0 c.args.plan.now c.number_or_add.new.plan c.set_task.new.self c.in_ok-number.number c.in_ok-number.added
+    c.requires.behind.1 c.survey.ensures.rising c.survey.ensures.maximal c.in_ok-number.ensures.added numbered c.in-Ok.ensures.ok c.in-Ok.ensures.given c.in-Ok.ensures.others
+    c.set_version.new.self (c.set_version.ensures ∙ ap (λ version. record c.set_task.new.self { version = version }) c.version.ensures.version))

@@ -1,0 +1,105 @@
+//! Recompiling: a plan is edited in place after each command that a space has accepted, so that it
+//! follows the space again.
+ghost use Rattle.std.specs.Prelude.{◌≡◌, ℕ, ◌<◌, OnOk, OnErr, List};
+ghost use Rattle.std.specs.Option.{ForSome};
+ghost use Rattle.numa_space.specs.declared.command.Command.{Command};
+ghost use Rattle.numa_space.specs.Standing.{StandsFor, IsNodeList};
+ghost use Rattle.numa_plan.specs.Meaning.{planned_list};
+ghost use Rattle.numa_compile.specs.Follows.{Follows, IsBehind};
+ghost use Rattle.numa_compile.specs.Recompiling.{KeepsOthers, WritesFew};
+ghost use Rattle.numa_compile.specs.Standing.{PlanStandsFor};
+
+mod added;
+mod gather;
+mod home;
+mod map;
+mod mbind;
+mod mems;
+mod put;
+mod rewrite;
+mod task;
+mod unmap;
+mod unused;
+mod weight;
+mod window;
+
+use crate::compiler::survey;
+use crate::recompiler::home::recompile_home;
+use crate::recompiler::map::recompile_map;
+use crate::recompiler::mbind::recompile_mbind;
+use crate::recompiler::mems::recompile_mems;
+use crate::recompiler::task::recompile_task;
+use crate::recompiler::unmap::recompile_unmap;
+use crate::recompiler::weight::recompile_weight;
+use numa_plan::{NoMemory, Plan, Steps};
+use numa_space::{Command, Space};
+use std::alloc::Global;
+
+/// Edits a plan as its space's last command says.
+///
+/// # Errors
+/// `NoMemory` where there is none for what the command wants; the plan is as it was.
+fn edit(
+    alloc: Global,
+    plan: &mut Plan,
+    space: &Space,
+    command: &Command,
+    steps: &mut Steps,
+) -> Result<(), NoMemory>
+    requires behind { IsBehind space.now command.now plan.old }
+    ensures follows { OnOk result (Follows space.now plan.new) }
+    ensures unchanged { OnErr result (plan.new ≡ plan.old) }
+    ensures few { WritesFew command.now plan.old steps.old steps.new }
+    ensures others { KeepsOthers command.now plan.old plan.new }
+{
+    match *command {
+        Command::Map { start, length, .. } => {
+            recompile_map(alloc, plan, space, start, length, steps)
+        }
+        Command::Unmap { start, length } => {
+            recompile_unmap(alloc, plan, space, start, length, steps)
+        }
+        Command::Mbind { start, length, .. } => {
+            recompile_mbind(alloc, plan, space, start, length, steps)
+        }
+        Command::SetHome { start, length, .. } => {
+            recompile_home(alloc, plan, space, start, length, steps)
+        }
+        Command::SetTask { task, .. } => recompile_task(alloc, plan, space, task, steps),
+        Command::SetWeight { .. } => recompile_weight(alloc, plan, space, steps),
+        Command::SetMems { .. } => recompile_mems(alloc, plan, space, steps),
+    }
+}
+
+/// Edits a plan in place, so that it follows its space once more, which has accepted a command
+/// since the plan followed it last. It writes as few runs and rules as the command wants, and leaves
+/// all else as it was.
+///
+/// A command of a span writes a run at most for each run that it meets, and for two beside it;
+/// mbind(2) one rule at most, a home one for each of these runs. A task's policy takes one rule, a
+/// weight the rules of weighted interleave. A change of the allowed nodes makes the plan anew.
+/// `steps` counts what is written, for contracts alone.
+///
+/// # Errors
+/// `NoMemory` where there is none for what is written, or where the plan's runs and tasks, or its
+/// slots, would be 2^32 or more; the plan is as it was.
+pub fn recompile(
+    alloc: Global,
+    plan: &mut Plan,
+    space: &Space,
+    command: &Command,
+    steps: &mut Steps,
+) -> Result<(), NoMemory>
+    requires behind { IsBehind space.now command.now plan.old }
+    ensures follows { OnOk result (Follows space.now plan.new) }
+    ensures stands { (history : List Command) → StandsFor space.now history
+        → OnOk result (PlanStandsFor space.now.machine plan.new history) }
+    ensures sound { OnOk result ((task page cpu : ℕ) → cpu < plan.new.nodes
+        → ForSome (planned_list plan.new task page cpu) (IsNodeList space.now.allowed)) }
+    ensures unchanged { OnErr result (plan.new ≡ plan.old) }
+    ensures few { WritesFew command.now plan.old steps.old steps.new }
+    ensures others { KeepsOthers command.now plan.old plan.new }
+{
+    survey(space);
+    edit(alloc, plan, space, command, steps)
+}

@@ -1,0 +1,85 @@
+//! The runs for the ranges that a command of a span has changed.
+ghost use Rattle.std.specs.Prelude.{◌≡◌, ◌≤◌, false, true, OnOk, [], length};
+ghost use Rattle.std.specs.List.{slice_range};
+ghost use Rattle.numa_ranges.specs.Windows.{begins_in};
+ghost use Rattle.numa_space.specs.Policies.{where_live};
+ghost use Rattle.numa_plan.specs.Slots.{policy_in};
+ghost use Rattle.numa_compile.specs.Copies.{AreCopies, IsNumber};
+ghost use Rattle.numa_compile.specs.Recompiling.{WritesRules};
+ghost use Rattle.numa_compile.specs.Windows.{IsNumbered, KeepsOutside, NumbersInside};
+ghost use Rattle.numa_compile.specs.declared.recompiler.window.Window.{Window};
+
+use crate::recompiler::window::{Window, begins_inside};
+use numa_plan::{NoMemory, Plan, Steps};
+use numa_space::{RangeRecord, Run, Space};
+
+/// The number of a range that begins outside the window's span: that of the run that has its first
+/// page.
+pub(crate) fn number_before(plan: &Plan, range: &Run<RangeRecord>, steps: &mut Steps) -> Option<u32>
+    requires numbered { IsNumbered plan.now range.now }
+    ensures number { IsNumber (policy_in plan.now.slots) (where_live range.now.value) result }
+    ensures writes { WritesRules 0 steps.old steps.new }
+{
+    let Some(number) = plan.number_at(range.first, steps) else {
+        unreachable!()
+    };
+    number
+}
+
+/// The number of a range of the window: the given one where it begins in the window's span.
+fn number_in(
+    plan: &Plan,
+    window: &Window,
+    range: &Run<RangeRecord>,
+    given: Option<u32>,
+    steps: &mut Steps,
+) -> Option<u32>
+    requires outside { begins_in window.now.first window.now.end range.now ≡ false
+        → IsNumbered plan.now range.now }
+    requires inside { begins_in window.now.first window.now.end range.now ≡ true
+        → IsNumber (policy_in plan.now.slots) (where_live range.now.value) given }
+    ensures number { IsNumber (policy_in plan.now.slots) (where_live range.now.value) result }
+    ensures writes { WritesRules 0 steps.old steps.new }
+{
+    if begins_inside(range, window) {
+        return given;
+    }
+    number_before(plan, range, steps)
+}
+
+/// Appends a run for each range of the window, with the given number for those that begin in its
+/// span, and the number that they had for the others.
+///
+/// # Errors
+/// `NoMemory` where there is none for the runs.
+pub(crate) fn gather_runs(
+    plan: &Plan,
+    space: &Space,
+    window: &Window,
+    given: Option<u32>,
+    runs: &mut Vec<Run<Option<u32>>>,
+    steps: &mut Steps,
+) -> Result<(), NoMemory>
+    requires none { runs.old.items ≡ [] }
+    requires rises { window.now.from ≤ window.now.to_now }
+    requires within { window.now.to_now ≤ length space.now.ranges }
+    requires outside { KeepsOutside space.now plan.now window.now }
+    requires inside { NumbersInside space.now plan.now window.now given }
+    ensures copies { OnOk result (AreCopies (policy_in plan.now.slots)
+        (slice_range space.now.ranges window.now.from window.now.to_now) runs.new.items) }
+    ensures writes { WritesRules 0 steps.old steps.new }
+{
+    for k in window.from..window.to_now {
+        let Some(range) = space.range_at(k) else {
+            unreachable!()
+        };
+        let value = number_in(plan, window, &range, given, steps);
+        runs.push(Run {
+            first: range.first,
+            pages: range.pages,
+            index: range.index,
+            value,
+        })?;
+    }
+    Ok(())
+}

@@ -1,0 +1,178 @@
+//! Recompiling for a span with a home node.
+ghost use Rattle.std.specs.Prelude.{◌≡◌, ◌+◌, ◌-◌, ℕ, Some, false, [], if◌then◌else◌, IfOk, OnOk};
+ghost use Rattle.std.specs.Prelude.{OnErr};
+ghost use Rattle.std.specs.List.{slice_range};
+ghost use Rattle.std.specs.Option.{ForSome};
+ghost use Rattle.numa_ranges.specs.Windows.{begins_in, begun};
+ghost use Rattle.numa_space.specs.Policies.{where_live};
+ghost use Rattle.numa_space.specs.Standing.{IsInForce, SpaceState};
+ghost use Rattle.numa_space.specs.declared.command.Command.{Command};
+ghost use Rattle.numa_plan.specs.Meaning.{PlanData};
+ghost use Rattle.numa_plan.specs.Rows.{Kept};
+ghost use Rattle.numa_plan.specs.Slots.{kept_in, policy_in};
+ghost use Rattle.numa_compile.specs.Copies.{AreCopies, IsNumber};
+ghost use Rattle.numa_compile.specs.Follows.{Follows, IsBehind};
+ghost use Rattle.numa_compile.specs.Recompiling.{WritesBoth, WritesRules, met_by};
+ghost use Rattle.numa_compile.specs.Rules.{IsReady};
+ghost use Rattle.numa_compile.specs.Windows.{IsNumbered, IsOpen, WereAdded};
+ghost use Rattle.numa_compile.specs.declared.recompiler.window.Window.{Window};
+
+use crate::compiler::survey;
+use crate::recompiler::added::number_or_add;
+use crate::recompiler::gather::number_before;
+use crate::recompiler::put::put_runs;
+use crate::recompiler::unused::take_back;
+use crate::recompiler::window::{Window, begins_inside, find_window};
+use numa_plan::{NoMemory, Plan, Steps};
+use numa_space::{RangeRecord, Run, Space};
+use std::alloc::Global;
+
+/// Takes the rules out again that were added, the newest first: the plan is as it was before.
+fn take_all_back(plan: &mut Plan, added: &mut Vec<Option<u32>>)
+    requires { (space : SpaceState) × ((before : PlanData)
+        × WereAdded space before added.old.items plan.old) }
+    ensures { (space : SpaceState) (before : PlanData)
+        → WereAdded space before added.old.items plan.old → plan.new ≡ before }
+{
+    while let Some(number) = added.pop() {
+        take_back(plan, number);
+    }
+}
+
+/// The number of a range of the window: that which it had, where it begins outside the span, else
+/// that of its policy's rule, which is added where there is none. Notes what was added.
+fn number_of_home(
+    alloc: Global,
+    plan: &mut Plan,
+    space: &Space,
+    window: &Window,
+    range: &Run<RangeRecord>,
+    added: &mut Vec<Option<u32>>,
+    steps: &mut Steps,
+) -> Result<Option<u32>, NoMemory>
+    requires ready { IsReady space.now }
+    requires in_force { ForSome range.now.value (IsInForce space.now.machine space.now.allowed) }
+    requires nodes { plan.old.nodes ≡ space.now.machine.nodes }
+    requires outside { begins_in window.now.first window.now.end range.now ≡ false
+        → IsNumbered plan.old range.now }
+    ensures number { IfOk result (λ number.
+        IsNumber (policy_in plan.new.slots) (where_live range.now.value) number) }
+    ensures kept { (number : ℕ) (kept : Kept) → kept_in plan.old.slots number ≡ Some kept
+        → kept_in plan.new.slots number ≡ Some kept }
+    ensures added { (start : PlanData) → WereAdded space.now start added.old.items plan.old
+        → WereAdded space.now start added.new.items plan.new }
+    ensures few { WritesRules (if begins_in window.now.first window.now.end range.now then 1 else 0)
+        steps.old steps.new }
+{
+    if !begins_inside(range, window) {
+        return Ok(number_before(plan, range, steps));
+    }
+    let (number, new) = number_or_add(alloc, space, range.value.policy(), plan, steps)?;
+    let Ok(()) = added.push(new) else {
+        take_back(plan, new);
+        return Err(NoMemory);
+    };
+    Ok(number)
+}
+
+/// Appends a run for each range of the window, and notes which rules were added for them, one at
+/// most for each that begins in its span.
+///
+/// # Errors
+/// `NoMemory` where there is none for a rule or for the runs.
+fn gather_homes(
+    alloc: Global,
+    plan: &mut Plan,
+    space: &Space,
+    window: &Window,
+    runs: &mut Vec<Run<Option<u32>>>,
+    added: &mut Vec<Option<u32>>,
+    steps: &mut Steps,
+) -> Result<(), NoMemory>
+    requires ready { IsReady space.now }
+    requires of { IsOpen space.now plan.old window.now }
+    requires no_run { runs.old.items ≡ [] }
+    requires none_added { added.old.items ≡ [] }
+    ensures copies { OnOk result (AreCopies (policy_in plan.new.slots)
+        (slice_range space.now.ranges window.now.from window.now.to_now) runs.new.items) }
+    ensures added { WereAdded space.now plan.old added.new.items plan.new }
+    ensures few { WritesRules (begun window.now.first window.now.end space.now.ranges)
+        steps.old steps.new }
+{
+    for k in window.from..window.to_now {
+        let Some(range) = space.range_at(k) else {
+            unreachable!()
+        };
+        let value = number_of_home(alloc, plan, space, window, &range, added, steps)?;
+        runs.push(Run {
+            first: range.first,
+            pages: range.pages,
+            index: range.index,
+            value,
+        })?;
+    }
+    Ok(())
+}
+
+/// Writes the runs of the window anew, and the rules that they want. Notes which were added.
+///
+/// # Errors
+/// `NoMemory` where there is none for a rule or for the runs; but for the rules that were added,
+/// the plan is as it was.
+fn rewrite_homes(
+    alloc: Global,
+    plan: &mut Plan,
+    space: &Space,
+    window: &Window,
+    added: &mut Vec<Option<u32>>,
+    steps: &mut Steps,
+) -> Result<(), NoMemory>
+    requires of { IsOpen space.now plan.old window.now }
+    requires none_added { added.old.items ≡ [] }
+    ensures follows { OnOk result (Follows space.now plan.new) }
+    ensures tasks { plan.new.tasks ≡ plan.old.tasks }
+    ensures added { OnErr result (WereAdded space.now plan.old added.new.items plan.new) }
+    ensures few { WritesBoth (window.now.to_now - window.now.from)
+        (begun window.now.first window.now.end space.now.ranges) steps.old steps.new }
+{
+    survey(space);
+    let mut runs = Vec::new(alloc);
+    gather_homes(alloc, plan, space, window, &mut runs, added, steps)?;
+    put_runs(alloc, plan, space, window, &runs, steps)?;
+    Ok(())
+}
+
+/// Gives each range that begins in the span the rule of its policy. Writes at most two runs more
+/// than met the span, and at most as many rules as runs met it.
+///
+/// # Errors
+/// `NoMemory` where there is none for a rule or for the runs; the plan is as it was. Never for a
+/// span without pages.
+pub(crate) fn recompile_home(
+    alloc: Global,
+    plan: &mut Plan,
+    space: &Space,
+    start: u64,
+    bytes: u64,
+    steps: &mut Steps,
+) -> Result<(), NoMemory>
+    requires behind { (node : ℕ) × IsBehind space.now (Command.SetHome start bytes node) plan.old }
+    ensures follows { OnOk result (Follows space.now plan.new) }
+    ensures unchanged { OnErr result (plan.new ≡ plan.old) }
+    ensures few { WritesBoth (met_by start bytes plan.old + 2) (met_by start bytes plan.old)
+        steps.old steps.new }
+    ensures others { plan.new.tasks ≡ plan.old.tasks }
+{
+    survey(space);
+    let window = find_window(plan, space, start, bytes, steps);
+    if window.first == window.end {
+        plan.set_version(space.version());
+        return Ok(());
+    }
+    let mut added = Vec::new(alloc);
+    let Ok(()) = rewrite_homes(alloc, plan, space, &window, &mut added, steps) else {
+        take_all_back(plan, &mut added);
+        return Err(NoMemory);
+    };
+    Ok(())
+}

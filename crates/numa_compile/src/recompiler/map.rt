@@ -1,0 +1,64 @@
+//! Recompiling for a span that is mapped.
+ghost use Rattle.std.specs.Prelude.{◌≡◌, ◌+◌, ◌≤◌, ℕ, length, OnOk, OnErr};
+ghost use Rattle.std.specs.Bool.{OnTrue, OnFalse};
+ghost use Rattle.numa_space.specs.declared.command.Command.{Command};
+ghost use Rattle.numa_compile.specs.Follows.{Follows, IsBehind};
+ghost use Rattle.numa_compile.specs.Recompiling.{WritesBoth, met_by};
+ghost use Rattle.numa_compile.specs.Windows.{BeginsBeside, BeginsInside};
+ghost use Rattle.numa_compile.specs.declared.recompiler.window.Window.{Window};
+
+use crate::compiler::survey;
+use crate::recompiler::rewrite::rewrite_window;
+use crate::recompiler::window::{Window, find_window};
+use numa_plan::{NoMemory, Plan, Steps};
+use numa_space::Space;
+use std::alloc::Global;
+
+/// Whether the window's first range ends where the span begins, so that it wasn't joined to it.
+fn begins_beside(space: &Space, window: &Window) -> bool
+    requires within { window.now.to_now ≤ length space.now.ranges }
+    ensures beside { OnTrue result (BeginsBeside space.now window.now) }
+    ensures inside { OnFalse result (BeginsInside space.now window.now) }
+{
+    if window.from >= window.to_now {
+        return false;
+    }
+    let Some(range) = space.range_at(window.from) else {
+        unreachable!()
+    };
+    range.first <= window.first && range.pages <= window.first - range.first
+}
+
+/// Puts a run in for the span, joined to those beside it as its range is. Writes at most two runs,
+/// and no rule.
+///
+/// # Errors
+/// `NoMemory` where there is none for the runs; the plan is as it was.
+pub(crate) fn recompile_map(
+    alloc: Global,
+    plan: &mut Plan,
+    space: &Space,
+    start: u64,
+    bytes: u64,
+    steps: &mut Steps,
+) -> Result<(), NoMemory>
+    requires behind { (offset : ℕ) × IsBehind space.now (Command.Map start bytes offset) plan.old }
+    ensures follows { OnOk result (Follows space.now plan.new) }
+    ensures unchanged { OnErr result (plan.new ≡ plan.old) }
+    ensures few { WritesBoth (met_by start bytes plan.old + 2) 0 steps.old steps.new }
+    ensures others { plan.new.tasks ≡ plan.old.tasks }
+{
+    survey(space);
+    let window = find_window(plan, space, start, bytes, steps);
+    if begins_beside(space, &window) {
+        let rest = Window {
+            first: window.first,
+            end: window.end,
+            from: window.from + 1,
+            to: window.to,
+            to_now: window.to_now,
+        };
+        return rewrite_window(alloc, plan, space, &rest, None, steps);
+    }
+    rewrite_window(alloc, plan, space, &window, None, steps)
+}

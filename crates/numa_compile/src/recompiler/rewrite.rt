@@ -1,0 +1,41 @@
+//! A window whose runs are written anew.
+ghost use Rattle.std.specs.Prelude.{◌≡◌, ◌-◌, OnOk, OnErr};
+ghost use Rattle.numa_compile.specs.Follows.{Follows};
+ghost use Rattle.numa_compile.specs.Recompiling.{WritesBoth};
+ghost use Rattle.numa_compile.specs.Windows.{IsOpen, NumbersInside};
+ghost use Rattle.numa_compile.specs.declared.recompiler.window.Window.{Window};
+
+use crate::compiler::survey;
+use crate::recompiler::gather::gather_runs;
+use crate::recompiler::put::put_runs;
+use crate::recompiler::window::Window;
+use numa_plan::{NoMemory, Plan, Steps};
+use numa_space::Space;
+use std::alloc::Global;
+
+/// Writes the runs of the window anew, with the given number for the ranges that begin in its span.
+/// Writes no rule.
+///
+/// # Errors
+/// `NoMemory` where there is none for the runs; the plan is as it was.
+pub(crate) fn rewrite_window(
+    alloc: Global,
+    plan: &mut Plan,
+    space: &Space,
+    window: &Window,
+    given: Option<u32>,
+    steps: &mut Steps,
+) -> Result<(), NoMemory>
+    requires of { IsOpen space.now plan.old window.now }
+    requires inside { NumbersInside space.now plan.old window.now given }
+    ensures follows { OnOk result (Follows space.now plan.new) }
+    ensures tasks { plan.new.tasks ≡ plan.old.tasks }
+    ensures few { WritesBoth (window.now.to_now - window.now.from) 0 steps.old steps.new }
+    ensures unchanged { OnErr result (plan.new ≡ plan.old) }
+{
+    survey(space);
+    let mut runs = Vec::new(alloc);
+    gather_runs(plan, space, window, given, &mut runs, steps)?;
+    put_runs(alloc, plan, space, window, &runs, steps)?;
+    Ok(())
+}

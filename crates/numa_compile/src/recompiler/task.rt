@@ -1,0 +1,44 @@
+//! Recompiling for a task's policy.
+ghost use Rattle.std.specs.Prelude.{◌≡◌, OnOk, OnErr};
+ghost use Rattle.numa_mode.specs.Policy.{Specification};
+ghost use Rattle.numa_space.specs.declared.command.Command.{Command};
+ghost use Rattle.numa_compile.specs.Follows.{Follows, IsBehind};
+ghost use Rattle.numa_compile.specs.Recompiling.{KeepsRuns, WritesRules};
+
+use crate::compiler::survey;
+use crate::recompiler::added::number_or_add;
+use crate::recompiler::unused::{drop_unused, take_back};
+use numa_plan::{NoMemory, Plan, Steps};
+use numa_space::Space;
+use std::alloc::Global;
+
+/// Gives a task the rule of its new policy. Writes no run, and one rule at most.
+///
+/// # Errors
+/// `NoMemory` where there is none for the rule or for the task; the plan is as it was.
+pub(crate) fn recompile_task(
+    alloc: Global,
+    plan: &mut Plan,
+    space: &Space,
+    task: u32,
+    steps: &mut Steps,
+) -> Result<(), NoMemory>
+    requires behind { (spec : Specification)
+        × IsBehind space.now (Command.SetTask task spec) plan.old }
+    ensures follows { OnOk result (Follows space.now plan.new) }
+    ensures unchanged { OnErr result (plan.new ≡ plan.old) }
+    ensures few { WritesRules 1 steps.old steps.new }
+    ensures others { KeepsRuns task plan.old plan.new }
+{
+    survey(space);
+    let had = plan.task_number(task);
+    let policy = space.task_policy(task);
+    let (number, added) = number_or_add(alloc, space, policy, plan, steps)?;
+    let Ok(()) = plan.set_task(task, number) else {
+        take_back(plan, added);
+        return Err(NoMemory);
+    };
+    plan.set_version(space.version());
+    drop_unused(plan, had);
+    Ok(())
+}

@@ -1,0 +1,63 @@
+//! Where the runs stand that a command of a span leaves to be written anew.
+ghost use Rattle.std.specs.Prelude.{◌≡◌, ◌+◌, ◌-◌, length};
+ghost use Rattle.numa_ranges.specs.Windows.{IsWindow, begins_in};
+ghost use Rattle.numa_space.specs.History.{page_of, page_count};
+ghost use Rattle.numa_compile.specs.Recompiling.{WritesRules};
+
+use numa_plan::{Plan, Steps};
+use numa_space::{PAGE_BYTES, RangeRecord, Run, Space};
+
+/// A span from its first page to the page behind its last, and the runs that meet it or stand
+/// beside it: from a place to the place behind the last of them, and where that last place has come
+/// to stand among the ranges of the space.
+#[derive(Clone, Copy)]
+pub(crate) struct Window {
+    pub first: u64,
+    pub end: u64,
+    pub from: usize,
+    pub to: usize,
+    pub to_now: usize,
+}
+
+/// The page behind the last of a span.
+fn end_of(start: u64, bytes: u64) -> u64
+    ensures { result ≡ page_of start + page_count bytes }
+{
+    let pages = bytes / PAGE_BYTES + u64::from(bytes % PAGE_BYTES != 0);
+    start / PAGE_BYTES + pages
+}
+
+/// Finds the window of a span of bytes by two searches of the plan.
+pub(crate) fn find_window(
+    plan: &Plan,
+    space: &Space,
+    start: u64,
+    bytes: u64,
+    steps: &mut Steps,
+) -> Window
+    ensures first { result.first ≡ page_of start }
+    ensures end { result.end ≡ page_of start + page_count bytes }
+    ensures place { result.to_now ≡ length space.now.ranges
+        - (length plan.now.runs - result.to) }
+    ensures window { IsWindow plan.now.runs result.first result.end result.from result.to }
+    ensures writes { WritesRules 0 steps.old steps.new }
+{
+    let first = start / PAGE_BYTES;
+    let end = end_of(start, bytes);
+    let (from, to) = plan.window(first, end, steps);
+    let behind = plan.run_count() - to;
+    Window {
+        first,
+        end,
+        from,
+        to,
+        to_now: space.ranges().saturating_sub(behind),
+    }
+}
+
+/// Whether a range begins in the window's span.
+pub(crate) fn begins_inside(range: &Run<RangeRecord>, window: &Window) -> bool
+    ensures { result ≡ begins_in window.now.first window.now.end range.now }
+{
+    window.first <= range.first && range.first < window.end
+}
