@@ -103,6 +103,7 @@ impl PlanView {
     /// # Errors
     /// `BadCpu` where `cpu` is none of the machine's nodes; else `Unmapped` where this version
     /// doesn't map the page.
+    #[inline(always)]
     pub fn choice(
         &self,
         task: u32,

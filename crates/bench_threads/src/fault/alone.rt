@@ -12,11 +12,25 @@ use std::rt::Clock;
 /// How many faults are timed at once.
 const FAULTS: u64 = 20_000;
 
+/// The times of calls, and a sum of what they answered. The sum is printed, so that no call can be
+/// left out of the program.
+#[derive(Drop)]
+struct Spent {
+    nanos: u64,
+    sum: u64,
+}
+
+/// Task 1. It is told by the clock, so that it isn't known when the program is built.
+fn task_on_four_nodes(rt: &impl Clock) -> u32 {
+    let watch = Watch::start(rt);
+    1 + u32::from(watch.nanos(rt) == u64::MAX)
+}
+
 /// So many looks, each with the choice of a page. The sum of the first nodes.
-fn choices(mut reader: PlanReader, count: u64) -> (PlanReader, u64) {
+fn choices(mut reader: PlanReader, task: u32, count: u64) -> (PlanReader, u64) {
     let mut sum = 0u64;
     for place in 0..count {
-        let request = black_box(request_of(1, place));
+        let request = black_box(request_of(task, place));
         reader = match reader.enter() {
             Ok(view) => {
                 let steps = &mut Steps::new();
@@ -32,51 +46,68 @@ fn choices(mut reader: PlanReader, count: u64) -> (PlanReader, u64) {
 }
 
 /// The time of so many faults of a task.
-fn time_faults(rt: &impl Clock, placing: &mut Placing, task: u32) -> u64 {
+fn time_faults(rt: &impl Clock, placing: &mut Placing, task: u32) -> Spent {
     let watch = Watch::start(rt);
-    black_box(placing.faults(task, FAULTS));
-    watch.nanos(rt)
+    let sum = placing.faults(task, FAULTS);
+    Spent {
+        nanos: watch.nanos(rt),
+        sum,
+    }
 }
 
 /// The time of as many takes.
-fn time_takes(rt: &impl Clock, seated: &mut Seated) -> u64 {
+fn time_takes(rt: &impl Clock, seated: &mut Seated) -> Spent {
     let watch = Watch::start(rt);
-    black_box(seated.takes(FAULTS));
-    watch.nanos(rt)
+    let sum = seated.takes(FAULTS);
+    Spent {
+        nanos: watch.nanos(rt),
+        sum,
+    }
 }
 
 /// The time of as many choices.
-fn time_choices(rt: &impl Clock, reader: PlanReader) -> (PlanReader, u64) {
+fn time_choices(rt: &impl Clock, reader: PlanReader, task: u32) -> (PlanReader, Spent) {
     let watch = Watch::start(rt);
-    let (reader, sum) = choices(reader, FAULTS);
-    black_box(sum);
-    (reader, watch.nanos(rt))
+    let (reader, sum) = choices(reader, task, FAULTS);
+    let nanos = watch.nanos(rt);
+    (reader, Spent { nanos, sum })
 }
 
-/// Faults and releases beside choices and takes.
+/// Faults and releases beside choices and takes. The sum of what they answered.
 fn time_parts(
     rt: &impl Clock,
     placing: &mut Placing,
     seated: &mut Seated,
     mut reader: PlanReader,
     times: &mut Times,
-) {
+) -> u64 {
+    let task = task_on_four_nodes(rt);
+    let mut sum = 0u64;
     for round in 0..ROUNDS {
-        let fault = time_faults(rt, placing, 1);
+        let fault = time_faults(rt, placing, task);
         let take = time_takes(rt, seated);
-        let (back, choice) = time_choices(rt, reader);
+        let (back, choice) = time_choices(rt, reader, task);
         reader = back;
-        times.put(round, fault, choice.saturating_add(take));
+        times.put(round, fault.nanos, choice.nanos.saturating_add(take.nanos));
+        sum = sum
+            .wrapping_add(fault.sum)
+            .wrapping_add(take.sum)
+            .wrapping_add(choice.sum);
     }
+    sum
 }
 
-/// Faults behind 63 full words beside faults on an empty node.
-fn time_far(rt: &impl Clock, placing: &mut Placing, times: &mut Times) {
+/// Faults behind 63 full words beside faults on an empty node. The sum of what they answered.
+fn time_far(rt: &impl Clock, placing: &mut Placing, times: &mut Times) -> u64 {
+    let task = task_on_four_nodes(rt);
+    let mut sum = 0u64;
     for round in 0..ROUNDS {
-        let near = time_faults(rt, placing, 1);
+        let near = time_faults(rt, placing, task);
         let far = time_faults(rt, placing, ON_NODE_15);
-        times.put(round, far, near);
+        times.put(round, far.nanos, near.nanos);
+        sum = sum.wrapping_add(near.sum).wrapping_add(far.sum);
     }
+    sum
 }
 
 /// Prints the ratios.
@@ -87,17 +118,18 @@ pub fn measure<R: Print + Clock>(
     reader: PlanReader,
 ) -> io::Result<()> {
     let (mut of_parts, mut of_far) = (Times::new(), Times::new());
-    time_parts(rt, placing, seated, reader, &mut of_parts);
+    let sum = time_parts(rt, placing, seated, reader, &mut of_parts);
     of_parts.print(
         rt,
         "fault and release over enter, choice, leave, take and give",
         FAULTS,
     )?;
     placing.keep(ON_NODE_15, 4_032);
-    time_far(rt, placing, &mut of_far);
+    let sum = sum.wrapping_add(time_far(rt, placing, &mut of_far));
     of_far.print(
         rt,
         "fault and release behind 63 full words over those on an empty node",
         FAULTS,
-    )
+    )?;
+    println!(rt; "sum of what these faults, takes and choices answered: {sum}")
 }
