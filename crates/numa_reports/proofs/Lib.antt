@@ -2,4 +2,5 @@ pub mod Meeting
 pub mod Moving
 pub mod Placed
 pub mod Taking
+pub mod Telling
 pub mod Tiling

@@ -1,5 +1,5 @@
 -- Pages that are filled one by one, and range by range.
-use Rattle.std.proofs.Common.{◌≡◌, ℕ, zero, suc, ◌+◌, ◌-◌, ◌<◌, ◌≤◌, ◌^◌, Bool, true, false, cond, eqb, Option, Some, None, List, [], ◌∷◌, length, get_or, refl, sym, ap, subst, ◌∙◌, arith, inl, inr}
+use Rattle.std.proofs.Common.{◌≡◌, ℕ, zero, suc, ◌+◌, ◌-◌, ◌<◌, ◌≤◌, ◌^◌, Option, Some, None, List, [], ◌∷◌, refl, sym, ap, ◌∙◌, arith, inl, inr}
 use Rattle.std.specs.Prelude.{unwrap_or}
 use Rattle.std.proofs.lemmas.Bool.{cases_Bool}
 use Rattle.numa_machine.specs.Machine.{Hardware}
@@ -8,7 +8,6 @@ use Rattle.numa_ranges.specs.declared.run.Run.{Run}
 use Rattle.numa_ranges.proofs.Apart.{apart-top, in_pages-above, in_pages-below, page_at-before}
 use Rattle.numa_plan.specs.Meaning.{PlanData, planned_list}
 use Rattle.numa_compile.specs.Standing.{PlanStandsFor}
-use Rattle.numa_space.specs.Lists.{node_list}
 use Rattle.numa_space.specs.Pages.{is_mapped}
 use Rattle.numa_space.specs.Standing.{SpaceState, StandsFor}
 use Rattle.numa_space.specs.declared.command.Command.{Command}
@@ -76,16 +75,21 @@ free-runs nodes free from n (run ∷ runs) apart all none =
     behind ∙ sym cut2 ∙ sym (ap (λ (f : List ℕ). free_behind nodes f run.first (run.pages + tail)) before) ∙ sym (ap (λ (a : ℕ). free_behind nodes (free_behind nodes free from hole) a (run.pages + tail)) seam) ∙ sym cut1
 
 -- the plan's list of a page is what the history means
-same-nodes : (machine : Hardware) (plan : PlanData) (history : List Command) (task cpu page : ℕ) → PlanStandsFor machine plan history → cpu < machine.nodes → planned_nodes plan task cpu page ≡ nodes_of machine history task cpu page
+pub same-nodes : (machine : Hardware) (plan : PlanData) (history : List Command) (task cpu page : ℕ) → PlanStandsFor machine plan history → cpu < machine.nodes → planned_nodes plan task cpu page ≡ nodes_of machine history task cpu page
 same-nodes machine plan history task cpu page planned lt =
     elim (cases_Bool (is_mapped history page)) [
       | inl t ↦ rw t (ap (λ (o : Option (List ℕ)). unwrap_or o []) (planned.lists task page cpu lt t))
       | inr f ↦ rw f (ap (λ (o : Option (List ℕ)). unwrap_or o []) (planned.unmapped task page cpu f))
     ]
 
+-- a page that no range has, has no list
+pub no-list : (space : SpaceState) (plan : PlanData) (history : List Command) (task cpu page : ℕ) → StandsFor space history → PlanStandsFor space.machine plan history → page_at space.ranges page ≡ None → planned_nodes plan task cpu page ≡ []
+no-list space plan history task cpu page stands planned missing =
+    ap (λ (o : Option (List ℕ)). unwrap_or o []) (planned.unmapped task page cpu (not-mapped space history page stands missing))
+
 -- what is free behind the ranges of a space, by a plan, is what the history means
 pub free-all : (space : SpaceState) (plan : PlanData) (history : List Command) (task cpu : ℕ) (free : List ℕ) → StandsFor space history → PlanStandsFor space.machine plan history → cpu < space.machine.nodes → AreApart 0 space.ranges
     → free_runs (planned_nodes plan task cpu) free space.ranges ≡ free_behind (nodes_of space.machine history task cpu) free 0 (2 ^ 35)
 free-all space plan history task cpu free stands planned lt apart =
-    free-runs (planned_nodes plan task cpu) free 0 (2 ^ 35) space.ranges apart refl (λ page low missing. ap (λ (o : Option (List ℕ)). unwrap_or o []) (planned.unmapped task page cpu (not-mapped space history page stands missing)))
+    free-runs (planned_nodes plan task cpu) free 0 (2 ^ 35) space.ranges apart refl (λ page low missing. no-list space plan history task cpu page stands planned missing)
     ∙ ap (λ (nodes : ℕ → List ℕ). free_behind nodes free 0 (2 ^ 35)) (λ i page. same-nodes space.machine plan history task cpu page planned lt i)

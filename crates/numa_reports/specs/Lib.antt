@@ -3,3 +3,4 @@ pub mod Filled
 pub mod Mapped
 pub mod Moved
 pub mod Predicted
+pub mod Told

@@ -1,6 +1,6 @@
 //! Where all mapped pages would go, on nodes that have so many free pages each.
-ghost use Rattle.std.specs.Prelude.{◌≡◌, ◌+◌, ◌<◌, ◌≤◌, ◌^◌, List, Err, OnOk, length};
-ghost use Rattle.std.specs.Prelude.{replicate};
+ghost use Rattle.std.specs.Prelude.{◌≡◌, ◌+◌, ◌-◌, ◌<◌, ◌≤◌, ◌^◌, ℕ, List, Err, OnOk, length};
+ghost use Rattle.std.specs.Prelude.{replicate, slice_index};
 ghost use Rattle.numa_compile.specs.Standing.{PlanStandsFor};
 ghost use Rattle.numa_space.specs.Standing.{StandsFor};
 ghost use Rattle.numa_space.specs.declared.command.Command.{Command};
@@ -8,11 +8,12 @@ ghost use Rattle.numa_space.specs.declared.refusal.PlaceRefusal.TheVariants.{Bad
 ghost use Rattle.numa_reports.specs.declared.fault.ReportFault.TheVariants.{Refused};
 ghost use Rattle.numa_reports.specs.Filled.{first_free, one_less, free_behind};
 ghost use Rattle.numa_reports.specs.Filled.{nodes_of, planned_nodes, with_named};
+ghost use Rattle.numa_reports.specs.Told.{IsFilling, IsTaken, ToldEach, ToldOne};
 
 use crate::fault::ReportFault;
 use crate::prediction::TakeRange;
 use numa_plan::{Plan, Steps};
-use numa_space::{PlaceRefusal, Space};
+use numa_space::{PlaceRefusal, RangeRecord, Run, Space};
 
 /// So many free pages of a node.
 #[derive(Clone, Copy, Debug, PartialEq, Eq)]
@@ -76,8 +77,8 @@ pub(crate) fn fill_span(
     Ok(())
 }
 
-/// Takes a free page for each page of a short span, and writes the node of each; a page for which no
-/// node has one has the number 0.
+/// Takes a free page for each page of a short span, and writes the node of each; a page for which
+/// no node has one has the number 0.
 pub(crate) fn fill_few(
     plan: &Plan,
     task: u32,
@@ -98,7 +99,10 @@ pub(crate) fn fill_few(
 }
 
 /// How many pages of each node were taken.
-pub(crate) fn taken(before: &[u64; 256], after: &[u64; 256]) -> [u64; 256] {
+pub(crate) fn taken(before: &[u64; 256], after: &[u64; 256]) -> [u64; 256]
+    ensures { (node : ℕ) → node < 256 → slice_index result node
+        ≡ slice_index before.now node - slice_index after.now node }
+{
     let mut counts = [0u64; 256];
     for node in 0..256 {
         counts[node] = before[node].saturating_sub(after[node]);
@@ -106,11 +110,35 @@ pub(crate) fn taken(before: &[u64; 256], after: &[u64; 256]) -> [u64; 256] {
     counts
 }
 
+/// Takes a free page for each page of a range, the lowest first, and tells the taker how many.
+fn fill_next<T: TakeRange>(
+    space: &Space,
+    plan: &Plan,
+    task: u32,
+    cpu: u32,
+    range: &Run<RangeRecord>,
+    free: &mut [u64; 256],
+    taker: &mut T,
+) -> Result<(), ReportFault>
+    requires { range.now.first + range.now.pages < 2 ^ 64 }
+    ensures free { OnOk result (free.new
+        ≡ free_behind (planned_nodes plan.now task cpu) free.old range.now.first range.now.pages) }
+    ensures told { (history : List Command) → StandsFor space.now history → OnOk result
+        (ToldOne T.told (IsTaken space.now.machine history task free.old free.new)
+        range.now taker.old taker.new) }
+{
+    let before = *free;
+    fill_span(plan, task, cpu, range.first, range.pages, free)?;
+    let counts = taken(&before, free);
+    taker.take(range, space.policy_at(task, range.first), &counts)?;
+    Ok(())
+}
+
 /// What would be free behind all mapped pages, if the task touched each of them now on a CPU of
 /// node `cpu`, those of lower addresses first: a page goes to the first node of its list that has a
 /// free page left, and takes it; where no node has one, it goes nowhere. How many pages of a range
-/// each node gets is told to the taker on the way. The plan is one of the space. The time grows
-/// with the pages.
+/// each node gets is told to the taker on the way, for each range once and in the order of their
+/// addresses. The plan is one of the space. The time grows with the pages.
 ///
 /// # Errors
 /// `Refused(BadCpu)` where the machine has no node `cpu`; `Refused(Unmapped)` where the plan isn't
@@ -126,16 +154,17 @@ pub fn fill_all<T: TakeRange>(
     ensures ok { (history : List Command) → StandsFor space.now history
         → PlanStandsFor space.now.machine plan.now history → OnOk result (free.new
         ≡ free_behind (nodes_of space.now.machine history task cpu) free.old 0 (2 ^ 35)) }
+    ensures told { (history : List Command) → StandsFor space.now history
+        → PlanStandsFor space.now.machine plan.now history → OnOk result (ToldEach T.told
+        (IsFilling space.now.machine history task cpu free.old) space.now.ranges
+        taker.old taker.new) }
     ensures bad_cpu { space.now.machine.nodes ≤ cpu → result ≡ Err (Refused BadCpu) }
 {
     if cpu >= space.machine().nodes() {
         return Err(ReportFault::Refused(PlaceRefusal::BadCpu));
     }
     for range in space.range_iter() {
-        let before = *free;
-        fill_span(plan, task, cpu, range.first, range.pages, free)?;
-        let counts = taken(&before, free);
-        taker.take(range, space.policy_at(task, range.first), &counts)?;
+        fill_next(space, plan, task, cpu, range, free, taker)?;
     }
     Ok(())
 }

@@ -1,12 +1,17 @@
 //! Where all mapped pages would go.
-ghost use Rattle.std.specs.Prelude.{◌≡◌, ◌≤◌, ◌^◌, List, Err, IfOk, IfErr};
+ghost use Rattle.std.specs.Prelude.{◌≡◌, ◌≤◌, ◌<◌, ◌^◌, ⊤, List, Option, Err, IfOk, IfErr, OnOk};
 ghost use Rattle.numa_compile.specs.Spans.{SpanIsRefused};
 ghost use Rattle.numa_compile.specs.Standing.{PlanStandsFor};
+ghost use Rattle.numa_mode.specs.Policy.{PolicyRecord};
+ghost use Rattle.numa_plan.specs.Meaning.{planned_count};
+ghost use Rattle.numa_plan.specs.Tally.{Adds, HasRoom};
+ghost use Rattle.numa_ranges.specs.declared.run.Run.{Run};
 ghost use Rattle.numa_space.specs.Standing.{StandsFor};
 ghost use Rattle.numa_space.specs.declared.command.Command.{Command};
 ghost use Rattle.numa_space.specs.declared.refusal.PlaceRefusal.TheVariants.{BadCpu};
 ghost use Rattle.numa_reports.specs.declared.fault.ReportFault.TheVariants.{Refused};
 ghost use Rattle.numa_reports.specs.Predicted.{AreFirsts, IsPrediction};
+ghost use Rattle.numa_reports.specs.Told.{ToldEach, ToldOne};
 
 use crate::fault::ReportFault;
 use crate::tally::add_span;
@@ -58,6 +63,12 @@ pub fn predict_range(
 
 /// What is told of each range, as it is predicted.
 pub trait TakeRange {
+    ghost use Rattle.numa_reports.specs.Told.{Telling};
+
+    /// That a taker in one state was told of a range, which left it in another; where it doesn't
+    /// say, nothing is promised of what it is told.
+    ghost told: { Telling Self } = { λ _ _ _ _. ⊤ };
+
     /// Takes the policy that serves at a range, and how many of its pages have each node as the
     /// first of their list; ranges of lower addresses come first.
     fn take(
@@ -65,7 +76,9 @@ pub trait TakeRange {
         range: &Run<RangeRecord>,
         policy: Option<Record>,
         counts: &[u64; 256],
-    ) -> Result<(), AllocError>;
+    ) -> Result<(), AllocError>
+        ensures { OnOk result (told self.old range.now
+            (record { policy = policy; counts = counts.now }) self.new) };
 }
 
 impl TakeRange for () {
@@ -79,9 +92,34 @@ impl TakeRange for () {
     }
 }
 
+/// Adds the pages of a range to the counts of all, and tells the taker of it.
+fn predict_next<T: TakeRange>(
+    space: &Space,
+    plan: &Plan,
+    task: u32,
+    cpu: u32,
+    range: &Run<RangeRecord>,
+    counts: &mut [u64; 256],
+    taker: &mut T,
+) -> Result<(), ReportFault>
+    requires known { cpu < space.now.machine.nodes }
+    requires room { HasRoom counts.old
+        (planned_count plan.now task cpu range.now.first range.now.pages) }
+    ensures counts { OnOk result (Adds counts.old counts.new
+        (planned_count plan.now task cpu range.now.first range.now.pages)) }
+    ensures told { (history : List Command) → StandsFor space.now history
+        → PlanStandsFor space.now.machine plan.now history → OnOk result (ToldOne T.told
+        (IsPrediction space.now.machine history task cpu) range.now taker.old taker.new) }
+{
+    let mut more = [0u64; 256];
+    add_span(plan, task, cpu, range.first, range.pages, &mut more, counts)?;
+    taker.take(range, space.policy_at(task, range.first), &more)?;
+    Ok(())
+}
+
 /// How many of all mapped pages would go to each node, if the task touched each of them now on a
-/// CPU of node `cpu`; what [`predict_range`] says of each range is told to the taker on the way
-/// (`&mut ()` takes nothing). The plan is one of the space.
+/// CPU of node `cpu`; what [`predict_range`] says of each range is told to the taker on the way, once
+/// and in the order of their addresses (`&mut ()` takes nothing). The plan is one of the space.
 ///
 /// # Errors
 /// `Refused(BadCpu)` where the machine has no node `cpu`; `Refused(Unmapped)` where the plan isn't
@@ -96,6 +134,9 @@ pub fn predict_all<T: TakeRange>(
     ensures ok { (history : List Command) → StandsFor space.now history
         → PlanStandsFor space.now.machine plan.now history
         → IfOk result (AreFirsts space.now.machine history task cpu 0 (2 ^ 35)) }
+    ensures told { (history : List Command) → StandsFor space.now history
+        → PlanStandsFor space.now.machine plan.now history → OnOk result (ToldEach T.told
+        (IsPrediction space.now.machine history task cpu) space.now.ranges taker.old taker.new) }
     ensures bad_cpu { space.now.machine.nodes ≤ cpu → result ≡ Err (Refused BadCpu) }
 {
     if cpu >= space.machine().nodes() {
@@ -103,17 +144,7 @@ pub fn predict_all<T: TakeRange>(
     }
     let mut counts = [0u64; 256];
     for range in space.range_iter() {
-        let mut more = [0u64; 256];
-        add_span(
-            plan,
-            task,
-            cpu,
-            range.first,
-            range.pages,
-            &mut more,
-            &mut counts,
-        )?;
-        taker.take(range, space.policy_at(task, range.first), &more)?;
+        predict_next(space, plan, task, cpu, range, &mut counts, taker)?;
     }
     Ok(counts)
 }

@@ -93,8 +93,8 @@ fn add_table(total: &mut Vec<u64>, table: &[u64]) {
 }
 
 /// Which pages go to another node, if the task touched each of them on a CPU of node `cpu` after
-/// and not before: a line for each span of pages of which some do, with how many go from which node to
-/// which, and a last line with all.
+/// and not before: a line for each span of pages of which some do, with how many go from which node
+/// to which, and a last line with all.
 ///
 /// # Errors
 /// `Refused` where the machine has no node `cpu`; `Memory` where there was none.

@@ -73,17 +73,22 @@ impl PolicyTexts {
         }
     }
 
-    /// The place of a policy's text, which is made where there is none yet.
-    fn place(&mut self, policy: Record) -> Result<usize, AllocError> {
-        if let Some(place) = self.places.get(&policy).copied() {
-            return Ok(place);
-        }
+    /// Makes a policy's text, and tells its place.
+    fn add(&mut self, policy: Record) -> Result<usize, AllocError> {
         let text = String::from_str(self.alloc, policy.policy_text().as_str())?;
         let place = self.texts.len();
         self.texts.push(text)?;
         match self.places.insert(policy, place) {
             Ok(_) => Ok(place),
             Err(_) => Err(AllocError),
+        }
+    }
+
+    /// The place of a policy's text, which is made where there is none yet.
+    fn place(&mut self, policy: Record) -> Result<usize, AllocError> {
+        match self.places.get(&policy).copied() {
+            Some(place) => Ok(place),
+            None => self.add(policy),
         }
     }
 

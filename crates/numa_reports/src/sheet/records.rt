@@ -22,30 +22,38 @@ struct Front<'a> {
     start: &'a str,
     end: &'a str,
     policy: &'a str,
-    pages: u64,
+    all: &'a str,
 }
 
-/// Writes the record of a node, which has this text.
+/// Writes the record of a node, which has these texts.
 fn put_text(
     writer: &mut Writer<Vec<u8>>,
     front: &Front<'_>,
     node: &str,
-    pages: u64,
+    pages: &str,
 ) -> Result<(), AllocError> {
-    let mut all = Buffer::new();
-    let mut count = Buffer::new();
     let record = [
         front.start.as_bytes(),
         front.end.as_bytes(),
         front.policy.as_bytes(),
-        all.format(front.pages).as_bytes(),
+        front.all.as_bytes(),
         node.as_bytes(),
-        count.format(pages).as_bytes(),
+        pages.as_bytes(),
     ];
     match writer.write_fields(&record) {
         Ok(()) => Ok(()),
         Err(_) => Err(AllocError),
     }
+}
+
+/// Writes the record of the pages that find no node.
+fn put_lacking(
+    writer: &mut Writer<Vec<u8>>,
+    front: &Front<'_>,
+    pages: u64,
+) -> Result<(), AllocError> {
+    let mut count = Buffer::new();
+    put_text(writer, front, "", count.format(pages))
 }
 
 /// Writes the record of a node.
@@ -56,7 +64,8 @@ fn put(
     pages: u64,
 ) -> Result<(), AllocError> {
     let mut number = Buffer::new();
-    put_text(writer, front, number.format(node), pages)
+    let mut count = Buffer::new();
+    put_text(writer, front, number.format(node), count.format(pages))
 }
 
 /// Writes one record for each node that has pages, the lowest first.
@@ -73,18 +82,18 @@ fn put_nodes(
     Ok(())
 }
 
-/// Writes a record for each node that is named: what is left on it.
-fn put_left(writer: &mut Writer<Vec<u8>>, left: &[FreePages]) -> Result<(), AllocError> {
-    for one in left {
-        let front = Front {
-            start: "",
-            end: "",
-            policy: "left",
-            pages: one.pages,
-        };
-        put(writer, &front, u64::from(one.node), one.pages)?;
-    }
-    Ok(())
+/// Writes the record of what is left on a node that is named.
+fn put_left(writer: &mut Writer<Vec<u8>>, one: FreePages) -> Result<(), AllocError> {
+    let mut number = Buffer::new();
+    let mut count = Buffer::new();
+    let pages = count.format(one.pages);
+    let front = Front {
+        start: "",
+        end: "",
+        policy: "left",
+        all: pages,
+    };
+    put_text(writer, &front, number.format(u64::from(one.node)), pages)
 }
 
 /// The records of pages, and of what is left.
@@ -97,9 +106,11 @@ fn records(
     let mut writer = WriterBuilder::new().from_writer(Vec::new(alloc));
     put_nodes(&mut writer, front, placed.counts)?;
     if let Some(pages) = placed.lacking() {
-        put_text(&mut writer, front, "", pages)?;
+        put_lacking(&mut writer, front, pages)?;
     }
-    put_left(&mut writer, left)?;
+    for one in left {
+        put_left(&mut writer, *one)?;
+    }
     match writer.into_inner() {
         Ok(bytes) => Ok(bytes),
         Err(_) => Err(AllocError),
@@ -115,11 +126,12 @@ pub(crate) fn range(
 ) -> Result<Vec<u8>, AllocError> {
     let mut first = Buffer::new();
     let mut last = Buffer::new();
+    let mut all = Buffer::new();
     let front = Front {
         start: first.format(address(range.first)),
         end: last.format(end(range)),
         policy,
-        pages: placed.pages,
+        all: all.format(placed.pages),
     };
     records(alloc, &front, placed, &[])
 }
@@ -131,11 +143,12 @@ pub(crate) fn total(
     placed: Placed<'_>,
     left: &[FreePages],
 ) -> Result<Vec<u8>, AllocError> {
+    let mut all = Buffer::new();
     let front = Front {
         start: "",
         end: "",
         policy: "total",
-        pages: placed.pages,
+        all: all.format(placed.pages),
     };
     records(alloc, &front, placed, left)
 }

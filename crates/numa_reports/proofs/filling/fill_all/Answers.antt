@@ -1,24 +1,28 @@
-use Rattle.std.proofs.Common.{◌≡◌, ℕ, ◌<◌, ◌∷◌, List, arith, ap, subst, ◌∙◌, sym, length, Option}
+use Rattle.std.proofs.Common.{◌≡◌, ℕ, ◌<◌, List, arith, ap, subst, ◌∙◌, sym, refl, Option}
 use Rattle.numa_machine.specs.Machine.{Hardware}
 use Rattle.numa_mode.specs.Policy.{PolicyRecord}
 use Rattle.numa_ranges.specs.Runs.{AreApart, end_of}
 use Rattle.numa_ranges.specs.declared.run.Run.{Run}
 use Rattle.numa_ranges.proofs.Apart.{apart-top}
 use Rattle.numa_reports.specs.Filled.{planned_nodes}
+use Rattle.numa_reports.specs.Told.{IsTaken, ToldOne}
 use Rattle.numa_reports.proofs.Taking.{free_runs, free-all}
+use Rattle.numa_reports.proofs.Telling.{FilledEach, filled-all}
 use Rattle.numa_reports.proofs.filling.fill_all.Goals as goal
 
 pub loop-range-init : goal.loop-range-init
 loop-range-init g c =
+    let nodes = planned_nodes c.args.plan.now c.args.task c.args.cpu in
     let runs : c.into_iter-range-iterator.result ≡ c.args.space.now.ranges = c.into_iter-range-iterator.ensures.into_iter_gives ∙ c.range_iter-range-items.ensures.runs in
     record {
-      left = ap (λ (runs : List (Run (Option PolicyRecord))). free_runs (planned_nodes c.args.plan.now c.args.task c.args.cpu) c.args.free.now runs) runs;
+      left = ap (λ (runs : List (Run (Option PolicyRecord))). free_runs nodes c.args.free.now runs) runs;
       apart = c.range_iter-range-items.ensures.rising;
       rest = (0, subst (λ (runs : List (Run (Option PolicyRecord))). AreApart 0 runs) (sym runs) c.range_iter-range-items.ensures.rising);
+      told = λ history stands end has. subst (λ (runs : List (Run (Option PolicyRecord))). FilledEach g.T.TakeRange.told (IsTaken c.args.space.now.machine history c.args.task) nodes c.args.free.now runs c.args.taker.now end) runs has;
     }
 
-pub fill_span-requires : goal.fill_span-requires
-fill_span-requires g c =
+pub fill_next-requires : goal.fill_next-requires
+fill_next-requires g c =
     let apart = subst (λ (runs : List (Run (Option PolicyRecord))). AreApart c.loop-range.invariant.rest.0 runs) c.in-Some.ensures.steps c.loop-range.invariant.rest.1 in
     omega (arith, apart-top (end_of c.in-Some.range.now) c.next.new.self apart.3)
 
@@ -27,11 +31,18 @@ loop-range-preserved g c =
     let apart = subst (λ (runs : List (Run (Option PolicyRecord))). AreApart c.loop-range.invariant.rest.0 runs) c.in-Some.ensures.steps c.loop-range.invariant.rest.1 in
     let nodes = planned_nodes c.args.plan.now c.args.task c.args.cpu in
     record {
-      left = ap (λ (f : List ℕ). free_runs nodes f c.next.new.self) c.in_ok-fill_span.ensures
+      left = ap (λ (f : List ℕ). free_runs nodes f c.next.new.self) c.in_ok-fill_next.ensures.free
           ∙ sym (ap (λ (runs : List (Run (Option PolicyRecord))). free_runs nodes c.loop-range.free runs) c.in-Some.ensures.steps)
           ∙ c.loop-range.invariant.left;
       apart = c.loop-range.invariant.apart;
       rest = (end_of c.in-Some.range.now, apart.3);
+      told = λ history stands end has.
+          let takes = IsTaken c.args.space.now.machine history c.args.task in
+          let both = subst (λ (f : List ℕ). ToldOne g.T.TakeRange.told (takes c.loop-range.free f) c.in-Some.range.now c.loop-range.taker c.fill_next.new.taker × FilledEach g.T.TakeRange.told takes nodes f c.next.new.self c.fill_next.new.taker end) c.in_ok-fill_next.ensures.free
+          (c.in_ok-fill_next.ensures.told history stands, has) in
+          c.loop-range.invariant.told history stands end
+          (subst (λ (runs : List (Run (Option PolicyRecord))). FilledEach g.T.TakeRange.told takes nodes c.loop-range.free runs c.loop-range.taker end) (sym c.in-Some.ensures.steps)
+          (c.fill_next.new.taker, both.0, both.1));
     }
 
 pub returns-clause-ok : goal.returns-clause-ok
@@ -40,3 +51,10 @@ returns-clause-ok g c history stands planned =
     sym (ap (λ (runs : List (Run (Option PolicyRecord))). free_runs (planned_nodes c.args.plan.now c.args.task c.args.cpu) c.loop-range.free runs) c.in-None.ensures.steps.0)
     ∙ c.loop-range.invariant.left
     ∙ free-all c.args.space.now c.args.plan.now history c.args.task c.args.cpu c.args.free.now stands planned lt c.loop-range.invariant.apart
+
+pub returns-clause-told : goal.returns-clause-told
+returns-clause-told g c history stands planned =
+    let lt : c.args.cpu < c.args.space.now.machine.nodes = omega (arith, ap (λ (m : Hardware). m.nodes) c.machine.ensures) in
+    filled-all g.T.TakeRange.told c.args.space.now c.args.plan.now history c.args.task c.args.cpu c.args.free.now c.args.taker.now c.loop-range.taker stands planned lt c.loop-range.invariant.apart
+    (c.loop-range.invariant.told history stands c.loop-range.taker
+    (subst (λ (runs : List (Run (Option PolicyRecord))). FilledEach g.T.TakeRange.told (IsTaken c.args.space.now.machine history c.args.task) (planned_nodes c.args.plan.now c.args.task c.args.cpu) c.loop-range.free runs c.loop-range.taker c.loop-range.taker) (sym c.in-None.ensures.steps.0) refl))

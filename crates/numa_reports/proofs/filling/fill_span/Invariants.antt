@@ -1,4 +1,4 @@
-use Rattle.std.proofs.Common.{◌≡◌, ◌+◌, ◌-◌}
+use Rattle.std.proofs.Common.{◌≡◌, ◌-◌}
 use Rattle.numa_reports.specs.Filled.{free_behind, planned_nodes}
 use Rattle.numa_reports.proofs.filling.fill_span.Given as goal
 

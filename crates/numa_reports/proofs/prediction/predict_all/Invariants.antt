@@ -1,6 +1,11 @@
-use Rattle.std.proofs.Common.{◌≡◌, ℕ, ◌+◌, ◌<◌, get_or, length}
+use Rattle.std.proofs.Common.{◌≡◌, ℕ, ◌+◌, ◌<◌, List, get_or, length}
 use Rattle.numa_plan.specs.Meaning.{is_number, planned_first}
 use Rattle.numa_ranges.specs.Runs.{AreApart}
+use Rattle.numa_space.specs.Standing.{StandsFor}
+use Rattle.numa_space.specs.declared.command.Command.{Command}
+use Rattle.numa_compile.specs.Standing.{PlanStandsFor}
+use Rattle.numa_reports.specs.Predicted.{IsPrediction}
+use Rattle.numa_reports.specs.Told.{ToldEach}
 use Rattle.numa_reports.proofs.Tiling.{count_runs}
 use Rattle.numa_reports.proofs.prediction.predict_all.Given as goal
 
@@ -9,4 +14,7 @@ invariant-loop-range g l = record {
   counts : (node : ℕ) → node < 256 → get_or l.counts node 0 + count_runs (λ page. is_number node (planned_first l.plan l.task page l.cpu)) l.range-iterator ≡ count_runs (λ page. is_number node (planned_first l.plan l.task page l.cpu)) l.space.ranges;
   apart : AreApart 0 l.space.ranges;
   long : length l.counts ≡ 256;
+  told : (history : List Command) → StandsFor l.space history → PlanStandsFor l.space.machine l.plan history → (end : g.row.T.Denot)
+      → ToldEach g.T.TakeRange.told (IsPrediction l.space.machine history l.task l.cpu) l.range-iterator l.taker end
+      → ToldEach g.T.TakeRange.told (IsPrediction l.space.machine history l.task l.cpu) l.space.ranges l.fn.taker end;
 }
