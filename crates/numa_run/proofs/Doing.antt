@@ -20,10 +20,11 @@ use Rattle.numa_space.specs.declared.event.CoreRefusal.TheVariants.{NoMemory}
 use Rattle.numa_maps.specs.Residents.{Kept, placed_at, with_placement, without_page}
 use Rattle.numa_run.specs.States.{State}
 use Rattle.numa_run.specs.Standing.{RunsAs, Does, state_with}
-use Rattle.numa_run.specs.Work.{reply_to, win_of, is_accepted, won_by, event_answer, event_world, event_outcome, not_kept, kept_outcome, touch_by, touch_outcome, release_by, release_outcome}
+use Rattle.numa_run.specs.Work.{is_accepted, won_by, event_answer, event_world, event_outcome, not_kept, kept_outcome, touch_by, touch_outcome, release_by, release_outcome}
+use Rattle.numa_script.specs.Replies.{reply_to, win_of}
 use Rattle.numa_run.specs.declared.running.Running.{Running}
-use Rattle.numa_run.specs.declared.reply.Reply.{Reply}
-use Rattle.numa_run.specs.declared.reply.Reply.TheVariants as reply
+use Rattle.numa_script.specs.declared.reply.Reply.{Reply}
+use Rattle.numa_script.specs.declared.reply.Reply.TheVariants as reply
 use Rattle.numa_run.proofs.Histories.{kept-by_event, kept-unless_accepted, touched-kept, answer-told, give-told}
 
 -- what the core promises of a step, and of a touch

@@ -16,9 +16,9 @@ use Rattle.numa_run.specs.Ranges.{listing_of}
 use Rattle.numa_run.specs.Replies.{Served, reply_in, shown, served, served_by, served_later}
 use Rattle.numa_run.specs.Standing.{RunsAs, Takes}
 use Rattle.numa_run.specs.declared.running.Running.{Running}
-use Rattle.numa_run.specs.declared.serving.Taken.TheVariants as taken
-use Rattle.numa_run.specs.declared.reply.Reply.{Reply}
-use Rattle.numa_run.specs.declared.reply.Reply.TheVariants as reply
+use Rattle.numa_run.specs.declared.running.Taken.TheVariants as taken
+use Rattle.numa_script.specs.declared.reply.Reply.{Reply}
+use Rattle.numa_script.specs.declared.reply.Reply.TheVariants as reply
 
 -- the line was judged as the definition says, and the state that it says is reached
 abbrev pub Judges : Running → Line → Option Reply → Running → Type 0

@@ -1,6 +1,4 @@
 mod Examples
-pub mod Counts
-pub mod Digits
 pub mod Doing
 pub mod Histories
 pub mod JudgeLemmas

@@ -24,12 +24,12 @@ use Rattle.numa_run.specs.Ranges.{listing_of}
 use Rattle.numa_run.specs.Replies.{Answer, Replied, Shown, bytes_of, reply_in, Served, shown, replied, machine_unless, machine_served, served_first, served_later, moved, served_by, served}
 use Rattle.numa_run.specs.Standing.{RunsAs, Stands, Replies, Takes, Does}
 use Rattle.numa_run.specs.States.{setup_with}
-use Rattle.numa_run.specs.Texts.{text_of}
+use Rattle.numa_script.specs.Texts.{text_of}
 use Rattle.numa_run.specs.Work.{Outcome}
 use Rattle.numa_run.specs.declared.running.Running.{Running}
-use Rattle.numa_run.specs.declared.serving.Taken.TheVariants as taken
-use Rattle.numa_run.specs.declared.reply.Reply.{Reply}
-use Rattle.numa_run.specs.declared.reply.Reply.TheVariants as reply
+use Rattle.numa_run.specs.declared.running.Taken.TheVariants as taken
+use Rattle.numa_script.specs.declared.reply.Reply.{Reply}
+use Rattle.numa_script.specs.declared.reply.Reply.TheVariants as reply
 
 -- ---- before a machine is ready
 

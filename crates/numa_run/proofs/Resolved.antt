@@ -1,5 +1,6 @@
 -- What a space answers page by page is what the history means.
-use Rattle.std.proofs.Common.{◌≡◌, ◌≢◌, ℕ, zero, suc, ◌+◌, ◌-◌, ◌<◌, ◌==◌, ◌&&◌, true, cond, Some, None, List, length, set, refl, sym, ap, subst, ◌∙◌, arith, inl, inr}
+use Rattle.std.proofs.Common.{◌≡◌, ◌≢◌, ℕ, zero, suc, ◌+◌, ◌-◌, ◌<◌, ◌==◌, ◌&&◌, true, cond, Some, None, List, length, set, take, drop, refl, sym, ap, subst, ◌∙◌, arith, inl, inr}
+use Rattle.std.proofs.Math.Seq.{take-append_seam}
 use Rattle.std.proofs.lemmas.Bool.{cases_Bool}
 use Rattle.std.proofs.lemmas.Bool.Decides.{nat_tests}
 use Rattle.std.proofs.lemmas.List.{get_or-set_same, get_or-set_other}
@@ -10,10 +11,16 @@ use Rattle.numa_machine.specs.Machine.{Hardware}
 use Rattle.numa_ranges.specs.Counts.{count_pages}
 use Rattle.numa_space.specs.Pages.{is_mapped}
 use Rattle.numa_space.specs.declared.command.Command.{Command}
+use Rattle.numa_space.specs.declared.refusal.PlaceRefusal.{PlaceRefusal}
 use Rattle.numa_space.specs.declared.refusal.PlaceRefusal.TheVariants.{Unmapped}
 use Rattle.numa_compile.specs.Spans.{HasUnmapped, first_node, meant_count}
-use Rattle.numa_run.specs.Questions.{AreFirsts, AreMapped, counts_line, count_text, first_nodes, nodes_line, span_refusal_of, span_text}
+use Rattle.numa_run.specs.Questions.{AreFirsts, AreMapped, count_text, first_nodes, span_refusal_of, span_text, unless_refused}
+use Rattle.numa_script.specs.Texts.{counts_answer, nodes_answer, place_name, refused_text}
 use Rattle.numa_run.proofs.Spanned.{counts-agree, mapped-list, span-none, span-refused}
+
+-- what a Vec holds once all its entries are written anew
+pub written-anew : (new old : List ℕ) (n : ℕ) → length new ≡ n → take n (new ++ drop (length new) old) ≡ new
+written-anew new old n same = ap (λ (k : ℕ). take k (new ++ drop (length new) old)) (sym same) ∙ take-append_seam new (drop (length new) old)
 
 -- ---- the pages so far
 
@@ -36,8 +43,9 @@ module _ (machine : Hardware) (history : List Command) (task first cpu : ℕ) wh
             ((so_far j below).0, get_or-set_other nodes k j node 0 apart ∙ (so_far j below).1)
       ]
 
-  pub firsts-all : (nodes : List ℕ) → FirstsSoFar (length nodes) nodes → AreFirsts true machine history task first cpu (length nodes) nodes
-  firsts-all nodes so_far = (
+  pub firsts-all : (nodes : List ℕ) → cpu < machine.nodes → FirstsSoFar (length nodes) nodes → AreFirsts machine history task first cpu (length nodes) nodes
+  firsts-all nodes known so_far = (
+    known,
     λ page low high.
         let place : first + (page - first) ≡ page = omega arith in
         subst (λ (p : ℕ). is_mapped history p ≡ true) place (so_far (page - first) (omega arith)).0,
@@ -65,17 +73,22 @@ module _ (machine : Hardware) (history : List Command) (task first pages cpu : �
   pub no-hole : cpu < machine.nodes → AreMapped history first pages → None ≡ span_refusal_of machine history first pages cpu
   no-hole known mapped = sym (span-none machine history first pages cpu known mapped)
 
-  pub firsts-said : (version : ℕ) (nodes : List ℕ) → version ≡ length history → cpu < machine.nodes → AreFirsts true machine history task first cpu pages nodes
-      → nodes_line version nodes ≡ span_text machine history task first pages cpu
-  firsts-said version nodes is known right =
-      let none = span-none machine history first pages cpu known right.0 in
-      rw none (λ i. nodes_line (is i) (right.1 i))
+  -- so many pages are refused
+  pub refusal-said : (n : ℕ) (refusal : PlaceRefusal) (answer : List ℕ) → n ≡ pages → span_refusal_of machine history first n cpu ≡ Some refusal
+      → refused_text (place_name refusal) ≡ unless_refused (span_refusal_of machine history first pages cpu) answer
+  refusal-said n refusal answer same is = ap (λ o. unless_refused o answer) (sym is ∙ ap (λ (k : ℕ). span_refusal_of machine history first k cpu) same)
 
-  pub counts-said : (version : ℕ) (nodes counts : List ℕ) → version ≡ length history → cpu < machine.nodes → AreFirsts true machine history task first cpu pages nodes
+  pub firsts-said : (version : ℕ) (nodes : List ℕ) → version ≡ length history → AreFirsts machine history task first cpu pages nodes
+      → nodes_answer version nodes ≡ span_text machine history task first pages cpu
+  firsts-said version nodes is right =
+      let none = span-none machine history first pages cpu right.0 right.1 in
+      rw none (λ i. nodes_answer (is i) (right.2 i))
+
+  pub counts-said : (version : ℕ) (nodes counts : List ℕ) → version ≡ length history → AreFirsts machine history task first cpu pages nodes
       → ((node : ℕ) → node < 256 → slice_index counts node ≡ counted node nodes)
-      → counts_line version (λ node. slice_index counts node) ≡ count_text machine history task first pages cpu
-  counts-said version nodes counts is known right count =
-      let none = span-none machine history first pages cpu known right.0 in
+      → counts_answer version (λ node. slice_index counts node) ≡ count_text machine history task first pages cpu
+  counts-said version nodes counts is right count =
+      let none = span-none machine history first pages cpu right.0 right.1 in
       let agree = counts-agree (λ node. slice_index counts node) (meant_count machine history task cpu first pages)
-      (λ node small. count node small ∙ ap (counted node) right.1 ∙ counted-firsts machine history task cpu node pages first right.0) in
+      (λ node small. count node small ∙ ap (counted node) right.2 ∙ counted-firsts machine history task cpu node pages first right.1) in
       rw none (λ i. codes "v" ++ decimal (is i) ++ codes ":" ++ agree i ++ codes "\n")

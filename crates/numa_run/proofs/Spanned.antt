@@ -17,8 +17,9 @@ use Rattle.numa_compile.specs.Standing.{PlanStandsFor}
 use Rattle.numa_compile.specs.Spans.{first_node, meant_count, SpanIsRefused}
 use Rattle.numa_compile.proofs.Replies.{choice-meant, refusal-meant, fill-meant, counts-meant, span-meant, run-mapped}
 use Rattle.numa_maps.specs.Listing.{node_text, nodes_text as counts_text}
-use Rattle.numa_run.specs.Questions.{nodes_line, counts_line, unless_refused, span_refusal_of, place_text, span_text, count_text}
-use Rattle.numa_run.specs.Texts.{refused_text, place_name}
+use Rattle.numa_run.specs.Questions.{unless_refused, span_refusal_of, place_text, span_text, count_text}
+use Rattle.numa_script.specs.Texts.{nodes_answer, counts_answer}
+use Rattle.numa_script.specs.Texts.{refused_text, place_name}
 
 -- ---- lists
 
@@ -67,32 +68,32 @@ module _ (machine : Hardware) (plan : PlanData) (history : List Command) (stands
   pub known : (cpu : ℕ) → cpu < plan.nodes → cpu < machine.nodes
   known cpu lt = subst (λ nodes. cpu < nodes) stands.nodes lt
 
-  pub place-ok : (task page cpu : ℕ) (nodes : List ℕ) → cpu < plan.nodes → planned_list plan task page cpu ≡ Some nodes → nodes_line plan.version nodes ≡ place_text machine history task page cpu
+  pub place-ok : (task page cpu : ℕ) (nodes : List ℕ) → cpu < plan.nodes → planned_list plan task page cpu ≡ Some nodes → nodes_answer plan.version nodes ≡ place_text machine history task page cpu
   place-ok task page cpu nodes lt is =
       let meant = choice-meant machine plan history stands task page cpu nodes lt is in
       let near : nat_le machine.nodes cpu ≡ false = let within = meant.0 in grind (arith, nat_tests) in
-      rw (near, meant.1) (λ i. nodes_line (stands.version i) (meant.2 i))
+      rw (near, meant.1) (λ i. nodes_answer (stands.version i) (meant.2 i))
 
   pub place-err : (task page cpu : ℕ) (refusal : PlaceRefusal) → place_refusal plan page cpu ≡ Some refusal → refused_text (place_name refusal) ≡ place_text machine history task page cpu
   place-err task page cpu refusal is =
-      ap (λ o. unless_refused o (nodes_line (length history) (node_list machine history task page cpu))) (sym is ∙ refusal-meant machine plan history stands page cpu)
+      ap (λ o. unless_refused o (nodes_answer (length history) (node_list machine history task page cpu))) (sym is ∙ refusal-meant machine plan history stands page cpu)
 
   pub span-ok : (task first cpu : ℕ) (nodes : List ℕ) → cpu < plan.nodes → EachIndex nodes (λ k. planned_first plan task (first + k) cpu ≡ Some (slice_index nodes k))
-      → nodes_line plan.version nodes ≡ span_text machine history task first (length nodes) cpu
+      → nodes_answer plan.version nodes ≡ span_text machine history task first (length nodes) cpu
   span-ok task first cpu nodes lt each =
       let meant = λ (k : ℕ) (low : k < length nodes). fill-meant machine plan history stands task (first + k) cpu (slice_index nodes k) lt (each k low) in
       let none = span-none machine history first (length nodes) cpu (known cpu lt) (λ page low high.
       let place : first + (page - first) ≡ page = omega arith in
       subst (λ p. is_mapped history p ≡ true) place (meant (page - first) (omega arith)).0) in
       let list = mapped-list (λ page. first_node machine history task page cpu) nodes first (λ k low. (meant k low).1) in
-      rw none (λ i. nodes_line (stands.version i) (list i))
+      rw none (λ i. nodes_answer (stands.version i) (list i))
 
   pub span-err : (first pages cpu : ℕ) (refusal : PlaceRefusal) (answer : List ℕ) → RefusesSpan plan first pages cpu refusal → refused_text (place_name refusal) ≡ unless_refused (span_refusal_of machine history first pages cpu) answer
   span-err first pages cpu refusal answer is =
       ap (λ o. unless_refused o answer) (sym (span-refused machine history first pages cpu refusal ((span-meant machine plan history stands first pages cpu refusal).0 is)))
 
   pub count-ok : (task first pages cpu : ℕ) (counts : List ℕ) → cpu < plan.nodes → IsMapped plan.runs first pages → CountsFirsts plan task cpu first pages counts
-      → counts_line plan.version (λ node. slice_index counts node) ≡ count_text machine history task first pages cpu
+      → counts_answer plan.version (λ node. slice_index counts node) ≡ count_text machine history task first pages cpu
   count-ok task first pages cpu counts lt mapped right =
       let none = span-none machine history first pages cpu (known cpu lt) (λ page low high. sym (run-mapped machine plan history stands page cpu lt) ∙ mapped page low high) in
       let agree = counts-agree (λ node. slice_index counts node) (meant_count machine history task cpu first pages) (λ node low. right node low ∙ counts-meant machine plan history stands task cpu first pages node lt) in

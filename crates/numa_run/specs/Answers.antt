@@ -3,7 +3,7 @@ use Rattle.std.specs.Prelude.{ℕ, Bool, List, Option}
 use Rattle.numa_script.specs.Lines.{line_of}
 use Rattle.numa_script.specs.declared.line.Line.{Line}
 use Rattle.numa_run.specs.Replies.{bytes_of, reply_in, served}
-use Rattle.numa_run.specs.declared.reply.Reply.{Reply}
+use Rattle.numa_script.specs.declared.reply.Reply.{Reply}
 pub use Rattle.numa_run.specs.States.{State, start}
 
 abbrev pub answer_of : Bool → State → Line → List ℕ

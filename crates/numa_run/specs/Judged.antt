@@ -16,8 +16,8 @@ use Rattle.numa_script.specs.declared.line.Question.{Question}
 use Rattle.numa_script.specs.declared.line.Question.TheVariants as question
 use Rattle.numa_run.specs.Answers.{State, reply_of}
 use Rattle.numa_run.specs.Questions.{span_refusal_of}
-use Rattle.numa_run.specs.declared.reply.Reply.{Reply}
-use Rattle.numa_run.specs.declared.reply.Reply.TheVariants as reply
+use Rattle.numa_script.specs.declared.reply.Reply.{Reply}
+use Rattle.numa_script.specs.declared.reply.Reply.TheVariants as reply
 
 -- the reply tells a fault or a refusal
 abbrev pub is_fault : Reply → Bool

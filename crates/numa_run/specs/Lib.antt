@@ -7,5 +7,4 @@ pub mod Replies
 pub mod Scripts
 pub mod Standing
 pub mod States
-pub mod Texts
 pub mod Work

@@ -1,8 +1,8 @@
 -- What questions are answered, by all accepted commands, published or not. `refused` says whether a
 -- growth was refused while the question was served; where it can be, that comes before every other
 -- refusal.
-use Rattle.std.specs.Prelude.{◌≡◌, ℕ, ◌+◌, ◌≤◌, ◌<◌, Bool, true, false, not, Option, Some, None}
-use Rattle.std.specs.Prelude.{List, ◌++◌, codes, decimal, length, map, if◌then◌else◌}
+use Rattle.std.specs.Prelude.{◌≡◌, ℕ, ◌+◌, ◌≤◌, ◌<◌, Bool, true, not, Option, Some, None}
+use Rattle.std.specs.Prelude.{List, codes, length, map, if◌then◌else◌}
 use Rattle.std.specs.List.{range_with_len}
 use Rattle.numa_machine.specs.Machine.{Hardware}
 use Rattle.numa_ranges.specs.Maps.{any_page}
@@ -13,23 +13,13 @@ use Rattle.numa_space.specs.Refusals.{range_count_of}
 use Rattle.numa_space.specs.Standing.{place_refusal_in, place_refusal_of}
 use Rattle.numa_space.specs.declared.command.Command.{Command}
 use Rattle.numa_space.specs.declared.refusal.PlaceRefusal.{PlaceRefusal}
-use Rattle.numa_compile.specs.Spans.{HasUnmapped, first_node, meant_count}
-use Rattle.numa_maps.specs.Listing.{nodes_text as counts_text}
+use Rattle.numa_compile.specs.Spans.{first_node, meant_count}
 use Rattle.numa_script.specs.declared.line.Question.{Question}
 use Rattle.numa_script.specs.declared.line.Question.TheVariants.{Place, Span, Counts, Ranges}
-use Rattle.numa_run.specs.Texts.{nodes_text, refused_text, place_name}
+use Rattle.numa_script.specs.Texts.{counts_answer, nodes_answer, place_name, ranges_answer}
+use Rattle.numa_script.specs.Texts.{refused_text}
 
--- ---- the text of an answer
-
--- the nodes of a page, or of pages
-abbrev pub nodes_line : ℕ → List ℕ → List ℕ
-nodes_line version nodes =
-    codes "v" ++ decimal version ++ codes ":" ++ nodes_text nodes ++ codes "\n"
-
--- the nodes that have pages, each with how many
-abbrev pub counts_line : ℕ → (ℕ → ℕ) → List ℕ
-counts_line version pages =
-    codes "v" ++ decimal version ++ codes ":" ++ counts_text pages ++ codes "\n"
+-- ---- refusals
 
 -- the answer, where nothing refuses the question
 abbrev pub unless_refused : Option PlaceRefusal → List ℕ → List ℕ
@@ -59,11 +49,11 @@ abbrev pub AreMapped : List Command → ℕ → ℕ → Type 0
 AreMapped history first pages =
     (page : ℕ) → first ≤ page → page < first + pages → is_mapped history page ≡ true
 
--- the first nodes of the pages' lists; or a page isn't mapped
-abbrev pub AreFirsts : Bool → Hardware → List Command → ℕ → ℕ → ℕ → ℕ → List ℕ → Type 0
-AreFirsts true machine history task first cpu pages nodes =
-    AreMapped history first pages × (nodes ≡ first_nodes machine history task first pages cpu)
-AreFirsts false machine history task first cpu pages nodes = HasUnmapped history first pages
+-- nothing refuses the pages from `first` on, and these are the first nodes of their lists
+abbrev pub AreFirsts : Hardware → List Command → ℕ → ℕ → ℕ → ℕ → List ℕ → Type 0
+AreFirsts machine history task first cpu pages nodes =
+    (cpu < machine.nodes) × AreMapped history first pages
+    × (nodes ≡ first_nodes machine history task first pages cpu)
 
 -- ---- questions
 
@@ -71,24 +61,23 @@ AreFirsts false machine history task first cpu pages nodes = HasUnmapped history
 abbrev pub place_text : Hardware → List Command → ℕ → ℕ → ℕ → List ℕ
 place_text machine history task page cpu =
     unless_refused (place_refusal_of machine history page cpu)
-    (nodes_line (length history) (node_list machine history task page cpu))
+    (nodes_answer (length history) (node_list machine history task page cpu))
 
 -- span TASK ADDR PAGES CPU
 abbrev pub span_text : Hardware → List Command → ℕ → ℕ → ℕ → ℕ → List ℕ
 span_text machine history task first pages cpu =
     unless_refused (span_refusal_of machine history first pages cpu)
-    (nodes_line (length history) (first_nodes machine history task first pages cpu))
+    (nodes_answer (length history) (first_nodes machine history task first pages cpu))
 
 -- counts TASK ADDR PAGES CPU
 abbrev pub count_text : Hardware → List Command → ℕ → ℕ → ℕ → ℕ → List ℕ
 count_text machine history task first pages cpu =
     unless_refused (span_refusal_of machine history first pages cpu)
-    (counts_line (length history) (meant_count machine history task cpu first pages))
+    (counts_answer (length history) (meant_count machine history task cpu first pages))
 
 -- ranges, for which no memory is wanted
 abbrev pub ranges_text : Hardware → List Command → List ℕ
-ranges_text machine history =
-    codes "ranges " ++ decimal (range_count_of machine history) ++ codes "\n"
+ranges_text machine history = ranges_answer (range_count_of machine history)
 
 abbrev pub question_text : Bool → Hardware → List Command → Question → List ℕ
 question_text refused machine history (Place task address cpu) =

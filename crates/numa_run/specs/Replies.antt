@@ -16,10 +16,10 @@ use Rattle.numa_run.specs.Machines.{limits_fit, hardware_of, first_fault}
 use Rattle.numa_run.specs.Questions.{question_text}
 use Rattle.numa_run.specs.Ranges.{listing_of}
 use Rattle.numa_run.specs.States.{State, setup_with}
-use Rattle.numa_run.specs.Texts.{text_of}
+use Rattle.numa_script.specs.Texts.{text_of}
 use Rattle.numa_run.specs.Work.{Outcome, event_outcome, work_outcome}
-use Rattle.numa_run.specs.declared.reply.Reply.{Reply}
-use Rattle.numa_run.specs.declared.reply.Reply.TheVariants as reply
+use Rattle.numa_script.specs.declared.reply.Reply.{Reply}
+use Rattle.numa_script.specs.declared.reply.Reply.TheVariants as reply
 
 -- an answer: a reply, or the text that a question or `maps` is answered
 pub data Answer : Type 0 where

@@ -7,7 +7,7 @@ pub use Rattle.numa_run.specs.Standing.{IsCoreIn}
 use Rattle.numa_run.specs.Answers.{reply_of, after}
 use Rattle.numa_run.specs.Standing.{Stands}
 use Rattle.numa_run.specs.States.{State}
-use Rattle.numa_run.specs.declared.reply.Reply.{Reply}
+use Rattle.numa_script.specs.declared.reply.Reply.{Reply}
 use Rattle.numa_run.specs.declared.script.Script.{Script}
 
 -- the script stands for the state that its lines so far have led to: its machine is ready where the

@@ -12,10 +12,10 @@ use Rattle.numa_script.specs.declared.line.Line.TheVariants as line
 use Rattle.numa_run.specs.Answers.{reply_of, after}
 use Rattle.numa_run.specs.States.{State}
 use Rattle.numa_run.specs.Work.{Outcome}
-use Rattle.numa_run.specs.declared.reply.Reply.{Reply}
+use Rattle.numa_script.specs.declared.reply.Reply.{Reply}
 use Rattle.numa_run.specs.declared.running.Running.{Running}
-use Rattle.numa_run.specs.declared.serving.Taken.{Taken}
-use Rattle.numa_run.specs.declared.serving.Taken.TheVariants as taken
+use Rattle.numa_run.specs.declared.running.Taken.{Taken}
+use Rattle.numa_run.specs.declared.running.Taken.TheVariants as taken
 
 -- the core of the machine that is ready in the state: its machine and limits are the state's, it
 -- has 4 workers, and it stands for the state's world

@@ -23,9 +23,9 @@ use Rattle.numa_space.specs.declared.event.CoreRefusal.TheVariants.{NoMemory}
 use Rattle.numa_maps.specs.Residents.{Kept, placed_at, with_placement, without_page}
 use Rattle.numa_script.specs.declared.work.Work.{Work}
 use Rattle.numa_script.specs.declared.work.Work.TheVariants as work
-use Rattle.numa_run.specs.declared.reply.Win.{Win}
-use Rattle.numa_run.specs.declared.reply.Reply.{Reply}
-use Rattle.numa_run.specs.declared.reply.Reply.TheVariants as reply
+use Rattle.numa_script.specs.Replies.{reply_to, win_of}
+use Rattle.numa_script.specs.declared.reply.Reply.{Reply}
+use Rattle.numa_script.specs.declared.reply.Reply.TheVariants as reply
 
 -- what a line with a machine comes to: its reply, and the core's world and the placed pages after
 -- it
@@ -34,28 +34,7 @@ pub record Outcome : Type 0 where
   pub world : World
   pub resident : Kept
 
--- ---- the core's answers as replies
-
--- what a line says of a placement that was won
-abbrev pub win_of : Placement → Win
-win_of placement = record {
-  version = placement.version;
-  node = placement.node;
-  frame = placement.frame.number;
-  rank = placement.rank;
-}
-
-abbrev pub done_reply : CoreReply → Reply
-done_reply (done.Accepted version) = reply.Accepted version
-done_reply (done.Published version) = reply.Published version
-done_reply done.Still = reply.Still
-done_reply (done.Exhausted version) = reply.Exhausted version
-done_reply (done.Won placement) = reply.Won (win_of placement)
-done_reply done.Given = reply.Given
-
-abbrev pub reply_to : Result CoreReply CoreRefusal → Reply
-reply_to (Ok answer) = done_reply answer
-reply_to (Err cause) = reply.Refused cause
+-- ---- the core's answers
 
 -- a command was accepted
 abbrev pub is_accepted : Result CoreReply CoreRefusal → Bool

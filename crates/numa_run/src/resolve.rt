@@ -1,6 +1,6 @@
 //! Questions about pages, by a space: each page's list is made afresh.
 ghost use Rattle.std.specs.Prelude.{◌≡◌, ◌≢◌, ◌≤◌, ◌<◌, ◌+◌, ◌^◌, ℕ, Bool, List, None, Some};
-ghost use Rattle.std.specs.Prelude.{MatchOption, length, true, false};
+ghost use Rattle.std.specs.Prelude.{IfErr, MatchOption, OnOk, length, true, false};
 ghost use Rattle.numa_compile.specs.Spans.{first_node};
 ghost use Rattle.numa_space.specs.Pages.{is_mapped};
 ghost use Rattle.numa_space.specs.Standing.{StandsFor};
@@ -12,10 +12,10 @@ ghost use Rattle.numa_run.specs.Questions.{unless_starved};
 ghost use Rattle.numa_run.specs.Judged.{question_refusal};
 ghost use Rattle.numa_run.specs.Standing.{most_resolved};
 
-use crate::tell::{say_counts, say_nodes, say_place_refusal, say_starved};
 use line_server::Watched;
 use numa_lanes::count_all;
 use numa_script::Question;
+use numa_script::tell::{say_counts, say_nodes, say_place_refusal, say_starved};
 use numa_space::{PAGE_BYTES, PlaceRefusal, Space};
 use std::alloc::Global;
 use std::io::Write;
@@ -51,46 +51,35 @@ fn first_at(space: &Space, task: u32, page: u64, cpu: u32) -> Option<u8>
 }
 
 /// Writes the first node of each page's list, for the pages from one on, as many as there is room
-/// for; false where one of them isn't mapped.
-fn fill_firsts(space: &Space, task: u32, first: u64, cpu: u32, nodes: &mut [u8]) -> bool
-    requires cpu { cpu < space.now.machine.nodes }
-    requires near { first + length nodes.old < 2 ^ 64 }
-    ensures { (history : List Command) → StandsFor space.now history → AreFirsts result
-        space.now.machine history task first cpu (length nodes.old) nodes.new }
-{
-    for k in 0..nodes.len() {
-        let Some(node) = first_at(space, task, first + k as u64, cpu) else {
-            return false;
-        };
-        nodes[k] = node;
-    }
-    true
-}
-
-/// Says the first node of each page's list, for the pages from one on, as many as there is room
 /// for.
-fn say_firsts<W: Write>(
+///
+/// # Errors
+/// `BadCpu` where the machine lacks the node `cpu`, and then nothing is written; `Unmapped` where a
+/// page isn't mapped.
+fn fill_firsts(
     space: &Space,
     task: u32,
     first: u64,
     cpu: u32,
     nodes: &mut [u8],
-    output: &mut Watched<W>,
-)
+) -> Result<(), PlaceRefusal>
     requires { first + length nodes.old < 2 ^ 64 }
-    ensures { (history : List Command) → StandsFor space.now history → Said W.contents
-        output.old output.new
-        (span_text space.now.machine history task first (length nodes.old) cpu) }
+    ensures ok { (history : List Command) → StandsFor space.now history → OnOk result
+        (AreFirsts space.now.machine history task first cpu (length nodes.old) nodes.new) }
+    ensures err { (history : List Command) → StandsFor space.now history → IfErr result
+        (λ refusal. span_refusal_of space.now.machine history first (length nodes.old) cpu
+        ≡ Some refusal) }
 {
     if cpu >= space.machine().nodes() {
-        say_place_refusal(output, PlaceRefusal::BadCpu);
-        return;
+        return Err(PlaceRefusal::BadCpu);
     }
-    if fill_firsts(space, task, first, cpu, nodes) {
-        say_nodes(output, space.version(), nodes);
-    } else {
-        say_place_refusal(output, PlaceRefusal::Unmapped);
+    for k in 0..nodes.len() {
+        let Some(node) = first_at(space, task, first + k as u64, cpu) else {
+            return Err(PlaceRefusal::Unmapped);
+        };
+        nodes[k] = node;
     }
+    Ok(())
 }
 
 /// `span TASK ADDR PAGES CPU`: the first node of each page's list, for so many pages from one on.
@@ -112,34 +101,9 @@ pub(crate) fn resolve_span<W: Write>(
         say_starved(output);
         return;
     };
-    say_firsts(space, task, first, cpu, nodes.as_mut_slice(), output);
-}
-
-/// Says how many pages have each node as the first of their list, of the pages from one on, as
-/// many as there is room for.
-fn say_first_counts<W: Write>(
-    space: &Space,
-    task: u32,
-    first: u64,
-    cpu: u32,
-    nodes: &mut [u8],
-    output: &mut Watched<W>,
-)
-    requires { first + length nodes.old < 2 ^ 64 }
-    ensures { (history : List Command) → StandsFor space.now history → Said W.contents
-        output.old output.new
-        (count_text space.now.machine history task first (length nodes.old) cpu) }
-{
-    if cpu >= space.machine().nodes() {
-        say_place_refusal(output, PlaceRefusal::BadCpu);
-        return;
-    }
-    if fill_firsts(space, task, first, cpu, nodes) {
-        let mut counts = [0u64; 256];
-        count_all(nodes, &mut counts);
-        say_counts(output, space.version(), &counts);
-    } else {
-        say_place_refusal(output, PlaceRefusal::Unmapped);
+    match fill_firsts(space, task, first, cpu, nodes.as_mut_slice()) {
+        Ok(()) => say_nodes(output, space.version(), nodes.as_slice()),
+        Err(refusal) => say_place_refusal(output, refusal),
     }
 }
 
@@ -162,7 +126,13 @@ pub(crate) fn resolve_counts<W: Write>(
         say_starved(output);
         return;
     };
-    say_first_counts(space, task, first, cpu, nodes.as_mut_slice(), output);
+    if let Err(refusal) = fill_firsts(space, task, first, cpu, nodes.as_mut_slice()) {
+        say_place_refusal(output, refusal);
+        return;
+    }
+    let mut counts = [0u64; 256];
+    count_all(nodes.as_slice(), &mut counts);
+    say_counts(output, space.version(), &counts);
 }
 
 /// The first cause that refuses so many pages from one on.

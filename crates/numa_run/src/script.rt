@@ -3,20 +3,20 @@ ghost use Rattle.std.specs.Prelude.{◌≡◌, ℕ, ◌+◌, Bool, List, Option,
 ghost use Rattle.std.specs.Prelude.{length};
 ghost use Rattle.line_server.specs.Written.{Said};
 ghost use Rattle.numa_run.specs.Answers.{State, after, answer_of, start};
-ghost use Rattle.numa_run.specs.Scripts.{IsCoreIn, IsResidentIn, ScriptReplies, ScriptStandsFor};
+ghost use Rattle.numa_run.specs.Scripts.{IsCoreIn, IsResidentIn, ScriptJudges, ScriptReplies};
+ghost use Rattle.numa_run.specs.Scripts.{ScriptStandsFor};
 ghost use Rattle.numa_run.specs.Standing.{Replies, Stands};
 
 use crate::build::build;
-use crate::reply::Reply;
-use crate::running::Running;
-use crate::serving::Taken;
-use crate::tell::tell;
+use crate::judging::fault_in;
+use crate::running::{Running, Taken};
 use line_server::{Serve, Watched};
 use numa_core::Core;
 use numa_machine::MachineFault;
 use numa_maps::Resident;
 use numa_script::line::parse;
-use numa_script::{Line, MachineLine, WordFault};
+use numa_script::tell::say_reply;
+use numa_script::{Line, MachineLine, Reply, WordFault};
 use numa_space::Limits;
 use std::alloc::Global;
 use std::io::Write;
@@ -137,7 +137,7 @@ impl Script {
             return;
         }
         let reply = self.reply_first(alloc, line);
-        tell(output, &reply);
+        say_reply(output, &reply);
     }
 
     /// Does what a line says where no machine is ready.
@@ -160,6 +160,25 @@ impl Script {
             Line::Maps(_) => Reply::BadState,
             Line::Work(_) => Reply::BadState,
         }
+    }
+
+    /// Does what a line says, as `reply` does, and gives the fault or the refusal that it is
+    /// answered; None where the answer is neither. A question is judged and not answered.
+    pub fn judge(&mut self, alloc: Global, line: &Line<'_>) -> Option<Reply>
+        ensures { ScriptJudges self.old line.now result self.new }
+    {
+        if let Some(running) = &mut self.running {
+            return match running.take(line) {
+                Taken::Reply(reply) => fault_in(reply),
+                Taken::Question(question) => match running.question_cause(alloc, question) {
+                    Some(cause) => Some(Reply::Refused(cause)),
+                    None => None,
+                },
+                Taken::Maps(_) => None,
+            };
+        }
+        let reply = self.reply_first(alloc, line);
+        fault_in(reply)
     }
 }
 

@@ -1,4 +1,6 @@
 pub mod Columns
+pub mod Counts
+pub mod Digits
 pub mod Eaches
 pub mod Malformations
 pub mod Numerals

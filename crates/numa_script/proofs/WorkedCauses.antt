@@ -1,7 +1,7 @@
 -- Malformed lines, what is wrong with them, and where.
 use Rattle.std.specs.Prelude.{◌≡◌, codes, ◌++◌, [], ◌∷◌, Some, None, refl}
 use Rattle.numa_script.specs.Causes.{fault_of}
-use Rattle.numa_script.specs.Lines.{keyword_of, setting_keyword, command_keyword, question_keyword, work_keyword}
+use Rattle.numa_script.specs.Lines.{keyword_of}
 use Rattle.numa_script.specs.Machines.{distances_of}
 use Rattle.numa_script.specs.Numbers.{number_of, numeral_of, fitting}
 use Rattle.numa_script.specs.declared.keyword.Keyword.TheVariants as keyword
@@ -27,39 +27,39 @@ trailing = refl
 
 -- a DOS line end
 carriage_return : fault_of (codes "ranges" ++ 13 ∷ []) ≡ Some (record { cause = cause.StrayByte 13; column = 7 })
-unfolding fault_of keyword_of setting_keyword command_keyword question_keyword work_keyword
+unfolding fault_of keyword_of
 carriage_return = refl
 
 -- it is the list that is faulty, and has a name of its own
 carriage_return-behind_a_list : fault_of (codes "mems 0" ++ 13 ∷ []) ≡ None
-unfolding fault_of keyword_of setting_keyword command_keyword question_keyword work_keyword
+unfolding fault_of keyword_of
 carriage_return-behind_a_list = refl
 
 -- ---- words
 
 unknown : fault_of (codes "mapp 0 1 2") ≡ Some (record { cause = cause.UnknownWord; column = 1 })
-unfolding fault_of keyword_of setting_keyword command_keyword question_keyword work_keyword
+unfolding fault_of keyword_of
 unknown = refl
 
 too_few : fault_of (codes "mbind 0 bind:0") ≡ Some (record { cause = cause.TooFewWords keyword.Mbind; column = 16 })
-unfolding fault_of keyword_of setting_keyword command_keyword question_keyword work_keyword
+unfolding fault_of keyword_of
 too_few = refl
 
 too_many : fault_of (codes "unmap 0 1 2") ≡ Some (record { cause = cause.TooManyWords keyword.Unmap; column = 11 })
-unfolding fault_of keyword_of setting_keyword command_keyword question_keyword work_keyword
+unfolding fault_of keyword_of
 too_many = refl
 
 no_number : fault_of (codes "map 0 four 2") ≡ Some (record { cause = cause.BadWord keyword.Map parameter.Length Unreadable; column = 7 })
-unfolding fault_of keyword_of setting_keyword command_keyword question_keyword work_keyword number_of numeral_of fitting
+unfolding fault_of keyword_of number_of numeral_of fitting
 no_number = refl
 
 too_great : fault_of (codes "span 1 0 65537 0") ≡ Some (record { cause = cause.BadWord keyword.Span parameter.SpanPages TooGreat; column = 10 })
-unfolding fault_of keyword_of setting_keyword command_keyword question_keyword work_keyword number_of numeral_of fitting
+unfolding fault_of keyword_of number_of numeral_of fitting
 too_great = refl
 
 -- no list of distances has one above 255
 no_distances : fault_of (codes "machine 1 0 1 256") ≡ Some (record { cause = cause.BadWord keyword.Machine parameter.Distances Unreadable; column = 15 })
-unfolding fault_of keyword_of setting_keyword command_keyword question_keyword work_keyword number_of numeral_of fitting distances_of
+unfolding fault_of keyword_of number_of numeral_of fitting distances_of
 no_distances = refl
 
 -- ---- lines that aren't malformed
@@ -73,5 +73,5 @@ unfolding fault_of
 comment = refl
 
 policy : fault_of (codes "mbind 0 1 nothing") ≡ None
-unfolding fault_of keyword_of setting_keyword command_keyword question_keyword work_keyword number_of numeral_of fitting
+unfolding fault_of keyword_of number_of numeral_of fitting
 policy = refl

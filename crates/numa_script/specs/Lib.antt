@@ -5,4 +5,6 @@ pub mod Numbers
 pub mod Parts
 pub mod Policies
 pub mod Present
+pub mod Replies
+pub mod Texts
 pub mod Workers

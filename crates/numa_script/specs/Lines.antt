@@ -27,13 +27,13 @@ use Rattle.numa_script.specs.declared.line.Question.TheVariants as question
 
 -- ---- first words
 
-unfoldable pub setting_keyword : List ℕ → Option Keyword
+abbrev pub setting_keyword : List ℕ → Option Keyword
 setting_keyword first =
     if bytes_eq first (codes "limits") then Some keyword.Limits
     else if bytes_eq first (codes "machine") then Some keyword.Machine
     else None
 
-unfoldable pub command_keyword : List ℕ → Option Keyword
+abbrev pub command_keyword : List ℕ → Option Keyword
 command_keyword first =
     if bytes_eq first (codes "map") then Some keyword.Map
     else if bytes_eq first (codes "unmap") then Some keyword.Unmap
@@ -44,7 +44,7 @@ command_keyword first =
     else if bytes_eq first (codes "mems") then Some keyword.Mems
     else None
 
-unfoldable pub question_keyword : List ℕ → Option Keyword
+abbrev pub question_keyword : List ℕ → Option Keyword
 question_keyword first =
     if bytes_eq first (codes "place") then Some keyword.Place
     else if bytes_eq first (codes "span") then Some keyword.Span
@@ -53,7 +53,7 @@ question_keyword first =
     else if bytes_eq first (codes "maps") then Some keyword.Maps
     else None
 
-unfoldable pub work_keyword : List ℕ → Option Keyword
+abbrev pub work_keyword : List ℕ → Option Keyword
 work_keyword first =
     if bytes_eq first (codes "publish") then Some keyword.Publish
     else if bytes_eq first (codes "begin") then Some keyword.Begin

@@ -52,7 +52,7 @@ pub enum Keyword {
 
 impl Keyword {
     /// The first word of its lines.
-    #[tactic(auto, unfolding(crate::specs::Lines::keyword_of, crate::specs::Lines::setting_keyword, crate::specs::Lines::command_keyword, crate::specs::Lines::question_keyword, crate::specs::Lines::work_keyword))]
+    #[tactic(auto, unfolding(crate::specs::Lines::keyword_of))]
     pub fn name(self) -> &'static str
         ensures { keyword_of result.now ≡ Some self }
     {
@@ -83,7 +83,6 @@ impl Keyword {
 }
 
 /// A first word that sets up a machine.
-#[tactic(auto, unfolding(crate::specs::Lines::setting_keyword))]
 fn read_setting(first: &[u8]) -> Option<Keyword>
     ensures { result ≡ setting_keyword first.now }
 {
@@ -97,7 +96,6 @@ fn read_setting(first: &[u8]) -> Option<Keyword>
 }
 
 /// A first word that makes a command.
-#[tactic(auto, unfolding(crate::specs::Lines::command_keyword))]
 fn read_command(first: &[u8]) -> Option<Keyword>
     ensures { result ≡ command_keyword first.now }
 {
@@ -126,7 +124,6 @@ fn read_command(first: &[u8]) -> Option<Keyword>
 }
 
 /// A first word that asks.
-#[tactic(auto, unfolding(crate::specs::Lines::question_keyword))]
 fn read_question(first: &[u8]) -> Option<Keyword>
     ensures { result ≡ question_keyword first.now }
 {
@@ -149,7 +146,6 @@ fn read_question(first: &[u8]) -> Option<Keyword>
 }
 
 /// A first word that has to do with workers.
-#[tactic(auto, unfolding(crate::specs::Lines::work_keyword))]
 fn read_work(first: &[u8]) -> Option<Keyword>
     ensures { result ≡ work_keyword first.now }
 {

@@ -1,14 +1,18 @@
-//! The lower half of the script language: what a line of a script says.
+//! The script language, both ways: what a line of a script says, and the text of each answer.
 #![tactic(auto)]
 
 pub mod keyword;
 pub mod line;
 pub mod machine;
 pub mod malformed;
+pub mod names;
+mod nodes;
 pub mod number;
 pub mod parameter;
 pub mod parts;
 pub mod policy;
+pub mod reply;
+pub mod tell;
 pub mod work;
 
 pub use line::{Line, MachineLine, Question};
@@ -16,4 +20,5 @@ pub use line_server::{CallFailed, RunFault, Serve, Watched, run, serve, serve_sc
 pub use malformed::{Cause, Malformed, why_malformed};
 pub use parameter::{Form, Misfit, Parameter};
 pub use policy::WordFault;
+pub use reply::{Reply, Win};
 pub use work::Work;

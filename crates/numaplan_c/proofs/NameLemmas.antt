@@ -1,6 +1,6 @@
 -- The names and numbers of refusals are those that a script's answers have.
 use Rattle.std.proofs.Common.{◌≡◌, Some, refl}
-use Rattle.numa_run.specs.Texts.{refusal_name}
+use Rattle.numa_script.specs.Texts.{refusal_name}
 use Rattle.numa_space.specs.declared.refusal.Refusal.{Refusal}
 use Rattle.numa_space.specs.declared.refusal.Refusal.TheVariants as refusal
 use Rattle.numaplan_c.specs.Codes.{refusal_code}

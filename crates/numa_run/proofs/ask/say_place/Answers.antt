@@ -1,14 +1,14 @@
 use Rattle.std.proofs.Common.{◌∙◌, ap}
 use Rattle.line_server.proofs.Adding.{said_same}
 use Rattle.numa_run.proofs.Spanned.{place-ok, place-err}
-use Rattle.numa_run.specs.Questions.{nodes_line}
+use Rattle.numa_script.specs.Texts.{nodes_answer}
 use Rattle.numa_run.proofs.ask.say_place.Goals as goal
 
 pub returns-in-Ok : goal.returns-in-Ok
 returns-in-Ok g c =
     λ machine history stands.
     let made = c.in-Ok.ensures.ok in
-    said_same g.W.Write.contents c.args.output.now c.say_nodes.new.output _ _ (ap (λ v. nodes_line v c.in-Ok.nodes.now) c.version.ensures ∙ place-ok machine c.args.plan.now history stands c.args.task c.args.page c.args.cpu c.in-Ok.nodes.now made.0 made.1) c.say_nodes.ensures
+    said_same g.W.Write.contents c.args.output.now c.say_nodes.new.output _ _ (ap (λ v. nodes_answer v c.in-Ok.nodes.now) c.version.ensures ∙ place-ok machine c.args.plan.now history stands c.args.task c.args.page c.args.cpu c.in-Ok.nodes.now made.0 made.1) c.say_nodes.ensures
 
 pub returns : goal.returns
 returns g c =

@@ -11,7 +11,7 @@ returns-in-Ranges g c =
     λ state stands.
     let there = subst (λ s. StandsFor s state.world.history) (sym c.space.ensures.space) stands.core.world.space in
     let count = c.ranges-ranges.ensures.meaning state.world.history there ∙ ap (λ (s : SpaceState). range_count_of s.machine state.world.history) c.space.ensures.space in
-    rw c.in-Ranges.is (false, stands, said_same g.W.Write.contents c.args.output.now c.say_count.new.output _ _ (ap (λ (n : ℕ). codes "ranges " ++ decimal n ++ codes "\n") count) c.say_count.ensures)
+    rw c.in-Ranges.is (false, stands, said_same g.W.Write.contents c.args.output.now c.say_ranges.new.output _ _ (ap (λ (n : ℕ). codes "ranges " ++ decimal n ++ codes "\n") count) c.say_ranges.ensures)
 
 pub returns-in-Some : goal.returns-in-Some
 returns-in-Some g c =

@@ -2,7 +2,7 @@ use Rattle.std.proofs.Common.{refl}
 use Rattle.std.specs.Prelude.{Ok, Err}
 use Rattle.numa_space.specs.declared.event.Event.TheVariants.{Accept}
 use Rattle.numa_run.specs.Work.{event_outcome}
-use Rattle.numa_run.specs.declared.reply.Reply.TheVariants as reply
+use Rattle.numa_script.specs.declared.reply.Reply.TheVariants as reply
 use Rattle.numa_script.specs.declared.line.Line.TheVariants as line
 use Rattle.numa_run.proofs.LineLemmas.{later_same, later_done}
 use Rattle.numa_run.proofs.running.Running.command.Goals as goal

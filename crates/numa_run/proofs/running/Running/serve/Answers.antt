@@ -7,8 +7,8 @@ use Rattle.numa_run.proofs.running.Running.serve.Goals as goal
 pub returns-in-Reply : goal.returns-in-Reply
 returns-in-Reply g c =
     told_later c.args.self.now c.take.new.self c.args.line.now c.in-Reply.reply
-    (λ (text : List ℕ). Said g.W.Write.contents c.args.output.now c.tell.new.output text)
-    (subst (λ t. Takes c.args.self.now c.args.line.now t c.take.new.self) c.in-Reply.is c.take.ensures) c.tell.ensures
+    (λ (text : List ℕ). Said g.W.Write.contents c.args.output.now c.say_reply.new.output text)
+    (subst (λ t. Takes c.args.self.now c.args.line.now t c.take.new.self) c.in-Reply.is c.take.ensures) c.say_reply.ensures
 
 pub returns-in-Question : goal.returns-in-Question
 returns-in-Question g c =

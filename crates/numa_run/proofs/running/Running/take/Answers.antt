@@ -1,6 +1,6 @@
 use Rattle.std.proofs.Common.{refl}
 use Rattle.numa_run.specs.Work.{work_outcome}
-use Rattle.numa_run.specs.declared.reply.Reply.TheVariants as reply
+use Rattle.numa_script.specs.declared.reply.Reply.TheVariants as reply
 use Rattle.numa_script.specs.declared.line.Line.TheVariants as line
 use Rattle.numa_run.proofs.LineLemmas.{later_same, later_done}
 use Rattle.numa_run.proofs.running.Running.take.Goals as goal

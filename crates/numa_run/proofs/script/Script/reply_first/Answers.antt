@@ -1,6 +1,6 @@
 use Rattle.numa_run.proofs.LineLemmas.{first_same}
 use Rattle.std.proofs.Common.{refl, false}
-use Rattle.numa_run.specs.declared.reply.Reply.TheVariants as reply
+use Rattle.numa_script.specs.declared.reply.Reply.TheVariants as reply
 use Rattle.numa_run.proofs.script.Script.reply_first.Goals as goal
 
 pub returns-in-Silent : goal.returns-in-Silent

@@ -1,7 +1,7 @@
 use Rattle.std.proofs.Common.{ℕ, slice_index, sym, arith}
 use Rattle.line_server.proofs.Adding.{said_both, said_nothing, said_same}
-use Rattle.numa_run.proofs.Counts.{counts-none, counts-more, counts-all}
-use Rattle.numa_run.proofs.tell.say_each_count.Goals as goal
+use Rattle.numa_script.proofs.Counts.{counts-none, counts-more, counts-all}
+use Rattle.numa_script.proofs.tell.say_each_count.Goals as goal
 
 pub loop-node-init : goal.loop-node-init
 loop-node-init g c =

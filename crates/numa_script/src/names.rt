@@ -1,7 +1,7 @@
 //! The names of faults and refusals, as answers give them.
 ghost use Rattle.std.specs.Prelude.{◌≡◌, ◌≤◌, length};
-ghost use Rattle.numa_run.specs.Texts.{list_name, policy_name, machine_name, refusal_name};
-ghost use Rattle.numa_run.specs.Texts.{errno_name, place_name};
+ghost use Rattle.numa_script.specs.Texts.{list_name, policy_name, machine_name, refusal_name};
+ghost use Rattle.numa_script.specs.Texts.{errno_name, place_name};
 
 use numa_machine::MachineFault;
 use numa_mask::ListFault;

@@ -1,6 +1,6 @@
 use Rattle.std.proofs.Common.{◌≡◌, ◌+◌, ◌*◌, ◌≤◌, ◌++◌, length, take}
-use Rattle.numa_run.specs.Texts.{nodes_text}
-use Rattle.numa_run.proofs.nodes.push_nodes.Given as goal
+use Rattle.numa_script.specs.Texts.{nodes_text}
+use Rattle.numa_script.proofs.nodes.push_nodes.Given as goal
 
 abbrev pub invariant-loop-node : goal.invariant-loop-node
 invariant-loop-node l = record {

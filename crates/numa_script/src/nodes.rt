@@ -1,7 +1,7 @@
 //! Nodes as text, gathered before they are said.
 ghost use Rattle.std.specs.Prelude.{◌≡◌, ◌+◌, ◌*◌, ◌<◌, ◌≤◌, ◌++◌, ◌∷◌, decimal, length};
 ghost use Rattle.line_server.specs.Written.{Said};
-ghost use Rattle.numa_run.specs.Texts.{nodes_text};
+ghost use Rattle.numa_script.specs.Texts.{nodes_text};
 
 use arrayvec::ArrayVec;
 use line_server::Watched;

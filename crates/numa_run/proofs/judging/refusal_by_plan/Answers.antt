@@ -1,6 +1,6 @@
 use Rattle.std.proofs.Common.{◌∙◌, sym, ◌/◌}
 use Rattle.numa_compile.proofs.Replies.{refusal-meant}
-use Rattle.numa_run.proofs.judging.plan_refusal.Goals as goal
+use Rattle.numa_run.proofs.judging.refusal_by_plan.Goals as goal
 
 pub returns-in-Place : goal.returns-in-Place
 returns-in-Place c =

@@ -15,11 +15,12 @@ use Rattle.numa_space.specs.declared.refusal.PlaceRefusal.{PlaceRefusal}
 use Rattle.numa_space.specs.declared.refusal.PlaceRefusal.TheVariants as place
 use Rattle.numa_space.specs.declared.event.CoreRefusal.{CoreRefusal}
 use Rattle.numa_space.specs.declared.event.CoreRefusal.TheVariants as core
+use Rattle.numa_maps.specs.Listing.{nodes_text as counts_text}
 use Rattle.numa_script.specs.declared.policy.WordFault.{WordFault}
 use Rattle.numa_script.specs.declared.policy.WordFault.TheVariants as word
-use Rattle.numa_run.specs.declared.reply.Win.{Win}
-use Rattle.numa_run.specs.declared.reply.Reply.{Reply}
-use Rattle.numa_run.specs.declared.reply.Reply.TheVariants as reply
+use Rattle.numa_script.specs.declared.reply.Win.{Win}
+use Rattle.numa_script.specs.declared.reply.Reply.{Reply}
+use Rattle.numa_script.specs.declared.reply.Reply.TheVariants as reply
 
 -- ---- names
 
@@ -100,10 +101,24 @@ refused_text name = codes "refused " ++ name ++ codes "\n"
 abbrev pub frame_text : ℕ → ℕ → List ℕ
 frame_text node number = codes " node " ++ decimal node ++ codes " frame " ++ decimal number
 
-abbrev pub win_line : Win → List ℕ
-win_line win =
+abbrev pub win_answer : Win → List ℕ
+win_answer win =
     codes "won v" ++ decimal win.version ++ frame_text win.node win.frame ++ codes " rank "
     ++ decimal win.rank ++ codes "\n"
+
+-- the nodes of a page, or of pages
+abbrev pub nodes_answer : ℕ → List ℕ → List ℕ
+nodes_answer version nodes =
+    codes "v" ++ decimal version ++ codes ":" ++ nodes_text nodes ++ codes "\n"
+
+-- the nodes that have pages, each with how many
+abbrev pub counts_answer : ℕ → (ℕ → ℕ) → List ℕ
+counts_answer version pages =
+    codes "v" ++ decimal version ++ codes ":" ++ counts_text pages ++ codes "\n"
+
+-- how many ranges there are
+abbrev pub ranges_answer : ℕ → List ℕ
+ranges_answer count = codes "ranges " ++ decimal count ++ codes "\n"
 
 -- the line that a reply is written as
 unfoldable pub text_of : Reply → List ℕ
@@ -119,7 +134,7 @@ text_of (reply.Accepted version) = codes "ok " ++ decimal version ++ codes "\n"
 text_of (reply.Published version) = codes "published " ++ decimal version ++ codes "\n"
 text_of reply.Still = codes "still\n"
 text_of (reply.Exhausted version) = codes "exhausted v" ++ decimal version ++ codes "\n"
-text_of (reply.Won win) = win_line win
+text_of (reply.Won win) = win_answer win
 text_of reply.Given = codes "given\n"
 text_of (reply.Back frame) = codes "back" ++ frame_text frame.node frame.number ++ codes "\n"
 text_of (reply.Refused cause) = refused_text (cause_name cause)

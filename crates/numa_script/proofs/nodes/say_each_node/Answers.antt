@@ -2,8 +2,8 @@ use Rattle.std.proofs.Common.{◌≡◌, [], refl, sym, ap, ◌∙◌, ◌++◌,
 use Rattle.std.proofs.lemmas.Grind.{flat_map-append}
 use Rattle.std.proofs.lemmas.List.{take-append-drop}
 use Rattle.line_server.proofs.Adding.{said_both, said_nothing, said_same}
-use Rattle.numa_run.specs.Texts.{nodes_text}
-use Rattle.numa_run.proofs.nodes.say_each_node.Goals as goal
+use Rattle.numa_script.specs.Texts.{nodes_text}
+use Rattle.numa_script.proofs.nodes.say_each_node.Goals as goal
 
 pub loop-rest-init : goal.loop-rest-init
 loop-rest-init g c = ([], said_nothing g.W.Write.contents c.args.output.now, refl)

@@ -1,7 +1,7 @@
 use Rattle.std.proofs.Common.{slice_index}
 use Rattle.line_server.specs.Written.{Said}
-use Rattle.numa_run.proofs.Counts.{counts_below}
-use Rattle.numa_run.proofs.tell.say_each_count.Given as goal
+use Rattle.numa_script.proofs.Counts.{counts_below}
+use Rattle.numa_script.proofs.tell.say_each_count.Given as goal
 
 abbrev pub invariant-loop-node : goal.invariant-loop-node
 invariant-loop-node g l = Said g.W.Write.contents l.fn.output l.output (counts_below (λ node. slice_index l.pages node) l.node)

@@ -1,5 +1,5 @@
-use Rattle.numa_run.specs.Texts.{text_of}
-use Rattle.numa_run.proofs.tell.tell.Goals as goal
+use Rattle.numa_script.specs.Texts.{text_of}
+use Rattle.numa_script.proofs.tell.say_reply.Goals as goal
 
 pub returns-in-BadLimits : goal.returns-in-BadLimits
 unfolding text_of

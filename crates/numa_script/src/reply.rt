@@ -1,10 +1,10 @@
 //! What a line is answered.
 ghost use Rattle.std.specs.Prelude.{◌≡◌};
-ghost use Rattle.numa_run.specs.Work.{done_reply, reply_to, win_of};
+ghost use Rattle.numa_script.specs.Replies.{done_reply, reply_to, win_of};
 
-use numa_core::{CoreRefusal, CoreReply, Frame, Placement};
-use numa_machine::MachineFault;
-use numa_script::WordFault;
+use crate::policy::WordFault;
+use numa_machine::{Frame, MachineFault};
+use numa_space::{CoreRefusal, CoreReply, Placement};
 
 /// A frame that was won: the version of the list of nodes that led to it, its node, its number on
 /// that node, and the node's place in the list, from 0.
@@ -18,7 +18,7 @@ pub struct Win {
 
 impl Win {
     /// What a line says of a placement that was won.
-    pub(crate) fn of(placement: &Placement) -> Win
+    pub fn of(placement: &Placement) -> Win
         ensures { result ≡ win_of placement.now }
     {
         Win {
@@ -84,7 +84,7 @@ fn done_reply(done: &CoreReply) -> Reply
 
 impl Reply {
     /// The reply to an event, by the core's answer.
-    pub(crate) fn to_event(answer: &Result<CoreReply, CoreRefusal>) -> Reply
+    pub fn to_event(answer: &Result<CoreReply, CoreRefusal>) -> Reply
         ensures { result ≡ reply_to answer.now }
     {
         match answer {

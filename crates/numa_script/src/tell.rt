@@ -1,20 +1,21 @@
-//! Replies and answers as text.
+//! Answers as text, said to a watched writer: replies, and what questions are answered. Once a
+//! write has failed, nothing more is written.
 ghost use Rattle.std.specs.Prelude.{◌≡◌, ℕ, ◌+◌, ◌≤◌, ◌++◌, List, Option, length, decimal, codes};
 ghost use Rattle.std.specs.Prelude.{flat_map, slice_index};
 ghost use Rattle.line_server.specs.Written.{Said};
 ghost use Rattle.numa_space.specs.Errors.{errno_of};
 ghost use Rattle.numa_maps.specs.Listing.{node_text as count_of_node, nodes_text as counts_text};
-ghost use Rattle.numa_run.specs.Questions.{counts_line, nodes_line};
-ghost use Rattle.numa_run.specs.Texts.{text_of, nodes_text, refused_text, cause_name, place_name};
-ghost use Rattle.numa_run.specs.Texts.{refusal_name, errno_name, frame_text, win_line, word_text};
+ghost use Rattle.numa_script.specs.Texts.{cause_name, counts_answer, errno_name, frame_text};
+ghost use Rattle.numa_script.specs.Texts.{nodes_answer, place_name, ranges_answer, refusal_name};
+ghost use Rattle.numa_script.specs.Texts.{refused_text, text_of, win_answer, word_text};
 
 use crate::names::{errno_name, list_name, machine_name, place_name, policy_name, refusal_name};
 use crate::nodes::say_each_node;
+use crate::policy::WordFault;
 use crate::reply::{Reply, Win};
 use line_server::Watched;
-use numa_core::{CoreRefusal, Frame};
-use numa_script::WordFault;
-use numa_space::{PlaceRefusal, Refusal};
+use numa_machine::Frame;
+use numa_space::{CoreRefusal, PlaceRefusal, Refusal};
 use std::io::Write;
 
 /// Says two texts as a line.
@@ -35,7 +36,7 @@ fn say_number<W: Write>(output: &mut Watched<W>, text: &[u8], number: u64)
 }
 
 /// Says a text and a number as a line.
-pub(crate) fn say_count<W: Write>(output: &mut Watched<W>, text: &[u8], count: u64)
+fn say_count<W: Write>(output: &mut Watched<W>, text: &[u8], count: u64)
     ensures { Said W.contents output.old output.new (text.now ++ decimal count ++ codes "\n") }
 {
     output.say(text);
@@ -60,15 +61,15 @@ fn say_refused<W: Write>(output: &mut Watched<W>, name: &[u8])
     say_line(output, b"refused ", name);
 }
 
-/// Says that memory was wanting.
-pub(crate) fn say_starved<W: Write>(output: &mut Watched<W>)
+/// Says that memory was wanting: `refused NoMemory`.
+pub fn say_starved<W: Write>(output: &mut Watched<W>)
     ensures { Said W.contents output.old output.new (refused_text (codes "NoMemory")) }
 {
     say_refused(output, b"NoMemory");
 }
 
-/// Says a question's refusal.
-pub(crate) fn say_place_refusal<W: Write>(output: &mut Watched<W>, refusal: PlaceRefusal)
+/// Says a question's refusal: `refused` and its name.
+pub fn say_place_refusal<W: Write>(output: &mut Watched<W>, refusal: PlaceRefusal)
     ensures { Said W.contents output.old output.new (refused_text (place_name refusal)) }
 {
     say_refused(output, place_name(refusal));
@@ -112,7 +113,7 @@ fn say_frame<W: Write>(output: &mut Watched<W>, node: u8, number: u16)
 
 /// Says a frame that was won.
 fn say_win<W: Write>(output: &mut Watched<W>, win: &Win)
-    ensures { Said W.contents output.old output.new (win_line win.now) }
+    ensures { Said W.contents output.old output.new (win_answer win.now) }
 {
     say_number(output, b"won v", win.version);
     say_frame(output, win.node, win.frame);
@@ -137,9 +138,9 @@ fn say_version<W: Write>(output: &mut Watched<W>, version: u64)
     output.say(b":");
 }
 
-/// Says the nodes of a page, or of pages.
-pub(crate) fn say_nodes<W: Write>(output: &mut Watched<W>, version: u64, nodes: &[u8])
-    ensures { Said W.contents output.old output.new (nodes_line version nodes.now) }
+/// Says the nodes of a page, or of pages, at a version: `v2: 0 1`.
+pub fn say_nodes<W: Write>(output: &mut Watched<W>, version: u64, nodes: &[u8])
+    ensures { Said W.contents output.old output.new (nodes_answer version nodes.now) }
 {
     say_version(output, version);
     say_each_node(output, nodes);
@@ -166,19 +167,27 @@ fn say_each_count<W: Write>(output: &mut Watched<W>, pages: &[u64; 256])
     }
 }
 
-/// Says how many pages each node has, where it has some.
-pub(crate) fn say_counts<W: Write>(output: &mut Watched<W>, version: u64, pages: &[u64; 256])
+/// Says how many pages each node has, where it has some, at a version: `v2: N0=3 N1=1`. The entry
+/// of a node is its pages.
+pub fn say_counts<W: Write>(output: &mut Watched<W>, version: u64, pages: &[u64; 256])
     ensures { Said W.contents output.old output.new
-        (counts_line version (λ node. slice_index pages.now node)) }
+        (counts_answer version (λ node. slice_index pages.now node)) }
 {
     say_version(output, version);
     say_each_count(output, pages);
     output.say(b"\n");
 }
 
-/// Says a reply.
+/// Says how many ranges there are: `ranges 3`.
+pub fn say_ranges<W: Write>(output: &mut Watched<W>, count: u64)
+    ensures { Said W.contents output.old output.new (ranges_answer count) }
+{
+    say_count(output, b"ranges ", count);
+}
+
+/// Says the line that a reply is written as; nothing for `Silent`.
 #[tactic(auto, unfolding(crate::specs::Texts::text_of))]
-pub(crate) fn tell<W: Write>(output: &mut Watched<W>, reply: &Reply)
+pub fn say_reply<W: Write>(output: &mut Watched<W>, reply: &Reply)
     ensures { Said W.contents output.old output.new (text_of reply.now) }
 {
     match reply {

@@ -1,6 +1,6 @@
 use Rattle.std.proofs.Common.{◌∙◌, ◌++◌, ◌%◌, ap, arith, decimal}
-use Rattle.numa_run.proofs.Digits.{last_said}
-use Rattle.numa_run.proofs.nodes.push_two.Goals as goal
+use Rattle.numa_script.proofs.Digits.{last_said}
+use Rattle.numa_script.proofs.nodes.push_two.Goals as goal
 
 pub returns-clause-items : goal.returns-clause-items
 returns-clause-items c =

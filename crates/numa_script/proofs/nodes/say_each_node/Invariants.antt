@@ -1,7 +1,7 @@
 use Rattle.std.proofs.Common.{◌≡◌, ◌++◌, List, ℕ, length}
 use Rattle.line_server.specs.Written.{Said}
-use Rattle.numa_run.specs.Texts.{nodes_text}
-use Rattle.numa_run.proofs.nodes.say_each_node.Given as goal
+use Rattle.numa_script.specs.Texts.{nodes_text}
+use Rattle.numa_script.proofs.nodes.say_each_node.Given as goal
 
 abbrev pub invariant-loop-rest : goal.invariant-loop-rest
 invariant-loop-rest g l = (text : List ℕ) × Said g.W.Write.contents l.fn.output l.output text × (text ++ nodes_text l.rest ≡ nodes_text l.nodes)
