@@ -243,9 +243,9 @@ uint32_t np_core_ranges(np_core *core, size_t *count);
 /* Writes the range at a place, from 0, in order of address; in front of `policy` the policy of
  * its own, as numa_maps shows it with the nodes that it has at present
  * ("interleave=static:0-3", but also "weighted interleave:0-1"; at most 1,024 bytes, and none
- * where it has no policy of its own); and to `policy_length` how many bytes these are. The
- * time grows with the place. NP_NO_ROOM where `room` is less: then `policy_length` is what is
- * needed, and `range` and `policy` are as they were. NP_CLOSED, NP_NO_RANGE. */
+ * where it has no policy of its own); and to `policy_length` how many bytes these are. NP_NO_ROOM
+ * where `room` is less: then `policy_length` is what is needed, and `range` and `policy` are as they
+ * were. NP_CLOSED, NP_NO_RANGE. */
 uint32_t np_core_range(np_core *core, size_t index, np_range *range, uint8_t *policy, size_t room,
                        size_t *policy_length);
 

@@ -58,7 +58,9 @@ fn range_of(space: &Space, place: usize) -> Option<Run<RangeRecord>>
     ensures meaning { (history : List Command) → StandsFor space.now history
         → AreRangesOf space.now.machine history space.now.ranges }
 {
-    space.range_iter().nth(place).copied()
+    // Tells the proof what the ranges mean.
+    let _ = space.range_iter();
+    space.range_at(place)
 }
 
 /// The ranges as a text.
@@ -139,8 +141,7 @@ impl CoreHandle {
         Some(count)
     }
 
-    /// The range at a place, the lowest being at 0, or no range; None where it keeps no core. The
-    /// time grows with the place.
+    /// The range at a place, the lowest being at 0, or no range; None where it keeps no core.
     pub fn range(&mut self, alloc: Global, place: usize) -> Option<Option<Run<RangeRecord>>>
         ensures same { core_in self.new ≡ core_in self.old }
         ensures closed { core_in self.old ≡ None → result ≡ None }

@@ -33,7 +33,8 @@ fn serve(script: &mut Script, alloc: Global, line: &[u8], room: Vec<u8>) -> Opti
     requires empty { room.items ≡ [] }
     ensures { (state : State) → ScriptStandsFor script.old state → (refused : Bool)
         × ScriptStandsFor script.new (after_bytes refused state line.now)
-        × MatchOption result (Unit {0}) (λ answer. answer.items ≡ answer_to refused state line.now) }
+        × MatchOption result (Unit {0}) (λ answer.
+        answer.items ≡ answer_to refused state line.now) }
 {
     let mut output = Watched::new(room);
     script.serve(alloc, line, &mut output);

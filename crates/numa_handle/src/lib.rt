@@ -1,6 +1,6 @@
-//! Handles: what a C caller keeps of a core, of a plan, of pools of frames, or of a script. A handle
-//! is sixteen bytes, which begin as 0: whether it is open, and one pointer. What it keeps lies on the
-//! heap, and the handle owns it.
+//! Handles: what a C caller keeps of a core, of a plan, of pools of frames, or of a script. A
+//! handle is sixteen bytes, which begin as 0: whether it is open, and one pointer. What it keeps
+//! lies on the heap, and the handle owns it.
 #![tactic(auto)]
 
 mod core_handle;

@@ -211,7 +211,7 @@ impl Core {
         (accepted, published)
     }
 
-    /// The range at a place, from 0, in order of address. The time grows with the place.
+    /// The range at a place, from 0, in order of address.
     fn range(&mut self, place: usize) -> Result<Range, Refused> {
         let (mut policy, mut length) = ([0; 1024], 0);
         let mut found = Span::default();
