@@ -1,5 +1,6 @@
-//! The speed of the lane kernels: with the argument `measure`, how long each takes beside a plain form of the same work.
-//! Without it, checksums of what the kernels answer, which are the same in each run.
+//! The speed of the lane kernels: with the argument `measure`, how long each takes beside a plain
+//! form of the same work. Without it, checksums of what the kernels answer, which are the same in
+//! each run.
 mod checks;
 mod mixes;
 mod work;
@@ -46,7 +47,8 @@ fn measure_mixes<R: Print + Clock>(
     Ok(())
 }
 
-/// Measures the count in sets of 4, 64 and 256 nodes over a span of each size, of seven nodes in turn and of all at random.
+/// Measures the count in sets of 4, 64 and 256 nodes over a span of each size, of seven nodes in
+/// turn and of all at random.
 fn measure_sets<R: Print + Clock>(
     rt: &R,
     span: &mut [u8],

@@ -1,6 +1,6 @@
-//! How long `remap`, `onto` and `fold` of full sets take, beside a `for` over `iter` that inserts each member into an
-//! empty set. Without arguments it prints checksums; with `measure`, ratios: the best of several rounds over the best
-//! of the plain copy in the same run.
+//! How long `remap`, `onto` and `fold` of full sets take, beside a `for` over `iter` that inserts
+//! each member into an empty set. Without arguments it prints checksums; with `measure`, ratios:
+//! the best of several rounds over the best of the plain copy in the same run.
 ghost use Rattle.std.specs.Prelude.{◌<◌};
 
 use numa_examples::times::best_of;

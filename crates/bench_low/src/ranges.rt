@@ -1,7 +1,7 @@
 //! Checksums of a large range map, and with the argument `measure` how long its calls take.
 //!
-//! A figure of `measure` is a ratio: the best time of a call over the best time, in the same run, of the least that
-//! any sorted vector needs for it. Times alone say little about another machine.
+//! A figure of `measure` is a ratio: the best time of a call over the best time, in the same run,
+//! of the least that any sorted vector needs for it. Times alone say little about another machine.
 ghost use Rattle.std.specs.Prelude.{◌<◌, ◌^◌};
 
 use numa_examples::times::{best_of, print_ratio};

@@ -154,8 +154,8 @@ module _ (s : Setup) where
     pub earlier : AllFoundOwned w nodes placement.rank past
 
   -- after the execution the list of the worker's last Begin is exhausted: that Begin took this
-  -- version, which was published before it; and each frame of each node of the list was found with an owner
-  -- since
+  -- version, which was published before it; and each frame of each node of the list was found with
+  -- an owner since
   pub record IsExhausted (w version : ℕ) (past : List Moment) : Type 0 where
     pub begun : Begun
     pub nodes : List ℕ

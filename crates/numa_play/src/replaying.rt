@@ -79,14 +79,14 @@ fn write_replay<S: Read + Drop, W: Write>(
     write(text.as_str().as_bytes(), output)
 }
 
-/// Plays the texts as one script, and then a trace on a machine where no page is placed, by the plan
-/// of all commands that were accepted; writes what the trace met. What is wrong with a line of the
-/// scripts is told to `told`, and the line passed over. The answer is whole before its first byte is
-/// written.
+/// Plays the texts as one script, and then a trace on a machine where no page is placed, by the
+/// plan of all commands that were accepted; writes what the trace met. What is wrong with a line of
+/// the scripts is told to `told`, and the line passed over. The answer is whole before its first
+/// byte is written.
 ///
 /// # Errors
-/// Where there is no answer; what was told by then stays. `BadAccess` at the first line of the trace
-/// that can't be replayed.
+/// Where there is no answer; what was told by then stays. `BadAccess` at the first line of the
+/// trace that can't be replayed.
 pub fn replay<R: Read + Drop, S: Read + Drop, W: Write, T: Write + Drop>(
     alloc: Global,
     texts: Vec<(String, R)>,

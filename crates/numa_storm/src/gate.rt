@@ -19,8 +19,8 @@ const ALL_CALLED: u64 = 1 << 32;
 /// Lets the first request of each worker begin once that of each other worker does. From then on it
 /// lets neither the workers nor the thread of policies run ahead, so that placements of many
 /// versions come of it however the threads are scheduled: policy n begins once 32 n + 16 requests
-/// were called, and request i once i / 32 policies were begun. Where one side waits in vain, the two
-/// go on apart: without memory for a thread, one has to end before the other begins.
+/// were called, and request i once i / 32 policies were begun. Where one side waits in vain, the
+/// two go on apart: without memory for a thread, one has to end before the other begins.
 #[derive(Drop)]
 pub struct Together {
     workers: u32,

@@ -13,14 +13,16 @@ const VERSION: &str = "0.10.0 (proved with rattle-kit-13b)";
 
 /// What the help of the program says.
 const PROGRAM: &str =
-    "Says where Linux would place memory under NUMA memory policies: which nodes a page may come from, in \
-which order, and which frame each fault gets. It reads scripts and writes the answer to each line \
-to standard output; or it shows that this holds while threads place pages and change policies.";
+    "Says where Linux would place memory under NUMA memory policies: which nodes a page may come \
+from, in which order, and which frame each fault gets. It reads scripts and writes the answer to \
+each line to standard output; or it shows that this holds while threads place pages and change \
+policies.";
 
 /// What stands at the end of the help of the program.
 const MORE: &str =
-    "Example, from the top of the repository:\n  ./numaplan run examples/first-run.numaplan\n\nThe language of scripts is told in \
-docs/SCRIPT.md of the repository, the commands in docs/COMMANDS.md.";
+    "Example, from the top of the repository:\n  ./numaplan run examples/first-run.numaplan\n\nThe \
+language of scripts is told in docs/SCRIPT.md of the repository, the commands in \
+docs/COMMANDS.md.";
 
 /// What is told where there is no command.
 const NO_COMMAND: &str = "error: a command is missing\n\nFor more information, try '--help'.\n";

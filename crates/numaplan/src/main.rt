@@ -1,5 +1,5 @@
-//! `numaplan run` answers scripts, and `numaplan expect` compares the answers that scripts hold with
-//! those that they get. `numaplan predict` and `numaplan diff` tell where pages would go after
+//! `numaplan run` answers scripts, and `numaplan expect` compares the answers that scripts hold
+//! with those that they get. `numaplan predict` and `numaplan diff` tell where pages would go after
 //! scripts, `numaplan explain` tells why, and `numaplan replay` what a trace of accesses meets.
 //! `numaplan storm` lets workers place pages while policies change.
 #![tactic(auto)]
@@ -18,7 +18,11 @@ use command_line::job;
 use endings::tell_fault;
 use jobs::{Job, JobFault};
 use std::env::Env;
+use std::io::IsTerminal;
 use std::process::ExitCode;
+use std::rt::Files;
+use std::sync::Wait;
+use std::thread::Threads;
 use std::{env, io};
 use words::{check, diff, expect, explain, predict, replay, run, storm};
 
@@ -42,41 +46,49 @@ fn asked_job<R: Env + AllocGlobal>(rt: &R) -> Result<Job, JobFault>
     job(rt.alloc(), words.as_slice())
 }
 
+/// Does a job.
+fn done<R>(rt: &R, job: Job) -> Result<ExitCode, JobFault>
+where
+    R: Threads + Wait + Sync + Files + Input + Print + Eprint + AllocGlobal,
+    R::Reader: IsTerminal,
+    requires { CanBeDone job }
+{
+    match job {
+        Job::Run { files, echo } => run::answer(rt, &files, echo),
+        Job::Check(files) => check::check(rt, &files),
+        Job::Expect(files) => expect::check(rt, &files),
+        Job::Predict {
+            files,
+            asked,
+            format,
+            free,
+        } => predict::answer(rt, &files, asked, format, &free),
+        Job::Diff {
+            files,
+            asked,
+            lines,
+        } => diff::answer(rt, &files, asked, &lines),
+        Job::Explain {
+            files,
+            asked,
+            address,
+        } => explain::answer(rt, &files, asked, address),
+        Job::Replay {
+            files,
+            trace,
+            format,
+        } => replay::answer(rt, &files, &trace, format),
+        Job::Storm(workers) => Ok(storm::show(rt, workers)),
+    }
+}
+
 fn main(rt: HostRuntime) -> ExitCode {
-    match asked_job(&rt) {
-        Ok(Job::Run { files, echo }) => run::answer(&rt, &files, echo),
-        Ok(Job::Check(files)) => check::check(&rt, &files),
-        Ok(Job::Expect(files)) => expect::check(&rt, &files),
-        Ok(
-            Job::Predict {
-                files,
-                asked,
-                format,
-                free,
-            },
-        ) => predict::answer(&rt, &files, asked, format, &free),
-        Ok(
-            Job::Diff {
-                files,
-                asked,
-                lines,
-            },
-        ) => diff::answer(&rt, &files, asked, &lines),
-        Ok(
-            Job::Explain {
-                files,
-                asked,
-                address,
-            },
-        ) => explain::answer(&rt, &files, asked, address),
-        Ok(
-            Job::Replay {
-                files,
-                trace,
-                format,
-            },
-        ) => replay::answer(&rt, &files, &trace, format),
-        Ok(Job::Storm(workers)) => storm::show(&rt, workers),
+    let job = match asked_job(&rt) {
+        Ok(job) => job,
+        Err(fault) => return tell_fault(&rt, fault),
+    };
+    match done(&rt, job) {
+        Ok(code) => code,
         Err(fault) => tell_fault(&rt, fault),
     }
 }

@@ -4,6 +4,7 @@ pub mod check;
 pub mod diff;
 pub mod expect;
 pub mod explain;
+pub mod format;
 pub mod free;
 pub mod predict;
 pub mod replay;

@@ -30,7 +30,8 @@ pub struct Tools {
     pub cycle: Cycle,
     pub set: NodeMask,
     pub counts: [u64; 256],
-    /// The sum of what the counts of a node or a set answered, which is printed, so that no call can be left out.
+    /// The sum of what the counts of a node or a set answered, which is printed, so that no call
+    /// can be left out.
     pub answers: u64,
 }
 
@@ -92,7 +93,8 @@ fn plain(work: Work, node: u8, span: &[u8], out: &mut [u8], tools: &mut Tools) -
     0
 }
 
-/// Times so many turns of a kernel or of its plain form, each with another node, so that none can be left out.
+/// Times so many turns of a kernel or of its plain form, each with another node, so that none can
+/// be left out.
 fn time<R: Clock>(
     rt: &R,
     work: Work,
@@ -116,7 +118,8 @@ fn time<R: Clock>(
     Ok(nanos(start.elapsed(rt)?))
 }
 
-/// Prints the time of a kernel over the first `size` pages of a span as a ratio to that of its plain form.
+/// Prints the time of a kernel over the first `size` pages of a span as a ratio to that of its
+/// plain form.
 pub fn time_beside<R: Print + Clock>(
     rt: &R,
     work: Work,

@@ -18,10 +18,18 @@ fn number<'a>(alloc: Global, name: &'a str, value: &'a str, help: &'a str) -> Ar
         .action(ArgAction::Set)
 }
 
-/// The command with both options.
-pub fn with_options<'a>(alloc: Global, command: Command<'a>) -> Result<Command<'a>, AllocError> {
+/// The command of a word that asks by both options, with what its help says in full and at its end.
+pub fn command<'a>(
+    alloc: Global,
+    word: &'a str,
+    about: &'a str,
+    more: &'a str,
+) -> Result<Command<'a>, AllocError> {
     let task = number(alloc, "task", "T", "The task that touches the pages");
-    let command = command.arg(task)?;
+    let command = Command::new(alloc, word)
+        .long_about(about)
+        .after_help(more)
+        .arg(task)?;
     command.arg(number(alloc, "cpu", "C", "The node of the CPU on which it does"))
 }
 

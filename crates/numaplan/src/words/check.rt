@@ -2,7 +2,7 @@
 ghost use Rattle.std.specs.Prelude.{IfOk};
 ghost use Rattle.numaplan.specs.Jobs.{CanBeDone};
 
-use crate::endings::{stop, tell_fault};
+use crate::endings::stop;
 use crate::files;
 use crate::jobs::{Job, JobFault};
 use clap::{ArgMatches, Command};
@@ -14,9 +14,10 @@ use std::rt::Files;
 
 /// What the help says in full.
 const ABOUT: &str =
-    "Tells what is wrong with scripts, and writes no answers. For each line that `run` answers by a fault or a refusal there is \
-one line on standard output: the file, the line, for bad words the column in bytes, the answer, and its cause with what to do. \
-Lines that need a machine while none is ready are counted at the end. The status is 3 where anything was told, and else 0.";
+    "Tells what is wrong with scripts, and writes no answers. For each line that `run` answers by \
+a fault or a refusal there is one line on standard output: the file, the line, for bad words the \
+column in bytes, the answer, and its cause with what to do. Lines that need a machine while none \
+is ready are counted at the end. The status is 3 where anything was told, and else 0.";
 
 /// What stands at the end of the help.
 const MORE: &str =
@@ -42,18 +43,15 @@ pub fn job(alloc: Global, matches: &ArgMatches<'_>) -> Result<Job, JobFault>
 }
 
 /// Checks the scripts.
-pub fn check<R>(rt: &R, names: &[String]) -> ExitCode
+pub fn check<R>(rt: &R, names: &[String]) -> Result<ExitCode, JobFault>
 where
     R: Files + Input + Print + Eprint + AllocGlobal,
     R::Reader: IsTerminal,
 {
-    let texts = match files::open_all(rt, names) {
-        Ok(texts) => texts,
-        Err(fault) => return tell_fault(rt, fault),
-    };
+    let texts = files::open_all(rt, names)?;
     match numa_play::check(rt.alloc(), texts, io::writer(rt)) {
-        Ok(true) => ExitCode::SUCCESS,
-        Ok(false) => ExitCode::from(TOLD),
-        Err(why) => stop(rt, why),
+        Ok(true) => Ok(ExitCode::SUCCESS),
+        Ok(false) => Ok(ExitCode::from(TOLD)),
+        Err(why) => Ok(stop(rt, why)),
     }
 }

@@ -2,7 +2,7 @@
 ghost use Rattle.std.specs.Prelude.{IfOk};
 ghost use Rattle.numaplan.specs.Jobs.{CanBeDone};
 
-use crate::endings::{Told, answered, tell_fault};
+use crate::endings::{Told, answered};
 use crate::files;
 use crate::jobs::{Job, JobFault};
 use crate::words::asked;
@@ -16,22 +16,22 @@ use std::rt::Files;
 
 /// What the help says in full.
 const ABOUT: &str =
-    "Tells which pages would go to another node if script lines were added to the scripts, and a task touched each of them on a \
-CPU of one node: for each span of pages of which some do, how many from which node to which, and in all. Pages that are mapped \
-only before or only after are left out. Lines that are faulty or refused are told on standard error as by `check`, and passed \
-over. The status is 3 where no machine is ready after the scripts.";
+    "Tells which pages would go to another node if script lines were added to the scripts, and a \
+task touched each of them on a CPU of one node: for each span of pages of which some do, how many \
+from which node to which, and in all. Pages that are mapped only before or only after are left \
+out. Lines that are faulty or refused are told on standard error as by `check`, and passed over. \
+The status is 3 where no machine is ready after the scripts.";
 
 /// What stands at the end of the help.
 const MORE: &str =
-    "Example, from the top of the repository:\n  ./numaplan diff --task 1 --cpu 0 --then 'mems 0' examples/homes.numaplan";
+    "Example, from the top of the repository:\n  ./numaplan diff --task 1 --cpu 0 --then 'mems 0' \
+examples/homes.numaplan";
 
 /// The command.
 pub fn command<'a>(alloc: Global) -> Result<Command<'a>, AllocError> {
-    let word = Command::new(alloc, "diff")
-        .about("Tells which pages would go elsewhere if lines were added to scripts")
-        .long_about(ABOUT)
-        .after_help(MORE);
-    let word = asked::with_options(alloc, word)?;
+    let word = asked::command(alloc, "diff", ABOUT, MORE)?.about(
+        "Tells which pages would go elsewhere if lines were added to scripts",
+    );
     let lines = Arg::new(alloc, "then")
         .long("then")
         .value_name("LINE")
@@ -53,16 +53,18 @@ pub fn job(alloc: Global, matches: &ArgMatches<'_>) -> Result<Job, JobFault>
 }
 
 /// Tells which pages would go elsewhere if the lines were added to the scripts of files.
-pub fn answer<R>(rt: &R, names: &[String], asked: Asked, lines: &[String]) -> ExitCode
+pub fn answer<R>(
+    rt: &R,
+    names: &[String],
+    asked: Asked,
+    lines: &[String],
+) -> Result<ExitCode, JobFault>
 where
     R: Files + Input + Print + Eprint + AllocGlobal,
     R::Reader: IsTerminal,
 {
-    let texts = match files::open_all(rt, names) {
-        Ok(texts) => texts,
-        Err(fault) => return tell_fault(rt, fault),
-    };
+    let texts = files::open_all(rt, names)?;
     let mut output = io::writer(rt);
     let answer = numa_play::diff(rt.alloc(), texts, lines, asked, &mut output, Told { rt });
-    answered(rt, asked, answer)
+    Ok(answered(rt, asked, answer))
 }

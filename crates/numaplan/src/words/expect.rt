@@ -3,7 +3,7 @@ ghost use Rattle.std.specs.Prelude.{IfOk};
 ghost use Rattle.numaplan.specs.Jobs.{CanBeDone};
 
 use crate::answering::Answering;
-use crate::endings::{stop, tell_fault};
+use crate::endings::stop;
 use crate::files;
 use crate::files::Source;
 use crate::jobs::{Job, JobFault};
@@ -17,15 +17,17 @@ use std::rt::Files;
 
 /// What the help says in full.
 const ABOUT: &str =
-    "Answers worked scripts, which hold the answers that are wanted as `run --echo` writes them, and tells each answer that is \
-another. Each file is a script of its own. A line holds a script line and its answer, as LINE => ANSWER, or a script line \
-alone, or, behind `=> `, the next line of the answer to the script line above; a script line of which no answer stands there is \
-carried out and not compared. The last line on standard output counts the lines of answers: as wanted, not so, and not compared.";
+    "Answers worked scripts, which hold the answers that are wanted as `run --echo` writes them, \
+and tells each answer that is another. Each file is a script of its own. A line holds a script \
+line and its answer, as LINE => ANSWER, or a script line alone, or, behind `=> `, the next line of \
+the answer to the script line above; a script line of which no answer stands there is carried out \
+and not compared. The last line on standard output counts the lines of answers: as wanted, not so, \
+and not compared.";
 
 /// What stands at the end of the help.
 const MORE: &str =
-    "The status is 0 where all are as wanted, and else 3.\n\nExample, from the top of the repository:\n  ./numaplan expect \
-examples/*.answers";
+    "The status is 0 where all are as wanted, and else 3.\n\nExample, from the top of the \
+repository:\n  ./numaplan expect examples/*.answers";
 
 /// The status where an answer is not as wanted.
 const DIFFERENT: u8 = 3;
@@ -72,18 +74,15 @@ where
 }
 
 /// Compares the worked scripts of files.
-pub fn check<R>(rt: &R, names: &[String]) -> ExitCode
+pub fn check<R>(rt: &R, names: &[String]) -> Result<ExitCode, JobFault>
 where
     R: Files + Input + Print + Eprint + AllocGlobal,
     R::Reader: IsTerminal,
 {
-    let texts = match files::open_all(rt, names) {
-        Ok(texts) => texts,
-        Err(fault) => return tell_fault(rt, fault),
-    };
+    let texts = files::open_all(rt, names)?;
     match compare(rt, texts) {
-        Ok(true) => ExitCode::SUCCESS,
-        Ok(false) => ExitCode::from(DIFFERENT),
-        Err(fault) => stop(rt, fault),
+        Ok(true) => Ok(ExitCode::SUCCESS),
+        Ok(false) => Ok(ExitCode::from(DIFFERENT)),
+        Err(fault) => Ok(stop(rt, fault)),
     }
 }

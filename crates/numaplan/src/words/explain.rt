@@ -2,7 +2,7 @@
 ghost use Rattle.std.specs.Prelude.{IfOk};
 ghost use Rattle.numaplan.specs.Jobs.{CanBeDone};
 
-use crate::endings::{Told, answered, tell_fault};
+use crate::endings::{Told, answered};
 use crate::files;
 use crate::jobs::{Job, JobFault};
 use crate::words::asked;
@@ -17,26 +17,28 @@ use std::rt::Files;
 
 /// What the help says in full.
 const ABOUT: &str =
-    "Tells why memory for a page is looked for on its nodes, if a task touched the page now on a CPU of one node: in six lines the \
-nodes in order, the range with the page's index, which policy counts and why the other doesn't, the sets of nodes, the rule \
-that chose the first node with its arithmetic, and the order of the others with their distances. Lines that are faulty or \
-refused are told on standard error as by `check`, and passed over. The status is 3 where no machine is ready after the scripts.";
+    "Tells why memory for a page is looked for on its nodes, if a task touched the page now on a \
+CPU of one node: in six lines the nodes in order, the range with the page's index, which policy \
+counts and why the other doesn't, the sets of nodes, the rule that chose the first node with its \
+arithmetic, and the order of the others with their distances. Lines that are faulty or refused are \
+told on standard error as by `check`, and passed over. The status is 3 where no machine is ready \
+after the scripts.";
 
 /// What stands at the end of the help.
 const MORE: &str =
-    "Example, from the top of the repository:\n  ./numaplan explain --task 1 --cpu 3 0x32000 examples/interleaved-range.numaplan";
+    "Example, from the top of the repository:\n  ./numaplan explain --task 1 --cpu 3 0x32000 \
+examples/interleaved-range.numaplan";
 
 /// What is told where the address is faulty.
 const BAD_ADDRESS: &str =
-    "error: '<ADDRESS>' takes a number below 2^64, decimal or 0x and hexadecimal\n\nFor more information, try '--help'.\n";
+    "error: '<ADDRESS>' takes a number below 2^64, decimal or 0x and hexadecimal\n\nFor more \
+information, try '--help'.\n";
 
 /// The command.
 pub fn command<'a>(alloc: Global) -> Result<Command<'a>, AllocError> {
-    let word = Command::new(alloc, "explain")
-        .about("Tells why a page goes where it goes")
-        .long_about(ABOUT)
-        .after_help(MORE);
-    let word = asked::with_options(alloc, word)?;
+    let word = asked::command(alloc, "explain", ABOUT, MORE)?.about(
+        "Tells why a page goes where it goes",
+    );
     let address = Arg::new(alloc, "ADDRESS")
         .help("An address of the page, in bytes")
         .required(true)
@@ -60,15 +62,12 @@ pub fn job(alloc: Global, matches: &ArgMatches<'_>) -> Result<Job, JobFault>
 }
 
 /// Tells why the page of an address goes where it goes after the scripts of files.
-pub fn answer<R>(rt: &R, names: &[String], asked: Asked, address: u64) -> ExitCode
+pub fn answer<R>(rt: &R, names: &[String], asked: Asked, address: u64) -> Result<ExitCode, JobFault>
 where
     R: Files + Input + Print + Eprint + AllocGlobal,
     R::Reader: IsTerminal,
 {
-    let texts = match files::open_all(rt, names) {
-        Ok(texts) => texts,
-        Err(fault) => return tell_fault(rt, fault),
-    };
+    let texts = files::open_all(rt, names)?;
     let mut output = io::writer(rt);
     let answer = numa_play::explain(
         rt.alloc(),
@@ -78,5 +77,5 @@ where
         &mut output,
         Told { rt },
     );
-    answered(rt, asked, answer)
+    Ok(answered(rt, asked, answer))
 }

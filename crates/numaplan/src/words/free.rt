@@ -7,7 +7,8 @@ use std::alloc::{AllocError, Global};
 
 /// What is told where the value isn't as it should be.
 const BAD: &str =
-    "error: '--free <NODE=PAGES,..>': nodes from 0 to 255, each once, with numbers of pages, as in 0=1000,1=0\n";
+    "error: '--free <NODE=PAGES,..>': nodes from 0 to 255, each once, with numbers of pages, as in \
+0=1000,1=0\n";
 
 /// The option.
 pub fn option<'a>(alloc: Global) -> Arg<'a> {

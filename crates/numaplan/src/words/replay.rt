@@ -2,9 +2,10 @@
 ghost use Rattle.std.specs.Prelude.{IfOk};
 ghost use Rattle.numaplan.specs.Jobs.{CanBeDone};
 
-use crate::endings::{Told, ended, tell_fault};
+use crate::endings::{Told, ended};
 use crate::files;
 use crate::jobs::{Job, JobFault};
+use crate::words::format::format_option;
 use clap::{Arg, ArgAction, ArgMatches, Command};
 use numa_play::Shape;
 use std::alloc::{AllocError, Global};
@@ -15,16 +16,19 @@ use std::rt::Files;
 
 /// What the help says in full.
 const ABOUT: &str =
-    "Replays a trace of accesses after the scripts, on the frames of their machine, where no page is placed yet: the first touch \
-of a page places it on the first node of its list that has a frame left, and later accesses go to where it lies. Tells, by \
-task and in all, how many accesses went to which node (N0=) and over which distance (D10=), how many faults placed a page and how \
-many found no frame, and how many accesses those made. A line of the trace is TASK ADDRESS CPU [COUNT], in decimal or 0x; an \
-empty line or one that begins with # says nothing. Script lines that are faulty or refused are told on standard error as by \
-`check`, and passed over. The status is 3 where no machine is ready after the scripts, or a line of the trace can't be replayed.";
+    "Replays a trace of accesses after the scripts, on the frames of their machine, where no page \
+is placed yet: the first touch of a page places it on the first node of its list that has a frame \
+left, and later accesses go to where it lies. Tells, by task and in all, how many accesses went to \
+which node (N0=) and over which distance (D10=), how many faults placed a page and how many found \
+no frame, and how many accesses those made. A line of the trace is TASK ADDRESS CPU [COUNT], in \
+decimal or 0x; an empty line or one that begins with # says nothing. Script lines that are faulty \
+or refused are told on standard error as by `check`, and passed over. The status is 3 where no \
+machine is ready after the scripts, or a line of the trace can't be replayed.";
 
 /// What stands at the end of the help.
 const MORE: &str =
-    "Example, from the top of the repository:\n  ./numaplan replay --trace examples/replayed.trace examples/interleaved-range.numaplan";
+    "Example, from the top of the repository:\n  ./numaplan replay --trace examples/replayed.trace \
+examples/interleaved-range.numaplan";
 
 /// What is told where there is no trace.
 const NO_TRACE: &str = "error: '--trace <TRACE>' is wanted\n";
@@ -45,14 +49,8 @@ pub fn command<'a>(alloc: Global) -> Result<Command<'a>, AllocError> {
         .long_about(ABOUT)
         .after_help(MORE)
         .arg(trace)?;
-    let format = Arg::new(alloc, "format")
-        .long("format")
-        .value_name("FORMAT")
-        .help("How the answer is written")
-        .value_parser(FORMATS.as_slice())
-        .default_value("text")
-        .action(ArgAction::Set);
-    word.arg(format)?.arg(files::argument(alloc))
+    word.arg(format_option(alloc, &FORMATS))?
+        .arg(files::argument(alloc))
 }
 
 /// The format of this name.
@@ -80,21 +78,20 @@ pub fn job(alloc: Global, matches: &ArgMatches<'_>) -> Result<Job, JobFault>
 }
 
 /// Replays a trace after the scripts of files.
-pub fn answer<R>(rt: &R, names: &[String], trace: &[String], format: Shape) -> ExitCode
+pub fn answer<R>(
+    rt: &R,
+    names: &[String],
+    trace: &[String],
+    format: Shape,
+) -> Result<ExitCode, JobFault>
 where
     R: Files + Input + Print + Eprint + AllocGlobal,
     R::Reader: IsTerminal,
 {
-    let texts = match files::open_all(rt, names) {
-        Ok(texts) => texts,
-        Err(fault) => return tell_fault(rt, fault),
-    };
-    let traces = match files::open_all(rt, trace) {
-        Ok(traces) => traces,
-        Err(fault) => return tell_fault(rt, fault),
-    };
+    let texts = files::open_all(rt, names)?;
+    let traces = files::open_all(rt, trace)?;
     let mut output = io::writer(rt);
     let name = trace.first().map_or("", |name| name.as_str());
     let answer = numa_play::replay(rt.alloc(), texts, traces, format, &mut output, Told { rt });
-    ended(rt, name, answer)
+    Ok(ended(rt, name, answer))
 }

@@ -3,7 +3,7 @@ ghost use Rattle.std.specs.Prelude.{IfOk};
 ghost use Rattle.numaplan.specs.Jobs.{CanBeDone};
 
 use crate::answering::Answering;
-use crate::endings::{fail, stop, tell_fault};
+use crate::endings::{fail, stop};
 use crate::files;
 use crate::files::Source;
 use crate::jobs::{Job, JobFault};
@@ -18,14 +18,14 @@ use std::rt::Files;
 
 /// What the help says in full.
 const ABOUT: &str =
-    "Answers a script. The script is read from the files in turn, or from standard input, and its answers are written to \
-standard output: one line for each line of the script, but none for an empty line or a comment, and for `maps` one for each \
-range.";
+    "Answers a script. The script is read from the files in turn, or from standard input, and its \
+answers are written to standard output: one line for each line of the script, but none for an \
+empty line or a comment, and for `maps` one for each range.";
 
 /// What stands at the end of the help.
 const MORE: &str =
-    "Example, from the top of the repository:\n  ./numaplan run examples/first-run.numaplan\n\nThe language of scripts is told in \
-docs/SCRIPT.md of the repository.";
+    "Example, from the top of the repository:\n  ./numaplan run examples/first-run.numaplan\n\nThe \
+language of scripts is told in docs/SCRIPT.md of the repository.";
 
 /// The command.
 pub fn command<'a>(alloc: Global) -> Result<Command<'a>, AllocError> {
@@ -79,23 +79,20 @@ where
 }
 
 /// Answers the scripts of files, and says each line too, where `echo` says so.
-pub fn answer<R>(rt: &R, names: &[String], echo: bool) -> ExitCode
+pub fn answer<R>(rt: &R, names: &[String], echo: bool) -> Result<ExitCode, JobFault>
 where
     R: Files + Input + Print + Eprint + AllocGlobal,
     R::Reader: IsTerminal,
 {
-    let texts = match files::open_all(rt, names) {
-        Ok(texts) => texts,
-        Err(fault) => return tell_fault(rt, fault),
-    };
+    let texts = files::open_all(rt, names)?;
     if echo {
         return match echo_all(rt, texts) {
-            Ok(()) => ExitCode::SUCCESS,
-            Err(why) => stop(rt, why),
+            Ok(()) => Ok(ExitCode::SUCCESS),
+            Err(why) => Ok(stop(rt, why)),
         };
     }
     match answer_all(rt, texts) {
-        Ok(()) => ExitCode::SUCCESS,
-        Err(fault) => fail(rt, fault),
+        Ok(()) => Ok(ExitCode::SUCCESS),
+        Err(fault) => Ok(fail(rt, fault)),
     }
 }
