@@ -1,8 +1,9 @@
-//! A plan of a space of many ranges, and with the argument `measure` how long it takes to compile it.
+//! A plan of a space of many ranges, and with the argument `measure` how long it takes to compile
+//! it.
 //!
-//! Without arguments checksums are printed, which are the same in each run. A figure of `measure` is a ratio: the best time
-//! of `compile` over the best time, in the same run, of a plain loop that looks each range up in a map and copies it. Times
-//! alone say little about another machine.
+//! Without arguments checksums are printed, which are the same in each run. A figure of `measure`
+//! is a ratio: the best time of `compile` over the best time, in the same run, of a plain loop that
+//! looks each range up in a map and copies it. Times alone say little about another machine.
 mod checks;
 mod spaces;
 mod times;

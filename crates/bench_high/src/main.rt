@@ -1,6 +1,7 @@
-//! How long the calls of the upper crates take: spaces, plans, their compiler, listings. Without arguments
-//! it prints checksums of what they answer, the same in each run. With `measure` it prints ratios, each
-//! beside its baseline in the same run, of all parts or of the one that is named: `measure plan`.
+//! How long the calls of the upper crates take: spaces, plans, their compiler, listings. Without
+//! arguments it prints checksums of what they answer, the same in each run. With `measure` it
+//! prints ratios, each beside its baseline in the same run, of all parts or of the one that is
+//! named: `measure plan`.
 #![tactic(auto)]
 
 mod compile;

@@ -1,6 +1,8 @@
-//! Checksums of listings of many ranges and placements, and with the argument `measure` how long they take.
+//! Checksums of listings of many ranges and placements, and with the argument `measure` how long
+//! they take.
 //!
-//! A figure of `measure` is a ratio of best times in the same run. Times alone say little about another machine.
+//! A figure of `measure` is a ratio of best times in the same run. Times alone say little about
+//! another machine.
 use crate::times::{nanos, print_ratio};
 use numa_machine::{Frame, Machine};
 use numa_maps::{Resident, Watched, write_maps};
@@ -142,7 +144,8 @@ fn time_walk<R: Clock>(rt: &R, alloc: Global, entries: u64) -> io::Result<(u64, 
     Ok((best, seen))
 }
 
-/// The best time of a listing of a space of so many ranges and pages each, with so many placements on every `step`th page.
+/// The best time of a listing of a space of so many ranges and pages each, with so many placements
+/// on every `step`th page.
 fn time_case<R: Clock>(
     rt: &R,
     alloc: Global,

@@ -1,8 +1,8 @@
 //! What a plan answers, and with the argument `measure` how long its answers take.
 //!
-//! Without arguments checksums are printed, which are the same in each run. A figure of `measure` is a ratio: the best time
-//! of a call over the best time, in the same run, of the least that anything needs for it. Times alone say little about
-//! another machine.
+//! Without arguments checksums are printed, which are the same in each run. A figure of `measure`
+//! is a ratio: the best time of a call over the best time, in the same run, of the least that
+//! anything needs for it. Times alone say little about another machine.
 mod checks;
 mod plans;
 mod times;

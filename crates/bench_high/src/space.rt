@@ -1,7 +1,8 @@
 //! Checksums of a space of many ranges, and with the argument `measure` how long its commands take.
 //!
-//! A figure of `measure` is a ratio: the best time of a command over the best time, in the same run, of moving a plain
-//! vector whose rows are as large as a range. Times alone say little about another machine.
+//! A figure of `measure` is a ratio: the best time of a command over the best time, in the same
+//! run, of moving a plain vector whose rows are as large as a range. Times alone say little about
+//! another machine.
 use crate::times::{nanos, print_ratio};
 use numa_machine::Machine;
 use numa_mask::{NodeId, NodeMask};

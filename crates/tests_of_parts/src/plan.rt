@@ -1,6 +1,7 @@
 //! Spans of pages: refused, without pages, of every length, and of all pages that there are.
 use crate::played::plan_of;
 use numa_examples::Asked::{Map, Mbind, Task, Weight};
+use numa_mode::Record;
 use numa_plan::{Plan, Rule, Steps};
 use numa_ranges::Run;
 use numa_space::PlaceRefusal;
@@ -104,10 +105,47 @@ fn all_pages_are_counted_at_once(rt: HostRuntime) {
 }
 
 #[test]
+fn a_window_holds_the_runs_that_touch_the_span(rt: HostRuntime) {
+    let plan = ten_pages(&rt, rt.alloc());
+    for (first, end, want) in [
+        (0, 15, (0, 0)),
+        (0, 16, (0, 1)),
+        (16, 26, (0, 3)),
+        (19, 19, (0, 2)),
+        (20, 21, (1, 2)),
+        (26, 30, (2, 3)),
+        (27, 30, (3, 3)),
+    ] {
+        let window = plan.window(first, end, &mut Steps::new());
+        assert_eq!(rt; window, want, "{first} to {end}");
+    }
+}
+
+/// Each rule of a plan is found by its policy.
+fn expect_numbers(rt: &impl Abort, plan: &mut Plan) {
+    assert_eq!(rt; plan.rule_count(), 2);
+    for number in 0..2 {
+        let policy = plan.policy_of(number).expect(rt, "a policy");
+        let found = plan.number_for_policy(&policy);
+        assert_eq!(rt; found, Some(number));
+    }
+}
+
+#[test]
+fn a_policy_finds_its_rule(rt: HostRuntime) {
+    let mut plan = ten_pages(&rt, rt.alloc());
+    let mut copy = plan.copy(rt.alloc()).expect(&rt, "a copy");
+    expect_numbers(&rt, &mut plan);
+    expect_numbers(&rt, &mut copy);
+}
+
+#[test]
 fn runs_and_rules_are_small(rt: HostRuntime) {
     assert_eq!(rt; size_of::<Run<Option<u32>>>(), 32);
     assert_eq!(rt; size_of::<Steps>(), 0);
-    // With 16 bytes for its slot, 8 for the count of the plans that share it and the 64 that a cycle
-    // of first nodes has beside its entries, a rule has 176 beside its rows and its cycles.
+    // With 80 bytes for its policy, 16 for its slot, 8 for the count of the plans that share it and
+    // the 64 that a cycle of first nodes has beside its entries, a rule has 256 beside its rows and
+    // its cycles.
     assert_eq!(rt; size_of::<Rule>(), 88);
+    assert_eq!(rt; size_of::<Record>(), 80);
 }

@@ -56,7 +56,8 @@ fn add_range(space: &mut Space, start: u64, offset: u64, spec: PolicySpec) {
     });
 }
 
-/// A space of `RANGES` ranges with `POLICIES` distinct policies in turn, and a task with the first of them.
+/// A space of `RANGES` ranges with `POLICIES` distinct policies in turn, and a task with the first
+/// of them.
 pub fn spread(alloc: Global) -> Option<Space> {
     let mut space = empty_space(alloc)?;
     for i in 0..RANGES {

@@ -3,6 +3,8 @@ ghost use Rattle.std.specs.Prelude.{◌≡◌, [], IsSome, IfOk};
 ghost use Rattle.numa_plan.specs.Rows.{HasRows};
 ghost use Rattle.numa_plan.specs.Slots.{rule_in};
 
+use numa_mask::{NodeId, NodeMask};
+use numa_mode::{PolicySpec, Record};
 use numa_plan::{NoMemory, Plan, Rule, Steps};
 use numa_ranges::Run;
 use std::alloc::Global;
@@ -30,11 +32,32 @@ fn weighed(alloc: Global) -> Result<Rule, NoMemory>
     Rule::turns(alloc, 1, rows, cycle)
 }
 
-/// A plan of `RUNS` runs of 3 pages, each with a hole of one page behind it, of which page p has the index p.
+/// The policy of weighted interleave over the four nodes.
+fn policy() -> Result<Record, NoMemory> {
+    let mut nodes = NodeMask::empty();
+    for number in 0..4u8 {
+        if let Some(node) = NodeId::new(number) {
+            nodes.insert(node);
+        }
+    }
+    let Ok(spec) = PolicySpec::from_raw(6, nodes) else {
+        return Err(NoMemory);
+    };
+    if spec.is_default() || nodes.is_empty() {
+        return Err(NoMemory);
+    }
+    let Ok(record) = Record::set(spec, &nodes) else {
+        return Err(NoMemory);
+    };
+    Ok(record)
+}
+
+/// A plan of `RUNS` runs of 3 pages, each with a hole of one page behind it, of which page p has
+/// the index p.
 pub fn spread(alloc: Global) -> Result<Plan, NoMemory> {
     let mut plan = Plan::new(alloc, 4, own(alloc)?);
     let mut steps = Steps::new();
-    let turns = plan.add_rule(weighed(alloc)?, &mut steps)?;
+    let turns = plan.add_rule(policy()?, weighed(alloc)?, &mut steps)?;
     push_runs(&mut plan, turns, &mut steps)?;
     Ok(plan)
 }
@@ -61,7 +84,7 @@ fn push_runs(plan: &mut Plan, turns: u32, steps: &mut Steps) -> Result<(), NoMem
 pub fn whole(alloc: Global) -> Result<Plan, NoMemory> {
     let mut plan = Plan::new(alloc, 4, own(alloc)?);
     let mut steps = Steps::new();
-    let turns = plan.add_rule(weighed(alloc)?, &mut steps)?;
+    let turns = plan.add_rule(policy()?, weighed(alloc)?, &mut steps)?;
     plan.set_task(1, Some(turns))?;
     let run = Run {
         first: 0,

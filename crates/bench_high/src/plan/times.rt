@@ -27,7 +27,8 @@ fn page_of(i: u64) -> u64
     i * 40_503 % (4 * RUNS)
 }
 
-/// The best time of a round of `choice`, and the sum of what all rounds found, so that no round is left out.
+/// The best time of a round of `choice`, and the sum of what all rounds found, so that no round is
+/// left out.
 fn time_choice<R: Clock>(rt: &R, plan: &Plan) -> io::Result<(u64, u64)> {
     let mut best = u64::MAX;
     let mut sum = 0u64;
