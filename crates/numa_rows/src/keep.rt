@@ -7,13 +7,16 @@ use std::alloc::{AllocError, Global};
 
 /// A way to keep the rows of a chunk. [`Owned`](crate::Owned) keeps them for itself alone; what
 /// [`Shared`](crate::Shared) keeps, copies share.
+///
+/// The answer is `AllocError` where memory is wanting; then nothing is changed. `Shared` keeps
+/// from 1 to 256 rows, and answers it too where `keep` is given none, or there would be more.
 pub trait Keep<T>: Drop {
     /// The rows that are kept.
     ghost rows_of: { Self → List T };
 
-    /// Keeps the rows of a vector.
-    fn keep(alloc: Global, rows: Vec<T>) -> Result<Self, AllocError>
-        ensures { IfOk result (λ chunk. rows_of chunk ≡ rows.items) };
+    /// Keeps these rows.
+    fn keep(alloc: Global, rows: &[T]) -> Result<Self, AllocError>
+        ensures { IfOk result (λ chunk. rows_of chunk ≡ rows.now) };
 
     /// The rows.
     fn rows(&self) -> &[T]

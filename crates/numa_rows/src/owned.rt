@@ -24,10 +24,12 @@ impl<T> Model for Owned<T> {
 impl<T: Copy + Drop> Keep<T> for Owned<T> {
     ghost rows_of = { λ rows. rows };
 
-    fn keep(_alloc: Global, rows: Vec<T>) -> Result<Owned<T>, AllocError>
-        ensures { IfOk result (λ chunk. chunk ≡ rows.items) }
+    fn keep(alloc: Global, rows: &[T]) -> Result<Owned<T>, AllocError>
+        ensures { IfOk result (λ chunk. chunk ≡ rows.now) }
     {
-        Ok(Owned { rows })
+        let mut items = Vec::with_capacity(alloc, MOST)?;
+        items.extend_from_slice(rows)?;
+        Ok(Owned { rows: items })
     }
 
     #[inline]

@@ -1,72 +1,95 @@
 //! Rows that copies of a chunk share.
-ghost use Rattle.std.specs.Prelude.{◌≡◌, ◌≤◌, length, IfOk};
-ghost use Rattle.std.specs.List.{splice};
+ghost use Rattle.std.specs.Prelude.{◌≡◌, IfOk};
 
-use crate::chunk::{MOST, put_in};
+use crate::block::Block;
+use crate::chunk::MOST;
 use crate::keep::Keep;
 use std::alloc::{AllocError, Global};
-use std::marker::Model;
+use std::marker::{Model, PhantomData};
 use std::sync::Arc;
 
-/// Rows that copies of a chunk share. The first edit after a copy copies the rows; rows that no
-/// other chunk has are edited in place.
+/// Rows that copies of a chunk share, 256 at most. The first edit after a copy copies the rows;
+/// rows that no other chunk has are edited in place. [`Keep`] says what is refused.
 #[derive(Drop)]
-pub struct Shared<T> {
-    rows: Arc<Vec<T>>,
+pub struct Shared<T, B: Block<T> = [T; 256]> {
+    block: Arc<B>,
+    len: usize,
+    of: PhantomData<T>,
 }
 
-impl<T> Model for Shared<T> {
-    ghost use Rattle.std.specs.Prelude.{List};
+impl<T, B: Block<T>> Model for Shared<T, B> {
+    ghost use Rattle.std.specs.Prelude.{List, take};
+    ghost use Rattle.numa_rows.specs.Parts.{IsBlock};
 
     ghost Value = { List T };
 
-    ghost view = { λ a. a.rows.value.items };
+    ghost view = { λ a. take a.len (B.items_of a.block.value) };
+
+    ghost invariant = { λ a. IsBlock (B.items_of a.block.value) a.len };
 }
 
-impl<T: Copy + Drop> Keep<T> for Shared<T> {
+impl<T: Copy + Drop, B: Block<T>> Keep<T> for Shared<T, B> {
     ghost rows_of = { λ rows. rows };
 
-    fn keep(alloc: Global, rows: Vec<T>) -> Result<Shared<T>, AllocError>
-        ensures { IfOk result (λ chunk. chunk ≡ rows.items) }
+    fn keep(alloc: Global, rows: &[T]) -> Result<Shared<T, B>, AllocError>
+        ensures { IfOk result (λ chunk. chunk ≡ rows.now) }
     {
-        let rows = Arc::new(alloc, rows)?;
-        Ok(Shared { rows })
+        if rows.is_empty() || rows.len() > MOST {
+            return Err(AllocError);
+        }
+        let mut block = B::filled(rows[0]);
+        block.put(0, 0, 0, rows);
+        let block = Arc::new(alloc, block)?;
+        Ok(Shared {
+            block,
+            len: rows.len(),
+            of: PhantomData,
+        })
     }
 
     #[inline]
     fn rows(&self) -> &[T] {
-        let items: &Vec<T> = &self.rows;
-        items.as_slice()
+        let block: &B = &self.block;
+        let items = block.items();
+        &items[..self.len]
     }
 
-    fn copy(&self, _alloc: Global) -> Result<Shared<T>, AllocError>
+    fn copy(&self, _alloc: Global) -> Result<Shared<T, B>, AllocError>
         ensures { IfOk result (λ chunk. chunk ≡ self.now) }
     {
-        let rows = Arc::try_clone(&self.rows)?;
-        Ok(Shared { rows })
+        let block = Arc::try_clone(&self.block)?;
+        Ok(Shared {
+            block,
+            len: self.len,
+            of: PhantomData,
+        })
     }
 
     fn push(&mut self, alloc: Global, row: T) -> Result<(), AllocError> {
-        if let Some(items) = Arc::get_mut(&mut self.rows) {
-            items.push(row)?;
+        let len = self.len;
+        if len == MOST {
+            return Err(AllocError);
+        }
+        if let Some(block) = Arc::get_mut(&mut self.block) {
+            block.set(len, row);
+            self.len = len + 1;
             return Ok(());
         }
-        let mut made = Vec::with_capacity(alloc, MOST)?;
-        made.extend_from_slice(self.rows())?;
-        made.push(row)?;
-        self.rows = Arc::new(alloc, made)?;
+        let mut block = *self.block;
+        block.set(len, row);
+        self.block = Arc::new(alloc, block)?;
+        self.len = len + 1;
         Ok(())
     }
 
     fn set(&mut self, alloc: Global, place: usize, row: T) -> Result<(), AllocError> {
-        if let Some(items) = Arc::get_mut(&mut self.rows) {
-            items[place] = row;
+        if let Some(block) = Arc::get_mut(&mut self.block) {
+            block.set(place, row);
             return Ok(());
         }
-        let mut made = Vec::with_capacity(alloc, MOST)?;
-        made.extend_from_slice(self.rows())?;
-        made[place] = row;
-        self.rows = Arc::new(alloc, made)?;
+        let mut block = *self.block;
+        block.set(place, row);
+        self.block = Arc::new(alloc, block)?;
         Ok(())
     }
 
@@ -77,31 +100,20 @@ impl<T: Copy + Drop> Keep<T> for Shared<T> {
         to: usize,
         rows: &[T],
     ) -> Result<(), AllocError> {
-        if let Some(items) = Arc::get_mut(&mut self.rows) {
-            put_in(items, from, to, rows)?;
+        let len = self.len;
+        let kept = len - (to - from);
+        if rows.len() > MOST - kept {
+            return Err(AllocError);
+        }
+        if let Some(block) = Arc::get_mut(&mut self.block) {
+            block.put(len, from, to, rows);
+            self.len = kept + rows.len();
             return Ok(());
         }
-        let made = spliced(alloc, self.rows(), from, to, rows)?;
-        self.rows = Arc::new(alloc, made)?;
+        let mut block = *self.block;
+        block.put(len, from, to, rows);
+        self.block = Arc::new(alloc, block)?;
+        self.len = kept + rows.len();
         Ok(())
     }
-}
-
-/// A copy of the rows, with others in the place of those from one place to another.
-fn spliced<T: Copy + Drop>(
-    alloc: Global,
-    old: &[T],
-    from: usize,
-    to: usize,
-    rows: &[T],
-) -> Result<Vec<T>, AllocError>
-    requires rises { from ≤ to }
-    requires within { to ≤ length old.now }
-    ensures { IfOk result (λ made. made.items ≡ splice old.now from to rows.now) }
-{
-    let mut made = Vec::with_capacity(alloc, MOST)?;
-    made.extend_from_slice(&old[..from])?;
-    made.extend_from_slice(rows)?;
-    made.extend_from_slice(&old[to..])?;
-    Ok(made)
 }
