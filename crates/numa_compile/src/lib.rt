@@ -5,6 +5,7 @@ mod compiler;
 mod guesses;
 mod laws;
 mod numbers;
+mod planned;
 mod reach;
 mod recompiler;
 mod rows;
@@ -13,4 +14,5 @@ mod turns;
 
 pub use compiler::{compile, compile_commands};
 pub use laws::every_plan;
+pub use planned::PlannedSpace;
 pub use recompiler::recompile;

@@ -1,0 +1,203 @@
+//! A space with the plan that is kept beside it.
+ghost use Rattle.std.specs.Prelude.{◌≡◌, ℕ, ◌<◌, ◌∷◌, None, MatchOption, IfOk, IfErr, OnOk, OnErr};
+ghost use Rattle.std.specs.Prelude.{IfSome, List, []};
+ghost use Rattle.std.specs.Bool.{OnTrue};
+ghost use Rattle.std.specs.Option.{ForSome};
+ghost use Rattle.numa_space.specs.declared.command.Command.{Command};
+ghost use Rattle.numa_space.specs.declared.refusal.Refusal.{Refusal};
+ghost use Rattle.numa_space.specs.Refusals.{refusal_of};
+ghost use Rattle.numa_space.specs.Standing.{StandsFor, IsNodeList};
+ghost use Rattle.numa_space.specs.Steps.{IsStep, MayNeedRoom};
+ghost use Rattle.numa_plan.specs.Meaning.{planned_list};
+ghost use Rattle.numa_compile.specs.Follows.{Follows, IsBehind};
+ghost use Rattle.numa_compile.specs.Standing.{IsPlanOf, PlanStandsFor};
+
+use crate::compiler::{compile, survey};
+use crate::recompiler::recompile;
+use numa_machine::{Machine, NoMemory};
+use numa_plan::{Plan, Steps};
+use numa_space::{Command, Limits, Refusal, Space};
+use std::alloc::Global;
+use std::marker::Model;
+
+/// A space, and its plan once it was asked for. From then on each accepted command edits the plan
+/// in place, so that asking for it again costs nothing. Contracts see the space alone.
+///
+/// Two commands' plans are put off until they are asked for: one for whose edit there was no
+/// memory, and a change of the allowed nodes, which makes every list anew.
+#[derive(Drop)]
+pub struct PlannedSpace {
+    space: Space,
+    plan: Option<Plan>,
+}
+
+impl Model for PlannedSpace {
+    ghost use Rattle.std.specs.Option.{ForSome};
+    ghost use Rattle.numa_space.specs.Standing.{SpaceState};
+    ghost use Rattle.numa_compile.specs.Follows.{Follows};
+
+    ghost Value = { SpaceState };
+
+    ghost view = { λ p. p.space };
+
+    ghost invariant = { λ p. ForSome p.plan (Follows p.space) };
+}
+
+/// A copy of a plan, if there is one.
+///
+/// # Errors
+/// `NoMemory` where there is none for it.
+fn copy_of(alloc: Global, plan: &Option<Plan>) -> Result<Option<Plan>, NoMemory>
+    ensures { IfOk result (λ copy. copy ≡ plan.now) }
+{
+    match plan {
+        Some(plan) => Ok(Some(plan.copy(alloc)?)),
+        None => Ok(None),
+    }
+}
+
+/// Edits a plan as the command says that its space accepted last, and answers whether there was the
+/// memory for it.
+fn edited(alloc: Global, plan: &mut Plan, space: &Space, command: &Command) -> bool
+    requires behind { IsBehind space.now command.now plan.old }
+    ensures follows { OnTrue result (Follows space.now plan.new) }
+{
+    recompile(alloc, plan, space, command, &mut Steps::new()).is_ok()
+}
+
+/// Edits a plan, if there is one, as the command says that its space accepted last; or puts it off.
+fn follow(alloc: Global, plan: &mut Option<Plan>, space: &Space, command: &Command)
+    requires { ForSome plan.old (IsBehind space.now command.now) }
+    ensures { ForSome plan.new (Follows space.now) }
+{
+    if let Command::SetMems { .. } = command {
+        *plan = None;
+        return;
+    }
+    let Some(kept) = plan else {
+        return;
+    };
+    if !edited(alloc, kept, space, command) {
+        *plan = None;
+    }
+}
+
+/// Makes the plan of a space where there is none yet.
+///
+/// # Errors
+/// `NoMemory` where there is none for the plan.
+fn prepare(alloc: Global, plan: &mut Option<Plan>, space: &Space) -> Result<(), NoMemory>
+    requires { ForSome plan.old (Follows space.now) }
+    ensures { ForSome plan.new (Follows space.now) }
+{
+    if plan.is_none() {
+        *plan = Some(compile(alloc, space)?);
+    }
+    Ok(())
+}
+
+impl PlannedSpace {
+    /// A space of this machine in which nothing was accepted. It has no plan yet.
+    pub fn new(alloc: Global, machine: Machine, limits: Limits) -> PlannedSpace
+        ensures stands { StandsFor result [] }
+        ensures machine { result.machine ≡ machine }
+        ensures bounds { result.bounds ≡ limits }
+    {
+        PlannedSpace {
+            space: Space::new(alloc, machine, limits),
+            plan: None,
+        }
+    }
+
+    /// The same space once more, with its plan if it has one. Of the plan the two share what
+    /// `Plan::copy` says.
+    ///
+    /// # Errors
+    /// `NoMemory` where there is none for `Space::copy` or `Plan::copy`.
+    pub fn copy(&self, alloc: Global) -> Result<PlannedSpace, NoMemory>
+        ensures { IfOk result (λ copy. copy ≡ self.now) }
+    {
+        let space = self.space.copy(alloc)?;
+        let plan = copy_of(alloc, &self.plan)?;
+        Ok(PlannedSpace { space, plan })
+    }
+
+    /// The space of all accepted commands.
+    pub fn space(&self) -> &Space
+        ensures { result.now ≡ self.now }
+    {
+        &self.space
+    }
+
+    /// Carries out a command, or refuses it, as `Space::apply` does. Lack of memory for the plan
+    /// refuses nothing: the plan is put off.
+    pub fn apply(&mut self, alloc: Global, command: &Command) -> Result<(), Refusal>
+        ensures ok { (history : List Command) → StandsFor self.old history
+            → OnOk result ((refusal_of self.old.machine self.old.bounds history command.now ≡ None)
+            × StandsFor self.new (command.now ∷ history)) }
+        ensures err { (history : List Command) → StandsFor self.old history
+            → IfErr result (λ refusal. MatchOption
+            (refusal_of self.old.machine self.old.bounds history command.now)
+            (refusal ≡ Refusal.NoMemory) (λ first. refusal ≡ first)) }
+        ensures unchanged { OnErr result (self.new ≡ self.old) }
+        ensures room { IfErr result (λ refusal. refusal ≡ Refusal.NoMemory
+            → MayNeedRoom command.now) }
+        ensures step { OnOk result (IsStep self.old command.now self.new) }
+        ensures machine { self.new.machine ≡ self.old.machine }
+        ensures bounds { self.new.bounds ≡ self.old.bounds }
+    {
+        if let Err(refusal) = self.space.apply(command) {
+            return Err(refusal);
+        }
+        follow(alloc, &mut self.plan, &self.space, command);
+        Ok(())
+    }
+
+    /// Makes the plan of the space where there is none yet.
+    ///
+    /// # Errors
+    /// `NoMemory` where there is none for the plan.
+    pub fn prepare(&mut self, alloc: Global) -> Result<(), NoMemory>
+        ensures { self.new ≡ self.old }
+    {
+        prepare(alloc, &mut self.plan, &self.space)
+    }
+
+    /// The plan of the space, as [`compile`] makes it: from the first `prepare` or `plan_copy` that
+    /// had memory on, until it is put off. Its version is the number of commands that the space has
+    /// accepted.
+    pub fn plan(&self) -> Option<&Plan>
+        ensures stands { (history : List Command) → StandsFor self.now history
+            → IfSome result (λ plan. PlanStandsFor self.now.machine plan.now history) }
+        ensures plan { IfSome result (λ plan. IsPlanOf self.now plan.now) }
+        ensures follows { IfSome result (λ plan. Follows self.now plan.now) }
+        ensures sound { IfSome result (λ plan. (task page cpu : ℕ) → cpu < plan.now.nodes
+            → ForSome (planned_list plan.now task page cpu) (IsNodeList self.now.allowed)) }
+    {
+        survey(&self.space);
+        match &self.plan {
+            Some(plan) => Some(plan),
+            None => None,
+        }
+    }
+
+    /// A copy of the plan of the space, for another to keep: commands leave it as it is.
+    ///
+    /// # Errors
+    /// `NoMemory` where there is none for the plan, or for `Plan::copy`.
+    pub fn plan_copy(&mut self, alloc: Global) -> Result<Plan, NoMemory>
+        ensures same { self.new ≡ self.old }
+        ensures stands { (history : List Command) → StandsFor self.old history
+            → IfOk result (λ plan. PlanStandsFor self.old.machine plan history) }
+        ensures plan { IfOk result (λ plan. IsPlanOf self.old plan) }
+        ensures follows { IfOk result (λ plan. Follows self.old plan) }
+        ensures sound { IfOk result (λ plan. (task page cpu : ℕ) → cpu < plan.nodes
+            → ForSome (planned_list plan task page cpu) (IsNodeList self.old.allowed)) }
+    {
+        self.prepare(alloc)?;
+        match self.plan() {
+            Some(plan) => plan.copy(alloc),
+            None => Err(NoMemory),
+        }
+    }
+}
