@@ -15,6 +15,7 @@ use crate::reader::PlanReader;
 use crate::receipt::Receipt;
 use crate::rule::{Introduces, ShownWriter};
 use crate::shared::SubmitRefusal;
+use numa_compile::PlannedSpace;
 use numa_machine::{Machine, NoMemory};
 use numa_space::{Command, Limits, Refusal, Space};
 use std::alloc::Global;
@@ -29,12 +30,15 @@ use std::sync::Wait;
 /// published so far and the pending commands, which are accepted and not published; each list has
 /// its newest in front. The accepted history is the pending commands in front of the published
 /// history.
+///
+/// It keeps a plan of all that was accepted, which each command edits in place, and publishes
+/// copies of it; so a published version costs what its commands touched.
 pub struct Desk {
     alloc: Global,
     writer: ShownWriter,
     log: Log,
     pending: Pending,
-    space: Space,
+    space: PlannedSpace,
 }
 
 impl Model for Desk {
@@ -86,9 +90,9 @@ impl Desk {
         ensures empty { IfOk result (λ d. (d.published ≡ []) × (d.pending ≡ [])) }
         ensures versions { IfOk result (λ d. d.versions ≡ 0 ∷ []) }
     {
-        let space = Space::new(alloc, machine, limits);
+        let mut space = PlannedSpace::new(alloc, machine, limits);
         let log = Log::new();
-        let Ok(writer) = opened(rt, alloc, &space, &log.start, readers as usize) else {
+        let Ok(writer) = opened(rt, alloc, &mut space, &log.start, readers as usize) else {
             return Err(NoMemory);
         };
         Ok(Desk {
@@ -125,7 +129,7 @@ impl Desk {
         ensures machine { result.now.machine ≡ self.now.desk.machine }
         ensures bounds { result.now.bounds ≡ self.now.bounds }
     {
-        &self.space
+        self.space.space()
     }
 
     /// Accepts a command, or refuses it as the space does, and answers how many commands are
@@ -150,11 +154,11 @@ impl Desk {
         let Ok(()) = self.pending.commands.reserve(1) else {
             return Err(Refusal::NoMemory);
         };
-        if let Err(refusal) = self.space.apply(command) {
+        if let Err(refusal) = self.space.apply(self.alloc, command) {
             return Err(refusal);
         }
         self.pending.commands.push_reserved(*command);
-        Ok(self.space.version())
+        Ok(self.space.space().version())
     }
 
     /// A receipt of the published version.
@@ -162,7 +166,11 @@ impl Desk {
         ensures { (result.desk ≡ self.now.desk) × (result.history ≡ self.now.published) }
     {
         let issue: &Issue = &self.writer.published().issue;
-        Receipt::new(&issue.front, self.space.machine(), issue.plan.version())
+        Receipt::new(
+            &issue.front,
+            self.space.space().machine(),
+            issue.plan.version(),
+        )
     }
 
     /// Publishes all that was accepted, and gives a receipt of it; with nothing pending, a receipt
@@ -186,7 +194,7 @@ impl Desk {
         }
         let Ok(issue) = next_issue(
             self.alloc,
-            &self.space,
+            &mut self.space,
             &mut self.log,
             &mut self.pending,
             &self.writer.published().issue,

@@ -14,9 +14,8 @@ use crate::log::{Front, Log, Pending};
 use crate::rule::{Look, ShownWriter};
 use core::mem::replace_with;
 use left_right::writer::Writer;
-use numa_compile::compile;
+use numa_compile::PlannedSpace;
 use numa_machine::NoMemory;
-use numa_space::Space;
 use std::alloc::{AllocError, Global};
 use std::sync::{Arc, Wait};
 
@@ -24,24 +23,26 @@ use std::sync::{Arc, Wait};
 /// version comes in front of those before it.
 fn issued(
     alloc: Global,
-    space: &Space,
+    space: &mut PlannedSpace,
     front: &Front,
     before: &Versions,
 ) -> Result<Arc<Issue>, NoMemory>
-    requires { StandsFor space.now (history_of front.now.log) }
-    ensures { IfOk result (λ a.
-        IsIssueOf space.now front.now.log front.now.book before.now (arc_value a)) }
+    requires { StandsFor space.old (history_of front.now.log) }
+    ensures same { space.new ≡ space.old }
+    ensures issue { IfOk result (λ a.
+        IsIssueOf space.old front.now.log front.now.book before.now (arc_value a)) }
 {
-    let Ok(plan) = compile(alloc, space) else {
+    let Ok(plan) = space.plan_copy(alloc) else {
         return Err(NoMemory);
     };
+    let accepted = space.space();
     // Tells the proof that the plan has one run for each range of the history.
-    let _ = space.ranges();
+    let _ = accepted.ranges();
     let issue = Issue {
         plan,
-        machine: About::of(space.machine()),
+        machine: About::of(accepted.machine()),
         front: front.again(),
-        versions: before.and(space.version()),
+        versions: before.and(accepted.version()),
     };
     Arc::new(alloc, issue).ok().ok_or(NoMemory)
 }
@@ -50,22 +51,23 @@ fn issued(
 /// from then on.
 pub(crate) fn next_issue(
     alloc: Global,
-    space: &Space,
+    space: &mut PlannedSpace,
     log: &mut Log,
     pending: &mut Pending,
     shown: &Issue,
 ) -> Result<Arc<Issue>, NoMemory>
-    requires { IsDeskKept space.now shown.now log.old.seen.log log.old.seen.book
+    requires { IsDeskKept space.old shown.now log.old.seen.log log.old.seen.book
         pending.old.commands.items pending.old.logged }
-    ensures kept { IsDeskKept space.now shown.now log.new.seen.log log.new.seen.book
+    ensures kept { IsDeskKept space.old shown.now log.new.seen.log log.new.seen.book
         pending.new.commands.items pending.new.logged }
     ensures same { (pending.new.commands ≡ pending.old.commands)
         × (log.new.seen.book ≡ log.old.seen.book) }
-    ensures next { IfOk result (λ a. IsNextIssue space.now shown.now (arc_value a)
+    ensures space { space.new ≡ space.old }
+    ensures next { IfOk result (λ a. IsNextIssue space.old shown.now (arc_value a)
         log.new.seen.log log.new.seen.book pending.old.commands.items) }
 {
     // Nobody else adds to the log, so it always does: no proof can see this.
-    if !log.add(pending, space.version()) {
+    if !log.add(pending, space.space().version()) {
         return Err(NoMemory);
     }
     pending.logged = pending.commands.len();
@@ -77,13 +79,14 @@ pub(crate) fn next_issue(
 pub(crate) fn opened<R: Wait>(
     rt: &R,
     alloc: Global,
-    space: &Space,
+    space: &mut PlannedSpace,
     start: &Front,
     readers: usize,
 ) -> Result<ShownWriter, NoMemory>
     requires some { (1 ≤ readers) × (readers ≤ 64) }
-    requires stands { StandsFor space.now (history_of start.now.log) }
-    ensures issue { IfOk result (λ w. IsIssueOf space.now start.now.log start.now.book []
+    requires stands { StandsFor space.old (history_of start.now.log) }
+    ensures space { space.new ≡ space.old }
+    ensures issue { IfOk result (λ w. IsIssueOf space.old start.now.log start.now.book []
         (arc_value w.desk.shown.value.issue)) }
     ensures knows { IfOk result (λ w.
         place_view w.desk.place ≡ told_by (arc_value w.desk.shown.value.issue)) }

@@ -1,5 +1,6 @@
 use Rattle.std.proofs.Common.{◌≡◌, List, refl, inl, sym, add-one, reverse, ap, ◌∙◌, ◌++◌, ◌∷◌, []}
 use Rattle.std.proofs.lemmas.List.{reverse-append}
+use Rattle.numa_space.specs.Standing.{SpaceState}
 use Rattle.numa_space.specs.declared.command.Command.{Command}
 use Rattle.numa_publish.specs.Shown.{DeskIdentity, DeskState}
 use Rattle.numa_publish.proofs.Desks.{answered, accepted_kept, with_pending}
@@ -45,7 +46,7 @@ returns c =
     let desk : ◌≡◌ {A = DeskIdentity} (record { book = c.self.inside.log.seen.book; machine = c.apply.new.self.machine }) (record { book = c.self.inside.log.seen.book; machine = c.self.inside.space.machine }) = λ i. record { book = c.self.inside.log.seen.book; machine = c.in_default-apply.ensures.machine i } in
     record {
       allowed = rw (← c.self.view_is) done.0;
-      version = rw (← c.self.view_is) (c.version.ensures.version ∙ (done.1.version ∙ sym (add-one _)));
+      version = rw (← c.self.view_is) (c.version.ensures.version ∙ (ap (λ (s : SpaceState). s.version) c.space.ensures ∙ (done.1.version ∙ sym (add-one _))));
       added =
           with_pending _ _ c.args.self.now c.args.command.now c.self.view_is desk c.in_default-apply.ensures.bounds refl refl
           (ap (λ (w : List Command). reverse w) (c.push_reserved.ensures.items ∙ ap (λ w. w ++ c.args.command.now ∷ []) c.reserve.ensures.items) ∙ reverse-append c.self.inside.pending.commands.items (c.args.command.now ∷ []));
