@@ -3,9 +3,10 @@
 //! a request for one, and where a page was placed.
 #![tactic(auto)]
 
-ghost use Rattle.std.specs.Prelude.{◌≡◌, ℕ, ◌≤◌, List, [], ◌∷◌, ◌++◌, IfOk, OnErr};
+ghost use Rattle.std.specs.Prelude.{◌≡◌, ℕ, ◌≤◌, List, [], ◌∷◌, ◌++◌, IfOk, IfSome};
+ghost use Rattle.std.specs.Prelude.{OnErr};
 ghost use Rattle.numa_space.specs.Standing.{StandsFor};
-ghost use Rattle.numa_compile.specs.Standing.{PlanStandsFor};
+ghost use Rattle.numa_compile.specs.Standing.{IsPlanOf, PlanStandsFor};
 ghost use Rattle.numa_core.specs.World.{World, first_commands, newest_published};
 ghost use Rattle.numa_core.specs.Steps.{IsAnswer, world_after};
 ghost use Rattle.numa_core.specs.Executions.{Moment};
@@ -81,8 +82,8 @@ impl Core {
     /// other as it is, so that a caller can try what events come to.
     ///
     /// # Errors
-    /// `NoMemory` where there is none for the space, the published plan, the workers and the
-    /// owners.
+    /// `NoMemory` where there is none for the space, its plan, the published plan, the workers and
+    /// the owners.
     pub fn copy(&self) -> Result<Core, NoMemory>
         ensures same { IfOk result (λ copy. copy ≡ self.now) }
         ensures stands { (world : World) → CoreStandsFor self.now world →
@@ -149,7 +150,30 @@ impl Core {
         ensures meaning { (world : World) → CoreStandsFor self.now world →
             StandsFor result.now world.history }
     {
-        &self.state.space
+        self.state.space.space()
+    }
+
+    /// Makes the plan of all accepted commands, which [`Core::accepted_plan`] lends, where there is
+    /// none yet.
+    ///
+    /// # Errors
+    /// `NoMemory` where there is none for the plan.
+    pub fn prepare(&mut self) -> Result<(), NoMemory>
+        ensures { self.new ≡ self.old }
+    {
+        self.state.prepare()
+    }
+
+    /// The plan of all accepted commands: it is made by the first `prepare` or Publish, and edited
+    /// in place by each command from then on. None before that, and where a command put it off: a
+    /// change of the allowed nodes does, and one for whose edit there was no memory. Then `prepare`
+    /// makes it anew.
+    pub fn accepted_plan(&self) -> Option<&Plan>
+        ensures plan { IfSome result (λ plan. IsPlanOf self.now.space plan.now) }
+        ensures meaning { (world : World) → CoreStandsFor self.now world → IfSome result
+            (λ plan. PlanStandsFor self.now.space.machine plan.now world.history) }
+    {
+        self.state.space.plan()
     }
 
     /// The newest published version. Some execution leads to every core.

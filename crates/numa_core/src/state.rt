@@ -16,19 +16,20 @@ use crate::judging::row_for;
 use crate::places::Places;
 use crate::seat::Seat;
 use crate::tables::none_owned;
-use numa_compile::compile;
+use numa_compile::{PlannedSpace, compile};
 use numa_machine::{Frame, Machine, NoMemory};
 use numa_plan::Plan;
 use numa_space::event::{CoreRefusal, CoreReply};
-use numa_space::{Command, Limits, Placement, Request, Space};
+use numa_space::{Command, Limits, Placement, Request};
 use std::alloc::Global;
 
-/// The space of all accepted commands, the plan of those that are published, the workers' seats,
-/// the owner of each frame, and for each node how many of its lowest frames are known to be owned.
+/// The space of all accepted commands with its working plan, the plan of those that are published,
+/// the workers' seats, the owner of each frame, and for each node how many of its lowest frames are
+/// known to be owned.
 #[derive(Drop)]
 pub(crate) struct State {
     pub alloc: Global,
-    pub space: Space,
+    pub space: PlannedSpace,
     pub plan: Plan,
     pub places: Places,
     pub seats: Vec<Seat>,
@@ -80,8 +81,8 @@ impl State {
         let owners = none_owned(alloc, places.total())?;
         let taken = none_taken(alloc, &places)?;
         let seats = idle_seats(alloc, &places, workers)?;
-        let space = Space::new(alloc, machine, limits);
-        let plan = compile(alloc, &space)?;
+        let space = PlannedSpace::new(alloc, machine, limits);
+        let plan = compile(alloc, space.space())?;
         Ok(State {
             alloc,
             space,
@@ -99,12 +100,12 @@ impl State {
         ensures kept { IfOk result IsKept }
         ensures shown { IfOk result (λ copy. shown copy ≡ shown self.now) }
     {
-        let space = self.space.copy(self.alloc)?;
-        let plan = self.plan.copy(self.alloc)?;
-        let places = Places::new(self.alloc, space.machine())?;
+        let places = Places::new(self.alloc, self.space.space().machine())?;
         let seats = seat_copies(self.alloc, &self.seats)?;
         let owners = Vec::from_slice(self.alloc, &self.owners)?;
         let taken = Vec::from_slice(self.alloc, &self.taken)?;
+        let plan = self.plan.copy(self.alloc)?;
+        let space = self.space.copy(self.alloc)?;
         Ok(State {
             alloc: self.alloc,
             space,
@@ -124,11 +125,20 @@ impl State {
         ensures unchanged { OnErr result (shown self.new ≡ shown self.old) }
         ensures setup { setup_of (shown self.new) ≡ setup_of (shown self.old) }
     {
-        match self.space.apply(&command) {
+        match self.space.apply(self.alloc, &command) {
             Ok(()) => {}
             Err(refusal) => return Err(CoreRefusal::Command(refusal)),
         }
-        Ok(CoreReply::Accepted(self.space.version()))
+        Ok(CoreReply::Accepted(self.space.space().version()))
+    }
+
+    /// The working plan is made, where there is none yet.
+    pub(crate) fn prepare(&mut self) -> Result<(), NoMemory>
+        requires kept { IsKept self.old }
+        ensures kept { IsKept self.new }
+        ensures shown { shown self.new ≡ shown self.old }
+    {
+        self.space.prepare(self.alloc)
     }
 
     /// All accepted commands are published.
@@ -139,7 +149,7 @@ impl State {
         ensures unchanged { OnErr result (shown self.new ≡ shown self.old) }
         ensures setup { setup_of (shown self.new) ≡ setup_of (shown self.old) }
     {
-        match compile(self.alloc, &self.space) {
+        match self.space.plan_copy(self.alloc) {
             Ok(plan) => self.plan = plan,
             Err(_) => return Err(CoreRefusal::NoMemory),
         }

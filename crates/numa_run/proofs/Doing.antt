@@ -1,11 +1,7 @@
 -- What a running machine does with commands and the lines of workers.
-use Rattle.std.proofs.Common.{◌≡◌, ◌⊎◌, ℕ, Bool, true, false, Option, Some, None, Result, Ok, Err, is_some, refl, sym, ap, subst, ◌∙◌, inl, inr}
-use Rattle.std.specs.Prelude.{is_ok, is_err, List, if◌then◌else◌}
-use Rattle.std.specs.Option.{ForSome}
-use Rattle.numa_space.specs.declared.command.Command.{Command}
-use Rattle.numa_plan.specs.Meaning.{PlanData}
-use Rattle.numa_compile.specs.Standing.{PlanStandsFor}
-use Rattle.numa_core.specs.World.{Setup, World, newest_published}
+use Rattle.std.proofs.Common.{◌≡◌, ℕ, Bool, true, false, Some, None, Result, Ok, Err, is_some, refl, sym, ap, subst, ◌∙◌}
+use Rattle.std.specs.Prelude.{is_ok, is_err, if◌then◌else◌}
+use Rattle.numa_core.specs.World.{World, newest_published}
 use Rattle.numa_core.specs.Steps.{world_after, IsAnswer}
 use Rattle.numa_core.specs.Touching.{touched}
 use Rattle.numa_core.specs.Standing.{CoreState, CoreStandsFor, setup_of}
@@ -19,13 +15,13 @@ use Rattle.numa_space.specs.declared.event.CoreRefusal.{CoreRefusal}
 use Rattle.numa_space.specs.declared.event.CoreRefusal.TheVariants.{NoMemory}
 use Rattle.numa_maps.specs.Residents.{Kept, placed_at, with_placement, without_page}
 use Rattle.numa_run.specs.States.{State}
-use Rattle.numa_run.specs.Standing.{RunsAs, Does, state_with}
-use Rattle.numa_run.specs.Work.{is_accepted, won_by, event_answer, event_world, event_outcome, not_kept, kept_outcome, touch_by, touch_outcome, release_by, release_outcome}
+use Rattle.numa_run.specs.Standing.{IsCoreIn, RunsAs, Does, state_with}
+use Rattle.numa_run.specs.Work.{won_by, event_answer, event_world, event_outcome, not_kept, kept_outcome, touch_by, touch_outcome, release_by, release_outcome}
 use Rattle.numa_script.specs.Replies.{reply_to, win_of}
 use Rattle.numa_run.specs.declared.running.Running.{Running}
 use Rattle.numa_script.specs.declared.reply.Reply.{Reply}
 use Rattle.numa_script.specs.declared.reply.Reply.TheVariants as reply
-use Rattle.numa_run.proofs.Histories.{kept-by_event, kept-unless_accepted, touched-kept, answer-told, give-told}
+use Rattle.numa_run.proofs.Histories.{answer-told, give-told}
 
 -- what the core promises of a step, and of a touch
 abbrev pub Steps : CoreState → Event → Result CoreReply CoreRefusal → CoreState → Type 0
@@ -38,14 +34,10 @@ Touches old w request answer new =
     (world : World) → CoreStandsFor old world
     → (answer ≡ (touched (setup_of old) world w request).answer) × CoreStandsFor new (touched (setup_of old) world w request).world
 
--- a plan that is kept stands for the commands, where they are the same
-abbrev pub Plans : Setup → Option PlanData → List Command → Type 0
-Plans s plan history = ForSome plan (λ plan. PlanStandsFor s.machine plan history)
-
--- a running machine with another core, placed pages and plan
+-- a running machine with another core and placed pages
 pub moved : (old new : Running) (state : State) (world : World) (kept : Kept) → RunsAs old state → setup_of new.core ≡ setup_of old.core → CoreStandsFor new.core world → new.resident ≡ kept
-    → Plans (setup_of old.core) new.plan world.history → RunsAs new (record { bounds = state.bounds; machine = state.machine; world = world; resident = kept })
-moved old new state world kept stands same reached resident plan = record {
+    → RunsAs new (record { bounds = state.bounds; machine = state.machine; world = world; resident = kept })
+moved old new state world kept stands same reached resident = record {
   core = record {
     bounds = stands.core.bounds ∙ sym (ap (λ s. s.bounds) same);
     machine = stands.core.machine ∙ ap Some (sym (ap (λ s. s.machine) same));
@@ -53,54 +45,51 @@ moved old new state world kept stands same reached resident plan = record {
     world = reached;
   };
   resident = resident;
-  plan = subst (λ (s : Setup). Plans s new.plan world.history) (sym same) plan;
 }
 
--- the plan of before stands for a world with the same commands
-same-plan : (old new : Running) (state : State) (world : World) → RunsAs old state → new.plan ≡ old.plan → world.history ≡ state.world.history → Plans (setup_of old.core) new.plan world.history
-same-plan old new state world stands plan history = subst (λ h. Plans (setup_of old.core) new.plan h) (sym history) (subst (λ p. Plans (setup_of old.core) p state.world.history) (sym plan) stands.plan)
+-- the same core and placed pages stand for the same state
+pub same-core : (old new : Running) (state : State) → new.core ≡ old.core → new.resident ≡ old.resident → RunsAs old state → RunsAs new state
+same-core old new state core resident stands = record {
+  core = subst (λ (c : CoreState). IsCoreIn c state) (sym core) stands.core;
+  resident = resident ∙ stands.resident;
+}
 
 -- ---- one event
 
 pub does-event : (old new : Running) (event : Event) (answer : Result CoreReply CoreRefusal) → Steps old.core event answer new.core → setup_of new.core ≡ setup_of old.core → new.resident ≡ old.resident
-    → ((new.plan ≡ None) ⊎ ((is_accepted answer ≡ false) × (new.plan ≡ old.plan)))
     → Does old (reply_to answer) new (λ refused state. event_outcome refused (setup_of old.core) state.world state.resident event)
-does-event old new event answer steps same resident plan =
+does-event old new event answer steps same resident =
     λ state stands.
     let s = setup_of old.core in
     let step = steps state.world stands.core.world in
     let right = answer-told s state.world event answer step.0 in
     let after : World = world_after s state.world (newest_published state.world) event answer in
-    let there : after ≡ event_world right.0 s state.world event = ap (world_after s state.world (newest_published state.world) event) right.1 in
-    let plans : Plans s new.plan after.history = elim plan [
-      | inl none ↦ subst (λ (p : Option PlanData). Plans s p after.history) (sym none) (λ x odd. let no : false ≡ true = ap is_some odd in cc)
-      | inr kept ↦ same-plan old new state after stands kept.1 (kept-unless_accepted s state.world (newest_published state.world) event answer step.0 kept.0)
-    ] in (
+    let there : after ≡ event_world right.0 s state.world event = ap (world_after s state.world (newest_published state.world) event) right.1 in (
       right.0,
       ap reply_to right.1,
       subst (λ (w : World). RunsAs new (record { bounds = state.bounds; machine = state.machine; world = w; resident = state.resident })) there
-          (moved old new state after state.resident stands same step.1 (resident ∙ stands.resident) plans),
+          (moved old new state after state.resident stands same step.1 (resident ∙ stands.resident)),
     )
 
 -- ---- a Give that a line needs
 
 given : (old new : Running) (refused : Bool) (w : ℕ) (frame : Frame) (answer : Result CoreReply CoreRefusal) (kept : Kept) → Steps old.core (Give w frame) answer new.core → setup_of new.core ≡ setup_of old.core
-    → new.plan ≡ old.plan → new.resident ≡ kept → (state : State) → RunsAs old state
+    → new.resident ≡ kept → (state : State) → RunsAs old state
     → RunsAs new (record { bounds = state.bounds; machine = state.machine; world = event_world refused (setup_of old.core) state.world (Give w frame); resident = kept })
-given old new refused w frame answer kept steps same plan resident state stands =
+given old new refused w frame answer kept steps same resident state stands =
     let s = setup_of old.core in
     let step = steps state.world stands.core.world in
     let after : World = world_after s state.world (newest_published state.world) (Give w frame) answer in
     let there : after ≡ event_world refused s state.world (Give w frame) =
     ap (world_after s state.world (newest_published state.world) (Give w frame)) (give-told refused s state.world w frame answer step.0) in
     subst (λ (world : World). RunsAs new (record { bounds = state.bounds; machine = state.machine; world = world; resident = kept })) there
-    (moved old new state after kept stands same step.1 resident (same-plan old new state after stands plan (kept-by_event s state.world (newest_published state.world) (Give w frame) answer refl)))
+    (moved old new state after kept stands same step.1 resident)
 
 -- ---- a placement that was won
 
-pub keeps : (old new : Running) (w : ℕ) (placement : Placement) → new.core ≡ old.core → new.plan ≡ old.plan → placed_at old.resident placement.page ≡ None → new.resident ≡ with_placement old.resident placement
+pub keeps : (old new : Running) (w : ℕ) (placement : Placement) → new.core ≡ old.core → placed_at old.resident placement.page ≡ None → new.resident ≡ with_placement old.resident placement
     → Does old (reply.Won (win_of placement)) new (λ refused state. kept_outcome refused (setup_of old.core) state.world state.resident w placement)
-keeps old new w placement core plan free resident =
+keeps old new w placement core free resident =
     λ state stands.
     let none : placed_at state.resident placement.page ≡ None = subst (λ (kept : Kept). placed_at kept placement.page ≡ None) stands.resident free in
     let out : kept_outcome false (setup_of old.core) state.world state.resident w placement ≡ record { reply = reply.Won (win_of placement); world = state.world; resident = with_placement state.resident placement } = rw none refl in (
@@ -108,49 +97,48 @@ keeps old new w placement core plan free resident =
       sym (ap (λ o. o.reply) out),
       subst (λ o. RunsAs new (state_with state o)) (sym out)
           (moved old new state state.world (with_placement state.resident placement) stands (ap setup_of core) (subst (λ c. CoreStandsFor c state.world) (sym core) stands.core.world)
-          (resident ∙ ap (λ kept. with_placement kept placement) stands.resident) (same-plan old new state state.world stands plan refl)),
+          (resident ∙ ap (λ kept. with_placement kept placement) stands.resident)),
     )
 
 -- the page has a placement already
 pub gives-taken : (old new : Running) (w : ℕ) (placement : Placement) (answer : Result CoreReply CoreRefusal) → Steps old.core (Give w placement.frame) answer new.core → setup_of new.core ≡ setup_of old.core
-    → new.plan ≡ old.plan → new.resident ≡ old.resident → is_some (placed_at old.resident placement.page) ≡ true
+    → new.resident ≡ old.resident → is_some (placed_at old.resident placement.page) ≡ true
     → Does old (reply.Back placement.frame) new (λ refused state. kept_outcome refused (setup_of old.core) state.world state.resident w placement)
-gives-taken old new w placement answer steps same plan resident taken =
+gives-taken old new w placement answer steps same resident taken =
     λ state stands.
     let some : is_some (placed_at state.resident placement.page) ≡ true = subst (λ (kept : Kept). is_some (placed_at kept placement.page) ≡ true) stands.resident taken in
     let out : kept_outcome false (setup_of old.core) state.world state.resident w placement ≡ not_kept false (setup_of old.core) state.world state.resident w placement (reply.Back placement.frame) = rw some refl in (
       false,
       sym (ap (λ o. o.reply) out),
-      subst (λ o. RunsAs new (state_with state o)) (sym out) (given old new false w placement.frame answer state.resident steps same plan (resident ∙ stands.resident) state stands),
+      subst (λ o. RunsAs new (state_with state o)) (sym out) (given old new false w placement.frame answer state.resident steps same (resident ∙ stands.resident) state stands),
     )
 
 -- there is no memory for it
 pub gives-starved : (old new : Running) (w : ℕ) (placement : Placement) (answer : Result CoreReply CoreRefusal) → Steps old.core (Give w placement.frame) answer new.core → setup_of new.core ≡ setup_of old.core
-    → new.plan ≡ old.plan → new.resident ≡ old.resident → placed_at old.resident placement.page ≡ None
+    → new.resident ≡ old.resident → placed_at old.resident placement.page ≡ None
     → Does old (reply.Refused NoMemory) new (λ refused state. kept_outcome refused (setup_of old.core) state.world state.resident w placement)
-gives-starved old new w placement answer steps same plan resident free =
+gives-starved old new w placement answer steps same resident free =
     λ state stands.
     let none : placed_at state.resident placement.page ≡ None = subst (λ (kept : Kept). placed_at kept placement.page ≡ None) stands.resident free in
     let out : kept_outcome true (setup_of old.core) state.world state.resident w placement ≡ not_kept true (setup_of old.core) state.world state.resident w placement (reply.Refused NoMemory) = rw none refl in (
       true,
       sym (ap (λ o. o.reply) out),
-      subst (λ o. RunsAs new (state_with state o)) (sym out) (given old new true w placement.frame answer state.resident steps same plan (resident ∙ stands.resident) state stands),
+      subst (λ o. RunsAs new (state_with state o)) (sym out) (given old new true w placement.frame answer state.resident steps same (resident ∙ stands.resident) state stands),
     )
 
 -- ---- touch
 
 -- the machine after the core's touch
-touched-there : (old mid : Running) (w : ℕ) (request : Request) (answer : Result CoreReply CoreRefusal) → Touches old.core w request answer mid.core → setup_of mid.core ≡ setup_of old.core → mid.plan ≡ old.plan → mid.resident ≡ old.resident
+touched-there : (old mid : Running) (w : ℕ) (request : Request) (answer : Result CoreReply CoreRefusal) → Touches old.core w request answer mid.core → setup_of mid.core ≡ setup_of old.core → mid.resident ≡ old.resident
     → (state : State) → RunsAs old state → RunsAs mid (record { bounds = state.bounds; machine = state.machine; world = (touched (setup_of old.core) state.world w request).world; resident = state.resident })
-touched-there old mid w request answer touches same plan resident state stands =
+touched-there old mid w request answer touches same resident state stands =
     let s = setup_of old.core in
     let touch = touches state.world stands.core.world in
     moved old mid state (touched s state.world w request).world state.resident stands same touch.1 (resident ∙ stands.resident)
-    (same-plan old mid state (touched s state.world w request).world stands plan (touched-kept s state.world w request))
 
-pub touches-nothing : (old new : Running) (w : ℕ) (request : Request) (answer : Result CoreReply CoreRefusal) → Touches old.core w request answer new.core → setup_of new.core ≡ setup_of old.core → new.plan ≡ old.plan
+pub touches-nothing : (old new : Running) (w : ℕ) (request : Request) (answer : Result CoreReply CoreRefusal) → Touches old.core w request answer new.core → setup_of new.core ≡ setup_of old.core
     → new.resident ≡ old.resident → won_by answer ≡ None → Does old (reply_to answer) new (λ refused state. touch_outcome refused (setup_of old.core) state.world state.resident w request)
-touches-nothing old new w request answer touches same plan resident lost =
+touches-nothing old new w request answer touches same resident lost =
     λ state stands.
     let s = setup_of old.core in
     let t = touched s state.world w request in
@@ -159,20 +147,20 @@ touches-nothing old new w request answer touches same plan resident lost =
     let out : touch_by false s None t.answer t.world state.resident w ≡ touch_outcome false s state.world state.resident w request = ap (λ o. touch_by false s o t.answer t.world state.resident w) (sym none) in (
       false,
       ap reply_to touch.0 ∙ ap (λ o. o.reply) out,
-      subst (λ o. RunsAs new (state_with state o)) out (touched-there old new w request answer touches same plan resident state stands),
+      subst (λ o. RunsAs new (state_with state o)) out (touched-there old new w request answer touches same resident state stands),
     )
 
 pub touches-won : (old mid new : Running) (w : ℕ) (request : Request) (answer : Result CoreReply CoreRefusal) (placement : Placement) (said : Reply) → Touches old.core w request answer mid.core → setup_of mid.core ≡ setup_of old.core
-    → mid.plan ≡ old.plan → mid.resident ≡ old.resident → won_by answer ≡ Some placement
+    → mid.resident ≡ old.resident → won_by answer ≡ Some placement
     → Does mid said new (λ refused state. kept_outcome refused (setup_of mid.core) state.world state.resident w placement)
     → Does old said new (λ refused state. touch_outcome refused (setup_of old.core) state.world state.resident w request)
-touches-won old mid new w request answer placement said touches same plan resident won keep =
+touches-won old mid new w request answer placement said touches same resident won keep =
     λ state stands.
     let s = setup_of old.core in
     let t = touched s state.world w request in
     let touch = touches state.world stands.core.world in
     let some : won_by t.answer ≡ Some placement = ap won_by (sym touch.0) ∙ won in
-    let kept = keep (record { bounds = state.bounds; machine = state.machine; world = t.world; resident = state.resident }) (touched-there old mid w request answer touches same plan resident state stands) in
+    let kept = keep (record { bounds = state.bounds; machine = state.machine; world = t.world; resident = state.resident }) (touched-there old mid w request answer touches same resident state stands) in
     let out : kept_outcome kept.0 (setup_of mid.core) t.world state.resident w placement ≡ touch_outcome kept.0 s state.world state.resident w request =
     ap (λ r. kept_outcome kept.0 r t.world state.resident w placement) same ∙ ap (λ o. touch_by kept.0 s o t.answer t.world state.resident w) (sym some) in (
       kept.0,
@@ -183,9 +171,9 @@ touches-won old mid new w request answer placement said touches same plan reside
 -- ---- release
 
 pub releases : (old new : Running) (w page : ℕ) (placement : Placement) (answer : Result CoreReply CoreRefusal) → Steps old.core (Give w placement.frame) answer new.core → setup_of new.core ≡ setup_of old.core
-    → new.plan ≡ old.plan → placed_at old.resident page ≡ Some placement → new.resident ≡ (if is_ok answer then without_page old.resident page else old.resident)
+    → placed_at old.resident page ≡ Some placement → new.resident ≡ (if is_ok answer then without_page old.resident page else old.resident)
     → Does old (reply_to answer) new (λ refused state. release_outcome refused (setup_of old.core) state.world state.resident w page)
-releases old new w page placement answer steps same plan there resident =
+releases old new w page placement answer steps same there resident =
     λ state stands.
     let s = setup_of old.core in
     let some : placed_at state.resident page ≡ Some placement = subst (λ (kept : Kept). placed_at kept page ≡ Some placement) stands.resident there in
@@ -198,7 +186,7 @@ releases old new w page placement answer steps same plan there resident =
     ap (λ o. release_by false s o state.world state.resident w page) (sym some) in (
       false,
       ap reply_to right ∙ ap (λ o. o.reply) out,
-      subst (λ o. RunsAs new (state_with state o)) out (given old new false w placement.frame answer kept steps same plan is state stands),
+      subst (λ o. RunsAs new (state_with state o)) out (given old new false w placement.frame answer kept steps same is state stands),
     )
 
 -- the page keeps its placement where the Give is refused, and only there

@@ -5,5 +5,4 @@ pub mod JudgeLemmas
 pub mod Limiting
 pub mod LineLemmas
 pub mod Listed
-pub mod Resolved
 pub mod Spanned

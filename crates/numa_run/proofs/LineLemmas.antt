@@ -1,15 +1,12 @@
 -- What serving a line of each kind comes to.
-use Rattle.std.specs.Prelude.{◌≡◌, ℕ, is_some, ◌==◌, ◌||◌, nat_lt, if◌then◌else◌, Bool, true, false, Option, Some, None, List, [], refl, Ok, Err}
+use Rattle.std.specs.Prelude.{◌≡◌, ℕ, ◌==◌, ◌||◌, nat_lt, if◌then◌else◌, Bool, true, false, Option, Some, None, List, [], refl, Ok, Err}
 use Rattle.std.proofs.Common.{sym, ◌∙◌, ap, subst}
-use Rattle.std.specs.Option.{ForSome}
 use Rattle.numa_mask.specs.declared.list.ListFault.{ListFault}
 use Rattle.numa_machine.specs.Machine.{Hardware}
 use Rattle.numa_machine.specs.Faults.{hardware_fault}
 use Rattle.numa_machine.specs.declared.fault.MachineFault.{MachineFault}
 use Rattle.numa_machine.specs.declared.fault.MachineFault.TheVariants as machine_fault
 use Rattle.numa_space.specs.Limited.{Bounds}
-use Rattle.numa_plan.specs.Meaning.{PlanData}
-use Rattle.numa_compile.specs.Standing.{PlanStandsFor}
 use Rattle.numa_core.specs.World.{Setup, opening}
 use Rattle.numa_core.specs.Standing.{LeadsTo, setup_of}
 use Rattle.numa_script.specs.declared.policy.WordFault.TheVariants as word_fault
@@ -59,9 +56,9 @@ first_no_limits limits ranges tasks commands none = first_same limits (line.Limi
 
 -- a machine that is ready
 pub first_ready : (limits : Bounds) (said : MachineLine) (memory : ℕ) (running : Running) → said.memory ≡ Ok memory → first_fault false (hardware_of said memory) ≡ None
-    → setup_of running.core ≡ setup_with (hardware_of said memory) limits → LeadsTo [] running.core → running.resident ≡ [] → running.plan ≡ None
+    → setup_of running.core ≡ setup_with (hardware_of said memory) limits → LeadsTo [] running.core → running.resident ≡ []
     → Replies limits None (line.Machine said) (Some reply.Ready) limits (Some running)
-first_ready limits said memory running named sound setup leads resident plan =
+first_ready limits said memory running named sound setup leads resident =
     λ state stands.
     let ready : State = record { bounds = state.bounds; machine = Some (hardware_of said memory); world = opening; resident = [] } in
     let is : served false state (line.Machine said) ≡ replied reply.Ready ready =
@@ -74,7 +71,6 @@ first_ready limits said memory running named sound setup leads resident plan =
         world = leads.stands;
       };
       resident = resident;
-      plan = subst (λ (p : Option PlanData). ForSome p (λ q. PlanStandsFor (setup_of running.core).machine q [])) (sym plan) (λ x odd. let no : false ≡ true = ap is_some odd in cc);
     } in
     (false, sym (ap (λ r. reply_in r.answer) is), subst (λ (r : Served). RunsAs running r.state) (sym is) reached)
 

@@ -1,8 +1,8 @@
 -- What questions are answered, by all accepted commands, published or not. `refused` says whether a
 -- growth was refused while the question was served; where it can be, that comes before every other
 -- refusal.
-use Rattle.std.specs.Prelude.{◌≡◌, ℕ, ◌+◌, ◌≤◌, ◌<◌, Bool, true, not, Option, Some, None}
-use Rattle.std.specs.Prelude.{List, codes, length, map, if◌then◌else◌}
+use Rattle.std.specs.Prelude.{ℕ, Bool, not, Option, Some, None, List, codes, length, map}
+use Rattle.std.specs.Prelude.{if◌then◌else◌}
 use Rattle.std.specs.List.{range_with_len}
 use Rattle.numa_machine.specs.Machine.{Hardware}
 use Rattle.numa_ranges.specs.Maps.{any_page}
@@ -44,17 +44,6 @@ abbrev pub first_nodes : Hardware → List Command → ℕ → ℕ → ℕ → �
 first_nodes machine history task first pages cpu =
     map (λ page. first_node machine history task page cpu) (range_with_len first pages)
 
--- each page of a span is mapped
-abbrev pub AreMapped : List Command → ℕ → ℕ → Type 0
-AreMapped history first pages =
-    (page : ℕ) → first ≤ page → page < first + pages → is_mapped history page ≡ true
-
--- nothing refuses the pages from `first` on, and these are the first nodes of their lists
-abbrev pub AreFirsts : Hardware → List Command → ℕ → ℕ → ℕ → ℕ → List ℕ → Type 0
-AreFirsts machine history task first cpu pages nodes =
-    (cpu < machine.nodes) × AreMapped history first pages
-    × (nodes ≡ first_nodes machine history task first pages cpu)
-
 -- ---- questions
 
 -- place TASK ADDR CPU
@@ -87,10 +76,3 @@ question_text refused machine history (Span task address pages cpu) =
 question_text refused machine history (Counts task address pages cpu) =
     unless_starved refused (count_text machine history task (page_of address) pages cpu)
 question_text refused machine history Ranges = ranges_text machine history
-
--- for how many pages a question asks
-abbrev pub pages_asked : Question → ℕ
-pages_asked (Place task address cpu) = 1
-pages_asked (Span task address pages cpu) = pages
-pages_asked (Counts task address pages cpu) = pages
-pages_asked Ranges = 0

@@ -1,11 +1,6 @@
 -- Which states a running machine stands for, and what it does with lines.
-use Rattle.std.specs.Prelude.{◌≡◌, ℕ, Bool, Option, Some, None, List}
-use Rattle.std.specs.Option.{ForSome}
-use Rattle.numa_machine.specs.Machine.{Hardware}
+use Rattle.std.specs.Prelude.{◌≡◌, Bool, Option, Some, None}
 use Rattle.numa_space.specs.Limited.{Bounds}
-use Rattle.numa_space.specs.declared.command.Command.{Command}
-use Rattle.numa_plan.specs.Meaning.{PlanData}
-use Rattle.numa_compile.specs.Standing.{PlanStandsFor}
 use Rattle.numa_core.specs.Standing.{CoreState, CoreStandsFor, setup_of}
 use Rattle.numa_script.specs.declared.line.Line.{Line}
 use Rattle.numa_script.specs.declared.line.Line.TheVariants as line
@@ -25,20 +20,10 @@ pub record IsCoreIn (core : CoreState) (state : State) : Type 0 where
   pub workers : (setup_of core).workers ≡ 4
   pub world : CoreStandsFor core state.world
 
--- for how many pages at most a space answers a question, where no plan is kept
-abbrev pub most_resolved : ℕ
-most_resolved = 65536
-
--- a plan that is kept stands for all accepted commands
-abbrev pub PlansFor : Hardware → Option PlanData → List Command → Type 0
-PlansFor machine plan history = ForSome plan (λ plan. PlanStandsFor machine plan history)
-
--- a running machine stands for the state: its core is the state's, the same pages are placed, and a
--- plan that is kept stands for all accepted commands
+-- a running machine stands for the state: its core is the state's, and the same pages are placed
 pub record RunsAs (running : Running) (state : State) : Type 0 where
   pub core : IsCoreIn running.core state
   pub resident : running.resident ≡ state.resident
-  pub plan : PlansFor (setup_of running.core).machine running.plan state.world.history
 
 -- without a running machine the limits are those of the machine to come
 abbrev pub Stands : Bounds → Option Running → State → Type 0

@@ -36,16 +36,6 @@ pub record Outcome : Type 0 where
 
 -- ---- the core's answers
 
--- a command was accepted
-abbrev pub is_accepted : Result CoreReply CoreRefusal → Bool
-is_accepted (Ok (done.Accepted version)) = true
-is_accepted (Ok (done.Published version)) = false
-is_accepted (Ok done.Still) = false
-is_accepted (Ok (done.Exhausted version)) = false
-is_accepted (Ok (done.Won placement)) = false
-is_accepted (Ok done.Given) = false
-is_accepted (Err cause) = false
-
 -- the placement that was won, if one was
 abbrev pub won_by : Result CoreReply CoreRefusal → Option Placement
 won_by (Ok (done.Won placement)) = Some placement
@@ -57,14 +47,6 @@ won_by (Ok done.Given) = None
 won_by (Err cause) = None
 
 -- ---- one event
-
-abbrev pub is_accept : Event → Bool
-is_accept (Accept command) = true
-is_accept Publish = false
-is_accept (Begin w request) = false
-is_accept (Look w word) = false
-is_accept (Try w frame) = false
-is_accept (Give w frame) = false
 
 -- a command that may need room for a range or for a task's policy
 abbrev pub needs_room : Command → Bool

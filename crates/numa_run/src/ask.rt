@@ -4,7 +4,7 @@ ghost use Rattle.numa_compile.specs.Standing.{PlanStandsFor};
 ghost use Rattle.numa_machine.specs.Machine.{Hardware};
 ghost use Rattle.numa_space.specs.declared.command.Command.{Command};
 ghost use Rattle.line_server.specs.Written.{Said};
-ghost use Rattle.numa_run.specs.Questions.{count_text, pages_asked, place_text, question_text};
+ghost use Rattle.numa_run.specs.Questions.{count_text, place_text, question_text};
 ghost use Rattle.numa_run.specs.Questions.{span_text, unless_starved};
 
 use line_server::Watched;
@@ -14,18 +14,6 @@ use numa_script::tell::{say_counts, say_nodes, say_place_refusal, say_starved};
 use numa_space::PAGE_BYTES;
 use std::alloc::Global;
 use std::io::Write;
-
-/// For how many pages a question asks.
-pub(crate) fn pages_asked(question: Question) -> u64
-    ensures { result ≡ pages_asked question }
-{
-    match question {
-        Question::Place { .. } => 1,
-        Question::Span { pages, .. } => u64::from(pages),
-        Question::Counts { pages, .. } => pages,
-        Question::Ranges => 0,
-    }
-}
 
 /// `place TASK ADDR CPU`: the list of nodes of a page.
 pub(crate) fn say_place<W: Write>(

@@ -4,8 +4,6 @@
 mod ask;
 mod build;
 mod judging;
-mod lazy_plan;
-mod resolve;
 mod running;
 pub mod script;
 pub mod streams;

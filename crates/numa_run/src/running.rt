@@ -1,44 +1,26 @@
 //! A machine that is running.
-ghost use Rattle.std.specs.Prelude.{◌≡◌, ◌≤◌, Bool, List, [], None, Some, MatchResult, OnOk};
+ghost use Rattle.std.specs.Prelude.{◌≡◌, Bool, [], None, Some, MatchResult};
 ghost use Rattle.line_server.specs.Written.{Said};
 ghost use Rattle.numa_core.specs.Standing.{setup_of};
 ghost use Rattle.numa_run.specs.Answers.{State, after, answer_of};
-ghost use Rattle.numa_run.specs.Judged.{question_cause, question_refusal};
-ghost use Rattle.numa_run.specs.Questions.{pages_asked, question_text};
+ghost use Rattle.numa_run.specs.Judged.{question_cause};
+ghost use Rattle.numa_run.specs.Questions.{question_text};
 ghost use Rattle.numa_run.specs.Ranges.{listing_of};
-ghost use Rattle.numa_run.specs.Standing.{Does, RunsAs, Takes, most_resolved};
+ghost use Rattle.numa_run.specs.Standing.{Does, RunsAs, Takes};
 ghost use Rattle.numa_run.specs.Work.{event_outcome, kept_outcome, release_outcome, touch_outcome};
-ghost use Rattle.numa_run.specs.Work.{work_outcome, is_accepted, won_by};
+ghost use Rattle.numa_run.specs.Work.{work_outcome, won_by};
 ghost use Rattle.numa_script.specs.Replies.{reply_to};
 
-use crate::ask::{answer_by_plan, pages_asked};
+use crate::ask::answer_by_plan;
 use crate::judging::refusal_by_plan;
-use crate::lazy_plan::LazyPlan;
-use crate::resolve::{answer_by_space, refusal_by_space};
 use line_server::Watched;
 use numa_core::{Core, CoreRefusal, CoreReply, Event, Frame, Placement, Request};
 use numa_maps::{RecordRefusal, Resident, write_maps};
-use numa_plan::NoMemory;
 use numa_script::tell::{say_ranges, say_reply, say_starved};
 use numa_script::{Line, Question, Reply, Win, WordFault, Work};
 use numa_space::{Command, PlaceRefusal};
 use std::alloc::Global;
 use std::io::Write;
-
-/// Whether a command was accepted.
-fn is_accepted(answer: &Result<CoreReply, CoreRefusal>) -> bool
-    ensures { result ≡ is_accepted answer.now }
-{
-    match answer {
-        Ok(CoreReply::Accepted(_)) => true,
-        Ok(CoreReply::Published(_)) => false,
-        Ok(CoreReply::Still) => false,
-        Ok(CoreReply::Exhausted(_)) => false,
-        Ok(CoreReply::Won(_)) => false,
-        Ok(CoreReply::Given) => false,
-        Err(_) => false,
-    }
-}
 
 /// The placement that was won, or the reply where none was.
 fn won_by(answer: Result<CoreReply, CoreRefusal>) -> Result<Placement, Reply>
@@ -67,38 +49,32 @@ pub(crate) enum Taken {
     Maps(u32),
 }
 
-/// A machine that is running: its core, the pages that are placed, and the plan that is kept.
+/// A machine that is running: its core, which keeps the plan that answers questions, and the pages
+/// that are placed.
 #[derive(Drop)]
 pub(crate) struct Running {
     pub core: Core,
     pub resident: Resident,
-    pub plan: LazyPlan,
 }
 
 impl Running {
-    /// With no page placed, and no plan.
+    /// With no page placed.
     pub fn new(alloc: Global, core: Core) -> Running
         ensures core { result.core ≡ core }
         ensures resident { result.resident ≡ [] }
-        ensures plan { result.plan ≡ None }
     {
         Running {
             core,
             resident: Resident::new(alloc),
-            plan: LazyPlan::new(),
         }
     }
 
-    /// One event of the core. The plan is kept unless a command was accepted.
+    /// One event of the core.
     pub fn step(&mut self, event: Event) -> Reply
         ensures { Does self.old result self.new (λ refused state.
             event_outcome refused (setup_of self.old.core) state.world state.resident event) }
     {
         let answer = self.core.step(event);
-        if is_accepted(&answer) {
-            self.plan.clear();
-            return Reply::to_event(&answer);
-        }
         Reply::to_event(&answer)
     }
 
@@ -166,18 +142,6 @@ impl Running {
         }
     }
 
-    /// Readies the answer of a question: it is answered by a plan where one is kept then, else by
-    /// the space.
-    pub(crate) fn prepare(&mut self, alloc: Global, question: Question) -> Result<(), NoMemory>
-        ensures stands { (state : State) → RunsAs self.old state → RunsAs self.new state }
-        ensures few { OnOk result
-            (self.new.plan ≡ None → pages_asked question ≤ most_resolved) }
-        ensures core { self.new.core ≡ self.old.core }
-    {
-        self.plan
-            .prepare(alloc, self.core.space(), pages_asked(question))
-    }
-
     /// Answers a question.
     fn answer<W: Write>(&mut self, alloc: Global, question: Question, output: &mut Watched<W>)
         ensures { (state : State) → RunsAs self.old state → (refused : Bool)
@@ -189,13 +153,11 @@ impl Running {
             say_ranges(output, ranges);
             return;
         }
-        if self.prepare(alloc, question).is_err() {
-            say_starved(output);
-            return;
-        }
-        match self.plan.get() {
+        // Where it finds no memory, there may be no plan to ask.
+        let _ = self.core.prepare();
+        match self.core.accepted_plan() {
             Some(plan) => answer_by_plan(alloc, plan, question, output),
-            None => answer_by_space(alloc, self.core.space(), question, output),
+            None => say_starved(output),
         }
     }
 
@@ -250,20 +212,8 @@ impl Running {
         }
     }
 
-    /// The first cause that refuses a question about pages.
-    fn page_refusal(&self, question: Question) -> Option<PlaceRefusal>
-        requires { self.now.plan ≡ None → pages_asked question ≤ most_resolved }
-        ensures { (state : State) → RunsAs self.now state → result
-            ≡ question_refusal self.now.core.space.machine state.world.history question }
-    {
-        match self.plan.get() {
-            Some(plan) => refusal_by_plan(plan, question),
-            None => refusal_by_space(self.core.space(), question),
-        }
-    }
-
     /// The first cause that refuses a question.
-    pub fn question_cause(&mut self, alloc: Global, question: Question) -> Option<CoreRefusal>
+    pub fn question_cause(&mut self, question: Question) -> Option<CoreRefusal>
         ensures { (state : State) → RunsAs self.old state → (refused : Bool) × RunsAs self.new state
             × (result ≡ question_cause refused self.old.core.space.machine state.world.history
             question) }
@@ -271,15 +221,14 @@ impl Running {
         if let Question::Ranges = question {
             return None;
         }
-        if self.prepare(alloc, question).is_err() {
+        let _ = self.core.prepare();
+        let Some(plan) = self.core.accepted_plan() else {
             return Some(CoreRefusal::NoMemory);
-        }
-        match self.page_refusal(question) {
+        };
+        match refusal_by_plan(plan, question) {
             None => None,
             Some(PlaceRefusal::BadCpu) => Some(CoreRefusal::BadCpu),
-            Some(PlaceRefusal::Unmapped) => {
-                Some(CoreRefusal::Unmapped(self.core.space().version()))
-            }
+            Some(PlaceRefusal::Unmapped) => Some(CoreRefusal::Unmapped(plan.version())),
         }
     }
 }

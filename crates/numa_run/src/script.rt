@@ -170,7 +170,7 @@ impl Script {
         if let Some(running) = &mut self.running {
             return match running.take(line) {
                 Taken::Reply(reply) => fault_in(reply),
-                Taken::Question(question) => match running.question_cause(alloc, question) {
+                Taken::Question(question) => match running.question_cause(question) {
                     Some(cause) => Some(Reply::Refused(cause)),
                     None => None,
                 },

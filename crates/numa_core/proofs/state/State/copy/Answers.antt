@@ -1,7 +1,8 @@
-use Rattle.std.proofs.Common.{List, arith, ap, subst, ◌∙◌}
+use Rattle.std.proofs.Common.{List, arith, ap, sym, subst, ◌∙◌}
 use Rattle.std.proofs.lemmas.List.Elements.{length_all_zip}
 use Rattle.std.specs.List.{AllZip}
 use Rattle.numa_machine.specs.Machine.{Hardware}
+use Rattle.numa_space.specs.Standing.{SpaceState}
 use Rattle.numa_core.specs.declared.seat.Seat.{Seat}
 use Rattle.numa_core.specs.Seats.{IsSeatCopy}
 use Rattle.numa_core.proofs.Copied.{copies-busy, kept-copy}
@@ -10,8 +11,8 @@ use Rattle.numa_core.proofs.state.State.copy.Goals as goal
 pub returns-clause-kept : goal.returns-clause-kept
 returns-clause-kept c =
     let seats : AllZip IsSeatCopy c.args.self.now.seats.items c.in_ok-seats.seats.items = subst (λ (xs : List Seat). AllZip IsSeatCopy xs c.in_ok-seats.seats.items) c.deref.ensures.value c.in_ok-seats.ensures in
-    kept-copy c.args.self.now _ c.in_ok-space.ensures.same
-    (c.in_ok-places.ensures ∙ ap (λ (m : Hardware). m.frames) c.machine.ensures)
+    kept-copy c.args.self.now _ c.in_ok-space.ensures
+    (c.in_ok-places.ensures ∙ ap (λ (m : Hardware). m.frames) (c.machine.ensures ∙ ap (λ (s : SpaceState). s.machine) (c.space.ensures ∙ sym c.in_ok-space.ensures)))
     seats (omega (arith, c.in_ok-seats.seats.ok, c.args.self.now.seats.ok, length_all_zip IsSeatCopy c.args.self.now.seats.items c.in_ok-seats.seats.items seats))
     (c.in_ok-owners.ensures.items ∙ c.deref-2.ensures.value) (c.in_ok-owners.ensures.len ∙ c.deref-2.ensures.len)
     (c.in_ok-taken.ensures.items ∙ c.deref-3.ensures.value) c.requires.kept
@@ -20,7 +21,7 @@ pub returns-clause-shown : goal.returns-clause-shown
 returns-clause-shown c =
     let seats : AllZip IsSeatCopy c.args.self.now.seats.items c.in_ok-seats.seats.items = subst (λ (xs : List Seat). AllZip IsSeatCopy xs c.in_ok-seats.seats.items) c.deref.ensures.value c.in_ok-seats.ensures in
     λ i. record {
-      space = c.in_ok-space.ensures.same i;
+      space = c.in_ok-space.ensures i;
       plan = c.in_ok-plan.ensures i;
       workers = copies-busy c.args.self.now.seats.items c.in_ok-seats.seats.items seats i;
       owners = (c.in_ok-owners.ensures.items ∙ c.deref-2.ensures.value) i;

@@ -1,5 +1,7 @@
-use Rattle.std.proofs.Common.{[], arith, sym, ap, ◌∙◌}
+use Rattle.std.proofs.Common.{[], arith, sym, ap, subst, ◌∙◌}
 use Rattle.numa_machine.specs.Machine.{Hardware}
+use Rattle.numa_space.specs.Standing.{SpaceState, StandsFor}
+use Rattle.numa_compile.specs.Standing.{PlanStandsFor}
 use Rattle.numa_core.proofs.CoreSteps.{opened}
 use Rattle.numa_core.proofs.state.State.new.Goals as goal
 
@@ -13,4 +15,7 @@ returns-clause-kept c = record {
 }
 
 pub returns-clause-opens : goal.returns-clause-opens
-returns-clause-opens c = opened c.new-space.result c.in_ok-plan.plan c.in_ok-seats.seats.items c.in_ok-owners.owners.items c.new-space.ensures.stands (c.in_ok-plan.ensures.stands [] c.new-space.ensures.stands) (λ w seat at. (c.in_ok-seats.ensures.idle w seat at).0) c.in_ok-owners.ensures.owners
+returns-clause-opens c =
+    let stands = subst (λ (s : SpaceState). StandsFor s []) (sym c.space-2.ensures) c.new-space.ensures.stands in
+    let plan = subst (λ (s : SpaceState). PlanStandsFor s.machine c.in_ok-plan.plan []) c.space-2.ensures (c.in_ok-plan.ensures.stands [] stands) in
+    opened c.new-space.result c.in_ok-plan.plan c.in_ok-seats.seats.items c.in_ok-owners.owners.items c.new-space.ensures.stands plan (λ w seat at. (c.in_ok-seats.ensures.idle w seat at).0) c.in_ok-owners.ensures.owners

@@ -2,4 +2,6 @@ use Rattle.numa_core.proofs.CoreSteps.{publish-follows}
 use Rattle.numa_core.proofs.state.State.publish.Goals as goal
 
 pub returns-clause-follows : goal.returns-clause-follows
-returns-clause-follows c world stands = publish-follows c.args.self.now.space c.args.self.now.plan c.in-Ok.plan c.args.self.now.seats.items c.args.self.now.owners.items world c.version.result stands (c.in-Ok.ensures.stands world.history stands.space) c.version.ensures
+returns-clause-follows c world stands =
+    rw c.plan_copy.ensures.same
+    (publish-follows c.args.self.now.space c.args.self.now.plan c.in-Ok.plan c.args.self.now.seats.items c.args.self.now.owners.items world c.version.result stands (c.in-Ok.ensures.stands world.history stands.space) c.version.ensures)

@@ -1,9 +1,10 @@
-use Rattle.std.proofs.Common.{◌∙◌, ap, sym, false, ℕ, subst, ◌++◌, codes, decimal}
+use Rattle.std.proofs.Common.{◌∙◌, ap, sym, refl, false, ℕ, subst, ◌++◌, codes, decimal}
 use Rattle.line_server.proofs.Adding.{said_same}
 use Rattle.numa_space.specs.Refusals.{range_count_of}
 use Rattle.numa_space.specs.Standing.{SpaceState, StandsFor}
 use Rattle.numa_core.specs.Standing.{CoreState}
 use Rattle.numa_run.specs.Questions.{question_text}
+use Rattle.numa_run.proofs.Doing.{same-core}
 use Rattle.numa_run.proofs.running.Running.answer.Goals as goal
 
 pub returns-in-Ranges : goal.returns-in-Ranges
@@ -16,25 +17,10 @@ returns-in-Ranges g c =
 pub returns-in-Some : goal.returns-in-Some
 returns-in-Some g c =
     λ state stands.
-    let ready = c.prepare.ensures.stands state stands in
-    let plan = ready.plan c.in-Some.plan.now c.in-Some.ensures in
-    let said = c.answer_by_plan.ensures c.prepare.new.self.core.space.machine state.world.history plan in (
+    let ready = same-core c.args.self.now (record { core = c.prepare.new.self; resident = c.args.self.now.resident }) state c.prepare.ensures refl stands in
+    let said = c.answer_by_plan.ensures c.prepare.new.self.space.machine state.world.history (c.in-Some.ensures.meaning state.world ready.core.world) in (
       said.0,
       ready,
       said_same g.W.Write.contents c.args.output.now c.answer_by_plan.new.output _ _
-          (ap (λ (core : CoreState). question_text said.0 core.space.machine state.world.history c.args.question) c.prepare.ensures.core) said.1,
-    )
-
-pub returns-in-None : goal.returns-in-None
-returns-in-None g c =
-    λ state stands.
-    let ready = c.prepare.ensures.stands state stands in
-    let space : SpaceState = c.space-in-None.result.now in
-    let there = subst (λ s. StandsFor s state.world.history) (sym c.space-in-None.ensures.space) ready.core.world.space in
-    let said = c.answer_by_space.ensures state.world.history there in (
-      said.0,
-      ready,
-      said_same g.W.Write.contents c.args.output.now c.answer_by_space.new.output _ _
-          (ap (λ (s : SpaceState). question_text said.0 s.machine state.world.history c.args.question) c.space-in-None.ensures.space
-          ∙ ap (λ (core : CoreState). question_text said.0 core.space.machine state.world.history c.args.question) c.prepare.ensures.core) said.1,
+          (ap (λ (core : CoreState). question_text said.0 core.space.machine state.world.history c.args.question) c.prepare.ensures) said.1,
     )

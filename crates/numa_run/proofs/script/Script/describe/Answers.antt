@@ -25,4 +25,4 @@ returns-in-Ok-new c =
     let core = c.new-in-Ok-new.ensures.core in
     let setup = ap setup_of core ∙ c.in-Ok-new.ensures.setup ∙ ap (λ machine. setup_with machine c.args.self.now.limits) made.0 in
     (first_ready c.args.self.now.limits c.args.said.now c.in-Ok.memory c.new-in-Ok-new.result c.in-Ok.is (ap (first_fault false) (sym made.0) ∙ made.1) setup
-    (subst (LeadsTo []) (sym core) c.in-Ok-new.ensures.opens) c.new-in-Ok-new.ensures.resident c.new-in-Ok-new.ensures.plan)
+    (subst (LeadsTo []) (sym core) c.in-Ok-new.ensures.opens) c.new-in-Ok-new.ensures.resident)
