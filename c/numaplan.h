@@ -282,8 +282,9 @@ uint32_t np_core_give(np_core *core, uint32_t worker, uint8_t node, uint16_t fra
 
 /* ---- plans */
 
-/* Compiles all accepted commands of the core, published or not, into a plan. NP_OPEN where `plan`
- * keeps one, NP_CLOSED where `core` keeps none, NP_NO_MEMORY. */
+/* Compiles all accepted commands of the core, published or not, into a plan: the first time from
+ * nothing; later plans cost what the commands since have touched. NP_OPEN where `plan` keeps one,
+ * NP_CLOSED where `core` keeps none, NP_NO_MEMORY. */
 uint32_t np_core_compile(np_core *core, np_plan *plan);
 
 /* Keeps the plan of the published commands of the core, by which its workers place pages: the

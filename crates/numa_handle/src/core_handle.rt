@@ -5,7 +5,6 @@ ghost use Rattle.numa_handle.specs.Steps.{core_in, Steps, Touches, Compiles, Has
 
 use crate::handles::CoreHandle;
 use crate::kept::Kept;
-use numa_compile::compile;
 use numa_core::{Core, CoreRefusal, CoreReply, Event, NoMemory, Request};
 use numa_plan::Plan;
 use std::alloc::{AllocError, Global};
@@ -35,15 +34,39 @@ fn touch_kept(kept: &mut Kept, worker: u32, request: Request) -> Result<CoreRepl
     }
 }
 
-/// The plan of a kept core's accepted commands.
-fn compile_kept(kept: &Kept, alloc: Global) -> Result<Plan, NoMemory>
+/// A kept core makes the plan of its accepted commands, where it keeps none.
+fn prepare_kept(kept: &mut Kept) -> Result<(), NoMemory>
+    requires core { is_core (Some kept.old) ≡ true }
+    ensures { kept.new ≡ kept.old }
+{
+    match kept {
+        Kept::Core(core) => core.prepare(),
+        _ => unreachable!(),
+    }
+}
+
+/// A copy of the plan that a kept core keeps.
+fn copy_kept(kept: &Kept, alloc: Global) -> Result<Plan, NoMemory>
     requires core { is_core (Some kept.now) ≡ true }
     ensures plan { IfOk result (Compiles (core_of (Some kept.now))) }
 {
     let Kept::Core(core) = kept else {
         unreachable!()
     };
-    compile(alloc, core.space())
+    match core.accepted_plan() {
+        Some(plan) => plan.copy(alloc),
+        None => Err(NoMemory),
+    }
+}
+
+/// The plan of a kept core's accepted commands: a copy of the one that it keeps.
+fn compile_kept(kept: &mut Kept, alloc: Global) -> Result<Plan, NoMemory>
+    requires core { is_core (Some kept.old) ≡ true }
+    ensures same { kept.new ≡ kept.old }
+    ensures plan { IfOk result (Compiles (core_of (Some kept.old))) }
+{
+    prepare_kept(kept)?;
+    copy_kept(kept, alloc)
 }
 
 /// How many commands a kept core has accepted, and how many of them are published.
@@ -115,7 +138,8 @@ impl CoreHandle {
         Some(answer)
     }
 
-    /// The plan of all accepted commands; None where it keeps no core.
+    /// The plan of all accepted commands, a copy of the one that the core keeps from its first plan
+    /// on; None where this keeps no core.
     ///
     /// # Errors
     /// `NoMemory` where there is none for the plan.
@@ -125,8 +149,8 @@ impl CoreHandle {
         ensures plan { MatchOption result (core_in self.old ≡ None)
             (λ answer. IfOk answer (Compiles (core_in self.old))) }
     {
-        let kept = self.handle.take(alloc)?;
-        let answer = compile_kept(&kept, alloc);
+        let mut kept = self.handle.take(alloc)?;
+        let answer = compile_kept(&mut kept, alloc);
         self.handle.put(kept);
         Some(answer)
     }
