@@ -1,4 +1,5 @@
 pub mod Common
+pub mod Failing
 pub mod Filled
 pub mod Mapped
 pub mod Moved

@@ -1,9 +1,23 @@
--- Ranges without their policies.
-use Rattle.std.specs.Prelude.{Option}
+-- Ranges without their policies, and what stands at one moment.
+use Rattle.std.specs.Prelude.{◌≡◌, ℕ, Option, List}
+use Rattle.numa_machine.specs.Machine.{Hardware}
 use Rattle.numa_mode.specs.Policy.{PolicyRecord}
 use Rattle.numa_ranges.specs.declared.run.Run.{Run}
+use Rattle.numa_space.specs.Pages.{is_mapped}
+use Rattle.numa_space.specs.declared.command.Command.{Command}
+use Rattle.numa_compile.specs.Standing.{PlanStandsFor}
+use Rattle.numa_reports.specs.Common.{AreRising, has_page}
+use Rattle.numa_reports.specs.declared.outlook.Outlook.{Outlook}
 use Rattle.numa_reports.specs.declared.outlook.Span.{Span}
 
 -- the pages of a range
 abbrev pub span_of : Run (Option PolicyRecord) → Span
 span_of range = record { first = range.first; pages = range.pages }
+
+-- the outlook is that of the history: its plan stands for it, and its rising spans have the mapped
+-- pages
+pub record IsOutlook (machine : Hardware) (history : List Command)
+    (outlook : Outlook) : Type 0 where
+  pub plan : PlanStandsFor machine outlook.plan history
+  pub rising : AreRising 0 outlook.spans.items
+  pub pages : (page : ℕ) → has_page outlook.spans.items page ≡ is_mapped history page

@@ -16,25 +16,25 @@ pub enum ReportFault {
 }
 
 impl From<AllocError> for ReportFault {
-    fn from(_error: AllocError) -> ReportFault
-        ensures { result ≡ fault.Memory }
-    {
+    ghost from_gives = { λ _ given. given ≡ fault.Memory };
+
+    fn from(_error: AllocError) -> ReportFault {
         ReportFault::Memory
     }
 }
 
 impl From<PlaceRefusal> for ReportFault {
-    fn from(refusal: PlaceRefusal) -> ReportFault
-        ensures { result ≡ fault.Refused refusal }
-    {
+    ghost from_gives = { λ refusal given. given ≡ fault.Refused refusal };
+
+    fn from(refusal: PlaceRefusal) -> ReportFault {
         ReportFault::Refused(refusal)
     }
 }
 
 impl From<NoMemory> for ReportFault {
-    fn from(_error: NoMemory) -> ReportFault
-        ensures { result ≡ fault.Memory }
-    {
+    ghost from_gives = { λ _ given. given ≡ fault.Memory };
+
+    fn from(_error: NoMemory) -> ReportFault {
         ReportFault::Memory
     }
 }

@@ -1,11 +1,13 @@
 //! Where all mapped pages would go, on nodes that have so many free pages each.
-ghost use Rattle.std.specs.Prelude.{◌≡◌, ◌+◌, ◌-◌, ◌<◌, ◌≤◌, ◌^◌, ℕ, List, Err, OnOk, length};
-ghost use Rattle.std.specs.Prelude.{replicate, slice_index};
+ghost use Rattle.std.specs.Prelude.{◌≡◌, ◌+◌, ◌-◌, ◌<◌, ◌≤◌, ◌^◌, ℕ, List, Err, IfErr, OnOk};
+ghost use Rattle.std.specs.Prelude.{length, replicate, slice_index};
 ghost use Rattle.numa_compile.specs.Standing.{PlanStandsFor};
+ghost use Rattle.numa_plan.specs.Meaning.{RefusesSpan};
 ghost use Rattle.numa_space.specs.Standing.{StandsFor};
 ghost use Rattle.numa_space.specs.declared.command.Command.{Command};
 ghost use Rattle.numa_space.specs.declared.refusal.PlaceRefusal.TheVariants.{BadCpu};
 ghost use Rattle.numa_reports.specs.declared.fault.ReportFault.TheVariants.{Refused};
+ghost use Rattle.numa_reports.specs.Failing.{FailsBy, MayFail};
 ghost use Rattle.numa_reports.specs.Filled.{first_free, one_less, free_behind};
 ghost use Rattle.numa_reports.specs.Filled.{nodes_of, planned_nodes, with_named};
 ghost use Rattle.numa_reports.specs.Told.{IsFilling, IsTaken, ToldEach, ToldOne};
@@ -67,8 +69,9 @@ pub(crate) fn fill_span(
     free: &mut [u64; 256],
 ) -> Result<(), PlaceRefusal>
     requires { first + pages < 2 ^ 64 }
-    ensures { OnOk result (free.new
+    ensures free { OnOk result (free.new
         ≡ free_behind (planned_nodes plan.now task cpu) free.old first pages) }
+    ensures err { IfErr result (RefusesSpan plan.now first pages cpu) }
 {
     for page in first..first + pages {
         let nodes = plan.choice(task, page, cpu, &mut Steps::new())?;
@@ -88,8 +91,9 @@ pub(crate) fn fill_few(
     free: &mut [u64; 256],
 ) -> Result<(), PlaceRefusal>
     requires { first + length nodes.old < 2 ^ 64 }
-    ensures { OnOk result (free.new
+    ensures free { OnOk result (free.new
         ≡ free_behind (planned_nodes plan.now task cpu) free.old first (length nodes.old)) }
+    ensures err { IfErr result (RefusesSpan plan.now first (length nodes.old) cpu) }
 {
     for k in 0..nodes.len() {
         let list = plan.choice(task, first + k as u64, cpu, &mut Steps::new())?;
@@ -126,6 +130,8 @@ fn fill_next<T: TakeRange>(
     ensures told { (history : List Command) → StandsFor space.now history → OnOk result
         (ToldOne T.told (IsTaken space.now.machine history task free.old free.new)
         range.now taker.old taker.new) }
+    ensures err { IfErr result
+        (FailsBy (RefusesSpan plan.now range.now.first range.now.pages cpu)) }
 {
     let before = *free;
     fill_span(plan, task, cpu, range.first, range.pages, free)?;
@@ -141,8 +147,8 @@ fn fill_next<T: TakeRange>(
 /// addresses. The plan is one of the space. The time grows with the pages.
 ///
 /// # Errors
-/// `Refused(BadCpu)` where the machine has no node `cpu`; `Refused(Unmapped)` where the plan isn't
-/// one of the space; `Memory` where the taker had none.
+/// `Refused(BadCpu)` where the machine has no node `cpu`; `Refused(Unmapped)` only where the plan
+/// isn't one of the space; `Memory` where the taker had none.
 pub fn fill_all<T: TakeRange>(
     space: &Space,
     plan: &Plan,
@@ -158,6 +164,9 @@ pub fn fill_all<T: TakeRange>(
         → PlanStandsFor space.now.machine plan.now history → OnOk result (ToldEach T.told
         (IsFilling space.now.machine history task cpu free.old) space.now.ranges
         taker.old taker.new) }
+    ensures err { (history : List Command) → StandsFor space.now history
+        → PlanStandsFor space.now.machine plan.now history
+        → IfErr result (MayFail space.now.machine.nodes cpu) }
     ensures bad_cpu { space.now.machine.nodes ≤ cpu → result ≡ Err (Refused BadCpu) }
 {
     if cpu >= space.machine().nodes() {

@@ -1,9 +1,13 @@
 //! Which pages go to another node.
-ghost use Rattle.std.specs.Prelude.{◌≡◌, ◌≤◌, ◌<◌, ◌==◌, ◌&&◌, ℕ, List, length, slice_index};
-ghost use Rattle.std.specs.Prelude.{IfOk, OnOk, if◌then◌else◌};
+ghost use Rattle.std.specs.Prelude.{◌≡◌, ◌≤◌, ◌<◌, ◌==◌, ◌&&◌, ◌⊎◌, ℕ, List, length, slice_index};
+ghost use Rattle.std.specs.Prelude.{Err, IfErr, IfOk, OnOk, nat_lt, if◌then◌else◌};
 ghost use Rattle.numa_compile.specs.Standing.{PlanStandsFor};
 ghost use Rattle.numa_machine.specs.Machine.{Hardware};
+ghost use Rattle.numa_plan.specs.Meaning.{RefusesSpan};
 ghost use Rattle.numa_space.specs.declared.command.Command.{Command};
+ghost use Rattle.numa_space.specs.declared.refusal.PlaceRefusal.TheVariants.{BadCpu};
+ghost use Rattle.numa_reports.specs.declared.fault.ReportFault.TheVariants.{Refused};
+ghost use Rattle.numa_reports.specs.Failing.{MovesMayFail};
 ghost use Rattle.numa_reports.specs.Moved.{AddsMoves, AreMoves, HasRoomFor};
 ghost use Rattle.numa_reports.specs.Moved.{meant_moves, pairs, planned_moves};
 
@@ -57,6 +61,9 @@ fn add_filled(
     ensures ok { OnOk result (AddsMoves table.old.items table.new.items
         (planned_moves before.now after.now task cpu first (length old.old))) }
     ensures entries { length table.new.items ≡ 65536 }
+    ensures err { IfErr result (λ refusal.
+        RefusesSpan before.now first (length old.old) cpu refusal
+        ⊎ RefusesSpan after.now first (length old.old) cpu refusal) }
 {
     before.fill(task, cpu, first, old)?;
     after.fill(task, cpu, first, new)?;
@@ -79,6 +86,8 @@ fn add_block(
     ensures ok { OnOk result (AddsMoves table.old.items table.new.items
         (planned_moves before.now after.now task cpu first pages)) }
     ensures entries { length table.new.items ≡ 65536 }
+    ensures err { IfErr result (λ refusal. RefusesSpan before.now first pages cpu refusal
+        ⊎ RefusesSpan after.now first pages cpu refusal) }
 {
     let mut old = [0u8; BLOCK];
     let mut new = [0u8; BLOCK];
@@ -104,13 +113,18 @@ fn add_moves(
     pages: u64,
     table: &mut Vec<u64>,
 ) -> Result<(), PlaceRefusal>
+    requires known { cpu < before.now.nodes }
     requires room { HasRoomFor table.old.items pages }
     ensures ok { (machine : Hardware) (old new : List Command)
         → PlanStandsFor machine before.now old → PlanStandsFor machine after.now new
         → cpu < machine.nodes → OnOk result (AddsMoves table.old.items table.new.items
         (meant_moves machine old new task cpu first pages)) }
     ensures entries { length table.new.items ≡ 65536 }
+    ensures err { IfErr result (λ refusal. RefusesSpan before.now first pages cpu refusal
+        ⊎ RefusesSpan after.now first pages cpu refusal) }
 {
+    // Tells the proof that no run has a page behind the last that can be mapped.
+    let _ = before.run_count();
     let Some(end) = first.checked_add(pages) else {
         return Err(PlaceRefusal::Unmapped);
     };
@@ -121,6 +135,13 @@ fn add_moves(
         page += part;
     }
     Ok(())
+}
+
+/// Whether a plan has the node.
+fn has_node(plan: &Plan, node: u32) -> bool
+    ensures { result ≡ nat_lt node plan.now.nodes }
+{
+    plan.fill(0, node, 0, &mut []).is_ok()
 }
 
 /// A table without pages.
@@ -138,8 +159,8 @@ pub(crate) fn empty_table(alloc: Global, entries: usize) -> Result<Vec<u64>, All
 /// diagonal. The time grows with the pages.
 ///
 /// # Errors
-/// `Refused` where a plan has no node `cpu` or lacks a page of the span; `Memory` where there was
-/// none for the table.
+/// `Refused(BadCpu)` where a plan has no node `cpu`; `Memory` where there was none for the table;
+/// `Refused(Unmapped)` where a plan lacks a page of the span.
 pub fn span_moves(
     alloc: Global,
     before: &Plan,
@@ -154,7 +175,14 @@ pub fn span_moves(
         → cpu < machine.nodes
         → IfOk result (λ table. AreMoves machine old new task cpu first pages table.items) }
     ensures entries { IfOk result (λ table. length table.items ≡ 65536) }
+    ensures err { (machine : Hardware) (old new : List Command)
+        → PlanStandsFor machine before.now old → PlanStandsFor machine after.now new
+        → IfErr result (MovesMayFail machine old new first pages cpu) }
+    ensures bad_cpu { before.now.nodes ≤ cpu → result ≡ Err (Refused BadCpu) }
 {
+    if !has_node(before, cpu) {
+        return Err(ReportFault::Refused(PlaceRefusal::BadCpu));
+    }
     let mut table = empty_table(alloc, ENTRIES)?;
     add_moves(before, after, task, cpu, first, pages, &mut table)?;
     Ok(table)

@@ -1,10 +1,11 @@
 //! What stands at one moment: a plan, and which pages are mapped.
-ghost use Rattle.std.specs.Prelude.{◌≡◌, ◌<◌, ◌^◌, ◌++◌, List, map, IfOk};
+ghost use Rattle.std.specs.Prelude.{◌≡◌, ◌<◌, ◌^◌, ◌++◌, List, map, IfErr, IfOk};
 ghost use Rattle.numa_compile.specs.Standing.{PlanStandsFor};
 ghost use Rattle.numa_space.specs.Standing.{StandsFor};
 ghost use Rattle.numa_space.specs.declared.command.Command.{Command};
 ghost use Rattle.numa_reports.specs.Common.{AreCommon, AreRising, common_of, span_end};
-ghost use Rattle.numa_reports.specs.Mapped.{span_of};
+ghost use Rattle.numa_reports.specs.Mapped.{IsOutlook, span_of};
+ghost use Rattle.numa_reports.specs.declared.fault.ReportFault.TheVariants as fault;
 
 use crate::fault::ReportFault;
 use numa_compile::compile;
@@ -51,9 +52,12 @@ pub fn outlook_of(alloc: Global, space: &Space) -> Result<Outlook, ReportFault>
     ensures spans { IfOk result (λ outlook.
         outlook.spans.items ≡ map span_of space.now.ranges) }
     ensures rising { IfOk result (λ outlook. AreRising 0 outlook.spans.items) }
+    ensures outlook { (history : List Command) → StandsFor space.now history
+        → IfOk result (IsOutlook space.now.machine history) }
+    ensures err { IfErr result (λ why. why ≡ fault.Memory) }
 {
-    let plan = compile(alloc, space)?;
     let spans = spans_of(alloc, space)?;
+    let plan = compile(alloc, space)?;
     Ok(Outlook { plan, spans })
 }
 

@@ -3,13 +3,14 @@ ghost use Rattle.std.specs.Prelude.{◌≡◌, ◌≤◌, ◌<◌, ◌^◌, ⊤,
 ghost use Rattle.numa_compile.specs.Spans.{SpanIsRefused};
 ghost use Rattle.numa_compile.specs.Standing.{PlanStandsFor};
 ghost use Rattle.numa_mode.specs.Policy.{PolicyRecord};
-ghost use Rattle.numa_plan.specs.Meaning.{planned_count};
+ghost use Rattle.numa_plan.specs.Meaning.{RefusesSpan, planned_count};
 ghost use Rattle.numa_plan.specs.Tally.{Adds, HasRoom};
 ghost use Rattle.numa_ranges.specs.declared.run.Run.{Run};
 ghost use Rattle.numa_space.specs.Standing.{StandsFor};
 ghost use Rattle.numa_space.specs.declared.command.Command.{Command};
 ghost use Rattle.numa_space.specs.declared.refusal.PlaceRefusal.TheVariants.{BadCpu};
 ghost use Rattle.numa_reports.specs.declared.fault.ReportFault.TheVariants.{Refused};
+ghost use Rattle.numa_reports.specs.Failing.{FailsBy, MayFail};
 ghost use Rattle.numa_reports.specs.Predicted.{AreFirsts, IsPrediction};
 ghost use Rattle.numa_reports.specs.Told.{ToldEach, ToldOne};
 
@@ -50,6 +51,7 @@ pub fn predict_range(
     ensures err { (history : List Command) → PlanStandsFor space.now.machine plan.now history
         → IfErr result
         (SpanIsRefused space.now.machine history range.now.first range.now.pages cpu) }
+    ensures bad_cpu { plan.now.nodes ≤ cpu → result ≡ Err BadCpu }
 {
     let counts = match plan.counts(task, cpu, range.first, range.pages) {
         Ok(counts) => counts,
@@ -110,6 +112,8 @@ fn predict_next<T: TakeRange>(
     ensures told { (history : List Command) → StandsFor space.now history
         → PlanStandsFor space.now.machine plan.now history → OnOk result (ToldOne T.told
         (IsPrediction space.now.machine history task cpu) range.now taker.old taker.new) }
+    ensures err { IfErr result
+        (FailsBy (RefusesSpan plan.now range.now.first range.now.pages cpu)) }
 {
     let mut more = [0u64; 256];
     add_span(plan, task, cpu, range.first, range.pages, &mut more, counts)?;
@@ -122,8 +126,8 @@ fn predict_next<T: TakeRange>(
 /// and in the order of their addresses (`&mut ()` takes nothing). The plan is one of the space.
 ///
 /// # Errors
-/// `Refused(BadCpu)` where the machine has no node `cpu`; `Refused(Unmapped)` where the plan isn't
-/// one of the space; `Memory` where the taker had none.
+/// `Refused(BadCpu)` where the machine has no node `cpu`; `Refused(Unmapped)` only where the plan
+/// isn't one of the space; `Memory` where the taker had none.
 pub fn predict_all<T: TakeRange>(
     space: &Space,
     plan: &Plan,
@@ -137,6 +141,9 @@ pub fn predict_all<T: TakeRange>(
     ensures told { (history : List Command) → StandsFor space.now history
         → PlanStandsFor space.now.machine plan.now history → OnOk result (ToldEach T.told
         (IsPrediction space.now.machine history task cpu) space.now.ranges taker.old taker.new) }
+    ensures err { (history : List Command) → StandsFor space.now history
+        → PlanStandsFor space.now.machine plan.now history
+        → IfErr result (MayFail space.now.machine.nodes cpu) }
     ensures bad_cpu { space.now.machine.nodes ≤ cpu → result ≡ Err (Refused BadCpu) }
 {
     if cpu >= space.machine().nodes() {

@@ -1,6 +1,6 @@
 //! Counts by node, added up.
-ghost use Rattle.std.specs.Prelude.{◌≤◌, length, slice_index, OnOk};
-ghost use Rattle.numa_plan.specs.Meaning.{planned_count};
+ghost use Rattle.std.specs.Prelude.{◌≤◌, length, slice_index, IfErr, OnOk};
+ghost use Rattle.numa_plan.specs.Meaning.{RefusesSpan, planned_count};
 ghost use Rattle.numa_plan.specs.Tally.{Adds, HasRoom};
 ghost use Rattle.numa_reports.specs.Predicted.{places};
 
@@ -46,6 +46,7 @@ fn add_filled(
         (planned_count plan.now task cpu first (length nodes.old))) }
     ensures all { OnOk result (Adds all.old all.new
         (planned_count plan.now task cpu first (length nodes.old))) }
+    ensures err { IfErr result (RefusesSpan plan.now first (length nodes.old) cpu) }
 {
     plan.fill(task, cpu, first, nodes)?;
     add_nodes(counts, nodes);
@@ -70,6 +71,7 @@ fn add_few(
         (planned_count plan.now task cpu first pages)) }
     ensures all { OnOk result (Adds all.old all.new
         (planned_count plan.now task cpu first pages)) }
+    ensures err { IfErr result (RefusesSpan plan.now first pages cpu) }
 {
     let mut nodes = [0u8; FEW];
     add_filled(plan, task, cpu, first, &mut nodes[..pages], counts, all)
@@ -91,6 +93,7 @@ pub(crate) fn add_span(
         (planned_count plan.now task cpu first pages)) }
     ensures all { OnOk result (Adds all.old all.new
         (planned_count plan.now task cpu first pages)) }
+    ensures err { IfErr result (RefusesSpan plan.now first pages cpu) }
 {
     if pages <= FEW as u64 {
         return add_few(plan, task, cpu, first, pages as usize, counts, all);

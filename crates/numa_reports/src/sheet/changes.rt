@@ -1,9 +1,18 @@
 //! Differences as text.
+ghost use Rattle.std.specs.Prelude.{◌≡◌, ◌≤◌, List, Err, IfErr};
+ghost use Rattle.numa_compile.specs.Standing.{PlanStandsFor};
+ghost use Rattle.numa_machine.specs.Machine.{Hardware};
+ghost use Rattle.numa_space.specs.declared.command.Command.{Command};
+ghost use Rattle.numa_space.specs.declared.refusal.PlaceRefusal.TheVariants.{BadCpu};
+ghost use Rattle.numa_reports.specs.declared.fault.ReportFault.TheVariants.{Refused};
+ghost use Rattle.numa_reports.specs.Failing.{MayFail, MovesMayFail};
+ghost use Rattle.numa_reports.specs.Mapped.{IsOutlook};
 
 use crate::fault::ReportFault;
 use crate::moves::{ENTRIES, empty_table, span_moves};
 use crate::outlook::{Outlook, Span, common_spans};
 use crate::sheet::fields::address;
+use numa_plan::Plan;
 use numa_space::PlaceRefusal;
 use std::alloc::{AllocError, Global};
 use std::fmt::Write;
@@ -92,12 +101,36 @@ fn add_table(total: &mut Vec<u64>, table: &[u64]) {
     }
 }
 
+/// Adds the line of a span, and its pages to those of all.
+fn push_span(
+    alloc: Global,
+    before: &Plan,
+    after: &Plan,
+    nodes: u32,
+    task: u32,
+    cpu: u32,
+    span: Span,
+    text: &mut Vec<u8>,
+    total: &mut Vec<u64>,
+) -> Result<(), ReportFault>
+    ensures { (machine : Hardware) (old new : List Command)
+        → PlanStandsFor machine before.now old → PlanStandsFor machine after.now new
+        → IfErr result (MovesMayFail machine old new span.first span.pages cpu) }
+{
+    let table = span_moves(alloc, before, after, task, cpu, span.first, span.pages)?;
+    let line = span_line(alloc, span, table.as_slice(), nodes)?;
+    text.extend_from_slice(line.as_bytes())?;
+    add_table(total, table.as_slice());
+    Ok(())
+}
+
 /// Which pages go to another node, if the task touched each of them on a CPU of node `cpu` after
 /// and not before: a line for each span of pages of which some do, with how many go from which node
 /// to which, and a last line with all.
 ///
 /// # Errors
-/// `Refused` where the machine has no node `cpu`; `Memory` where there was none.
+/// `Refused(BadCpu)` where the machine has no node `cpu`; `Refused(Unmapped)` only where an outlook
+/// has a page that its plan lacks; `Memory` where there was none for the text.
 pub fn difference_text(
     alloc: Global,
     before: &Outlook,
@@ -105,7 +138,12 @@ pub fn difference_text(
     nodes: u32,
     task: u32,
     cpu: u32,
-) -> Result<Vec<u8>, ReportFault> {
+) -> Result<Vec<u8>, ReportFault>
+    ensures err { (machine : Hardware) (old new : List Command) → nodes ≡ machine.nodes
+        → IsOutlook machine old before.now → IsOutlook machine new after.now
+        → IfErr result (MayFail nodes cpu) }
+    ensures bad_cpu { nodes ≤ cpu → result ≡ Err (Refused BadCpu) }
+{
     if cpu >= nodes {
         return Err(ReportFault::Refused(PlaceRefusal::BadCpu));
     }
@@ -113,11 +151,17 @@ pub fn difference_text(
     let mut total = empty_table(alloc, ENTRIES)?;
     let mut text = Vec::new(alloc);
     for span in &spans {
-        let Span { first, pages } = *span;
-        let table = span_moves(alloc, &before.plan, &after.plan, task, cpu, first, pages)?;
-        let line = span_line(alloc, *span, table.as_slice(), nodes)?;
-        text.extend_from_slice(line.as_bytes())?;
-        add_table(&mut total, table.as_slice());
+        push_span(
+            alloc,
+            &before.plan,
+            &after.plan,
+            nodes,
+            task,
+            cpu,
+            *span,
+            &mut text,
+            &mut total,
+        )?;
     }
     let line = total_line(alloc, total.as_slice(), nodes)?;
     text.extend_from_slice(line.as_bytes())?;

@@ -1,4 +1,11 @@
 //! A prediction, part by part, in the format that was asked for.
+ghost use Rattle.std.specs.Prelude.{◌≡◌, ◌≤◌, List, Err, IfErr};
+ghost use Rattle.numa_compile.specs.Standing.{PlanStandsFor};
+ghost use Rattle.numa_space.specs.Standing.{StandsFor};
+ghost use Rattle.numa_space.specs.declared.command.Command.{Command};
+ghost use Rattle.numa_space.specs.declared.refusal.PlaceRefusal.TheVariants.{BadCpu};
+ghost use Rattle.numa_reports.specs.declared.fault.ReportFault.TheVariants.{Refused};
+ghost use Rattle.numa_reports.specs.Failing.{MayFail};
 
 use crate::fault::ReportFault;
 use crate::filling::{FreePages, fill_all, free_of, taken};
@@ -8,7 +15,7 @@ use crate::sheet::fields::{Placed, PolicyTexts, sum};
 use crate::sheet::{Format, lines, objects, pictures, records};
 use numa_mode::Record;
 use numa_plan::Plan;
-use numa_space::{RangeRecord, Run, Space};
+use numa_space::{PlaceRefusal, RangeRecord, Run, Space};
 use std::alloc::{AllocError, Global};
 
 /// What is written so far.
@@ -139,7 +146,11 @@ fn cells_by(
     task: u32,
     cpu: u32,
     free: &[FreePages],
-) -> Result<Vec<u8>, ReportFault> {
+) -> Result<Vec<u8>, ReportFault>
+    ensures err { (history : List Command) → StandsFor space.now history
+        → PlanStandsFor space.now.machine plan.now history
+        → IfErr result (MayFail space.now.machine.nodes cpu) }
+{
     if free.is_empty() {
         return first_cells(alloc, space, plan, task, cpu);
     }
@@ -155,7 +166,11 @@ fn begin(
     cpu: u32,
     format: Format,
     free: &[FreePages],
-) -> Result<Parts, ReportFault> {
+) -> Result<Parts, ReportFault>
+    ensures err { (history : List Command) → StandsFor space.now history
+        → PlanStandsFor space.now.machine plan.now history
+        → IfErr result (MayFail space.now.machine.nodes cpu) }
+{
     let text = head(alloc, space, plan, task, cpu, format)?;
     let cells = match format {
         Format::Svg => cells_by(alloc, space, plan, task, cpu, free)?,
@@ -178,7 +193,8 @@ fn begin(
 /// range by range, and in all. The plan is one of the space.
 ///
 /// # Errors
-/// `Refused` where the machine has no node `cpu`; `Memory` where there was none for the text.
+/// `Refused(BadCpu)` where the machine has no node `cpu`; `Refused(Unmapped)` only where the plan
+/// isn't one of the space; `Memory` where there was none for the text.
 pub fn prediction_text(
     alloc: Global,
     space: &Space,
@@ -186,7 +202,15 @@ pub fn prediction_text(
     task: u32,
     cpu: u32,
     format: Format,
-) -> Result<Vec<u8>, ReportFault> {
+) -> Result<Vec<u8>, ReportFault>
+    ensures err { (history : List Command) → StandsFor space.now history
+        → PlanStandsFor space.now.machine plan.now history
+        → IfErr result (MayFail space.now.machine.nodes cpu) }
+    ensures bad_cpu { space.now.machine.nodes ≤ cpu → result ≡ Err (Refused BadCpu) }
+{
+    if cpu >= space.machine().nodes() {
+        return Err(ReportFault::Refused(PlaceRefusal::BadCpu));
+    }
     let mut parts = begin(alloc, space, plan, task, cpu, format, &[])?;
     let counts = predict_all(space, plan, task, cpu, &mut parts)?;
     parts.push_total(&counts, &[])?;
@@ -215,7 +239,8 @@ fn left_on(
 /// nodes that are named. The plan is one of the space. The time grows with the pages.
 ///
 /// # Errors
-/// `Refused` where the machine has no node `cpu`; `Memory` where there was none for the text.
+/// `Refused(BadCpu)` where the machine has no node `cpu`; `Refused(Unmapped)` only where the plan
+/// isn't one of the space; `Memory` where there was none for the text.
 pub fn filling_text(
     alloc: Global,
     space: &Space,
@@ -224,7 +249,15 @@ pub fn filling_text(
     cpu: u32,
     format: Format,
     free: &[FreePages],
-) -> Result<Vec<u8>, ReportFault> {
+) -> Result<Vec<u8>, ReportFault>
+    ensures err { (history : List Command) → StandsFor space.now history
+        → PlanStandsFor space.now.machine plan.now history
+        → IfErr result (MayFail space.now.machine.nodes cpu) }
+    ensures bad_cpu { space.now.machine.nodes ≤ cpu → result ≡ Err (Refused BadCpu) }
+{
+    if cpu >= space.machine().nodes() {
+        return Err(ReportFault::Refused(PlaceRefusal::BadCpu));
+    }
     let mut parts = begin(alloc, space, plan, task, cpu, format, free)?;
     let before = free_of(free);
     let mut after = before;

@@ -1,11 +1,11 @@
 use Rattle.std.proofs.Common.{◌≡◌, ℕ, ◌<◌, List, arith, ap, subst, ◌∙◌, sym, refl, Option}
+use Rattle.std.proofs.lemmas.Result.{err_from_is_err_and}
 use Rattle.numa_machine.specs.Machine.{Hardware}
 use Rattle.numa_mode.specs.Policy.{PolicyRecord}
-use Rattle.numa_ranges.specs.Runs.{AreApart, end_of}
 use Rattle.numa_ranges.specs.declared.run.Run.{Run}
-use Rattle.numa_ranges.proofs.Apart.{apart-top}
 use Rattle.numa_reports.specs.Filled.{planned_nodes}
 use Rattle.numa_reports.specs.Told.{IsTaken, ToldOne}
+use Rattle.numa_reports.proofs.Refusing.{left-all, left-end, left-next, range-fails}
 use Rattle.numa_reports.proofs.Taking.{free_runs, free-all}
 use Rattle.numa_reports.proofs.Telling.{FilledEach, filled-all}
 use Rattle.numa_reports.proofs.filling.fill_all.Goals as goal
@@ -17,25 +17,22 @@ loop-range-init g c =
     record {
       left = ap (λ (runs : List (Run (Option PolicyRecord))). free_runs nodes c.args.free.now runs) runs;
       apart = c.range_iter-range-items.ensures.rising;
-      rest = (0, subst (λ (runs : List (Run (Option PolicyRecord))). AreApart 0 runs) (sym runs) c.range_iter-range-items.ensures.rising);
+      rest = left-all c.into_iter-range-iterator.result c.args.space.now.ranges runs c.range_iter-range-items.ensures.rising;
       told = λ history stands end has. subst (λ (runs : List (Run (Option PolicyRecord))). FilledEach g.T.TakeRange.told (IsTaken c.args.space.now.machine history c.args.task) nodes c.args.free.now runs c.args.taker.now end) runs has;
     }
 
 pub fill_next-requires : goal.fill_next-requires
-fill_next-requires g c =
-    let apart = subst (λ (runs : List (Run (Option PolicyRecord))). AreApart c.loop-range.invariant.rest.0 runs) c.in-Some.ensures.steps c.loop-range.invariant.rest.1 in
-    omega (arith, apart-top (end_of c.in-Some.range.now) c.next.new.self apart.3)
+fill_next-requires g c = omega (arith, left-end c.loop-range.range-iterator c.args.space.now.ranges c.next.new.self c.in-Some.range.now c.loop-range.invariant.rest c.in-Some.ensures.steps)
 
 pub loop-range-preserved : goal.loop-range-preserved
 loop-range-preserved g c =
-    let apart = subst (λ (runs : List (Run (Option PolicyRecord))). AreApart c.loop-range.invariant.rest.0 runs) c.in-Some.ensures.steps c.loop-range.invariant.rest.1 in
     let nodes = planned_nodes c.args.plan.now c.args.task c.args.cpu in
     record {
       left = ap (λ (f : List ℕ). free_runs nodes f c.next.new.self) c.in_ok-fill_next.ensures.free
           ∙ sym (ap (λ (runs : List (Run (Option PolicyRecord))). free_runs nodes c.loop-range.free runs) c.in-Some.ensures.steps)
           ∙ c.loop-range.invariant.left;
       apart = c.loop-range.invariant.apart;
-      rest = (end_of c.in-Some.range.now, apart.3);
+      rest = left-next c.loop-range.range-iterator c.args.space.now.ranges c.next.new.self c.in-Some.range.now c.loop-range.invariant.rest c.in-Some.ensures.steps;
       told = λ history stands end has.
           let takes = IsTaken c.args.space.now.machine history c.args.task in
           let both = subst (λ (f : List ℕ). ToldOne g.T.TakeRange.told (takes c.loop-range.free f) c.in-Some.range.now c.loop-range.taker c.fill_next.new.taker × FilledEach g.T.TakeRange.told takes nodes f c.next.new.self c.fill_next.new.taker end) c.in_ok-fill_next.ensures.free
@@ -58,3 +55,8 @@ returns-clause-told g c history stands planned =
     filled-all g.T.TakeRange.told c.args.space.now c.args.plan.now history c.args.task c.args.cpu c.args.free.now c.args.taker.now c.loop-range.taker stands planned lt c.loop-range.invariant.apart
     (c.loop-range.invariant.told history stands c.loop-range.taker
     (subst (λ (runs : List (Run (Option PolicyRecord))). FilledEach g.T.TakeRange.told (IsTaken c.args.space.now.machine history c.args.task) (planned_nodes c.args.plan.now c.args.task c.args.cpu) c.loop-range.free runs c.loop-range.taker c.loop-range.taker) (sym c.in-None.ensures.steps.0) refl))
+
+pub returns-in_err-fill_next-clause-err : goal.returns-in_err-fill_next-clause-err
+returns-in_err-fill_next-clause-err g c history stands planned =
+    let exit = err_from_is_err_and c.from_residual.result c.from_residual.ensures.1 in
+    rw (exit.1, exit.2) (range-fails c.args.space.now c.args.plan.now history c.loop-range.range-iterator c.next.new.self c.in-Some.range.now c.args.cpu c.in_err-fill_next.field-0.0 stands planned c.loop-range.invariant.rest c.in-Some.ensures.steps c.in_err-fill_next.ensures.err)

@@ -1,9 +1,10 @@
-use Rattle.std.proofs.Common.{◌≡◌, ℕ, List}
+use Rattle.std.proofs.Common.{◌≡◌, List}
 use Rattle.numa_ranges.specs.Runs.{AreApart}
 use Rattle.numa_space.specs.Standing.{StandsFor}
 use Rattle.numa_space.specs.declared.command.Command.{Command}
 use Rattle.numa_reports.specs.Filled.{planned_nodes}
 use Rattle.numa_reports.specs.Told.{IsTaken}
+use Rattle.numa_reports.proofs.Refusing.{AreLeft}
 use Rattle.numa_reports.proofs.Taking.{free_runs}
 use Rattle.numa_reports.proofs.Telling.{FilledEach}
 use Rattle.numa_reports.proofs.filling.fill_all.Given as goal
@@ -12,7 +13,7 @@ abbrev pub invariant-loop-range : goal.invariant-loop-range
 invariant-loop-range g l = record {
   left : free_runs (planned_nodes l.plan l.task l.cpu) l.free l.range-iterator ≡ free_runs (planned_nodes l.plan l.task l.cpu) l.fn.free l.space.ranges;
   apart : AreApart 0 l.space.ranges;
-  rest : (from : ℕ) × AreApart from l.range-iterator;
+  rest : AreLeft l.range-iterator l.space.ranges;
   told : (history : List Command) → StandsFor l.space history → (end : g.row.T.Denot)
       → FilledEach g.T.TakeRange.told (IsTaken l.space.machine history l.task) (planned_nodes l.plan l.task l.cpu) l.free l.range-iterator l.taker end
       → FilledEach g.T.TakeRange.told (IsTaken l.space.machine history l.task) (planned_nodes l.plan l.task l.cpu) l.fn.free l.space.ranges l.fn.taker end;

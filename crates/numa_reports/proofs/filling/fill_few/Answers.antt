@@ -1,5 +1,7 @@
 use Rattle.std.proofs.Common.{◌≡◌, ℕ, ◌+◌, ◌-◌, arith, ap, sym, ◌∙◌, length, length-set}
 use Rattle.numa_reports.specs.Filled.{free_behind, planned_nodes}
+use Rattle.std.proofs.lemmas.Result.{err_from_is_err_and}
+use Rattle.numa_reports.proofs.Refusing.{page-refused}
 use Rattle.numa_reports.proofs.Taking.{free-next, free-start}
 use Rattle.numa_reports.proofs.filling.fill_few.Goals as goal
 
@@ -14,8 +16,13 @@ loop-k-preserved c =
           ∙ c.loop-k.invariant.left;
     }
 
-pub returns : goal.returns
-returns c =
+pub returns-clause-free : goal.returns-clause-free
+returns-clause-free c =
     let nodes = planned_nodes c.args.plan.now c.args.task c.args.cpu in
     let none : length c.args.nodes.now - c.loop-k.k ≡ 0 = omega (arith, c.loop-k-test.false, c.loop-k.invariant.long) in
     sym (free-start nodes c.loop-k.free (c.args.first + c.loop-k.k)) ∙ sym (ap (λ (k : ℕ). free_behind nodes c.loop-k.free (c.args.first + c.loop-k.k) k) none) ∙ c.loop-k.invariant.left
+
+pub returns-in_err-list-clause-err : goal.returns-in_err-list-clause-err
+returns-in_err-list-clause-err c =
+    let exit = err_from_is_err_and c.from_residual.result c.from_residual.ensures.1 in
+    rw (exit.1, exit.2) (page-refused c.args.plan.now c.args.first (length c.args.nodes.now) (c.args.first + c.loop-k.k) c.args.cpu c.in_err-list.field-0.0 c.in_err-list.ensures.err (omega arith) (omega (arith, c.loop-k-test.true, c.loop-k.invariant.long)))

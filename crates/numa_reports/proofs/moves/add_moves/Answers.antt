@@ -1,8 +1,10 @@
-use Rattle.std.proofs.Common.{◌≡◌, ℕ, ◌-◌, ◌&&◌, Bool, arith, ap}
+use Rattle.std.proofs.Common.{◌≡◌, ℕ, ◌-◌, ◌&&◌, Bool, arith, ap, inl}
+use Rattle.std.proofs.lemmas.Result.{err_from_is_err_and}
 use Rattle.numa_ranges.specs.Counts.{count_pages}
 use Rattle.numa_plan.specs.Meaning.{is_number, planned_first}
 use Rattle.numa_plan.proofs.CountLemmas.{count-most}
 use Rattle.numa_reports.proofs.Moving.{count-more, none-moved, moves-meant}
+use Rattle.numa_reports.proofs.Refusing.{both-part, far-refused}
 use Rattle.numa_reports.proofs.moves.add_moves.Goals as goal
 
 pub loop-page-init : goal.loop-page-init
@@ -36,3 +38,11 @@ returns-clause-ok c machine old new was is lt from to f t =
     let test : ℕ → Bool = λ page. is_number from (planned_first c.args.before.now c.args.task page c.args.cpu) && is_number to (planned_first c.args.after.now c.args.task page c.args.cpu) in
     let all : c.loop-page.page - c.args.first ≡ c.args.pages = omega (arith, c.loop-page.invariant.low, c.loop-page.invariant.high) in
     omega (arith, c.loop-page.invariant.counted from to f t, ap (λ (n : ℕ). count_pages test c.args.first n) all, moves-meant machine c.args.before.now c.args.after.now old new c.args.task c.args.cpu c.args.first c.args.pages from to was is lt)
+
+pub returns-in_default-clause-err : goal.returns-in_default-clause-err
+returns-in_default-clause-err c = inl (far-refused c.args.before.now c.args.first c.args.pages c.args.cpu c.run_count.ensures.apart c.requires.known (omega arith) (omega (arith, c.in_default.ensures)))
+
+pub returns-in_err-add_block-clause-err : goal.returns-in_err-add_block-clause-err
+returns-in_err-add_block-clause-err c =
+    let exit = err_from_is_err_and c.from_residual.result c.from_residual.ensures.1 in
+    rw (exit.1, exit.2) (both-part c.args.before.now c.args.after.now c.args.first c.args.pages c.loop-page.page c.min-part.result c.args.cpu c.in_err-add_block.field-0.0 c.loop-page.invariant.low (omega (arith, c.min-part.ensures)) c.in_err-add_block.ensures.err)

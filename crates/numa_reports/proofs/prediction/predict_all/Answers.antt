@@ -1,5 +1,6 @@
 use Rattle.std.proofs.Common.{◌≡◌, ℕ, ◌<◌, List, arith, ap, subst, sym, ◌∙◌, Option, Bool, refl, length}
 use Rattle.std.proofs.lemmas.Simd.{get_or-replicate}
+use Rattle.std.proofs.lemmas.Result.{err_from_is_err_and}
 use Rattle.std.proofs.lemmas.List.Sums.{sum_by-cons}
 use Rattle.numa_machine.specs.Machine.{Hardware}
 use Rattle.numa_mode.specs.Policy.{PolicyRecord}
@@ -8,6 +9,7 @@ use Rattle.numa_ranges.specs.declared.run.Run.{Run}
 use Rattle.numa_plan.specs.Meaning.{is_number, planned_first}
 use Rattle.numa_reports.specs.Predicted.{IsPrediction}
 use Rattle.numa_reports.specs.Told.{ToldEach}
+use Rattle.numa_reports.proofs.Refusing.{left-all, left-next, range-fails}
 use Rattle.numa_reports.proofs.Tiling.{count_runs, runs-most, runs-none, counted-all}
 use Rattle.numa_reports.proofs.prediction.predict_all.Goals as goal
 
@@ -19,6 +21,7 @@ loop-range-init g c =
           let test : ℕ → Bool = λ page. is_number node (planned_first c.args.plan.now c.args.task page c.args.cpu) in
           omega (arith, get_or-replicate {A = ℕ} 256 node 0 0 small, ap (λ (runs : List (Run (Option PolicyRecord))). count_runs test runs) runs);
       apart = c.range_iter-range-items.ensures.rising;
+      rest = left-all c.into_iter-range-iterator.result c.args.space.now.ranges runs c.range_iter-range-items.ensures.rising;
       long = refl;
       told = λ history stands planned end has. subst (λ (runs : List (Run (Option PolicyRecord))). ToldEach g.T.TakeRange.told (IsPrediction c.args.space.now.machine history c.args.task c.args.cpu) runs c.args.taker.now end) runs has;
     }
@@ -36,6 +39,7 @@ loop-range-preserved g c = record {
       let step = ap (λ (runs : List (Run (Option PolicyRecord))). count_runs test runs) c.in-Some.ensures.steps in
       omega (arith, step, c.in_ok-predict_next.ensures.counts node small, c.loop-range.invariant.counts node small, sum_by-cons (λ run. count_pages test run.first run.pages) c.in-Some.range.now c.next.new.self);
   apart = c.loop-range.invariant.apart;
+  rest = left-next c.loop-range.range-iterator c.args.space.now.ranges c.next.new.self c.in-Some.range.now c.loop-range.invariant.rest c.in-Some.ensures.steps;
   long = omega arith;
   told = λ history stands planned end has. c.loop-range.invariant.told history stands planned end
       (subst (λ (runs : List (Run (Option PolicyRecord))). ToldEach g.T.TakeRange.told (IsPrediction c.args.space.now.machine history c.args.task c.args.cpu) runs c.loop-range.taker end) (sym c.in-Some.ensures.steps)
@@ -51,3 +55,8 @@ returns-clause-ok g c history stands planned node small =
 pub returns-clause-told : goal.returns-clause-told
 returns-clause-told g c history stands planned = c.loop-range.invariant.told history stands planned c.loop-range.taker
     (subst (λ (runs : List (Run (Option PolicyRecord))). ToldEach g.T.TakeRange.told (IsPrediction c.args.space.now.machine history c.args.task c.args.cpu) runs c.loop-range.taker c.loop-range.taker) (sym c.in-None.ensures.steps.0) refl)
+
+pub returns-in_err-predict_next-clause-err : goal.returns-in_err-predict_next-clause-err
+returns-in_err-predict_next-clause-err g c history stands planned =
+    let exit = err_from_is_err_and c.from_residual.result c.from_residual.ensures.1 in
+    rw (exit.1, exit.2) (range-fails c.args.space.now c.args.plan.now history c.loop-range.range-iterator c.next.new.self c.in-Some.range.now c.args.cpu c.in_err-predict_next.field-0.0 stands planned c.loop-range.invariant.rest c.in-Some.ensures.steps c.in_err-predict_next.ensures.err)

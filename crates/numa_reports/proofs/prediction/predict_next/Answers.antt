@@ -1,5 +1,6 @@
 use Rattle.std.proofs.Common.{ℕ, ◌<◌, arith}
 use Rattle.std.proofs.lemmas.Simd.{get_or-replicate}
+use Rattle.std.proofs.lemmas.Result.{err_from_is_err_and}
 use Rattle.numa_compile.proofs.Replies.{counts-meant}
 use Rattle.numa_reports.proofs.prediction.predict_next.Goals as goal
 
@@ -16,3 +17,13 @@ returns-clause-told g c history stands planned =
       },
       c.in_ok-take.ensures,
     )
+
+pub returns-in_err-add_span-clause-err : goal.returns-in_err-add_span-clause-err
+returns-in_err-add_span-clause-err g c =
+    let exit = err_from_is_err_and c.from_residual.result c.from_residual.ensures.1 in
+    rw (exit.1, exit.2) c.in_err-add_span.ensures.err
+
+pub returns-in_err-take-clause-err : goal.returns-in_err-take-clause-err
+returns-in_err-take-clause-err g c =
+    let exit = err_from_is_err_and c.from_residual-in_err-take.result c.from_residual-in_err-take.ensures.1 in
+    rw (exit.1, exit.2) tt

@@ -1,0 +1,29 @@
+-- Why there is no report.
+use Rattle.std.specs.Prelude.{ℕ, ◌≤◌, ◌⊎◌, List}
+use Rattle.numa_machine.specs.Machine.{Hardware}
+use Rattle.numa_space.specs.declared.command.Command.{Command}
+use Rattle.numa_space.specs.declared.refusal.PlaceRefusal.{PlaceRefusal}
+use Rattle.numa_space.specs.declared.refusal.PlaceRefusal.TheVariants.{BadCpu, Unmapped}
+use Rattle.numa_compile.specs.Spans.{SpanIsRefused}
+use Rattle.numa_reports.specs.declared.fault.ReportFault.{ReportFault}
+use Rattle.numa_reports.specs.declared.fault.ReportFault.TheVariants.{Memory, Refused}
+
+-- there was no memory, or there is a refusal of this kind
+abbrev pub FailsBy : (PlaceRefusal → Type 0) → ReportFault → Type 0
+FailsBy refuses (Refused refusal) = refuses refusal
+FailsBy refuses Memory = Unit {0}
+
+-- a refusal where all pages are mapped: the machine has no node `cpu`
+abbrev pub MayRefuse : ℕ → ℕ → PlaceRefusal → Type 0
+MayRefuse nodes cpu BadCpu = nodes ≤ cpu
+MayRefuse nodes cpu Unmapped = ⊥
+
+-- why there is no report on all mapped pages
+abbrev pub MayFail : ℕ → ℕ → ReportFault → Type 0
+MayFail nodes cpu = FailsBy (MayRefuse nodes cpu)
+
+-- why there is none on how a span's pages move: it is refused before or after
+abbrev pub MovesMayFail : Hardware → List Command → List Command → ℕ → ℕ → ℕ → ReportFault → Type 0
+MovesMayFail machine before after first pages cpu = FailsBy (λ refusal.
+    SpanIsRefused machine before first pages cpu refusal
+    ⊎ SpanIsRefused machine after first pages cpu refusal)
