@@ -2,6 +2,7 @@
 //! space answers as the space does is seen with each example of a space.
 use crate::played::Step::{List, NoList, Ranges, Version};
 use crate::played::{ask_plan, plan_of};
+use crate::same::same;
 use numa_examples::Asked::{Map, Mbind};
 use numa_plan::Plan;
 use numa_space::PlaceRefusal;
@@ -21,8 +22,7 @@ fn two_spans(rt: &impl Abort, alloc: Global) -> Plan {
 
 fn expect_counts(rt: &impl Abort, plan: &Plan, first: u64, pages: u64, want: (u64, u64)) {
     let counts = plan.counts(1, 0, first, pages).expect(rt, "counts");
-    assert_eq!(rt; counts[0], want.0, "{pages} pages");
-    assert_eq!(rt; counts[1], want.1, "{pages} pages");
+    same(rt, &(pages, counts[0], counts[1]), &(pages, want.0, want.1));
 }
 
 #[test]
@@ -48,13 +48,24 @@ fn nines(rt: &impl Abort, alloc: Global, pages: usize) -> Vec<u8> {
 fn expect_bytes(rt: &impl Abort, found: &[u8], ones: (usize, usize)) {
     for (place, byte) in found.iter().enumerate() {
         let inside = ones.0 <= place && place < ones.1;
-        assert_eq!(rt; *byte, if inside { 1 } else { 0 }, "page {place}");
+        same(rt, &(place, *byte), &(place, u8::from(inside)));
     }
 }
 
 fn expect_fill(rt: &impl Abort, plan: &Plan, first: u64, out: &mut [u8], ones: (usize, usize)) {
-    assert_eq!(rt; plan.fill(1, 0, first, out), Ok(()));
+    same(rt, &plan.fill(1, 0, first, out), &Ok(()));
     expect_bytes(rt, out, ones);
+}
+
+fn expect_length(
+    rt: &impl Abort,
+    alloc: Global,
+    plan: &Plan,
+    (first, pages): (u64, usize),
+    ones: (usize, usize),
+) {
+    let mut out = nines(rt, alloc, pages);
+    expect_fill(rt, plan, first, out.as_mut_slice(), ones);
 }
 
 #[test]
@@ -67,18 +78,20 @@ fn spans_of_many_lengths_are_filled(rt: HostRuntime) {
         (0x100, 33, (10, 20)),
         (0x1000, 8193, (0, 0)),
     ] {
-        let mut out = nines(&rt, rt.alloc(), pages);
-        expect_fill(&rt, &plan, first, out.as_mut_slice(), ones);
+        expect_length(&rt, rt.alloc(), &plan, (first, pages), ones);
     }
+}
+
+fn expect_too_many(rt: &impl Abort, plan: &Plan) {
+    let mut out = [9; 34];
+    let answer = plan.fill(1, 0, 0x100, &mut out);
+    same(rt, &(answer, out), &(Err(PlaceRefusal::Unmapped), [9; 34]));
 }
 
 #[test]
 fn a_page_too_many_is_refused(rt: HostRuntime) {
     let plan = two_spans(&rt, rt.alloc());
-    let mut out = [9; 34];
-    let answer = plan.fill(1, 0, 0x100, &mut out);
-    assert_eq!(rt; answer, Err(PlaceRefusal::Unmapped));
-    assert_eq!(rt; out, [9; 34]);
+    expect_too_many(&rt, &plan);
 }
 
 #[test]

@@ -1,5 +1,8 @@
 //! Spans of pages: refused, without pages, of every length, and of all pages that there are.
+ghost use Rattle.std.specs.Prelude.{◌<◌};
+
 use crate::played::plan_of;
+use crate::same::same;
 use numa_examples::Asked::{Map, Mbind, Task, Weight};
 use numa_mode::Record;
 use numa_plan::{Plan, Rule, Steps};
@@ -18,32 +21,40 @@ fn ten_pages(rt: &impl Abort, alloc: Global) -> Plan {
     plan_of(rt, alloc, &asked)
 }
 
+/// A span of eleven pages is refused so, by both calls, and what `fill` was handed is as it was.
+fn expect_refused(rt: &impl Abort, plan: &Plan, first: u64, cpu: u32, want: PlaceRefusal) {
+    let mut out = [9u8; 11];
+    let filled = plan.fill(1, cpu, first, &mut out).err();
+    let counted = plan.counts(1, cpu, first, 11).err();
+    let found = (first, filled, counted, out);
+    same(rt, &found, &(first, Some(want), Some(want), [9; 11]));
+}
+
 #[test]
 fn a_refused_span_leaves_its_place_alone(rt: HostRuntime) {
     let plan = ten_pages(&rt, rt.alloc());
-    let mut out = [9u8; 11];
     for (first, cpu, want) in [
         (16, 0, PlaceRefusal::Unmapped),
         (15, 0, PlaceRefusal::Unmapped),
         (u64::MAX, 0, PlaceRefusal::Unmapped),
         (15, 4, PlaceRefusal::BadCpu),
     ] {
-        let answer = plan.fill(1, cpu, first, &mut out);
-        assert_eq!(rt; answer, Err(want), "from {first}");
-        assert_eq!(rt; out, [9; 11], "from {first}");
-        let counts = plan.counts(1, cpu, first, 11).err();
-        assert_eq!(rt; counts, Some(want), "from {first}");
+        expect_refused(&rt, &plan, first, cpu, want);
     }
+}
+
+/// What both calls answer for no pages.
+fn expect_none(rt: &impl Abort, plan: &Plan, cpu: u32, first: u64, want: Option<PlaceRefusal>) {
+    let filled = plan.fill(1, cpu, first, &mut []).err();
+    let counted = plan.counts(1, cpu, first, 0).err();
+    same(rt, &(filled, counted), &(want, want));
 }
 
 #[test]
 fn spans_without_pages(rt: HostRuntime) {
     let plan = ten_pages(&rt, rt.alloc());
-    for (cpu, first, want) in [(4, 16, Err(PlaceRefusal::BadCpu)), (0, u64::MAX, Ok(()))] {
-        assert_eq!(rt; plan.fill(1, cpu, first, &mut []), want);
-        let counts = plan.counts(1, cpu, first, 0).err();
-        assert_eq!(rt; counts, want.err());
-    }
+    expect_none(&rt, &plan, 4, 16, Some(PlaceRefusal::BadCpu));
+    expect_none(&rt, &plan, 0, u64::MAX, None);
 }
 
 /// All pages, each of which has its own number as its index. Task 7 takes turns by weights 3, 2, 1
@@ -76,22 +87,27 @@ fn expect_turns(rt: &impl Abort, first: u64, nodes: &[u8]) {
     }
 }
 
+fn expect_length(rt: &impl Abort, plan: &Plan, length: usize)
+    requires { length < 258 }
+{
+    let mut room = [9u8; 257];
+    let out = &mut room[..length];
+    let first = 34_359_738_068 + length as u64 % 8;
+    let filled = plan.fill(7, 2, first, out).is_ok();
+    assert!(rt; filled, "{length} pages");
+    expect_turns(rt, first, out);
+}
+
 #[test]
 fn every_length_takes_its_turns(rt: HostRuntime) {
     let plan = all_pages(&rt, rt.alloc());
     for length in 0..258usize {
-        let mut room = [9u8; 257];
-        let out = &mut room[..length];
-        let first = 34_359_738_068 + length as u64 % 8;
-        assert_eq!(rt; plan.fill(7, 2, first, out), Ok(()), "{length} pages");
-        expect_turns(&rt, first, out);
+        expect_length(&rt, &plan, length);
     }
 }
 
-#[test]
-fn all_pages_are_counted_at_once(rt: HostRuntime) {
-    let plan = all_pages(&rt, rt.alloc());
-    let all = plan.counts(7, 2, 0, 34_359_738_368).expect(&rt, "counts");
+fn expect_all(rt: &impl Abort, plan: &Plan) {
+    let all = plan.counts(7, 2, 0, 34_359_738_368).expect(rt, "counts");
     for (node, pages) in [
         (0, 12_884_901_888),
         (1, 8_589_934_592),
@@ -100,8 +116,19 @@ fn all_pages_are_counted_at_once(rt: HostRuntime) {
         (4, 0),
         (255, 0),
     ] {
-        assert_eq!(rt; all[node], pages, "node {node}");
+        same(rt, &(node, all[node]), &(node, pages));
     }
+}
+
+#[test]
+fn all_pages_are_counted_at_once(rt: HostRuntime) {
+    let plan = all_pages(&rt, rt.alloc());
+    expect_all(&rt, &plan);
+}
+
+fn expect_window(rt: &impl Abort, plan: &Plan, first: u64, end: u64, want: (usize, usize)) {
+    let window = plan.window(first, end, &mut Steps::new());
+    same(rt, &(first, end, window), &(first, end, want));
 }
 
 #[test]
@@ -116,36 +143,47 @@ fn a_window_holds_the_runs_that_touch_the_span(rt: HostRuntime) {
         (26, 30, (2, 3)),
         (27, 30, (3, 3)),
     ] {
-        let window = plan.window(first, end, &mut Steps::new());
-        assert_eq!(rt; window, want, "{first} to {end}");
+        expect_window(&rt, &plan, first, end, want);
     }
 }
 
-/// Each rule of a plan is found by its policy.
+/// A rule of a plan is found by its policy.
+fn expect_number(rt: &impl Abort, plan: &mut Plan, number: u32) {
+    let policy = plan.policy_of(number).expect(rt, "a policy");
+    let found = plan.number_for_policy(&policy);
+    same(rt, &found, &Some(number));
+}
+
+/// Both rules of a plan are.
 fn expect_numbers(rt: &impl Abort, plan: &mut Plan) {
-    assert_eq!(rt; plan.rule_count(), 2);
-    for number in 0..2 {
-        let policy = plan.policy_of(number).expect(rt, "a policy");
-        let found = plan.number_for_policy(&policy);
-        assert_eq!(rt; found, Some(number));
-    }
+    same(rt, &plan.rule_count(), &2);
+    expect_number(rt, plan, 0);
+    expect_number(rt, plan, 1);
+}
+
+fn expect_copied(rt: &impl Abort, alloc: Global, plan: &Plan) {
+    let mut copy = plan.copy(alloc).expect(rt, "a copy");
+    expect_numbers(rt, &mut copy);
 }
 
 #[test]
 fn a_policy_finds_its_rule(rt: HostRuntime) {
     let mut plan = ten_pages(&rt, rt.alloc());
-    let mut copy = plan.copy(rt.alloc()).expect(&rt, "a copy");
+    expect_copied(&rt, rt.alloc(), &plan);
     expect_numbers(&rt, &mut plan);
-    expect_numbers(&rt, &mut copy);
+    expect_copied(&rt, rt.alloc(), &plan);
 }
 
 #[test]
 fn runs_and_rules_are_small(rt: HostRuntime) {
-    assert_eq!(rt; size_of::<Run<Option<u32>>>(), 32);
-    assert_eq!(rt; size_of::<Steps>(), 0);
     // With 80 bytes for its policy, 16 for its slot, 8 for the count of the plans that share it and
     // the 64 that a cycle of first nodes has beside its entries, a rule has 256 beside its rows and
     // its cycles.
-    assert_eq!(rt; size_of::<Rule>(), 88);
-    assert_eq!(rt; size_of::<Record>(), 80);
+    let found = (
+        size_of::<Run<Option<u32>>>(),
+        size_of::<Steps>(),
+        size_of::<Rule>(),
+        size_of::<Record>(),
+    );
+    same(&rt, &found, &(32, 0, 88, 80));
 }

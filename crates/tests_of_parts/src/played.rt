@@ -1,9 +1,14 @@
 //! Examples as tables of steps, and how they are played. Each question is put to the space, and to
-//! a plan that is compiled just for it.
+//! a plan that is compiled just for it; and each accepted command edits a plan that is compared with
+//! one that is compiled anew.
+use crate::planned::plan_along;
+use crate::recompiling::follow;
+use crate::same::same;
 use numa_compile::{compile, compile_commands};
-use numa_examples::{Asked, command_of, commands_of, flat_machine, flat_space, limits};
+use numa_examples::{Asked, command_of, commands_of, flat_machine, limits};
+use numa_machine::Machine;
 use numa_plan::{Plan, Steps};
-use numa_space::{PlaceRefusal, Refusal, Space};
+use numa_space::{Limits, PlaceRefusal, Refusal, Space};
 use std::alloc::Global;
 use std::process::Abort;
 
@@ -37,7 +42,13 @@ fn apply(
     line: usize,
 ) {
     let command = command_of(asked).expect(rt, "a command");
-    assert_eq!(rt; space.apply(&command), want, "line {line}");
+    same(rt, &(line, space.apply(&command)), &(line, want));
+}
+
+/// The first node of a page's list.
+fn first_at(rt: &impl Abort, space: &Space, task: u32, page: u64) -> Option<u8> {
+    let list = space.list_at(task, page, 0).expect(rt, "a list");
+    list.first().copied()
 }
 
 fn firsts_in_space(
@@ -50,36 +61,74 @@ fn firsts_in_space(
 ) {
     let mut page = first;
     for node in want {
-        let list = space.list_at(task, page, 0).expect(rt, "a list");
-        let found = list.first().copied();
-        assert_eq!(rt; found, Some(*node), "line {line}, page {page}");
+        let found = first_at(rt, space, task, page);
+        same(rt, &(line, page, found), &(line, page, Some(*node)));
         page = page.saturating_add(1);
     }
 }
 
+/// The list of a page; a refusal in its place.
+fn same_list(
+    rt: &impl Abort,
+    line: usize,
+    found: Result<&[u8], PlaceRefusal>,
+    wanted: Result<&[u8], PlaceRefusal>,
+) {
+    same(rt, &(line, found), &(line, wanted));
+}
+
+/// Asks the space for the list of a page.
+fn list_in_space(
+    rt: &impl Abort,
+    space: &Space,
+    (task, page, cpu): (u32, u64, u32),
+    wanted: Result<&[u8], PlaceRefusal>,
+    line: usize,
+) {
+    match space.list_at(task, page, cpu) {
+        Ok(list) => same_list(rt, line, Ok(list.as_slice()), wanted),
+        Err(refusal) => same_list(rt, line, Err(refusal), wanted),
+    }
+}
+
 /// Puts a question to the space.
-fn ask_space(rt: &impl Abort, space: &Space, step: &Step, line: usize) {
+pub fn ask_space(rt: &impl Abort, space: &Space, step: &Step, line: usize) {
     match step {
         Does(_) | Refuses(_, _) => {}
         List(task, page, cpu, want) => {
-            let list = space.list_at(*task, *page, *cpu).expect(rt, "a list");
-            assert_eq!(rt; list.as_slice(), *want, "line {line}");
+            list_in_space(rt, space, (*task, *page, *cpu), Ok(*want), line);
         }
         NoList(task, page, cpu, want) => {
-            let refusal = space.list_at(*task, *page, *cpu).err();
-            assert_eq!(rt; refusal, Some(*want), "line {line}");
+            list_in_space(rt, space, (*task, *page, *cpu), Err(*want), line);
         }
         Firsts(task, first, want) => firsts_in_space(rt, space, *task, *first, want, line),
-        Ranges(want) => assert_eq!(rt; space.ranges() as u64, *want, "line {line}"),
-        Version(want) => assert_eq!(rt; space.version(), *want, "line {line}"),
+        Ranges(want) => same(rt, &(line, space.ranges() as u64), &(line, *want)),
+        Version(want) => same(rt, &(line, space.version()), &(line, *want)),
     }
 }
 
 fn firsts_in_plan(rt: &impl Abort, plan: &Plan, task: u32, first: u64, want: &[u8], line: usize) {
     let mut out = [9u8; 16];
     let pages = out.get_mut(..want.len()).expect(rt, "16 pages at most");
-    assert_eq!(rt; plan.fill(task, 0, first, pages), Ok(()), "line {line}");
-    assert_eq!(rt; &*pages, want, "line {line}");
+    let answer = fill(plan, task, first, pages);
+    same(rt, &(line, answer, &*pages), &(line, Ok(()), want));
+}
+
+/// Asks the plan for the first nodes of a span.
+fn fill(plan: &Plan, task: u32, first: u64, out: &mut [u8]) -> Result<(), PlaceRefusal> {
+    plan.fill(task, 0, first, out)
+}
+
+/// Asks the plan for the list of a page.
+fn list_in_plan(
+    rt: &impl Abort,
+    plan: &Plan,
+    (task, page, cpu): (u32, u64, u32),
+    wanted: Result<&[u8], PlaceRefusal>,
+    line: usize,
+) {
+    let found = plan.choice(task, page, cpu, &mut Steps::new());
+    same_list(rt, line, found, wanted);
 }
 
 /// Puts a question to the plan.
@@ -87,16 +136,14 @@ pub fn ask_plan(rt: &impl Abort, plan: &Plan, step: &Step, line: usize) {
     match step {
         Does(_) | Refuses(_, _) => {}
         List(task, page, cpu, want) => {
-            let list = plan.choice(*task, *page, *cpu, &mut Steps::new());
-            assert_eq!(rt; list.expect(rt, "a list"), *want, "line {line}");
+            list_in_plan(rt, plan, (*task, *page, *cpu), Ok(*want), line);
         }
         NoList(task, page, cpu, want) => {
-            let list = plan.choice(*task, *page, *cpu, &mut Steps::new());
-            assert_eq!(rt; list.err(), Some(*want), "line {line}");
+            list_in_plan(rt, plan, (*task, *page, *cpu), Err(*want), line);
         }
         Firsts(task, first, want) => firsts_in_plan(rt, plan, *task, *first, want, line),
-        Ranges(want) => assert_eq!(rt; plan.run_count() as u64, *want, "line {line}"),
-        Version(want) => assert_eq!(rt; plan.version(), *want, "line {line}"),
+        Ranges(want) => same(rt, &(line, plan.run_count() as u64), &(line, *want)),
+        Version(want) => same(rt, &(line, plan.version()), &(line, *want)),
     }
 }
 
@@ -108,6 +155,7 @@ fn ask(rt: &impl Abort, alloc: Global, space: &Space, step: &Step, line: usize) 
 
 /// Plays an example on a space.
 pub fn play(rt: &impl Abort, alloc: Global, space: &mut Space, steps: &[Step]) {
+    follow(rt, alloc, space, steps);
     for (line, step) in steps.iter().enumerate() {
         match step {
             Does(asked) => apply(rt, space, asked, Ok(()), line),
@@ -117,10 +165,17 @@ pub fn play(rt: &impl Abort, alloc: Global, space: &mut Space, steps: &[Step]) {
     }
 }
 
+/// Plays an example on a space of this machine and limits in which nothing was accepted.
+pub fn play_new(rt: &impl Abort, alloc: Global, machine: Machine, limits: Limits, steps: &[Step]) {
+    plan_along(rt, alloc, &machine, limits, steps);
+    let mut space = Space::new(alloc, machine, limits);
+    play(rt, alloc, &mut space, steps);
+}
+
 /// Plays an example on a machine of so many nodes, 20 apart, all with memory.
 pub fn play_flat(rt: &impl Abort, alloc: Global, nodes: usize, steps: &[Step]) {
-    let mut space = flat_space(alloc, nodes).expect(rt, "a space");
-    play(rt, alloc, &mut space, steps);
+    let machine = flat_machine(alloc, [8; 10].get(..nodes).expect(rt, "nodes"));
+    play_new(rt, alloc, machine.expect(rt, "a machine"), limits(), steps);
 }
 
 /// The plan of a list of commands on a machine of four nodes, 20 apart, all with memory.

@@ -1,9 +1,10 @@
 //! Calls of which one growth is refused, each between two marks: what was there stays as it was,
 //! and the same call with memory does what it does without a refusal.
-ghost use Rattle.std.specs.Prelude.{◌≡◌};
+ghost use Rattle.std.specs.Prelude.{◌≡◌, length};
 
 use crate::played::Step::{Does, List, Ranges, Version};
-use crate::played::{Step, ask_plan, plan_of, play};
+use crate::played::{Step, ask_plan, ask_space, play};
+use crate::same::same;
 use numa_examples::Asked::{Map, Mbind, Task};
 use numa_examples::{flat_machine, flat_space, set_of};
 use numa_lanes::{Cycle, fill_cycle};
@@ -27,7 +28,7 @@ const QUESTIONS: [Step<'static>; 5] = [
 ];
 
 /// Where the growths begin that may be refused, and where they end.
-fn mark(rt: &impl Abort, alloc: Global) {
+pub fn mark(rt: &impl Abort, alloc: Global) {
     assert!(rt; numa_examples::mark(alloc));
 }
 
@@ -43,18 +44,35 @@ fn three_pages(rt: &impl Abort, alloc: Global) -> Space {
     space
 }
 
+/// The questions put to a space.
+fn ask_space_all(rt: &impl Abort, space: &Space) {
+    for (line, step) in QUESTIONS.iter().enumerate() {
+        ask_space(rt, space, step, line);
+    }
+}
+
+/// Copies a space with marks round it, and again where memory was refused.
+fn copied_space(rt: &impl Abort, alloc: Global, space: &Space) -> Space {
+    mark(rt, alloc);
+    let first = space.copy(alloc).ok();
+    mark(rt, alloc);
+    ask_space_all(rt, space);
+    match first {
+        Some(copy) => copy,
+        None => space.copy(alloc).expect(rt, "a copy"),
+    }
+}
+
+fn expect_copied_space(rt: &impl Abort, alloc: Global, space: &Space) {
+    let mut copy = copied_space(rt, alloc, space);
+    play(rt, alloc, &mut copy, &QUESTIONS);
+}
+
 #[test]
 fn copy_of_a_space(rt: HostRuntime) {
     let mut space = three_pages(&rt, rt.alloc());
-    mark(&rt, rt.alloc());
-    let first = space.copy(rt.alloc()).ok();
-    mark(&rt, rt.alloc());
+    expect_copied_space(&rt, rt.alloc(), &space);
     play(&rt, rt.alloc(), &mut space, &QUESTIONS);
-    let mut copy = match first {
-        Some(copy) => copy,
-        None => space.copy(rt.alloc()).expect(&rt, "a copy"),
-    };
-    play(&rt, rt.alloc(), &mut copy, &QUESTIONS);
 }
 
 /// The same questions put to a plan.
@@ -64,33 +82,51 @@ fn ask_all(rt: &impl Abort, plan: &Plan) {
     }
 }
 
+/// Copies a plan with marks round it, and again where memory was refused.
+fn copied(rt: &impl Abort, alloc: Global, plan: &Plan) -> Plan {
+    mark(rt, alloc);
+    let first = plan.copy(alloc).ok();
+    mark(rt, alloc);
+    ask_all(rt, plan);
+    match first {
+        Some(copy) => copy,
+        None => plan.copy(alloc).expect(rt, "a copy"),
+    }
+}
+
+fn expect_copied(rt: &impl Abort, alloc: Global, plan: &Plan) {
+    let copy = copied(rt, alloc, plan);
+    ask_all(rt, &copy);
+}
+
 #[test]
 fn copy_of_a_plan(rt: HostRuntime) {
     let space = three_pages(&rt, rt.alloc());
     let plan = numa_compile::compile(rt.alloc(), &space).expect(&rt, "a plan");
-    mark(&rt, rt.alloc());
-    let first = plan.copy(rt.alloc()).ok();
-    mark(&rt, rt.alloc());
-    ask_all(&rt, &plan);
-    let copy = match first {
-        Some(copy) => copy,
-        None => plan.copy(rt.alloc()).expect(&rt, "a copy"),
-    };
-    ask_all(&rt, &copy);
+    expect_copied(&rt, rt.alloc(), &plan);
+}
+
+/// Compiles with marks round it, and again where memory was refused.
+fn compiled(rt: &impl Abort, alloc: Global, space: &Space) -> Plan {
+    mark(rt, alloc);
+    let first = numa_compile::compile(alloc, space).ok();
+    mark(rt, alloc);
+    ask_space_all(rt, space);
+    match first {
+        Some(plan) => plan,
+        None => numa_compile::compile(alloc, space).expect(rt, "a plan"),
+    }
+}
+
+fn expect_compiled(rt: &impl Abort, alloc: Global, space: &Space) {
+    let plan = compiled(rt, alloc, space);
+    ask_all(rt, &plan);
 }
 
 #[test]
 fn compiling(rt: HostRuntime) {
-    let mut space = three_pages(&rt, rt.alloc());
-    mark(&rt, rt.alloc());
-    let first = numa_compile::compile(rt.alloc(), &space).ok();
-    mark(&rt, rt.alloc());
-    play(&rt, rt.alloc(), &mut space, &QUESTIONS);
-    let plan = match first {
-        Some(plan) => plan,
-        None => numa_compile::compile(rt.alloc(), &space).expect(&rt, "a plan"),
-    };
-    ask_all(&rt, &plan);
+    let space = three_pages(&rt, rt.alloc());
+    expect_compiled(&rt, rt.alloc(), &space);
 }
 
 /// A machine of two nodes with memory, 15 and 20 apart, with two frames and one.
@@ -219,28 +255,38 @@ fn copy_of_rows(rt: HostRuntime) {
     expect_counted(&rt, &copy);
 }
 
+/// Puts three rows in the place of two, with marks round it, and again where memory was refused.
+fn put_in(rt: &impl Abort, alloc: Global, rows: &mut Rows<u32, Shared<u32>>)
+    requires { length rows.old ≡ 600 }
+{
+    mark(rt, alloc);
+    let first = rows.splice(300, 302, &[7, 8, 9]);
+    mark(rt, alloc);
+    if first.is_err() {
+        expect_counted(rt, rows);
+        rows.splice(300, 302, &[7, 8, 9]).expect(rt, "memory");
+    }
+}
+
 #[test]
 fn rows_put_in(rt: HostRuntime) {
     let mut rows = counted(&rt, rt.alloc());
     let copy = rows.copy().expect(&rt, "a copy");
-    mark(&rt, rt.alloc());
-    assert_eq!(rt; rows.len(), 600);
-    let first = rows.splice(300, 302, &[7, 8, 9]);
-    mark(&rt, rt.alloc());
-    if first.is_err() {
-        expect_counted(&rt, &rows);
-        assert_eq!(rt; rows.len(), 600);
-        rows.splice(300, 302, &[7, 8, 9]).expect(&rt, "memory");
-    }
+    assert!(rt; rows.len() == 600);
+    put_in(&rt, rt.alloc(), &mut rows);
     expect_counted(&rt, &copy);
-    assert_eq!(rt; rows.len(), 601);
+    expect_put_in(&rt, &rows);
+}
+
+fn expect_put_in(rt: &impl Abort, rows: &Rows<u32, Shared<u32>>) {
+    assert!(rt; rows.len() == 601);
     let found = (
         *rows.get(299),
         *rows.get(300),
         *rows.get(302),
         *rows.get(303),
     );
-    assert_eq!(rt; found, (299, 7, 9, 302));
+    same(rt, &found, &(299, 7, 9, 302));
 }
 
 /// Pages 16 to 25 with the values 4, the first of which has the index 0.

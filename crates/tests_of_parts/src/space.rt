@@ -2,19 +2,33 @@
 //! set_mempolicy_home_node(2) and "NUMA Memory Policy". Mode words are those of set_mempolicy(2): 2
 //! is BIND, 0x8000 STATIC_NODES, 0x4000 RELATIVE_NODES.
 use crate::played::Step::{Does, Firsts, List, NoList, Ranges, Refuses, Version};
-use crate::played::{play, play_flat};
+use crate::played::{Step, play, play_flat, play_new};
+use crate::same::same;
 use numa_examples::Asked::{Home, Map, Mbind, Mems, Task, Unmap, Weight};
-use numa_examples::{commands_of, flat_machine, flat_space, set_of, space_of};
+use numa_examples::{commands_of, flat_machine, flat_space, limits, machine_of, set_of};
+use numa_mask::NodeMask;
+use numa_mode::Record;
 use numa_space::{Errno, Limits, PlaceRefusal, Refusal, Space};
 use std::alloc::Global;
 use std::process::Abort;
-use std::test::Fail;
 
-/// A space of so many nodes, 20 apart, with these limits.
-fn limited(rt: &impl Abort, alloc: Global, frames: &[u32], limits: (u32, u32, u32)) -> Space {
+/// Plays an example on a machine of nodes that are 20 apart, with these limits.
+fn play_limited(
+    rt: &impl Abort,
+    alloc: Global,
+    frames: &[u32],
+    limits: (u32, u32, u32),
+    steps: &[Step],
+) {
     let machine = flat_machine(alloc, frames).expect(rt, "a machine");
     let limits = Limits::new(limits.0, limits.1, limits.2).expect(rt, "limits");
-    Space::new(alloc, machine, limits)
+    play_new(rt, alloc, machine, limits, steps);
+}
+
+/// Plays an example on a machine of three nodes with these distances.
+fn play_three(rt: &impl Abort, alloc: Global, memory: &[u8], distances: &[u8], steps: &[Step]) {
+    let machine = machine_of(alloc, 3, memory, distances).expect(rt, "a machine");
+    play_new(rt, alloc, machine, limits(), steps);
 }
 
 #[test]
@@ -112,8 +126,7 @@ fn limits_are_kept(rt: HostRuntime) {
         Refuses(Task(1, 4, &[]), Refusal::CommandsSpent),
         Version(4),
     ];
-    let mut space = limited(&rt, rt.alloc(), &[8, 8], (2, 1, 4));
-    play(&rt, rt.alloc(), &mut space, &steps);
+    play_limited(&rt, rt.alloc(), &[8, 8], (2, 1, 4), &steps);
 }
 
 #[test]
@@ -127,8 +140,7 @@ fn limit_of_ranges(rt: HostRuntime) {
         Ranges(1),
         Refuses(Map(0x13000, 0x1000, 9), Refusal::TooManyRanges),
     ];
-    let mut space = limited(&rt, rt.alloc(), &[8], (1, 1, 9));
-    play(&rt, rt.alloc(), &mut space, &steps);
+    play_limited(&rt, rt.alloc(), &[8], (1, 1, 9), &steps);
 }
 
 #[test]
@@ -245,8 +257,7 @@ fn homes(rt: HostRuntime) {
         Does(Home(0x20000, 0, 2)),
         Refuses(Home(0x20000, 0, 3), Refusal::NoSuchNode),
     ];
-    let mut space = space_of(rt.alloc(), 3, &[0, 1, 2], &near).expect(&rt, "a space");
-    play(&rt, rt.alloc(), &mut space, &steps);
+    play_three(&rt, rt.alloc(), &[0, 1, 2], &near, &steps);
 }
 
 #[test]
@@ -266,8 +277,7 @@ fn scopes(rt: HostRuntime) {
         Does(Task(1, 0, &[])),
         List(1, 17, 2, &[2, 1, 0]),
     ];
-    let mut space = space_of(rt.alloc(), 3, &[0, 1, 2], &near).expect(&rt, "a space");
-    play(&rt, rt.alloc(), &mut space, &steps);
+    play_three(&rt, rt.alloc(), &[0, 1, 2], &near, &steps);
 }
 
 #[test]
@@ -283,8 +293,7 @@ fn nodes_without_memory(rt: HostRuntime) {
         List(1, 16, 2, &[0]),
     ];
     let far = [10, 20, 255, 20, 10, 20, 255, 20, 10];
-    let mut space = space_of(rt.alloc(), 3, &[0, 2], &far).expect(&rt, "a space");
-    play(&rt, rt.alloc(), &mut space, &steps);
+    play_three(&rt, rt.alloc(), &[0, 2], &far, &steps);
 }
 
 #[test]
@@ -323,37 +332,52 @@ fn told_space(rt: &impl Abort, alloc: Global) -> Space {
 #[test]
 fn a_list_of_commands(rt: HostRuntime) {
     let space = told_space(&rt, rt.alloc());
-    assert_eq!(rt; space.version(), 5);
-    assert_eq!(rt; space.machine().nodes(), 2);
-    assert_eq!(rt; space.allowed(), set_of(&[1]));
-    assert_eq!(rt; space.weights().get(1), 3);
+    let found = (
+        space.version(),
+        space.machine().nodes(),
+        space.allowed(),
+        space.weights().get(1),
+    );
+    same(&rt, &found, &(5, 2, set_of(&[1]), 3));
+}
+
+/// The effective set of a policy.
+fn nodes_of(policy: Option<Record>) -> Option<NodeMask> {
+    policy.map(|record| record.effective())
+}
+
+fn expect_told(rt: &impl Abort, space: &Space) {
+    let (task, policy) = space.task_at(0).expect(rt, "a task");
+    let found = (space.task_count(), task, policy.effective());
+    same(rt, &found, &(1, 9, set_of(&[1])));
+    assert!(rt; space.task_at(1).is_none());
+    let found = (
+        nodes_of(space.policy_at(1, 17)),
+        nodes_of(space.policy_at(1, 16)),
+    );
+    same(rt, &found, &(Some(set_of(&[1])), None));
 }
 
 #[test]
-fn tasks_and_policies(rt: HostRuntime) -> Result<(), Fail> {
+fn tasks_and_policies(rt: HostRuntime) {
     let space = told_space(&rt, rt.alloc());
-    assert_eq!(rt; space.task_count(), 1);
-    let (task, policy) = space.task_at(0).ok_or("a task")?;
-    assert_eq!(rt; task, 9);
-    assert_eq!(rt; policy.effective(), set_of(&[1]));
-    assert!(rt; space.task_at(1).is_none());
-    let own = space.policy_at(1, 17).ok_or("a policy")?;
-    assert_eq!(rt; own.effective(), set_of(&[1]));
-    assert!(rt; space.policy_at(1, 16).is_none());
-    Ok(())
+    expect_told(&rt, &space);
+}
+
+fn expect_ranges(rt: &impl Abort, space: &Space) {
+    let want = [(16, 1, 7, false), (17, 1, 8, true), (18, 1, 9, false)];
+    for (range, wanted) in space.range_iter().zip(want) {
+        let has_policy = range.value.policy().is_some();
+        let found = (range.first, range.pages, range.index, has_policy);
+        same(rt, &found, &wanted);
+    }
 }
 
 #[test]
 fn ranges_one_by_one(rt: HostRuntime) {
     let space = told_space(&rt, rt.alloc());
-    assert_eq!(rt; space.ranges(), 3);
-    let want = [(16, 1, 7, false), (17, 1, 8, true), (18, 1, 9, false)];
-    for (range, (first, pages, index, has_policy)) in space.range_iter().zip(want) {
-        assert_eq!(rt; range.first, first);
-        assert_eq!(rt; range.pages, pages);
-        assert_eq!(rt; range.index, index);
-        assert_eq!(rt; range.value.policy().is_some(), has_policy);
-    }
+    same(&rt, &space.ranges(), &3);
+    expect_ranges(&rt, &space);
 }
 
 #[test]
@@ -415,6 +439,6 @@ fn error_numbers(rt: HostRuntime) {
         (Refusal::NoMemory, Errno::ENoMem),
     ];
     for (refusal, errno) in table {
-        assert_eq!(rt; refusal.errno(), errno, "{refusal:?}");
+        same(&rt, &(refusal, refusal.errno()), &(refusal, errno));
     }
 }

@@ -1,0 +1,205 @@
+//! Plans that are edited after each command that a space accepts, beside plans that are compiled
+//! anew. Each worked example is followed so, and histories of random commands.
+ghost use Rattle.numa_compile.specs.Follows.{Follows, IsBehind};
+
+use crate::alike::expect_alike;
+use crate::dice::{ACCEPTED, COMMANDS, Dice, SEEDS, rough_space};
+use crate::played::Step::{Does, List, Ranges, Version};
+use crate::played::{Step, play_flat, play_new};
+use numa_compile::{compile, recompile};
+use numa_examples::Asked::{Home, Map, Mbind, Mems, Task, Unmap, Weight};
+use numa_examples::{command_of, flat_machine, limits};
+use numa_plan::{Plan, Steps};
+use numa_space::{Command, Space};
+use std::alloc::Global;
+use std::process::Abort;
+
+/// The plan answers as one that is compiled anew.
+pub fn expect_compiled(rt: &impl Abort, alloc: Global, plan: &Plan, space: &Space) {
+    let fresh = compile(alloc, space).expect(rt, "a plan");
+    expect_alike(rt, plan, &fresh);
+}
+
+/// So does a copy of the plan.
+fn expect_copied(rt: &impl Abort, alloc: Global, plan: &Plan, space: &Space) {
+    let copy = plan.copy(alloc).expect(rt, "a copy");
+    expect_compiled(rt, alloc, &copy, space);
+}
+
+/// Edits a plan by the last command of its space.
+pub fn edit(rt: &impl Abort, alloc: Global, plan: &mut Plan, space: &Space, command: &Command)
+    requires { IsBehind space.now command.now plan.old }
+    ensures { Follows space.now plan.new }
+{
+    recompile(alloc, plan, space, command, &mut Steps::new()).expect(rt, "memory");
+}
+
+/// Edits a copy of the plan, which is then as one that is compiled anew.
+fn edit_copy(rt: &impl Abort, alloc: Global, plan: &Plan, space: &Space, command: &Command)
+    requires { IsBehind space.now command.now plan.now }
+{
+    let mut copy = plan.copy(alloc).expect(rt, "a copy");
+    edit(rt, alloc, &mut copy, space, command);
+    expect_compiled(rt, alloc, &copy, space);
+}
+
+/// Edits first a copy, which leaves the plan as it was, and then the plan.
+fn edit_both(
+    rt: &impl Abort,
+    alloc: Global,
+    before: &Space,
+    space: &Space,
+    plan: &mut Plan,
+    command: &Command,
+)
+    requires { IsBehind space.now command.now plan.old }
+    ensures { Follows space.now plan.new }
+{
+    edit_copy(rt, alloc, plan, space, command);
+    expect_compiled(rt, alloc, plan, before);
+    edit(rt, alloc, plan, space, command);
+    expect_compiled(rt, alloc, plan, space);
+    expect_copied(rt, alloc, plan, space);
+}
+
+/// Carries out a command, or refuses it, on a space that is as `before`, and has the plan follow.
+/// How many commands were accepted.
+fn follow_from(
+    rt: &impl Abort,
+    alloc: Global,
+    before: &Space,
+    space: &mut Space,
+    plan: &mut Plan,
+    command: &Command,
+) -> u32
+    requires { Follows space.old plan.old }
+    ensures { Follows space.new plan.new }
+{
+    if space.apply(command).is_err() {
+        return 0;
+    }
+    edit_both(rt, alloc, before, space, plan, command);
+    1
+}
+
+/// The same on any space.
+fn follow_one(
+    rt: &impl Abort,
+    alloc: Global,
+    space: &mut Space,
+    plan: &mut Plan,
+    command: &Command,
+) -> u32
+    requires { Follows space.old plan.old }
+    ensures { Follows space.new plan.new }
+{
+    let before = space.copy(alloc).expect(rt, "a copy");
+    follow_from(rt, alloc, &before, space, plan, command)
+}
+
+/// Carries out the commands of an example, each of which the plan follows.
+fn follow_steps(rt: &impl Abort, alloc: Global, space: &mut Space, plan: &mut Plan, steps: &[Step])
+    requires { Follows space.old plan.old }
+{
+    for step in steps {
+        if let Does(asked) = step {
+            let command = command_of(asked).expect(rt, "a command");
+            follow_one(rt, alloc, space, plan, &command);
+        }
+    }
+}
+
+/// Follows an example from a space on, which is left as it is.
+pub fn follow(rt: &impl Abort, alloc: Global, space: &Space, steps: &[Step]) {
+    let mut space = space.copy(alloc).expect(rt, "a copy");
+    let mut plan = compile(alloc, &space).expect(rt, "a plan");
+    follow_steps(rt, alloc, &mut space, &mut plan, steps);
+}
+
+/// Has the plan follow random commands; how many of them were accepted.
+fn follow_dice(
+    rt: &impl Abort,
+    alloc: Global,
+    space: &mut Space,
+    plan: &mut Plan,
+    dice: &mut Dice,
+) -> u32
+    requires { Follows space.old plan.old }
+{
+    let mut accepted = 0u32;
+    for _ in 0..COMMANDS {
+        if let Some(command) = dice.command() {
+            let more = follow_one(rt, alloc, space, plan, &command);
+            accepted = accepted.saturating_add(more);
+        }
+    }
+    accepted
+}
+
+/// Follows a random history; how many commands were accepted.
+fn follow_seed(rt: &impl Abort, alloc: Global, seed: u64) -> u32 {
+    let mut space = rough_space(alloc).expect(rt, "a space");
+    let mut plan = compile(alloc, &space).expect(rt, "a plan");
+    follow_dice(rt, alloc, &mut space, &mut plan, &mut Dice::new(seed))
+}
+
+#[test]
+fn random_histories_are_followed(rt: HostRuntime) {
+    for seed in SEEDS {
+        let accepted = follow_seed(&rt, rt.alloc(), seed);
+        assert!(rt; accepted >= ACCEPTED, "{accepted} accepted");
+    }
+}
+
+/// The numbers of 70 nodes.
+fn all_nodes() -> [u8; 70] {
+    std::array::from_fn::<u8, 70, _>(|number| number as u8)
+}
+
+#[test]
+fn more_nodes_than_a_word_has(rt: HostRuntime) {
+    let nodes = all_nodes();
+    let steps = [
+        Does(Map(0x10000, 0x3000, 253)),
+        Does(Task(1, 3, &nodes)),
+        Does(Mbind(0x11000, 0x1000, 6, &nodes)),
+        Does(Weight(69, 7)),
+        Does(Mbind(0x12000, 0x1000, 2, &[64, 65])),
+        Does(Home(0x12000, 0x1000, 66)),
+        Does(Task(1, 0x4002, &[1, 69])),
+        Does(Mems(&[64, 65, 66])),
+        List(1, 16, 65, &[65, 64]),
+    ];
+    let machine = flat_machine(rt.alloc(), &[1; 70]).expect(&rt, "a machine");
+    play_new(&rt, rt.alloc(), machine, limits(), &steps);
+}
+
+#[test]
+fn policies_come_and_go(rt: HostRuntime) {
+    let steps = [
+        Does(Map(0x7fff_ffff_f000, 0x1000, 0)),
+        Does(Map(0x10000, 0x8000, 0)),
+        Does(Task(1, 6, &[0, 1])),
+        Does(Task(2, 0x8005, &[0])),
+        Does(Task(3, 1, &[])),
+        Does(Task(4, 1, &[0, 1])),
+        Does(Mbind(0x10000, 0x8000, 6, &[0, 1])),
+        Does(Mbind(0x12000, 0x2000, 2, &[1])),
+        Does(Mbind(0x13000, 0x3000, 5, &[1])),
+        Does(Home(0x12000, 0x4000, 0)),
+        Does(Mbind(0x12000, 0x1000, 2, &[1])),
+        Does(Unmap(0x13000, 0x1000)),
+        Does(Weight(1, 9)),
+        Does(Map(0x13000, 0x1000, 3)),
+        Does(Mbind(0x13000, 0x1000, 2, &[1])),
+        Does(Task(1, 0, &[])),
+        Does(Mbind(0x10000, 0x8000, 0, &[])),
+        Does(Task(2, 2, &[1])),
+        Does(Mems(&[1, 2])),
+        Does(Task(2, 0, &[])),
+        Does(Unmap(0, 0x7fff_ffff_f000)),
+        Ranges(1),
+        Version(21),
+    ];
+    play_flat(&rt, rt.alloc(), 3, &steps);
+}
