@@ -1,10 +1,11 @@
 //! A plan of a space of many ranges, and with the argument `measure` how long it takes to compile
-//! it.
+//! it, to edit it after a command, and to copy it.
 //!
 //! Without arguments checksums are printed, which are the same in each run. A figure of `measure`
 //! is a ratio: the best time of `compile` over the best time, in the same run, of a plain loop that
 //! looks each range up in a map and copies it. Times alone say little about another machine.
 mod checks;
+mod edits;
 mod spaces;
 mod times;
 
@@ -14,16 +15,20 @@ use std::rt::Clock;
 
 /// Prints checksums of the plan of a large space.
 pub fn checksums(rt: &impl Print, alloc: Global) -> io::Result<()> {
-    let Some(space) = spaces::spread(alloc) else {
-        return println!(rt; "no memory");
-    };
-    checks::print(rt, alloc, &space)
+    match spaces::spread(alloc, spaces::RANGES) {
+        Some(space) => checks::print(rt, alloc, space.space()),
+        None => println!(rt; "no memory"),
+    }
 }
 
-/// Prints how long `compile` takes.
+/// Prints how long `compile` takes, and then how long a plan's edits and its copy take.
 pub fn measure<R: Print + Clock>(rt: &R, alloc: Global) -> io::Result<()> {
-    let Some(space) = spaces::spread(alloc) else {
-        return println!(rt; "no memory");
-    };
-    times::print(rt, alloc, &space)
+    match spaces::spread(alloc, spaces::RANGES) {
+        Some(space) => times::print(rt, alloc, space.space()),
+        None => println!(rt; "no memory"),
+    }?;
+    match spaces::spread(alloc, spaces::RANGES - 2) {
+        Some(mut space) => edits::print(rt, alloc, &mut space),
+        None => println!(rt; "no memory"),
+    }
 }

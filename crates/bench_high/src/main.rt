@@ -8,6 +8,7 @@ mod compile;
 mod maps;
 mod plan;
 mod space;
+mod spaces;
 mod times;
 
 use std::rt::Clock;

@@ -13,22 +13,24 @@ use std::rt::Clock;
 
 /// Prints checksums of what two large plans answer.
 pub fn checksums(rt: &impl Print, alloc: Global) -> io::Result<()> {
-    let Ok(spread) = plans::spread(alloc) else {
-        return println!(rt; "no memory");
-    };
-    let Ok(whole) = plans::whole(alloc) else {
-        return println!(rt; "no memory");
-    };
-    checks::print(rt, &spread, &whole)
+    match plans::spread(alloc) {
+        Some(plan) => checks::print_spread(rt, &plan),
+        None => println!(rt; "no memory"),
+    }?;
+    match plans::whole(alloc) {
+        Some(plan) => checks::print_whole(rt, &plan),
+        None => println!(rt; "no memory"),
+    }
 }
 
 /// Prints how long the calls take.
 pub fn measure<R: Print + Clock>(rt: &R, alloc: Global) -> io::Result<()> {
-    let Ok(spread) = plans::spread(alloc) else {
-        return println!(rt; "no memory");
-    };
-    let Ok(whole) = plans::whole(alloc) else {
-        return println!(rt; "no memory");
-    };
-    times::print(rt, alloc, &spread, &whole)
+    match plans::spread(alloc) {
+        Some(plan) => times::print_choice(rt, alloc, &plan),
+        None => println!(rt; "no memory"),
+    }?;
+    match plans::whole(alloc) {
+        Some(plan) => times::print_spans(rt, alloc, &plan),
+        None => println!(rt; "no memory"),
+    }
 }

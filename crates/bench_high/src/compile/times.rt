@@ -33,7 +33,7 @@ fn compile_once<R: Clock>(rt: &R, alloc: Global, space: &Space) -> io::Result<(u
 }
 
 /// The best time of a compile, and the sum of the runs of all plans, so that no round is left out.
-fn time_compile<R: Clock>(rt: &R, alloc: Global, space: &Space) -> io::Result<(u64, u64)> {
+pub fn time_compile<R: Clock>(rt: &R, alloc: Global, space: &Space) -> io::Result<(u64, u64)> {
     let mut best = u64::MAX;
     let mut sum = 0u64;
     for _ in 0..40 {

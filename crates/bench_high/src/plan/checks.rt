@@ -45,18 +45,22 @@ fn counts(plan: &Plan, task: u32, first: u64, pages: u64) -> u64 {
     }
 }
 
-/// Prints the checksums.
-pub fn print(rt: &impl Print, spread: &Plan, whole: &Plan) -> io::Result<()> {
+/// Prints the checksums of the plan of many runs.
+pub fn print_spread(rt: &impl Print, spread: &Plan) -> io::Result<()> {
     let runs = spread.run_count();
     let sum = choices(spread);
     println!(rt; "choice of each page, {runs} runs: {sum}")?;
+    let hole = counts(spread, 1, 0, 4);
+    let run = counts(spread, 1, 4, 3);
+    println!(rt; "counts of a span with a hole {hole}, of a run {run}")
+}
+
+/// Prints those of the plan of one run.
+pub fn print_whole(rt: &impl Print, whole: &Plan) -> io::Result<()> {
     let turns = fills(whole, 1, 1_000_003);
     let own = fills(whole, 2, 1_000_003);
     println!(rt; "fill in turn {turns}, of the local node {own}")?;
     let turns = counts(whole, 1, 5, 17_179_869_184);
     let own = counts(whole, 2, 5, 17_179_869_184);
-    println!(rt; "counts in turn {turns}, of the local node {own}")?;
-    let hole = counts(spread, 1, 0, 4);
-    let run = counts(spread, 1, 4, 3);
-    println!(rt; "counts of a span with a hole {hole}, of a run {run}")
+    println!(rt; "counts in turn {turns}, of the local node {own}")
 }

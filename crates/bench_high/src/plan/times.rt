@@ -140,7 +140,7 @@ fn firsts_of(alloc: Global) -> Result<Vec<u64>, AllocError> {
 }
 
 /// Prints the ratios of `choice`.
-fn print_choice<R: Clock + Print>(rt: &R, alloc: Global, spread: &Plan) -> io::Result<()> {
+pub fn print_choice<R: Clock + Print>(rt: &R, alloc: Global, spread: &Plan) -> io::Result<()> {
     let rows = rows_of(alloc)?;
     let firsts = firsts_of(alloc)?;
     let (choices, sum) = time_choice(rt, spread)?;
@@ -161,14 +161,8 @@ fn print_choice<R: Clock + Print>(rt: &R, alloc: Global, spread: &Plan) -> io::R
     println!(rt; "sums {sum} {row_sum} {first_sum}")
 }
 
-/// Prints all ratios.
-pub fn print<R: Clock + Print>(
-    rt: &R,
-    alloc: Global,
-    spread: &Plan,
-    whole: &Plan,
-) -> io::Result<()> {
-    print_choice(rt, alloc, spread)?;
+/// Prints the ratios of `fill` and `counts`.
+pub fn print_spans<R: Clock + Print>(rt: &R, alloc: Global, whole: &Plan) -> io::Result<()> {
     let mut out = vec![in alloc; 0u8; FILLED]?;
     let cycle = Cycle::new(alloc, &WEIGHED)?;
     let own = time_fill(rt, whole, 2, &mut out)?;
