@@ -159,7 +159,8 @@ class Script(Words):
         if pages > 300 and name == "span":
             pages = self.dice.choice([300, 65536, 65537]) if self.likely(0.1) else 40
         if self.likely(0.08):
-            pages = self.dice.choice([0, pages + 1, 2**35, 2**64 - 1 if name == "counts" else 0])
+            great = [65536, 65537] if name == "span" else [2**35, 2**64 - 1]
+            pages = self.dice.choice([0, pages + 1] + great)
         address = self.number(first * PAGE)
         self.say(name, self.task_number(), address, self.number(pages), self.node())
 
