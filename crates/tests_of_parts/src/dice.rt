@@ -11,7 +11,7 @@ use std::alloc::Global;
 pub const COMMANDS: u32 = 500;
 
 /// How many of them a space accepts at least.
-pub const ACCEPTED: u32 = 200;
+pub const ACCEPTED: u32 = 100;
 
 /// What the histories begin with.
 pub const SEEDS: [u64; 2] = [20_021_001, 88_172_645_463_325_252];
