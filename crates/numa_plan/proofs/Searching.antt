@@ -106,6 +106,19 @@ part_found runs page low far found apart some h part =
           cc);
     }
 
+-- a run that has the page, whether a search found it or not
+pub beside_found : (runs : List (Run (Option ℕ))) (page place far : ℕ) (found : Found) → AreApart 0 runs → place < length runs → ((d : Run (Option ℕ)) → (get_or runs place d).first + far ≡ page) → ((d : Run (Option ℕ)) → IsPartOf (get_or runs place d) far found) → IsAt runs page found
+beside_found runs page place far found apart within lies part =
+    let is : place + 1 - 1 ≡ place = add-sub_cancel place 1 in
+    part_found runs page (place + 1) far found apart (omega arith)
+    (record {
+      within = omega arith;
+      before = λ k d k_low k_high. omega (arith, apart-rising 0 runs apart k place d (omega arith) within, lies d);
+      behind = λ k d k_low k_high. omega (arith, apart-ends 0 runs apart place k d (omega arith) k_high, lies d, (part d).left, (part d).some);
+      lies = λ d some. subst (λ (n : ℕ). (get_or runs n d).first + far ≡ page) (sym is) (lies d);
+    })
+    (λ d. subst (λ (n : ℕ). IsPartOf (get_or runs n d) far found) (sym is) (part d))
+
 -- the run before `low` ends before the page
 pub past_found : (runs : List (Run (Option ℕ))) (page low far : ℕ) → AreApart 0 runs → 0 < low → IsSplit runs page low far → ((d : Run (Option ℕ)) → (get_or runs (low - 1) d).pages ≤ far) → page_at runs page ≡ None
 past_found runs page low far apart some h short =

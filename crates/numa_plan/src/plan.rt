@@ -160,10 +160,11 @@ impl Plan {
         if !self.runs.covers(first, out.len() as u64) {
             return Err(PlaceRefusal::Unmapped);
         }
+        let mut seen = self.runs.seen();
         let mut page = first;
         let mut done = 0usize;
         while done < out.len() {
-            let Some(found) = self.runs.find(page, &mut Steps::new()) else {
+            let Some(found) = self.runs.find_next(page, &mut seen) else {
                 unreachable!()
             };
             let count = found.left.min((out.len() - done) as u64);
@@ -199,10 +200,11 @@ impl Plan {
             return Err(PlaceRefusal::BadCpu);
         }
         let mut counts = [0u64; 256];
+        let mut seen = self.runs.seen();
         let mut page = first;
         let mut todo = pages;
         while todo > 0 {
-            let Some(found) = self.runs.find(page, &mut Steps::new()) else {
+            let Some(found) = self.runs.find_next(page, &mut seen) else {
                 return Err(PlaceRefusal::Unmapped);
             };
             let part = found.left.min(todo);

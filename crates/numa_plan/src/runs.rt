@@ -1,7 +1,7 @@
 //! The runs of a plan, in rising order.
 ghost use Rattle.std.specs.Prelude.{◌≡◌, ℕ, ◌+◌, ◌-◌, ◌<◌, ◌≤◌, ◌^◌, List, [], ◌∷◌};
 ghost use Rattle.std.specs.Prelude.{◌++◌, length, slice_index_or, MatchOption, Option, slice_get};
-ghost use Rattle.std.specs.Prelude.{IfOk, OnOk, OnErr, Some, None, IsSome};
+ghost use Rattle.std.specs.Prelude.{IfOk, IfSome, OnOk, OnErr, Some, None, IsSome};
 ghost use Rattle.std.specs.Bool.{OnTrue, OnFalse};
 ghost use Rattle.numa_ranges.specs.Runs.{AreApart, end_of, page_at};
 ghost use Rattle.numa_ranges.specs.declared.run.Run.{Run};
@@ -9,7 +9,7 @@ ghost use Rattle.std.specs.List.{slice_range, splice, AllWithin};
 ghost use Rattle.numa_ranges.specs.Windows.{IsWindow};
 ghost use Rattle.numa_plan.specs.Counted.{one_comparison, one_run, more_runs, FindsQuickly};
 ghost use Rattle.numa_plan.specs.Counted.{FindsTwice};
-ghost use Rattle.numa_plan.specs.Found.{IsFound, IsPartOf, IsMapped, IsSplit, HasHole};
+ghost use Rattle.numa_plan.specs.Found.{IsAt, IsFound, IsPartOf, IsMapped, IsSplit, HasHole};
 
 use crate::steps::Steps;
 use numa_machine::NoMemory;
@@ -25,6 +25,47 @@ pub(crate) struct Found {
     pub(crate) index: u64,
     pub(crate) rule: Option<u32>,
     pub(crate) left: u64,
+}
+
+/// How far a walk along the pages has come: the place of the next run, and where it was looked for.
+/// Nothing depends on it but time.
+#[derive(Clone, Copy, Debug)]
+pub(crate) struct Seen {
+    place: usize,
+    near: Near,
+}
+
+/// How far a page lies behind the first page of a run; none where it lies before it. Nothing else
+/// reads a run's first page.
+#[inline]
+fn behind_first(run: &Run<Option<u32>>, page: u64, steps: &mut Steps) -> Option<u64>
+    ensures counted { steps.new ≡ one_comparison steps.old }
+    ensures far { MatchOption result (page < run.now.first) (λ far. run.now.first + far ≡ page) }
+{
+    steps.compared();
+    if page < run.first {
+        None
+    } else {
+        Some(page - run.first)
+    }
+}
+
+/// What a run says of the page that lies so far behind its first page; none where the run is
+/// shorter.
+#[inline]
+fn found_in(run: &Run<Option<u32>>, far: u64) -> Option<Found>
+    requires { run.now.index + run.now.pages ≤ 2 ^ 36 }
+    ensures { MatchOption result (run.now.pages ≤ far) (λ found. IsPartOf run.now far found) }
+{
+    if far < run.pages {
+        Some(Found {
+            index: run.index + far,
+            rule: run.value,
+            left: run.pages - far,
+        })
+    } else {
+        None
+    }
 }
 
 /// Runs of pages, in rising order and apart, each with the number of its rule or none. They stand
@@ -72,8 +113,8 @@ impl Runs {
         self.items.len()
     }
 
-    /// How far a page lies behind the first page of a run; none where it lies before it. Nothing
-    /// else reads a run's first page. `near` is where the search for a run has come.
+    /// How far a page lies behind the first page of the run at a place; none where it lies before
+    /// it. `near` is where the search for a run has come.
     fn behind_first(
         &self,
         place: usize,
@@ -87,13 +128,31 @@ impl Runs {
             MatchOption result (page < (slice_index_or self.now place d).first)
             (λ far. (slice_index_or self.now place d).first + far ≡ page) }
     {
-        steps.compared();
-        let run = self.items.get_near(place, near);
-        if page < run.first {
-            None
-        } else {
-            Some(page - run.first)
+        behind_first(self.items.get_near(place, near), page, steps)
+    }
+
+    /// The place behind the last run that begins at a page or before it, how far the page lies
+    /// behind the first page of that run, and where the search ended.
+    fn split(&self, page: u64, steps: &mut Steps) -> (usize, u64, Near)
+        ensures split { IsSplit self.now page result.0 result.1 }
+        ensures apart { AreApart 0 self.now }
+        ensures quick { FindsQuickly steps.old steps.new (length self.now) }
+    {
+        let mut near = self.items.near();
+        let mut low = 0usize;
+        let mut high = self.len();
+        let mut far = 0u64;
+        while low < high {
+            let middle = low + (high - low) / 2;
+            match self.behind_first(middle, page, &mut near, steps) {
+                Some(distance) => {
+                    far = distance;
+                    low = middle + 1;
+                }
+                None => high = middle,
+            }
         }
+        (low, far, near)
     }
 
     /// What a run says of the page that lies so far behind its first page; none where the run is
@@ -105,38 +164,7 @@ impl Runs {
             (λ found. IsPartOf (slice_index_or self.now place d) far found) }
     {
         let run = self.items.get_near(place, near);
-        if far < run.pages {
-            Some(Found {
-                index: run.index + far,
-                rule: run.value,
-                left: run.pages - far,
-            })
-        } else {
-            None
-        }
-    }
-
-    /// The place behind the last run that begins at a page or before it, and how far the page lies
-    /// behind the first page of that run.
-    fn split(&self, page: u64, near: &mut Near, steps: &mut Steps) -> (usize, u64)
-        ensures split { IsSplit self.now page result.0 result.1 }
-        ensures apart { AreApart 0 self.now }
-        ensures quick { FindsQuickly steps.old steps.new (length self.now) }
-    {
-        let mut low = 0usize;
-        let mut high = self.len();
-        let mut far = 0u64;
-        while low < high {
-            let middle = low + (high - low) / 2;
-            match self.behind_first(middle, page, near, steps) {
-                Some(distance) => {
-                    far = distance;
-                    low = middle + 1;
-                }
-                None => high = middle,
-            }
-        }
-        (low, far)
+        found_in(run, far)
     }
 
     /// What the runs say of a page.
@@ -144,12 +172,55 @@ impl Runs {
         ensures found { IsFound self.now page result }
         ensures quick { FindsQuickly steps.old steps.new (length self.now) }
     {
-        let mut near = self.items.near();
-        let at = self.split(page, &mut near, steps);
+        self.find_first(page, &mut self.seen(), steps)
+    }
+
+    /// Where a walk along the pages begins.
+    pub(crate) fn seen(&self) -> Seen {
+        Seen {
+            place: usize::MAX,
+            near: self.items.near(),
+        }
+    }
+
+    /// What the runs say of a page, where `seen` tells how far a walk along the pages has come. It
+    /// looks at the next run first, and searches where that doesn't have the page.
+    pub(crate) fn find_next(&self, page: u64, seen: &mut Seen) -> Option<Found>
+        ensures found { IsFound self.now page result }
+    {
+        if let Some(found) = self.found_beside(page, seen) {
+            return Some(found);
+        }
+        self.find_first(page, seen, &mut Steps::new())
+    }
+
+    /// What the next run says of a page; none where it doesn't have the page.
+    fn found_beside(&self, page: u64, seen: &mut Seen) -> Option<Found>
+        ensures { IfSome result (λ found. IsAt self.now page found) }
+    {
+        let place = seen.place;
+        if place >= self.len() {
+            return None;
+        }
+        let run = self.items.get_near(place, &mut seen.near);
+        let far = behind_first(run, page, &mut Steps::new())?;
+        let found = found_in(run, far)?;
+        seen.place = place + 1;
+        Some(found)
+    }
+
+    /// What the runs say of a page, by a search; `seen` is where it ended.
+    fn find_first(&self, page: u64, seen: &mut Seen, steps: &mut Steps) -> Option<Found>
+        ensures found { IsFound self.now page result }
+        ensures quick { FindsQuickly steps.old steps.new (length self.now) }
+    {
+        let at = self.split(page, steps);
+        seen.place = at.0;
+        seen.near = at.2;
         if at.0 == 0 {
             return None;
         }
-        self.found_at(at.0 - 1, at.1, &mut near)
+        self.found_at(at.0 - 1, at.1, &mut seen.near)
     }
 
     /// How many runs begin at a page or before it.
@@ -159,7 +230,7 @@ impl Runs {
         ensures behind { AllWithin (λ run. page < run.first) self.now result (length self.now) }
         ensures quick { FindsQuickly steps.old steps.new (length self.now) }
     {
-        self.split(page, &mut self.items.near(), steps).0
+        self.split(page, steps).0
     }
 
     /// How many runs end before a page.
@@ -172,12 +243,11 @@ impl Runs {
         if page == 0 {
             return 0;
         }
-        let mut near = self.items.near();
-        let at = self.split(page - 1, &mut near, steps);
+        let mut at = self.split(page - 1, steps);
         if at.0 == 0 {
             return 0;
         }
-        match self.found_at(at.0 - 1, at.1, &mut near) {
+        match self.found_at(at.0 - 1, at.1, &mut at.2) {
             Some(_) => at.0 - 1,
             None => at.0,
         }
@@ -210,10 +280,11 @@ impl Runs {
         ensures all { OnTrue result (IsMapped self.now first pages) }
         ensures hole { OnFalse result (HasHole self.now first pages) }
     {
+        let mut seen = self.seen();
         let mut page = first;
         let mut todo = pages;
         while todo > 0 {
-            let Some(found) = self.find(page, &mut Steps::new()) else {
+            let Some(found) = self.find_next(page, &mut seen) else {
                 return false;
             };
             if todo <= found.left {

@@ -4,7 +4,7 @@ use Rattle.numa_ranges.specs.declared.run.Run.{Run}
 use Rattle.numa_plan.specs.Found.{IsPartOf, IsFound}
 use Rattle.numa_plan.specs.declared.runs.Found.{Found}
 use Rattle.numa_plan.proofs.Searching.{none_found, part_found, past_found}
-use Rattle.numa_plan.proofs.runs.Runs.find.Goals as goal
+use Rattle.numa_plan.proofs.runs.Runs.find_first.Goals as goal
 
 pub returns-then-at-eq0-clause-found : goal.returns-then-at-eq0-clause-found
 returns-then-at-eq0-clause-found c = none_found c.args.self.now c.args.page c.split-at.result.0 c.split-at.result.1 c.split-at.ensures.apart (omega arith) c.split-at.ensures.split
