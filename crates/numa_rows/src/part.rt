@@ -1,0 +1,83 @@
+//! A part of a list, for searches of one's own.
+ghost use Rattle.std.specs.Prelude.{◌≡◌, ◌-◌, [], length, slice_index_or};
+ghost use Rattle.std.specs.Bool.{OnTrue};
+ghost use Rattle.numa_rows.specs.Parts.{flat, HasRank};
+ghost use Rattle.numa_rows.specs.Searches.{IsChunkOf, HasRow, PartData};
+
+use crate::chunk::Chunk;
+use crate::keep::Keep;
+use crate::table::Place;
+use std::marker::Model;
+
+/// The rows of a chunk of a list, or no rows, and the rank of the first of them.
+#[derive(Drop)]
+pub struct Part<'a, T> {
+    chunk: usize,
+    start: usize,
+    rows: &'a [T],
+}
+
+impl<'a, T> Model for Part<'a, T> {
+    ghost use Rattle.numa_rows.specs.Searches.{PartData};
+
+    ghost Value = { PartData T };
+
+    ghost view = { λ a. record { start = a.start; rows = a.rows.now } };
+}
+
+impl<'a, T> Part<'a, T> {
+    /// No rows.
+    #[inline]
+    pub(crate) fn empty() -> Part<'a, T>
+        ensures start { result.start ≡ 0 }
+        ensures rows { result.rows ≡ [] }
+    {
+        Part {
+            chunk: 0,
+            start: 0,
+            rows: &[],
+        }
+    }
+
+    /// The rows of a place's chunk, which has the row of a rank.
+    #[inline]
+    pub(crate) fn at<K: Keep<T>>(
+        chunks: &'a [Chunk<T, K>],
+        place: Place,
+        _rank: usize,
+    ) -> Part<'a, T>
+        requires { HasRank chunks.now place.chunk place.start _rank }
+        ensures part { IsChunkOf (flat chunks.now) result }
+        ensures has { HasRow result _rank }
+    {
+        Part {
+            chunk: place.chunk,
+            start: place.start,
+            rows: chunks[place.chunk].rows(),
+        }
+    }
+
+    /// Whether it has the row of a rank.
+    #[inline]
+    pub(crate) fn has(&self, rank: usize) -> bool
+        ensures { OnTrue result (HasRow self.now rank) }
+    {
+        self.start <= rank && rank - self.start < self.rows.len()
+    }
+
+    /// The row of a rank, which it has.
+    #[inline]
+    pub(crate) fn row(&self, rank: usize) -> &'a T
+        requires { HasRow self.now rank }
+        ensures { (d : T) → result.now
+            ≡ slice_index_or self.now.rows (rank - self.now.start) d }
+    {
+        &self.rows[rank - self.start]
+    }
+
+    /// The number of its chunk, for the next guess.
+    #[inline]
+    pub fn chunk(&self) -> usize {
+        self.chunk
+    }
+}
