@@ -14,6 +14,11 @@ pub trait Keep<T>: Drop {
     /// The rows that are kept.
     ghost rows_of: { Self → List T };
 
+    /// How many rows a chunk has at most, when an edit leaves it as it is.
+    fn most() -> usize
+        ensures low { 128 ≤ result }
+        ensures high { result ≤ 256 };
+
     /// Keeps these rows.
     fn keep(alloc: Global, rows: &[T]) -> Result<Self, AllocError>
         ensures { IfOk result (λ chunk. rows_of chunk ≡ rows.now) };

@@ -2,10 +2,13 @@
 ghost use Rattle.std.specs.Prelude.{◌≡◌, ◌<◌, length, map, slice_set, take, IfOk};
 ghost use Rattle.numa_rows.specs.Changes.{Makes};
 
-use crate::chunk::{MOST, put_in};
+use crate::chunk::put_in;
 use crate::keep::Keep;
 use std::alloc::{AllocError, Global};
 use std::marker::Model;
+
+/// How many rows an owned chunk has at most, when an edit leaves it as it is.
+const MOST_OWNED: usize = 128;
 
 /// Rows that one chunk has for itself.
 #[derive(Drop)]
@@ -24,10 +27,16 @@ impl<T> Model for Owned<T> {
 impl<T: Copy + Drop> Keep<T> for Owned<T> {
     ghost rows_of = { λ rows. rows };
 
+    /// Fewer than of shared rows, since no copy pays for each chunk, and an edit moves half of one.
+    #[inline]
+    fn most() -> usize {
+        MOST_OWNED
+    }
+
     fn keep(alloc: Global, rows: &[T]) -> Result<Owned<T>, AllocError>
         ensures { IfOk result (λ chunk. chunk ≡ rows.now) }
     {
-        let mut items = Vec::with_capacity(alloc, MOST)?;
+        let mut items = Vec::with_capacity(alloc, MOST_OWNED)?;
         items.extend_from_slice(rows)?;
         Ok(Owned { rows: items })
     }
@@ -40,7 +49,7 @@ impl<T: Copy + Drop> Keep<T> for Owned<T> {
     fn copy(&self, alloc: Global) -> Result<Owned<T>, AllocError>
         ensures { IfOk result (λ chunk. chunk ≡ self.now) }
     {
-        let mut rows = Vec::with_capacity(alloc, MOST)?;
+        let mut rows = Vec::with_capacity(alloc, MOST_OWNED)?;
         rows.extend_from_slice(&self.rows)?;
         Ok(Owned { rows })
     }

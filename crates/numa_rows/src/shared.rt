@@ -31,6 +31,11 @@ impl<T, B: Block<T>> Model for Shared<T, B> {
 impl<T: Copy + Drop, B: Block<T>> Keep<T> for Shared<T, B> {
     ghost rows_of = { λ rows. rows };
 
+    #[inline]
+    fn most() -> usize {
+        MOST
+    }
+
     fn keep(alloc: Global, rows: &[T]) -> Result<Shared<T, B>, AllocError>
         ensures { IfOk result (λ chunk. chunk ≡ rows.now) }
     {
