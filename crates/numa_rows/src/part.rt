@@ -1,12 +1,12 @@
 //! A part of a list, for searches of one's own.
-ghost use Rattle.std.specs.Prelude.{◌≡◌, ◌-◌, [], length, slice_index_or};
+ghost use Rattle.std.specs.Prelude.{◌≡◌, ◌-◌, ◌<◌, [], length, slice_index_or};
 ghost use Rattle.std.specs.Bool.{OnTrue};
-ghost use Rattle.numa_rows.specs.Parts.{flat, HasRank};
+ghost use Rattle.numa_rows.specs.Parts.{flat, HasRank, IsTable};
 ghost use Rattle.numa_rows.specs.Searches.{IsChunkOf, HasRow, PartData};
 
 use crate::chunk::Chunk;
 use crate::keep::Keep;
-use crate::table::Place;
+use crate::table::{Place, place_of};
 use std::marker::Model;
 
 /// The rows of a chunk of a list, or no rows, and the rank of the first of them.
@@ -80,4 +80,28 @@ impl<'a, T> Part<'a, T> {
     pub fn chunk(&self) -> usize {
         self.chunk
     }
+}
+
+/// The part itself where it has the row of a rank; otherwise the part that has it, sought from a
+/// guess at its chunk on.
+#[inline]
+pub(crate) fn part_of<'a, T, K: Keep<T>>(
+    chunks: &'a [Chunk<T, K>],
+    starts: &[u32],
+    len: usize,
+    part: Part<'a, T>,
+    rank: usize,
+    guess: usize,
+) -> Part<'a, T>
+    requires table { IsTable 256 chunks.now starts.now len }
+    requires rank { rank < len }
+    requires part { IsChunkOf (flat chunks.now) part }
+    ensures part { IsChunkOf (flat chunks.now) result }
+    ensures has { HasRow result rank }
+{
+    if part.has(rank) {
+        return part;
+    }
+    let place = place_of(chunks, starts, len, rank, guess);
+    Part::at(chunks, place, rank)
 }
