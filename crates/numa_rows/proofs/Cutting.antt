@@ -1,11 +1,11 @@
 -- What is left where rows behind one are taken out.
-use Rattle.std.proofs.Common.{◌≡◌, ℕ, zero, suc, ◌+◌, ◌-◌, ◌<◌, ◌≤◌, ◌^◌, List, [], ◌∷◌, ◌++◌, length, take, drop, set, get_or, sym, ap, subst, ◌∙◌, arith, suc, append_assoc, append-nil}
+use Rattle.std.proofs.Common.{◌≡◌, ℕ, zero, suc, ◌+◌, ◌-◌, ◌<◌, ◌≤◌, List, [], ◌∷◌, ◌++◌, length, take, drop, set, get_or, sym, ap, subst, ◌∙◌, arith, suc, append_assoc, append-nil}
 use Rattle.std.proofs.Math.Seq.{take-append-add}
 use Rattle.std.proofs.Math.ListN.{length-set}
-use Rattle.std.proofs.lemmas.List.{take-append-drop, take_more, take_more_set, take_all, take-take, take_at, take-append-le, length-take, length-take-le, get_or_default}
+use Rattle.std.proofs.lemmas.List.{take-append-drop, take_more, take_more_set, take_all, take-take, take-append-le, length-take-le}
 use Rattle.std.proofs.lemmas.List.Concat.{flat_map-append}
 use Rattle.numa_rows.specs.Parts.{flat, starts_from, AreFilled, IsTable, HasRank}
-use Rattle.numa_rows.proofs.InParts.{length-starts, start-at, length-next}
+use Rattle.numa_rows.proofs.InParts.{length-starts}
 use Rattle.numa_rows.proofs.Windows.{flat-at, starts-append, filled-append, filled-take, long-take}
 
 module _ {T : Type 0} where

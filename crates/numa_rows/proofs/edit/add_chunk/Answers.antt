@@ -1,5 +1,5 @@
 -- One chunk more.
-use Rattle.std.proofs.Common.{◌+◌, ◌-◌, ◌++◌, ◌∷◌, [], length, ap, ◌∙◌, arith}
+use Rattle.std.proofs.Common.{◌-◌, ◌++◌, ◌∷◌, [], length, ap, ◌∙◌, arith}
 use Rattle.numa_rows.proofs.Windows.{long-all}
 use Rattle.numa_rows.proofs.Editing.{added-part}
 use Rattle.numa_rows.proofs.edit.add_chunk.Goals as goal

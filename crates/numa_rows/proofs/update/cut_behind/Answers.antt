@@ -1,5 +1,5 @@
 -- The parts before the row's stay as they were, and the front of its own.
-use Rattle.std.proofs.Common.{◌≡◌, ◌+◌, ◌-◌, ◌∷◌, ◌++◌, [], List, take, length, set, get_or, ap, ◌∙◌, refl, arith}
+use Rattle.std.proofs.Common.{◌≡◌, ◌+◌, [], List, length, set, get_or, ap, ◌∙◌, refl, arith}
 use Rattle.std.proofs.lemmas.List.{get_or-take}
 use Rattle.numa_rows.proofs.InParts.{part-within}
 use Rattle.numa_rows.proofs.Cutting.{most-at, kept-parts, kept-rows, kept-table}
