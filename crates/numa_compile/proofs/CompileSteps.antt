@@ -1,28 +1,30 @@
 -- One more run, and one more task.
-use Rattle.std.proofs.Common.{◌≡◌, ◌≢◌, ℕ, ◌+◌, ◌<◌, ◌≤◌, Option, Some, None, List, [], ◌∷◌, ◌++◌, length, take, drop, get_or, AllPairs, slice_get, refl, sym, ap, subst, ◌∙◌, arith}
+use Rattle.std.proofs.Common.{◌≡◌, ◌≢◌, ℕ, ◌+◌, ◌<◌, ◌≤◌, Option, Some, None, List, [], ◌∷◌, ◌++◌, length, take, drop, get_or, All, AllPairs, IsSome, slice_get, refl, sym, ap, subst, ◌∙◌, arith}
 use Rattle.numa_mode.specs.Policy.{PolicyRecord}
 use Rattle.numa_ranges.specs.declared.run.Run.{Run}
 use Rattle.numa_space.specs.Policies.{where_live}
 use Rattle.numa_space.specs.Standing.{SpaceState, setting_in}
-use Rattle.numa_plan.specs.Building.{empty_plan, with_run, with_task}
+use Rattle.numa_plan.specs.Building.{empty_plan, with_task}
 use Rattle.numa_plan.specs.Meaning.{PlanData}
 use Rattle.numa_plan.specs.Rows.{Kept, RuleData}
-use Rattle.numa_plan.specs.Slots.{policy_in}
-use Rattle.numa_compile.specs.Copies.{AreCopies, AreUsed, Grows, HasTasks, IsCopy, IsNumber, IsUnderWay, Serves, SharesRules}
+use Rattle.numa_plan.specs.Slots.{policy_in, rule_in}
+use Rattle.std.specs.Option.{ForSome}
+use Rattle.numa_compile.specs.Copies.{AreCopies, AreUsed, Grows, HasTasks, IsCopy, IsNumber, HasRunsMore, IsUnderWay, Serves, SharesRules}
 use Rattle.numa_compile.specs.Follows.{Follows}
 use Rattle.numa_compile.specs.Rules.{IsRuleOf}
 use Rattle.numa_compile.proofs.CopyLemmas.{copies-grow, copies-next}
 use Rattle.numa_compile.proofs.FollowLemmas.{serving-served}
 use Rattle.numa_compile.proofs.PlanLemmas.{shares}
-use Rattle.numa_compile.proofs.ServeLemmas.{serves-run, serves-task}
+use Rattle.numa_compile.proofs.PutLemmas.{named-copies}
+use Rattle.numa_compile.proofs.ServeLemmas.{serves-kept, serves-task}
 
--- what holds while the runs of the first k ranges are there, and the rest is ahead
-pub record HasAdded (space : SpaceState) (rest : List (Run (Option PolicyRecord))) (plan : PlanData) (records : List PolicyRecord) : Type 0 where
+-- what holds while the runs of the first k ranges are there or wait, and the rest is ahead
+pub record HasAdded (space : SpaceState) (rest : List (Run (Option PolicyRecord))) (plan : PlanData) (waiting : List (Run (Option ℕ))) (records : List PolicyRecord) : Type 0 where
   pub k : ℕ
   pub within : k ≤ length space.ranges
   pub left : rest ≡ drop k space.ranges
   pub under_way : IsUnderWay space plan records
-  pub copies : AreCopies (slice_get records) (take k space.ranges) plan.runs
+  pub copies : AreCopies (slice_get records) (take k space.ranges) (plan.runs ++ waiting)
   pub tasks : plan.tasks ≡ []
   pub room : length records ≤ k
 
@@ -38,7 +40,7 @@ copied-next old keys ranges runs before i range policy number lt at value same g
     (subst (λ (r : Run (Option PolicyRecord)). IsCopy (slice_get keys) r run) at copy))
 
 -- the plan with the rule that was looked up
-under-rest : (space : SpaceState) (plan middle : PlanData) (records keys : List PolicyRecord) → IsUnderWay space plan records → Serves space middle keys → AreUsed space keys → middle ≡ record plan { slots = middle.slots } → IsUnderWay space middle keys
+pub under-rest : (space : SpaceState) (plan middle : PlanData) (records keys : List PolicyRecord) → IsUnderWay space plan records → Serves space middle keys → AreUsed space keys → middle ≡ record plan { slots = middle.slots } → IsUnderWay space middle keys
 under-rest space plan middle records keys under serves used rest = record {
   nodes = ap (λ (p : PlanData). p.nodes) rest ∙ under.nodes;
   local = subst (λ (r : RuleData). IsRuleOf (setting_in space) r None) (sym (ap (λ (p : PlanData). p.local) rest)) under.local;
@@ -46,13 +48,20 @@ under-rest space plan middle records keys under serves used rest = record {
   used = used;
 }
 
--- with one run more
-pub under-run : (space : SpaceState) (plan middle new : PlanData) (run : Run (Option ℕ)) (records keys : List PolicyRecord) → IsUnderWay space plan records → Serves space middle keys → AreUsed space keys → middle ≡ record plan { slots = middle.slots } → new ≡ with_run middle run
-    → IsUnderWay space new keys
-under-run space plan middle new run records keys under serves used rest is =
-    let one : IsUnderWay space middle keys = under-rest space plan middle records keys under serves used rest in
-    let more : IsUnderWay space (with_run middle run) keys = record { nodes = one.nodes; local = one.local; serves = serves-run space middle run keys serves; used = used } in
-    subst (λ (p : PlanData). IsUnderWay space p keys) (sym is) more
+-- with other runs
+pub under-runs : (space : SpaceState) (plan new : PlanData) (keys : List PolicyRecord) → IsUnderWay space plan keys → HasRunsMore plan new → IsUnderWay space new keys
+under-runs space plan new keys under more = record {
+  nodes = ap (λ (p : PlanData). p.nodes) more.rest ∙ under.nodes;
+  local = subst (λ (r : RuleData). IsRuleOf (setting_in space) r None) (sym (ap (λ (p : PlanData). p.local) more.rest)) under.local;
+  serves = serves-kept space plan new keys more.kept more.as_many under.serves;
+  used = under.used;
+}
+
+-- the rules that copies name are there
+pub served-named : (space : SpaceState) (plan : PlanData) (keys : List PolicyRecord) (ranges : List (Run (Option PolicyRecord))) (runs : List (Run (Option ℕ))) → Serves space plan keys → AreCopies (slice_get keys) ranges runs
+    → All (λ run. ForSome run.value (λ number. IsSome (rule_in plan.slots number))) runs
+served-named space plan keys ranges runs serves copies =
+    named-copies plan.slots ranges runs (subst (λ (at : ℕ → Option PolicyRecord). AreCopies at ranges runs) (λ i number. sym (serves.policies number) i) copies)
 
 -- with one task more
 pub under-task : (space : SpaceState) (plan middle new : PlanData) (task : ℕ) (number : Option ℕ) (records keys : List PolicyRecord) → IsUnderWay space plan records → Serves space middle keys → AreUsed space keys → middle ≡ record plan { slots = middle.slots } → new ≡ with_task middle task number

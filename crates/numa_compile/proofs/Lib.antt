@@ -25,4 +25,5 @@ pub mod Widths
 pub mod WindowLemmas
 pub mod WeightLemmas
 pub mod WeightSteps
+pub mod WaitLemmas
 pub mod WeightFollows

@@ -5,14 +5,13 @@ use Rattle.std.proofs.lemmas.Option.{same_Some, slice_get-get_or}
 use Rattle.std.specs.Option.{option_map}
 use Rattle.std.specs.Prelude.{slice_get}
 use Rattle.numa_mode.specs.Policy.{PolicyRecord}
-use Rattle.numa_ranges.specs.declared.run.Run.{Run}
 use Rattle.numa_space.specs.Standing.{SpaceState}
-use Rattle.numa_plan.specs.Building.{with_rule, with_run, with_task}
+use Rattle.numa_plan.specs.Building.{with_rule, with_task}
 use Rattle.numa_plan.specs.Meaning.{PlanData, number_of}
 use Rattle.numa_plan.specs.Rows.{Kept}
 use Rattle.numa_plan.specs.Slots.{kept_in, policy_in, put_slot, IsLowestFree}
 use Rattle.numa_plan.specs.declared.slots.Slot.TheVariants.{Taken}
-use Rattle.numa_plan.proofs.SlotLemmas.{same_or_not, kept_in-put, kept_in-put_other, kept_in-used, kept_in-changed, none-kept, length-used, length-changed}
+use Rattle.numa_plan.proofs.SlotLemmas.{same_or_not, kept_in-put, kept_in-put_other, kept_in-changed, none-kept, length-changed}
 use Rattle.numa_compile.specs.Copies.{Serves}
 use Rattle.numa_compile.specs.Sharing.{IsServing}
 
@@ -23,15 +22,12 @@ pub policy-of : (a b : Option Kept) → a ≡ b → option_map (λ kept. kept.po
 policy-of a b same = ap (λ (o : Option Kept). option_map (λ (kept : Kept). kept.policy) o) same
 
 -- the same policies and rules in as many slots
-serves-kept : (space : SpaceState) (old new : PlanData) (records : List PolicyRecord) → ((number : ℕ) → kept_in new.slots number ≡ kept_in old.slots number) → length new.slots ≡ length old.slots → Serves space old records → Serves space new records
+pub serves-kept : (space : SpaceState) (old new : PlanData) (records : List PolicyRecord) → ((number : ℕ) → kept_in new.slots number ≡ kept_in old.slots number) → length new.slots ≡ length old.slots → Serves space old records → Serves space new records
 serves-kept space old new records same long serves = record {
   as_many = long ∙ serves.as_many;
   policies = λ number. policy-of (kept_in new.slots number) (kept_in old.slots number) (same number) ∙ serves.policies number;
   serving = λ number kept is. serves.serving number kept (sym (same number) ∙ is);
 }
-
-pub serves-run : (space : SpaceState) (plan : PlanData) (run : Run (Option ℕ)) (records : List PolicyRecord) → Serves space plan records → Serves space (with_run plan run) records
-serves-run space plan run records serves = serves-kept space plan (with_run plan run) records (kept_in-used plan.slots run.value) (length-used plan.slots run.value) serves
 
 pub serves-task : (space : SpaceState) (plan : PlanData) (task : ℕ) (number : Option ℕ) (records : List PolicyRecord) → Serves space plan records → Serves space (with_task plan task number) records
 serves-task space plan task number records serves =

@@ -7,7 +7,7 @@ use Rattle.numa_space.specs.Policies.{where_live}
 use Rattle.numa_space.specs.Standing.{SpaceState, record_of, setting_in}
 use Rattle.numa_plan.specs.Meaning.{PlanData, number_of}
 use Rattle.numa_compile.specs.Rules.{IsRuleOf}
-use Rattle.numa_plan.specs.Slots.{policy_in}
+use Rattle.numa_plan.specs.Slots.{kept_in, policy_in}
 use Rattle.numa_compile.specs.Sharing.{AreServed, AreServing, IsUsed}
 
 -- the number of a rule for a policy: one at which its record stands; none without a policy
@@ -60,6 +60,12 @@ pub record IsUnderWay (space : SpaceState) (plan : PlanData)
   pub local : IsRuleOf (setting_in space) plan.local None
   pub serves : Serves space plan records
   pub used : AreUsed space records
+
+-- a plan has other runs than before, its slots may count other uses, and no more
+pub record HasRunsMore (old new : PlanData) : Type 0 where
+  pub rest : new ≡ record old { runs = new.runs; slots = new.slots }
+  pub kept : (number : ℕ) → kept_in new.slots number ≡ kept_in old.slots number
+  pub as_many : length new.slots ≡ length old.slots
 
 -- the plan's rules are one for each distinct live record of ranges and tasks, and no more: the
 -- slots serve these records one by one. Its runs are the ranges, one by one, each with the rule of

@@ -1,13 +1,15 @@
 //! Compiling.
 ghost use Rattle.std.specs.Prelude.{◌≡◌, ℕ, ◌+◌, ◌-◌, ◌^◌, ◌<◌, ◌≤◌, IfOk, OnOk, List, [], length};
-ghost use Rattle.std.specs.Prelude.{slice_get};
+ghost use Rattle.std.specs.Prelude.{slice_get, All, IsSome, ◌∷◌, ◌++◌};
 ghost use Rattle.std.specs.Option.{ForSome};
 ghost use Rattle.numa_ranges.specs.Runs.{AreApart, AreMaximal};
 ghost use Rattle.numa_plan.specs.Meaning.{planned_list};
+ghost use Rattle.numa_plan.specs.Slots.{rule_in};
 ghost use Rattle.numa_space.specs.declared.command.Command.{Command};
 ghost use Rattle.numa_space.specs.Policies.{allowed_nodes};
 ghost use Rattle.numa_space.specs.Standing.{StandsFor, IsNodeList, accepted_of};
-ghost use Rattle.numa_compile.specs.Copies.{AreCopies, HasTasks, IsUnderWay, SharesRules};
+ghost use Rattle.numa_compile.specs.Copies.{AreCopies, HasTasks, HasRunsMore, IsUnderWay};
+ghost use Rattle.numa_compile.specs.Copies.{SharesRules};
 ghost use Rattle.numa_compile.specs.Follows.{Follows};
 ghost use Rattle.numa_compile.specs.Rules.{IsReady};
 ghost use Rattle.numa_compile.specs.Standing.{IsPlanOf, PlanStandsFor};
@@ -42,6 +44,50 @@ pub(crate) fn survey(space: &Space)
     let _ = space.task_count();
 }
 
+/// How many runs wait before they are put into the plan.
+const BLOCK: usize = 256;
+
+/// Puts the runs that wait behind the plan's. None waits any more.
+fn put_waiting(
+    plan: &mut Plan,
+    waiting: &mut Vec<Run<Option<u32>>>,
+    steps: &mut Steps,
+) -> Result<(), NoMemory>
+    requires apart { AreApart 0 (plan.old.runs ++ waiting.old.items) }
+    requires named { All (λ run. ForSome run.value (λ number.
+        IsSome (rule_in plan.old.slots number))) (plan.old.runs ++ waiting.old.items) }
+    ensures more { OnOk result (HasRunsMore plan.old plan.new) }
+    ensures runs { OnOk result (plan.new.runs ≡ plan.old.runs ++ waiting.old.items) }
+    ensures none { OnOk result (waiting.new.items ≡ []) }
+{
+    let end = plan.run_count();
+    plan.splice_runs(end, end, waiting, steps)?;
+    waiting.clear();
+    Ok(())
+}
+
+/// Adds a run behind those that wait, and puts them into the plan where they are enough.
+fn add_run(
+    plan: &mut Plan,
+    waiting: &mut Vec<Run<Option<u32>>>,
+    run: Run<Option<u32>>,
+    steps: &mut Steps,
+) -> Result<(), NoMemory>
+    requires apart { AreApart 0 (plan.old.runs ++ (waiting.old.items ++ run ∷ [])) }
+    requires named { All (λ run. ForSome run.value (λ number.
+        IsSome (rule_in plan.old.slots number)))
+        (plan.old.runs ++ (waiting.old.items ++ run ∷ [])) }
+    ensures more { OnOk result (HasRunsMore plan.old plan.new) }
+    ensures runs { OnOk result (plan.new.runs ++ waiting.new.items
+        ≡ plan.old.runs ++ (waiting.old.items ++ run ∷ [])) }
+{
+    waiting.push(run)?;
+    if waiting.len() < BLOCK {
+        return Ok(());
+    }
+    put_waiting(plan, waiting, steps)
+}
+
 /// Adds a run for each range of the space, in order.
 fn add_runs(
     alloc: Global,
@@ -63,6 +109,7 @@ fn add_runs(
     ensures room { OnOk result (length records.new.keys ≤ length space.now.ranges) }
 {
     let mut guesses = Guesses::new();
+    let mut waiting = Vec::with_capacity(alloc, BLOCK)?;
     for range in space.range_iter() {
         let value = number_for_range(
             alloc,
@@ -79,9 +126,9 @@ fn add_runs(
             index: range.index,
             value,
         };
-        plan.push_run(run, steps)?;
+        add_run(plan, &mut waiting, run, steps)?;
     }
-    Ok(())
+    put_waiting(plan, &mut waiting, steps)
 }
 
 /// Gives each task that has a live policy its rule.
