@@ -1,5 +1,5 @@
 -- Runs that wait, put behind those of a plan.
-use Rattle.std.proofs.Common.{◌≡◌, ℕ, zero, suc, ◌-◌, Option, List, [], ◌∷◌, ◌++◌, length, take, drop, All, IsSome, refl, sym, ap, ◌∙◌, arith}
+use Rattle.std.proofs.Common.{◌≡◌, ℕ, suc, Option, List, [], ◌∷◌, ◌++◌, length, All, IsSome, refl, sym, ap, ◌∙◌, arith}
 use Rattle.std.proofs.lemmas.List.{take_all, drop_all, append-nil}
 use Rattle.std.specs.List.{slice_range, splice}
 use Rattle.std.specs.Option.{ForSome}

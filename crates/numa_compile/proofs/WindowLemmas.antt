@@ -1,5 +1,5 @@
 -- Runs that copy ranges, where a window of them is copied anew.
-use Rattle.std.proofs.Common.{◌≡◌, ℕ, zero, suc, ◌+◌, ◌-◌, ◌<◌, Bool, true, false, cond, Option, Some, None, List, [], ◌∷◌, ◌++◌, take, drop, refl, sym, ap, subst, ◌∙◌, arith}
+use Rattle.std.proofs.Common.{◌≡◌, ℕ, zero, suc, ◌+◌, ◌-◌, ◌<◌, Bool, true, false, cond, Option, Some, None, List, [], ◌∷◌, ◌++◌, take, drop, refl, ap, subst, ◌∙◌, arith}
 use Rattle.std.proofs.lemmas.Bool.{eq-eqb}
 use Rattle.std.proofs.lemmas.List.Sums.{sum_by-cons}
 use Rattle.std.specs.List.{splice}
@@ -9,7 +9,7 @@ use Rattle.numa_ranges.specs.Runs.{page_at, in_pages}
 use Rattle.numa_ranges.specs.declared.run.Run.{Run}
 use Rattle.numa_space.specs.Policies.{where_live}
 use Rattle.numa_plan.specs.Meaning.{is_number}
-use Rattle.numa_compile.specs.Copies.{IsNumber, IsCopy, AreCopies}
+use Rattle.numa_compile.specs.Copies.{IsNumber, AreCopies}
 use Rattle.numa_compile.proofs.CopyLemmas.{same-pages}
 
 module _ (at : ℕ → Option PolicyRecord) where

@@ -1,4 +1,4 @@
-use Rattle.std.proofs.Common.{List, Option, ℕ, refl, sym, ap, subst, ◌∙◌, ◌++◌, All, IsSome}
+use Rattle.std.proofs.Common.{List, Option, ℕ, sym, ap, subst, ◌∙◌, ◌++◌, All, IsSome}
 use Rattle.std.specs.Option.{ForSome}
 use Rattle.numa_plan.specs.Slots.{rule_in}
 use Rattle.numa_ranges.specs.Runs.{AreApart}
