@@ -160,7 +160,7 @@ impl Plan {
         if !self.runs.covers(first, out.len() as u64) {
             return Err(PlaceRefusal::Unmapped);
         }
-        let mut seen = self.runs.seen();
+        let mut seen = Runs::seen();
         let mut page = first;
         let mut done = 0usize;
         while done < out.len() {
@@ -200,7 +200,7 @@ impl Plan {
             return Err(PlaceRefusal::BadCpu);
         }
         let mut counts = [0u64; 256];
-        let mut seen = self.runs.seen();
+        let mut seen = Runs::seen();
         let mut page = first;
         let mut todo = pages;
         while todo > 0 {

@@ -14,7 +14,7 @@ ghost use Rattle.numa_plan.specs.Found.{IsAt, IsFound, IsPartOf, IsMapped, IsSpl
 use crate::steps::Steps;
 use numa_machine::NoMemory;
 use numa_ranges::Run;
-use numa_rows::{Near, Rows, Shared};
+use numa_rows::{Rows, Shared};
 use std::alloc::{AllocError, Global};
 use std::marker::Model;
 
@@ -27,12 +27,12 @@ pub(crate) struct Found {
     pub(crate) left: u64,
 }
 
-/// How far a walk along the pages has come: the place of the next run, and where it was looked for.
+/// How far a walk along the pages has come: the place of the next run, and the chunk of the last.
 /// Nothing depends on it but time.
 #[derive(Clone, Copy, Debug)]
 pub(crate) struct Seen {
     place: usize,
-    near: Near,
+    chunk: usize,
 }
 
 /// How far a page lies behind the first page of a run; none where it lies before it. Nothing else
@@ -66,6 +66,43 @@ fn found_in(run: &Run<Option<u32>>, far: u64) -> Option<Found>
     } else {
         None
     }
+}
+
+/// The place behind the last run that begins at a page or before it, how far the page lies behind
+/// the first page of that run, and the chunk where the search ended.
+#[inline]
+fn split_rows(
+    items: &Rows<Run<Option<u32>>, Shared<Run<Option<u32>>>>,
+    page: u64,
+    steps: &mut Steps,
+) -> (usize, u64, usize)
+    requires { AreApart 0 items.now }
+    ensures split { IsSplit items.now page result.0 result.1 }
+    ensures quick { FindsQuickly steps.old steps.new (length items.now) }
+{
+    let mut part = items.no_part();
+    let mut low = 0usize;
+    let mut high = items.len();
+    let mut far = 0u64;
+    let mut below = 0usize;
+    let mut above = items.chunk_count();
+    while low < high {
+        let middle = low + (high - low) / 2;
+        part = items.part_with(part, middle, below / 2 + above / 2);
+        let run = items.row_in(&part, middle);
+        match behind_first(run, page, steps) {
+            Some(distance) => {
+                far = distance;
+                low = middle + 1;
+                below = part.chunk();
+            }
+            None => {
+                high = middle;
+                above = part.chunk();
+            }
+        }
+    }
+    (low, far, below)
 }
 
 /// Runs of pages, in rising order and apart, each with the number of its rule or none. They stand
@@ -113,57 +150,25 @@ impl Runs {
         self.items.len()
     }
 
-    /// How far a page lies behind the first page of the run at a place; none where it lies before
-    /// it. `near` is where the search for a run has come.
-    fn behind_first(
-        &self,
-        place: usize,
-        page: u64,
-        near: &mut Near,
-        steps: &mut Steps,
-    ) -> Option<u64>
-        requires { place < length self.now }
-        ensures counted { steps.new ≡ one_comparison steps.old }
-        ensures far { (d : Run (Option ℕ)) →
-            MatchOption result (page < (slice_index_or self.now place d).first)
-            (λ far. (slice_index_or self.now place d).first + far ≡ page) }
-    {
-        behind_first(self.items.get_near(place, near), page, steps)
-    }
-
     /// The place behind the last run that begins at a page or before it, how far the page lies
-    /// behind the first page of that run, and where the search ended.
-    fn split(&self, page: u64, steps: &mut Steps) -> (usize, u64, Near)
+    /// behind the first page of that run, and the chunk where the search ended.
+    fn split(&self, page: u64, steps: &mut Steps) -> (usize, u64, usize)
         ensures split { IsSplit self.now page result.0 result.1 }
         ensures apart { AreApart 0 self.now }
         ensures quick { FindsQuickly steps.old steps.new (length self.now) }
     {
-        let mut near = self.items.near();
-        let mut low = 0usize;
-        let mut high = self.len();
-        let mut far = 0u64;
-        while low < high {
-            let middle = low + (high - low) / 2;
-            match self.behind_first(middle, page, &mut near, steps) {
-                Some(distance) => {
-                    far = distance;
-                    low = middle + 1;
-                }
-                None => high = middle,
-            }
-        }
-        (low, far, near)
+        split_rows(&self.items, page, steps)
     }
 
     /// What a run says of the page that lies so far behind its first page; none where the run is
     /// shorter.
-    fn found_at(&self, place: usize, far: u64, near: &mut Near) -> Option<Found>
+    fn found_at(&self, place: usize, far: u64, chunk: &mut usize) -> Option<Found>
         requires { place < length self.now }
         ensures { (d : Run (Option ℕ)) →
             MatchOption result ((slice_index_or self.now place d).pages ≤ far)
             (λ found. IsPartOf (slice_index_or self.now place d) far found) }
     {
-        let run = self.items.get_near(place, near);
+        let run = self.items.get_near(place, chunk);
         found_in(run, far)
     }
 
@@ -172,14 +177,14 @@ impl Runs {
         ensures found { IsFound self.now page result }
         ensures quick { FindsQuickly steps.old steps.new (length self.now) }
     {
-        self.find_first(page, &mut self.seen(), steps)
+        self.find_first(page, &mut Runs::seen(), steps)
     }
 
     /// Where a walk along the pages begins.
-    pub(crate) fn seen(&self) -> Seen {
+    pub(crate) fn seen() -> Seen {
         Seen {
             place: usize::MAX,
-            near: self.items.near(),
+            chunk: 0,
         }
     }
 
@@ -202,7 +207,7 @@ impl Runs {
         if place >= self.len() {
             return None;
         }
-        let run = self.items.get_near(place, &mut seen.near);
+        let run = self.items.get_near(place, &mut seen.chunk);
         let far = behind_first(run, page, &mut Steps::new())?;
         let found = found_in(run, far)?;
         seen.place = place + 1;
@@ -216,11 +221,11 @@ impl Runs {
     {
         let at = self.split(page, steps);
         seen.place = at.0;
-        seen.near = at.2;
+        seen.chunk = at.2;
         if at.0 == 0 {
             return None;
         }
-        self.found_at(at.0 - 1, at.1, &mut seen.near)
+        self.found_at(at.0 - 1, at.1, &mut seen.chunk)
     }
 
     /// How many runs begin at a page or before it.
@@ -280,7 +285,7 @@ impl Runs {
         ensures all { OnTrue result (IsMapped self.now first pages) }
         ensures hole { OnFalse result (HasHole self.now first pages) }
     {
-        let mut seen = self.seen();
+        let mut seen = Runs::seen();
         let mut page = first;
         let mut todo = pages;
         while todo > 0 {
