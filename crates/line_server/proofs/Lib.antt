@@ -1,5 +1,6 @@
 pub mod Adding
 pub mod Answering
+pub mod Cutting
 pub mod Endings
 pub mod Fronts
 pub mod Progressing

@@ -1,14 +1,15 @@
 -- How a run goes on.
-use Rattle.std.specs.Prelude.{◌≡◌, ℕ, ◌+◌, ◌==◌, ◌++◌, Bool, false, Option, List, [], ◌∷◌, length, refl}
-use Rattle.std.proofs.Common.{sym, ◌∙◌, ap, subst, length-append}
-use Rattle.line_server.specs.Lines.{ended, open_line, seen}
+use Rattle.std.specs.Prelude.{◌≡◌, ℕ, ◌+◌, ◌++◌, Bool, Option, List, [], ◌∷◌, length, refl}
+use Rattle.std.proofs.Common.{sym, ◌∙◌, ap, subst, append_assoc, length-append}
+use Rattle.std.proofs.lemmas.List.{append-nil}
+use Rattle.line_server.specs.Lines.{IsPiece, ended, open_line, seen}
 use Rattle.line_server.specs.Output.{answers, on_seen, state_after}
 use Rattle.line_server.specs.Progress.{Progress, among}
 use Rattle.line_server.specs.Written.{Said, SaidNothing}
 use Rattle.line_server.specs.declared.watched.Watched.{Watched}
 use Rattle.line_server.proofs.Adding.{said_both, said_nothing, said_still}
 use Rattle.line_server.proofs.Answering.{answers_more, state_more}
-use Rattle.line_server.proofs.Splitting.{ended_feed, open_feed, ended_hold, open_hold, ended_nil, open_nil}
+use Rattle.line_server.proofs.Splitting.{ended_feed, open_feed, ended_piece, open_piece, ended_nil, open_nil}
 
 seen_nil : seen [] ≡ []
 unfolding seen
@@ -61,18 +62,30 @@ module _ {State W : Type 0} (contents : W → Option (List ℕ)) (answer_of : Bo
       }
 
   -- the open line grows
-  pub progress_hold : (stands : State → Type 0) (from now : Watched W) (line more front : List ℕ) (b : ℕ) → (b == 10) ≡ false →
-      ((l : List ℕ) → line ≡ seen l → more ≡ seen (l ++ b ∷ [])) →
-      Progress contents answer_of after start stands from now line front → Progress contents answer_of after start stands from now more (front ++ b ∷ [])
-  progress_hold stands from now line more front b other holds so_far =
-      let same : ended (front ++ b ∷ []) ≡ ended front = ended_hold front b other in
+  pub progress_hold : (stands : State → Type 0) (from now : Watched W) (line more front piece : List ℕ) → IsPiece piece →
+      ((l : List ℕ) → line ≡ seen l → more ≡ seen (l ++ piece)) →
+      Progress contents answer_of after start stands from now line front → Progress contents answer_of after start stands from now more (front ++ piece)
+  progress_hold stands from now line more front piece other holds so_far =
+      let same : ended (front ++ piece) ≡ ended front = ended_piece front piece other in
       record {
         flags = so_far.flags;
         count = so_far.count ∙ ap length (sym same);
         says = subst (λ ls. Said contents from now (answers (on_seen answer_of) (on_seen after) (among so_far.flags) start ls)) (sym same) so_far.says;
         reached = subst (λ ls. stands (state_after (on_seen answer_of) (on_seen after) (among so_far.flags) start ls)) (sym same) so_far.reached;
-        line_is = holds (open_line front) so_far.line_is ∙ ap seen (sym (open_hold front b other));
+        line_is = holds (open_line front) so_far.line_is ∙ ap seen (sym (open_piece front piece other));
       }
+
+  -- nothing is taken, or some bytes and then some more
+  pub taken_none : (stands : State → Type 0) (now : Watched W) (line : List ℕ) (from : Watched W) (front : List ℕ) →
+      Progress contents answer_of after start stands from now line front → Progress contents answer_of after start stands from now line (front ++ [])
+  taken_none stands now line from front = subst (Progress contents answer_of after start stands from now line) (sym (append-nil front))
+
+  pub takes_both : (stands mid_stands last_stands : State → Type 0) (now mid last : Watched W) (line mid_line last_line xs ys : List ℕ) →
+      ((from : Watched W) (front : List ℕ) → Progress contents answer_of after start stands from now line front → Progress contents answer_of after start mid_stands from mid mid_line (front ++ xs)) →
+      ((from : Watched W) (front : List ℕ) → Progress contents answer_of after start mid_stands from mid mid_line front → Progress contents answer_of after start last_stands from last last_line (front ++ ys)) →
+      (from : Watched W) (front : List ℕ) → Progress contents answer_of after start stands from now line front → Progress contents answer_of after start last_stands from last last_line (front ++ (xs ++ ys))
+  takes_both stands mid_stands last_stands now mid last line mid_line last_line xs ys first second from front h =
+      subst (Progress contents answer_of after start last_stands from last last_line) (append_assoc front xs ys) (second from (front ++ xs) (first from front h))
 
   -- what is held back is handed over
   pub progress_handed : (stands : State → Type 0) (from now then : Watched W) (line front : List ℕ) → SaidNothing contents now then →

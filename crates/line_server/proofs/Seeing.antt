@@ -1,6 +1,7 @@
--- How what a server is given of the open line grows byte by byte.
-use Rattle.std.specs.Prelude.{◌≡◌, ℕ, ◌<◌, ◌≤◌, ◌++◌, List, [], ◌∷◌, length, take}
-use Rattle.std.proofs.Common.{sym, ◌∙◌, ap, arith, length-append}
+-- How what a server is given of the open line grows piece by piece.
+use Rattle.std.specs.Prelude.{◌≡◌, ℕ, ◌-◌, ◌<◌, ◌≤◌, ◌++◌, List, length, take, min}
+use Rattle.std.proofs.Common.{sym, ◌∙◌, ap, arith}
+use Rattle.std.proofs.Math.Seq.{take-append-add}
 use Rattle.std.proofs.lemmas.List.{take_all, take-append-le, length-take-le}
 use Rattle.line_server.specs.Lines.{seen}
 
@@ -12,20 +13,24 @@ take_full n line h =
     let all : length line ≤ n → length (take n line) ≡ length line = λ le. ap length (take_all n line le) in
     grind (arith, all)
 
-short_more : (n : ℕ) (line : List ℕ) (b : ℕ) → length (take n line) < n → take n line ++ b ∷ [] ≡ take n (line ++ b ∷ [])
-short_more n line b h =
-    let few : length line < n = take_short n line h in
-    ap (λ l. l ++ b ∷ []) (take_all n line (omega arith)) ∙ sym (take_all n (line ++ b ∷ []) (omega (arith, length-append line (b ∷ []))))
+-- as much of a piece as there is room for
+take_room : (n : ℕ) (more : List ℕ) → take (min (length more) n) more ≡ take n more
+take_room n more =
+    let all : length more ≤ n → take n more ≡ more = take_all n more in
+    let whole : take (length more) more ≡ more = take_all (length more) more (omega arith) in
+    grind (arith, all, whole)
 
-full_same : (n : ℕ) (line : List ℕ) (b : ℕ) → n ≤ length (take n line) → take n line ≡ take n (line ++ b ∷ [])
-full_same n line b h =
-    let many : n ≤ length line = take_full n line h in
-    sym (take-append-le n line (b ∷ []) many)
+short_more : (n : ℕ) (items line more : List ℕ) → length items < n → items ≡ take n line → items ++ take (min (length more) (n - length items)) more ≡ take n (line ++ more)
+short_more n items line more h e =
+    let few : length line < n = take_short n line (omega (arith, h, ap length e)) in
+    let same : items ≡ line = e ∙ take_all n line (omega (arith, few)) in
+    ap (λ l. items ++ l) (take_room (n - length items) more) ∙ sym (take-append-add items more (n - length items))
+    ∙ ap (λ k. take k (items ++ more)) (omega (arith, h)) ∙ ap (λ l. take n (l ++ more)) same
 
-pub seen_more : (items line : List ℕ) (b : ℕ) → length items < 4097 → items ≡ seen line → items ++ b ∷ [] ≡ seen (line ++ b ∷ [])
+pub seen_more : (items line more : List ℕ) → length items < 4097 → items ≡ seen line → items ++ take (min (length more) (4097 - length items)) more ≡ seen (line ++ more)
 unfolding seen
-seen_more items line b h e = ap (λ l. l ++ b ∷ []) e ∙ short_more 4097 line b (omega (arith, h, ap length e))
+seen_more items line more h e = short_more 4097 items line more h e
 
-pub seen_full : (items line : List ℕ) (b : ℕ) → 4097 ≤ length items → items ≡ seen line → items ≡ seen (line ++ b ∷ [])
+pub seen_full : (items line more : List ℕ) → 4097 ≤ length items → items ≡ seen line → items ≡ seen (line ++ more)
 unfolding seen
-seen_full items line b h e = e ∙ full_same 4097 line b (omega (arith, h, ap length e))
+seen_full items line more h e = e ∙ sym (take-append-le 4097 line more (take_full 4097 line (omega (arith, h, ap length e))))

@@ -1,8 +1,10 @@
--- How the lines of a script grow byte by byte.
+-- How the lines of a script grow byte by byte, and piece by piece.
 use Rattle.std.specs.Prelude.{◌≡◌, ℕ, ◌==◌, ◌++◌, true, false, List, [], ◌∷◌, cond, refl}
-use Rattle.std.proofs.Common.{◌∙◌, ap}
+use Prim.Native.Nat.{suc}
+use Rattle.std.proofs.Common.{sym, ◌∙◌, ap, arith, append_assoc}
+use Rattle.std.proofs.lemmas.List.{append-nil}
 use Rattle.std.specs.List.{onto_first}
-use Rattle.line_server.specs.Lines.{lines_of, all_but_last, last_of, ended, open_line}
+use Rattle.line_server.specs.Lines.{IsPiece, lines_of, all_but_last, last_of, ended, open_line}
 
 data IsCons : List (List ℕ) → Type 0 where
   is_cons : (p : List ℕ) (ps : List (List ℕ)) → IsCons (p ∷ ps)
@@ -80,6 +82,20 @@ ended_hold bs b h = ap all_but_last (lines_hold bs b h) ∙ front_of_push _ _
 pub open_hold : (bs : List ℕ) (b : ℕ) → (b == 10) ≡ false → open_line (bs ++ b ∷ []) ≡ open_line bs ++ b ∷ []
 unfolding open_line
 open_hold bs b h = ap last_of (lines_hold bs b h) ∙ last_of_push (all_but_last (lines_of bs)) _
+
+piece_tail : (b : ℕ) (piece : List ℕ) → IsPiece (b ∷ piece) → IsPiece piece
+piece_tail b piece h = λ k lt. h (suc k) (omega (arith, lt))
+
+pub ended_piece : (bs piece : List ℕ) → IsPiece piece → ended (bs ++ piece) ≡ ended bs
+ended_piece bs [] h = ap ended (append-nil bs)
+ended_piece bs (b ∷ piece) h =
+    ap ended (sym (append_assoc bs (b ∷ []) piece)) ∙ ended_piece (bs ++ b ∷ []) piece (piece_tail b piece h) ∙ ended_hold bs b (h 0 (omega arith))
+
+pub open_piece : (bs piece : List ℕ) → IsPiece piece → open_line (bs ++ piece) ≡ open_line bs ++ piece
+open_piece bs [] h = ap open_line (append-nil bs) ∙ sym (append-nil (open_line bs))
+open_piece bs (b ∷ piece) h =
+    ap open_line (sym (append_assoc bs (b ∷ []) piece)) ∙ open_piece (bs ++ b ∷ []) piece (piece_tail b piece h)
+    ∙ ap (λ l. l ++ piece) (open_hold bs b (h 0 (omega arith))) ∙ append_assoc (open_line bs) (b ∷ []) piece
 
 pub ended_nil : ended [] ≡ []
 unfolding ended

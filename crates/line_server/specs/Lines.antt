@@ -1,5 +1,5 @@
 -- Where the lines of a script end.
-use Rattle.std.specs.Prelude.{ℕ, ◌==◌, List, [], ◌∷◌, take}
+use Rattle.std.specs.Prelude.{◌≡◌, ℕ, ◌==◌, ◌<◌, false, List, [], ◌∷◌, length, slice_index, take}
 use Rattle.std.specs.List.{slice_split}
 
 -- the lines of a script: what stands between line feeds, so that the last is empty where the script
@@ -27,3 +27,7 @@ open_line bytes = last_of (lines_of bytes)
 -- as much of a line as a server is given: its first 4,097 bytes
 unfoldable pub seen : List ℕ → List ℕ
 seen line = take 4097 line
+
+-- no line feed stands among the bytes
+abbrev pub IsPiece : List ℕ → Type 0
+IsPiece bytes = (k : ℕ) → k < length bytes → (slice_index bytes k == 10) ≡ false

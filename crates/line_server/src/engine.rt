@@ -1,11 +1,13 @@
 //! Answers a script as its bytes come.
-ghost use Rattle.std.specs.Prelude.{◌≡◌, [], ◌∷◌, IfOk, OnOk, OnErr, true, false};
+ghost use Rattle.std.specs.Prelude.{◌≡◌, ◌++◌, [], ◌∷◌, IfOk, OnOk, OnErr, true, false};
+ghost use Rattle.line_server.specs.Lines.{IsPiece};
 ghost use Rattle.line_server.specs.Progress.{Takes};
 ghost use Rattle.line_server.specs.Watching.{has_failed, held_in};
 
 use crate::open_line::OpenLine;
 use crate::serve::Serve;
 use crate::watched::{CallFailed, Watched};
+use memchr::memchr;
 use std::alloc::{AllocError, Global};
 use std::io::Write;
 
@@ -35,16 +37,14 @@ impl<S: Serve + Drop> Engine<S> {
         self.line.clear();
     }
 
-    /// Takes one byte of the script.
-    fn feed<W: Write>(&mut self, alloc: Global, byte: u8, output: &mut Watched<W>)
+    /// Takes the last bytes of the open line, answers it, and opens the next.
+    fn end_with<W: Write>(&mut self, alloc: Global, bytes: &[u8], output: &mut Watched<W>)
+        requires piece { IsPiece bytes.now }
         ensures { Takes W.contents S.answer_of S.after S.start S.stands_for
-            output.old self.old output.new self.new (byte ∷ []) }
+            output.old self.old output.new self.new (bytes.now ++ 10 ∷ []) }
     {
-        if byte == b'\n' {
-            self.end_line(alloc, output);
-            return;
-        }
-        self.line.hold(byte);
+        self.line.hold(bytes);
+        self.end_line(alloc, output);
     }
 
     /// Answers the lines that end in the bytes.
@@ -52,9 +52,12 @@ impl<S: Serve + Drop> Engine<S> {
         ensures { Takes W.contents S.answer_of S.after S.start S.stands_for
             output.old self.old output.new self.new bytes.now }
     {
-        for byte in bytes {
-            self.feed(alloc, *byte, output);
+        let mut rest = bytes;
+        while let Some(end) = memchr(b'\n', rest) {
+            self.end_with(alloc, &rest[..end], output);
+            rest = &rest[end + 1..];
         }
+        self.line.hold(rest);
     }
 
     /// Takes some bytes, and hands over the answers of the lines that end in them.

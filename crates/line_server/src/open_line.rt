@@ -1,5 +1,5 @@
 //! The line that no line feed has ended yet.
-ghost use Rattle.std.specs.Prelude.{◌≡◌, ℕ, ◌+◌, ◌≤◌, ◌++◌, [], ◌∷◌, List, IfOk};
+ghost use Rattle.std.specs.Prelude.{◌≡◌, ℕ, ◌++◌, [], List, IfOk};
 ghost use Rattle.line_server.specs.Lines.{seen};
 
 use std::alloc::{AllocError, Global};
@@ -33,15 +33,17 @@ impl OpenLine {
         Ok(OpenLine { bytes })
     }
 
-    /// Takes one more byte of the line.
+    /// Takes more bytes of the line.
     #[tactic(auto, using(crate::proofs::Seeing::seen_more, crate::proofs::Seeing::seen_full))]
-    pub fn hold(&mut self, byte: u8)
-        ensures { (line : List ℕ) → self.old ≡ seen line → self.new ≡ seen (line ++ byte ∷ []) }
+    pub fn hold(&mut self, bytes: &[u8])
+        ensures { (line : List ℕ) → self.old ≡ seen line → self.new ≡ seen (line ++ bytes.now) }
     {
         if self.bytes.len() >= LIMIT {
             return;
         }
-        self.bytes.push(byte).unwrap();
+        let room = LIMIT - self.bytes.len();
+        let kept = bytes.len().min(room);
+        self.bytes.extend_from_slice(&bytes[..kept]).unwrap();
     }
 
     /// The bytes that are kept.
