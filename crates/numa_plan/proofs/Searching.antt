@@ -62,6 +62,13 @@ module _ (runs : List (Run (Option ℕ))) (page : ℕ) where
     lies = h.lies;
   }
 
+-- what is read of a row holds of the run at its place
+pub read_far : (runs : List (Run (Option ℕ))) (place : ℕ) (run : Run (Option ℕ)) (far page : ℕ) → ((d : Run (Option ℕ)) → run ≡ get_or runs place d) → run.first + far ≡ page → (d : Run (Option ℕ)) → (get_or runs place d).first + far ≡ page
+read_far runs place run far page is lies d = subst (λ (r : Run (Option ℕ)). r.first + far ≡ page) (is d) lies
+
+pub read_above : (runs : List (Run (Option ℕ))) (place : ℕ) (run : Run (Option ℕ)) (page : ℕ) → ((d : Run (Option ℕ)) → run ≡ get_or runs place d) → page < run.first → (d : Run (Option ℕ)) → page < (get_or runs place d).first
+read_above runs place run page is above d = subst (λ (r : Run (Option ℕ)). page < r.first) (is d) above
+
 apart-ends : (from : ℕ) (runs : List (Run (Option ℕ))) → AreApart from runs → (i j : ℕ) (d : Run (Option ℕ)) → i < j → j < length runs → end_of (get_or runs i d) ≤ (get_or runs j d).first
 apart-ends from [] apart i j d lt l = absurd (omega arith)
 apart-ends from (run ∷ runs) apart zero zero d lt l = absurd (omega arith)
