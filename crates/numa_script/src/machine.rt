@@ -71,11 +71,7 @@ impl<'a> Frames<'a> {
     pub fn read(word: &'a [u8]) -> Option<Frames<'a>>
         ensures { result ≡ frames_of word.now }
     {
-        if are_numbers(word) {
-            Some(Frames { word })
-        } else {
-            None
-        }
+        are_numbers(word).then_some(Frames { word })
     }
 
     /// The frames of each of so many nodes: one number is that of each node with memory, where the
@@ -164,11 +160,7 @@ impl<'a> Entries<'a> {
     pub fn read(word: &'a [u8]) -> Option<Entries<'a>>
         ensures { result ≡ table_of word.now }
     {
-        if is_table(word) {
-            Some(Entries { word })
-        } else {
-            None
-        }
+        is_table(word).then_some(Entries { word })
     }
 
     /// The entries in turn.

@@ -65,24 +65,21 @@ pub fn number(word: &[u8]) -> Option<u64>
 pub fn small(word: &[u8]) -> Option<u32>
     ensures { result ≡ small_of word.now }
 {
-    let n = number(word)?;
-    u32::try_from(n).ok()
+    u32::try_from(number(word)?).ok()
 }
 
 /// The number of an item of a list of numbers: 1 to 10 decimal digits, below 2^32.
 pub fn small_item(item: &[u8]) -> Option<u32>
     ensures { result ≡ item_of item.now }
 {
-    let n = numeral(item, 10, 10)?;
-    u32::try_from(n).ok()
+    u32::try_from(numeral(item, 10, 10)?).ok()
 }
 
 /// The distance of an item of a distance table: 1 to 10 decimal digits, at most 255.
 pub fn distance(item: &[u8]) -> Option<u8>
     ensures { result ≡ below 256 (item_of item.now) }
 {
-    let n = small_item(item)?;
-    u8::try_from(n).ok()
+    u8::try_from(small_item(item)?).ok()
 }
 
 /// The page of an address, which is in bytes: the address divided by 4,096.
@@ -97,16 +94,14 @@ pub fn page(word: &[u8]) -> Option<u64>
 pub fn node(word: &[u8]) -> Option<u8>
     ensures { result ≡ node_of word.now }
 {
-    let node = number(word)?;
-    u8::try_from(node).ok()
+    u8::try_from(number(word)?).ok()
 }
 
 /// The number of a frame of a node, where it is below 65,536.
 pub fn frame_number(word: &[u8]) -> Option<u16>
     ensures { result ≡ frame_number_of word.now }
 {
-    let frame = number(word)?;
-    u16::try_from(frame).ok()
+    u16::try_from(number(word)?).ok()
 }
 
 /// The pages of a span, where they are at most 65,536.

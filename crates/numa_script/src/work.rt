@@ -61,8 +61,7 @@ pub fn publish(mut words: Parts) -> Option<Work>
 pub fn begin(mut words: Parts) -> Option<Work>
     ensures { result ≡ begin_work words.entry }
 {
-    let worker = small(words.next()?)?;
-    Some(Work::Event(Event::Begin(worker, request(words)?)))
+    Some(Work::Event(Event::Begin(small(words.next()?)?, request(words)?)))
 }
 
 /// `look W WORD`. `None` is a malformed line.
@@ -78,24 +77,21 @@ pub fn look(mut words: Parts) -> Option<Work>
 pub fn try_frame(mut words: Parts) -> Option<Work>
     ensures { result ≡ try_work words.entry }
 {
-    let worker = small(words.next()?)?;
-    Some(Work::Event(Event::Try(worker, frame(words)?)))
+    Some(Work::Event(Event::Try(small(words.next()?)?, frame(words)?)))
 }
 
 /// `give W NODE FRAME`. `None` is a malformed line.
 pub fn give(mut words: Parts) -> Option<Work>
     ensures { result ≡ give_work words.entry }
 {
-    let worker = small(words.next()?)?;
-    Some(Work::Event(Event::Give(worker, frame(words)?)))
+    Some(Work::Event(Event::Give(small(words.next()?)?, frame(words)?)))
 }
 
 /// `touch W TASK ADDR CPU`. `None` is a malformed line.
 pub fn touch(mut words: Parts) -> Option<Work>
     ensures { result ≡ touch_work words.entry }
 {
-    let worker = small(words.next()?)?;
-    Some(Work::Touch(worker, request(words)?))
+    Some(Work::Touch(small(words.next()?)?, request(words)?))
 }
 
 /// `release W ADDR`. `None` is a malformed line.
