@@ -18,6 +18,33 @@ use numa_publish::PlanView;
 use numa_seat::take_along;
 use numa_space::{Placement, Request};
 
+/// Where a frame that was taken puts the page of a request.
+#[inline(always)]
+pub(crate) fn placement_of(version: u64, request: &Request, rank: u32, frame: &Frame) -> Placement
+    ensures { result ≡ record {
+      version = version;
+      task = request.now.task;
+      page = request.now.page;
+      node = frame.now.node;
+      frame = frame.now;
+      rank = rank;
+    } }
+{
+    Placement {
+        version,
+        task: request.task,
+        page: request.page,
+        node: frame.node,
+        // (its two fields apart: copied whole, its padding makes of it two pieces, on whose way
+        // to memory a release that follows at once would wait)
+        frame: Frame {
+            node: frame.node,
+            number: frame.number,
+        },
+        rank,
+    }
+}
+
 /// Takes a frame of the node with which the page's list begins, or else of the first of the others
 /// that has one. Tells the node's place in the list. The list is asked for only where the first
 /// node has no frame.
@@ -84,17 +111,5 @@ pub(crate) fn place_page(
     let Some((rank, frame)) = take_first_or_behind(view, pools, seat, request, choice) else {
         return None;
     };
-    Some(Placement {
-        version,
-        task: request.task,
-        page: request.page,
-        node: frame.node,
-        // (its two fields apart: copied whole, its padding makes of it two pieces, on whose way
-        // to memory a release that follows at once would wait)
-        frame: Frame {
-            node: frame.node,
-            number: frame.number,
-        },
-        rank: rank as u32,
-    })
+    Some(placement_of(version, &request, rank as u32, &frame))
 }

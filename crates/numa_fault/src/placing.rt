@@ -2,8 +2,8 @@
 ghost use Rattle.std.specs.Prelude.{◌≡◌};
 ghost use Rattle.numa_fault.specs.Fault.{Faults, IsServed};
 
+use crate::page::placement_of;
 use crate::refusal::FaultRefusal;
-use numa_machine::Frame;
 use numa_plan::Steps;
 use numa_pool::laws::{walk_is_sparing, walks_compose};
 use numa_pool::{PoolSeat, Pools};
@@ -35,19 +35,7 @@ fn place(
     let Some((rank, frame)) = take_along(pools, seat, nodes) else {
         return Err(FaultRefusal::Exhausted(version));
     };
-    Ok(Placement {
-        version,
-        task: request.task,
-        page: request.page,
-        node: frame.node,
-        // (its two fields apart: copied whole, its padding makes of it two pieces, on whose way
-        // to memory a release that follows at once would wait)
-        frame: Frame {
-            node: frame.node,
-            number: frame.number,
-        },
-        rank: rank as u32,
-    })
+    Ok(placement_of(version, &request, rank as u32, &frame))
 }
 
 /// A fault: looks at what is published now, and serves the request by it.
