@@ -102,13 +102,7 @@ impl CoreHandle {
         let kept = self.handle.take(alloc)?;
         let copied = copy_kept(&kept, alloc);
         self.handle.put(kept);
-        match copied {
-            Ok(copied) => {
-                other.handle.put(copied);
-                Some(Ok(()))
-            }
-            Err(fault) => Some(Err(fault)),
-        }
+        Some(other.handle.put_made(copied))
     }
 
     /// The plan of the published commands, once more; None where it keeps no core. It takes no

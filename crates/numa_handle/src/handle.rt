@@ -1,5 +1,6 @@
 //! A handle of any kind.
 ghost use Rattle.std.specs.Prelude.{◌≡◌, Some, None, MatchOption, is_some};
+ghost use Rattle.std.specs.Prelude.{Ok, Err, MatchResult};
 
 use crate::held::Held;
 use crate::kept::Kept;
@@ -72,6 +73,21 @@ impl Handle {
     {
         let Handle { is_open: _, held } = replace(self, Handle::open(kept));
         held.spent();
+    }
+
+    /// Puts in what was made, where there is such, and else stays closed.
+    pub(crate) fn put_made<E: Drop>(&mut self, made: Result<Box<Kept>, E>) -> Result<(), E>
+        requires closed { self.old.held.kept ≡ None }
+        ensures made { MatchResult made (λ kept. (result ≡ Ok tt) × (self.new.held.kept
+            ≡ Some kept.value)) (λ fault. (result ≡ Err fault) × (self.new ≡ self.old)) }
+    {
+        match made {
+            Ok(kept) => {
+                self.put(kept);
+                Ok(())
+            }
+            Err(fault) => Err(fault),
+        }
     }
 }
 

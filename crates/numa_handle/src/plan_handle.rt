@@ -159,13 +159,7 @@ impl PlanHandle {
         let kept = self.handle.take(alloc)?;
         let shared = share_kept(&kept, alloc);
         self.handle.put(kept);
-        match shared {
-            Ok(shared) => {
-                other.handle.put(shared);
-                Some(Ok(()))
-            }
-            Err(fault) => Some(Err(fault)),
-        }
+        Some(other.handle.put_made(shared))
     }
 
     /// The version of the plan; None where it keeps none.

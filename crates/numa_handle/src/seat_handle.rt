@@ -150,13 +150,7 @@ impl SeatHandle {
         let mut kept = self.handle.take(alloc)?;
         let made = split_kept(&mut kept, alloc);
         self.handle.put(kept);
-        match made {
-            Ok(made) => {
-                other.handle.put(made);
-                Some(Ok(()))
-            }
-            Err(fault) => Some(Err(fault)),
-        }
+        Some(other.handle.put_made(made))
     }
 
     /// Gets the frames that the seat of another handle holds, which is closed, and tells so; where
