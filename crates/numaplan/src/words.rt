@@ -10,3 +10,4 @@ pub mod predict;
 pub mod replay;
 pub mod run;
 pub mod storm;
+pub mod wanted;

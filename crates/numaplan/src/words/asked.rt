@@ -1,6 +1,7 @@
 //! Who touches the pages that a word asks about: `--task T --cpu C`.
 use crate::jobs::JobFault;
-use clap::{Arg, ArgAction, ArgMatches, Command, value_parser};
+use crate::words::wanted::wanted;
+use clap::{Arg, ArgMatches, Command, value_parser};
 use numa_play::Asked;
 use std::alloc::{AllocError, Global};
 
@@ -9,13 +10,7 @@ const MISSING: &str = "error: '--task <T>' and '--cpu <C>' are wanted\n";
 
 /// An option that takes a number, and has to be there.
 fn number<'a>(alloc: Global, name: &'a str, value: &'a str, help: &'a str) -> Arg<'a> {
-    Arg::new(alloc, name)
-        .long(name)
-        .value_name(value)
-        .help(help)
-        .value_parser(value_parser!(u32))
-        .required(true)
-        .action(ArgAction::Set)
+    wanted(alloc, name, value, help).value_parser(value_parser!(u32))
 }
 
 /// The command of a word that asks by both options, with what its help says in full and at its end.

@@ -6,7 +6,8 @@ use crate::endings::{Told, answered};
 use crate::files;
 use crate::jobs::{Job, JobFault};
 use crate::words::asked;
-use clap::{Arg, ArgAction, ArgMatches, Command};
+use crate::words::wanted::wanted;
+use clap::{ArgAction, ArgMatches, Command};
 use numa_play::Asked;
 use std::alloc::{AllocError, Global};
 use std::io;
@@ -32,13 +33,14 @@ pub fn command<'a>(alloc: Global) -> Result<Command<'a>, AllocError> {
     let word = asked::command(alloc, "diff", ABOUT, MORE)?.about(
         "Tells which pages would go elsewhere if lines were added to scripts",
     );
-    let lines = Arg::new(alloc, "then")
-        .long("then")
-        .value_name("LINE")
-        .help("A script line that is added; several in turn")
-        .required(true)
-        .action(ArgAction::Append);
-    word.arg(lines)?.arg(files::argument(alloc))
+    let line = wanted(
+        alloc,
+        "then",
+        "LINE",
+        "A script line that is added; several in turn",
+    );
+    word.arg(line.action(ArgAction::Append))?
+        .arg(files::argument(alloc))
 }
 
 /// The job that its words ask for.

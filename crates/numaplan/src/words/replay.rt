@@ -6,7 +6,8 @@ use crate::endings::{Told, ended};
 use crate::files;
 use crate::jobs::{Job, JobFault};
 use crate::words::format::format_option;
-use clap::{Arg, ArgAction, ArgMatches, Command};
+use crate::words::wanted::wanted;
+use clap::{ArgMatches, Command};
 use numa_play::Shape;
 use std::alloc::{AllocError, Global};
 use std::io;
@@ -38,12 +39,12 @@ const FORMATS: [&str; 2] = ["text", "json"];
 
 /// The command.
 pub fn command<'a>(alloc: Global) -> Result<Command<'a>, AllocError> {
-    let trace = Arg::new(alloc, "trace")
-        .long("trace")
-        .value_name("TRACE")
-        .help("The file of the trace; - is standard input")
-        .required(true)
-        .action(ArgAction::Set);
+    let trace = wanted(
+        alloc,
+        "trace",
+        "TRACE",
+        "The file of the trace; - is standard input",
+    );
     let word = Command::new(alloc, "replay")
         .about("Tells what a trace of accesses meets after scripts")
         .long_about(ABOUT)

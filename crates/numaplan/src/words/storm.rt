@@ -5,7 +5,8 @@ ghost use Rattle.numaplan.specs.Jobs.{CanBeDone};
 
 use crate::endings::fail;
 use crate::jobs::{Job, JobFault};
-use clap::{Arg, ArgAction, ArgMatches, Command};
+use crate::words::wanted::wanted;
+use clap::{ArgMatches, Command};
 use numa_script::Watched;
 use std::alloc::{AllocError, Global};
 use std::io;
@@ -31,12 +32,12 @@ const BAD_WORKERS: &str =
 
 /// The command.
 pub fn command<'a>(alloc: Global) -> Result<Command<'a>, AllocError> {
-    let workers = Arg::new(alloc, "workers")
-        .long("workers")
-        .value_name("K")
-        .help("How many workers there are, from 1 to 16")
-        .required(true)
-        .action(ArgAction::Set);
+    let workers = wanted(
+        alloc,
+        "workers",
+        "K",
+        "How many workers there are, from 1 to 16",
+    );
     Command::new(alloc, "storm")
         .about("Lets workers place pages while policies change, and compares each placement")
         .long_about(ABOUT)
