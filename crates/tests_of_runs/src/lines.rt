@@ -3,6 +3,7 @@ use numa_examples::set_of;
 use numa_script::line::parse;
 use numa_script::{Line, RunFault};
 use std::alloc::{AllocError, Global};
+use std::process::Abort;
 use std::test::Fail;
 
 // What a line says, by its kind, and by its fault or its numbers.
@@ -30,101 +31,80 @@ fn shown(alloc: Global, line: &[u8]) -> Result<String, AllocError> {
     }
 }
 
-#[test]
-fn lines(rt: HostRuntime) -> Result<(), Fail> {
-    let rows: [(&str, &str); 20] = [
-        ("", "silent"),
-        ("# map 1 2 3", "silent"),
-        ("\r", "bad words"),
-        ("unknown", "bad words"),
-        ("ranges", "Ranges"),
-        ("ranges ", "bad words"),
-        (" ranges", "bad words"),
-        ("Ranges", "bad words"),
-        ("limits 65537 1 0x10", "limits 65537 1 16"),
-        ("limits 4294967296 1 1", "bad words"),
-        ("limits 1 1", "bad words"),
-        ("machine 0x2 0-1 8 flat", "machine 2"),
-        ("machine 2 0-1 8,0 10,20;20,10", "machine 2"),
-        ("machine 2 0-x 8 flat", "machine 2 BadDigit"),
-        ("machine 2 0-x 8 10,256", "bad words"),
-        ("machine 2 0-1 8, flat", "bad words"),
-        ("machine 2 0-1 0x8 flat", "bad words"),
-        ("machine 2 0-1 4294967296 flat", "bad words"),
-        ("machine 2 0-1 00000000008 flat", "bad words"),
-        ("machine 2 0-1 8 Flat", "bad words"),
-    ];
-    for (line, want) in rows {
-        let got = shown(rt.alloc(), line.as_bytes())?;
-        assert_eq!(rt; got.as_str(), want, "{line}");
-    }
-    Ok(())
-}
+/// Lines that set up a machine, and lines that say nothing.
+const SETTINGS: [(&str, &str); 20] = [
+    ("", "silent"),
+    ("# map 1 2 3", "silent"),
+    ("\r", "bad words"),
+    ("unknown", "bad words"),
+    ("ranges", "Ranges"),
+    ("ranges ", "bad words"),
+    (" ranges", "bad words"),
+    ("Ranges", "bad words"),
+    ("limits 65537 1 0x10", "limits 65537 1 16"),
+    ("limits 4294967296 1 1", "bad words"),
+    ("limits 1 1", "bad words"),
+    ("machine 0x2 0-1 8 flat", "machine 2"),
+    ("machine 2 0-1 8,0 10,20;20,10", "machine 2"),
+    ("machine 2 0-x 8 flat", "machine 2 BadDigit"),
+    ("machine 2 0-x 8 10,256", "bad words"),
+    ("machine 2 0-1 8, flat", "bad words"),
+    ("machine 2 0-1 0x8 flat", "bad words"),
+    ("machine 2 0-1 4294967296 flat", "bad words"),
+    ("machine 2 0-1 00000000008 flat", "bad words"),
+    ("machine 2 0-1 8 Flat", "bad words"),
+];
 
-#[test]
-fn command_lines(rt: HostRuntime) -> Result<(), Fail> {
-    let rows: [(&str, &str); 19] = [
-        (
-            "map 0x10000 0x2000 0",
-            "Map { start: 65536, length: 8192, offset: 0 }",
-        ),
-        (
-            "map 0xFFFFFFFFFFFFFFFF 18446744073709551615 0",
-            "Map { start: 18446744073709551615, length: 18446744073709551615, offset: 0 }",
-        ),
-        ("map 18446744073709551616 1 0", "bad words"),
-        ("map 0x00000000000010000 1 0", "bad words"),
-        ("map 0x 1 0", "bad words"),
-        ("map 0X1 1 0", "bad words"),
-        ("map -1 1 0", "bad words"),
-        ("map 1 1 0 0", "bad words"),
-        (
-            "unmap 0x11000 0x1000",
-            "Unmap { start: 69632, length: 4096 }",
-        ),
-        ("mbind 0 0 bind:", "List(Empty)"),
-        ("mbind 0 bind:1", "bad words"),
-        (
-            "home 0x1000 4096 4294967295",
-            "SetHome { start: 4096, length: 4096, node: 4294967295 }",
-        ),
-        ("home 0 0 4294967296", "bad words"),
-        ("task 1 huge:0", "Policy(UnknownMode)"),
-        ("task 4294967296 huge:0", "bad words"),
-        ("weight 0 256", "SetWeight { node: 0, weight: 256 }"),
-        ("mems 3-1", "List(BackRange)"),
-        ("mems 0,,1", "List(Empty)"),
-        ("mems", "bad words"),
-    ];
-    for (line, want) in rows {
-        let got = shown(rt.alloc(), line.as_bytes())?;
-        assert_eq!(rt; got.as_str(), want, "{line}");
-    }
-    Ok(())
-}
+/// Lines of commands.
+const COMMANDS: [(&str, &str); 19] = [
+    (
+        "map 0x10000 0x2000 0",
+        "Map { start: 65536, length: 8192, offset: 0 }",
+    ),
+    (
+        "map 0xFFFFFFFFFFFFFFFF 18446744073709551615 0",
+        "Map { start: 18446744073709551615, length: 18446744073709551615, offset: 0 }",
+    ),
+    ("map 18446744073709551616 1 0", "bad words"),
+    ("map 0x00000000000010000 1 0", "bad words"),
+    ("map 0x 1 0", "bad words"),
+    ("map 0X1 1 0", "bad words"),
+    ("map -1 1 0", "bad words"),
+    ("map 1 1 0 0", "bad words"),
+    (
+        "unmap 0x11000 0x1000",
+        "Unmap { start: 69632, length: 4096 }",
+    ),
+    ("mbind 0 0 bind:", "List(Empty)"),
+    ("mbind 0 bind:1", "bad words"),
+    (
+        "home 0x1000 4096 4294967295",
+        "SetHome { start: 4096, length: 4096, node: 4294967295 }",
+    ),
+    ("home 0 0 4294967296", "bad words"),
+    ("task 1 huge:0", "Policy(UnknownMode)"),
+    ("task 4294967296 huge:0", "bad words"),
+    ("weight 0 256", "SetWeight { node: 0, weight: 256 }"),
+    ("mems 3-1", "List(BackRange)"),
+    ("mems 0,,1", "List(Empty)"),
+    ("mems", "bad words"),
+];
 
-#[test]
-fn empty_words(rt: HostRuntime) -> Result<(), Fail> {
-    let rows: [(&str, &str); 12] = [
-        ("mems ", "bad words"),
-        ("mems  0", "bad words"),
-        (" mems 0", "bad words"),
-        ("mems 0 ", "bad words"),
-        ("task 1 ", "bad words"),
-        ("mbind 0 4096 ", "bad words"),
-        ("machine 2  8 flat", "bad words"),
-        ("machine 2 0-1  flat", "bad words"),
-        ("machine 2 0-1 8 ", "bad words"),
-        ("place 1  0 0", "bad words"),
-        (" ", "bad words"),
-        ("  #", "bad words"),
-    ];
-    for (line, want) in rows {
-        let got = shown(rt.alloc(), line.as_bytes())?;
-        assert_eq!(rt; got.as_str(), want, "{line}");
-    }
-    Ok(())
-}
+/// Lines with a word that has no byte.
+const EMPTY_WORDS: [(&str, &str); 12] = [
+    ("mems ", "bad words"),
+    ("mems  0", "bad words"),
+    (" mems 0", "bad words"),
+    ("mems 0 ", "bad words"),
+    ("task 1 ", "bad words"),
+    ("mbind 0 4096 ", "bad words"),
+    ("machine 2  8 flat", "bad words"),
+    ("machine 2 0-1  flat", "bad words"),
+    ("machine 2 0-1 8 ", "bad words"),
+    ("place 1  0 0", "bad words"),
+    (" ", "bad words"),
+    ("  #", "bad words"),
+];
 
 #[test]
 fn policies(rt: HostRuntime) -> Result<(), Fail> {
@@ -185,101 +165,99 @@ fn long_lines(rt: HostRuntime) -> Result<(), Fail> {
     Ok(())
 }
 
-#[test]
-fn question_lines(rt: HostRuntime) -> Result<(), Fail> {
-    let rows: [(&str, &str); 13] = [
-        (
-            "place 1 0x10000 0",
-            "Place { task: 1, address: 65536, cpu: 0 }",
-        ),
-        (
-            "span 1 0 65536 0",
-            "Span { task: 1, address: 0, pages: 65536, cpu: 0 }",
-        ),
-        ("span 1 0 65537 0", "bad words"),
-        ("span 1 0 4294967296 0", "bad words"),
-        ("span 1 0 1", "bad words"),
-        (
-            "counts 1 0xffffffffffffffff 0 0",
-            "Counts { task: 1, address: 18446744073709551615, pages: 0, cpu: 0 }",
-        ),
-        (
-            "counts 1 0x10000 18446744073709551615 0",
-            "Counts { task: 1, address: 65536, pages: 18446744073709551615, cpu: 0 }",
-        ),
-        ("counts 1 0 18446744073709551616 0", "bad words"),
-        ("counts 1 0 0 4294967296", "bad words"),
-        ("maps 1", "maps 1"),
-        ("maps", "bad words"),
-        ("maps 4294967296", "bad words"),
-        ("maps 1 1", "bad words"),
-    ];
+/// Lines that ask.
+const QUESTIONS: [(&str, &str); 13] = [
+    (
+        "place 1 0x10000 0",
+        "Place { task: 1, address: 65536, cpu: 0 }",
+    ),
+    (
+        "span 1 0 65536 0",
+        "Span { task: 1, address: 0, pages: 65536, cpu: 0 }",
+    ),
+    ("span 1 0 65537 0", "bad words"),
+    ("span 1 0 4294967296 0", "bad words"),
+    ("span 1 0 1", "bad words"),
+    (
+        "counts 1 0xffffffffffffffff 0 0",
+        "Counts { task: 1, address: 18446744073709551615, pages: 0, cpu: 0 }",
+    ),
+    (
+        "counts 1 0x10000 18446744073709551615 0",
+        "Counts { task: 1, address: 65536, pages: 18446744073709551615, cpu: 0 }",
+    ),
+    ("counts 1 0 18446744073709551616 0", "bad words"),
+    ("counts 1 0 0 4294967296", "bad words"),
+    ("maps 1", "maps 1"),
+    ("maps", "bad words"),
+    ("maps 4294967296", "bad words"),
+    ("maps 1 1", "bad words"),
+];
+
+/// Lines of workers.
+const WORK: [(&str, &str); 11] = [
+    ("publish", "Event(Publish)"),
+    ("publish ", "bad words"),
+    ("publish 1", "bad words"),
+    (
+        "begin 0 1 0x10000 0",
+        "Event(Begin(0, Request { task: 1, page: 16, cpu: 0 }))",
+    ),
+    (
+        "begin 4 1 0xffffffffffffffff 0x3",
+        "Event(Begin(4, Request { task: 1, page: 4503599627370495, cpu: 3 }))",
+    ),
+    ("begin 0 1 0x10000", "bad words"),
+    ("begin 0 1 0x10000 0 0", "bad words"),
+    ("begin 4294967296 1 0 0", "bad words"),
+    ("look 1 0", "Event(Look(1, 0))"),
+    ("look 0 4294967295", "Event(Look(0, 4294967295))"),
+    ("look 0 4294967296", "bad words"),
+];
+
+/// Lines of frames.
+const FRAMES: [(&str, &str); 13] = [
+    (
+        "try 1 0 65535",
+        "Event(Try(1, Frame { node: 0, number: 65535 }))",
+    ),
+    ("try 1 0 65536", "bad words"),
+    ("try 1 256 0", "bad words"),
+    ("try 1 0", "bad words"),
+    (
+        "give 0 255 0",
+        "Event(Give(0, Frame { node: 255, number: 0 }))",
+    ),
+    ("give 0 1 65536", "bad words"),
+    ("give 0 256 0", "bad words"),
+    (
+        "touch 0 1 0x11fff 2",
+        "Touch(0, Request { task: 1, page: 17, cpu: 2 })",
+    ),
+    ("touch 0 1 0 4294967296", "bad words"),
+    ("release 0 0x11000", "Release(0, 17)"),
+    ("release 0 18446744073709551616", "bad words"),
+    ("release 0", "bad words"),
+    ("release 0 1 2", "bad words"),
+];
+
+/// Each line of a table says what stands beside it.
+fn say(rt: &impl Abort, alloc: Global, rows: &[(&str, &str)]) -> Result<(), Fail> {
     for (line, want) in rows {
-        let got = shown(rt.alloc(), line.as_bytes())?;
-        assert_eq!(rt; got.as_str(), want, "{line}");
+        let got = shown(alloc, line.as_bytes())?;
+        assert_eq!(rt; got.as_str(), *want, "{line}");
     }
     Ok(())
 }
 
 #[test]
-fn worker_lines(rt: HostRuntime) -> Result<(), Fail> {
-    let rows: [(&str, &str); 11] = [
-        ("publish", "Event(Publish)"),
-        ("publish ", "bad words"),
-        ("publish 1", "bad words"),
-        (
-            "begin 0 1 0x10000 0",
-            "Event(Begin(0, Request { task: 1, page: 16, cpu: 0 }))",
-        ),
-        (
-            "begin 4 1 0xffffffffffffffff 0x3",
-            "Event(Begin(4, Request { task: 1, page: 4503599627370495, cpu: 3 }))",
-        ),
-        ("begin 0 1 0x10000", "bad words"),
-        ("begin 0 1 0x10000 0 0", "bad words"),
-        ("begin 4294967296 1 0 0", "bad words"),
-        ("look 1 0", "Event(Look(1, 0))"),
-        ("look 0 4294967295", "Event(Look(0, 4294967295))"),
-        ("look 0 4294967296", "bad words"),
-    ];
-    for (line, want) in rows {
-        let got = shown(rt.alloc(), line.as_bytes())?;
-        assert_eq!(rt; got.as_str(), want, "{line}");
-    }
-    Ok(())
-}
-
-#[test]
-fn frame_lines(rt: HostRuntime) -> Result<(), Fail> {
-    let rows: [(&str, &str); 13] = [
-        (
-            "try 1 0 65535",
-            "Event(Try(1, Frame { node: 0, number: 65535 }))",
-        ),
-        ("try 1 0 65536", "bad words"),
-        ("try 1 256 0", "bad words"),
-        ("try 1 0", "bad words"),
-        (
-            "give 0 255 0",
-            "Event(Give(0, Frame { node: 255, number: 0 }))",
-        ),
-        ("give 0 1 65536", "bad words"),
-        ("give 0 256 0", "bad words"),
-        (
-            "touch 0 1 0x11fff 2",
-            "Touch(0, Request { task: 1, page: 17, cpu: 2 })",
-        ),
-        ("touch 0 1 0 4294967296", "bad words"),
-        ("release 0 0x11000", "Release(0, 17)"),
-        ("release 0 18446744073709551616", "bad words"),
-        ("release 0", "bad words"),
-        ("release 0 1 2", "bad words"),
-    ];
-    for (line, want) in rows {
-        let got = shown(rt.alloc(), line.as_bytes())?;
-        assert_eq!(rt; got.as_str(), want, "{line}");
-    }
-    Ok(())
+fn lines(rt: HostRuntime) -> Result<(), Fail> {
+    say(&rt, rt.alloc(), &SETTINGS)?;
+    say(&rt, rt.alloc(), &COMMANDS)?;
+    say(&rt, rt.alloc(), &EMPTY_WORDS)?;
+    say(&rt, rt.alloc(), &QUESTIONS)?;
+    say(&rt, rt.alloc(), &WORK)?;
+    say(&rt, rt.alloc(), &FRAMES)
 }
 
 #[test]
