@@ -48,6 +48,7 @@ pub struct Narrow {
     taken: Vec<u8>,
     room: usize,
     fails: bool,
+    failed: usize,
 }
 
 impl Narrow {
@@ -57,6 +58,7 @@ impl Narrow {
             taken: Vec::new(alloc),
             room,
             fails,
+            failed: 0,
         }
     }
 
@@ -64,12 +66,18 @@ impl Narrow {
     pub fn taken(&self) -> &[u8] {
         self.taken.as_slice()
     }
+
+    /// At how many calls it has failed.
+    pub fn failed(&self) -> usize {
+        self.failed
+    }
 }
 
 impl Write for Narrow {
     fn write(&mut self, buf: &[u8]) -> io::Result<usize> {
         if self.taken.len() >= self.room {
             if self.fails {
+                self.failed = self.failed.saturating_add(1);
                 return Err(io::Error::other("refused"));
             }
             return Ok(0);

@@ -1,5 +1,5 @@
 use Rattle.std.proofs.Common.{◌*◌, ◌-◌}
-use Rattle.tests_of_parts.proofs.pool.+taking.Given as goal
+use Rattle.numa_examples.proofs.pools.+taking.Given as goal
 
 abbrev pub decreases-join+arg2 : goal.decreases-join+arg2
 decreases-join+arg2 g l = 2 * l.levels - 1

@@ -1,5 +1,5 @@
 use Rattle.std.proofs.Common.{◌≡◌}
-use Rattle.tests_of_parts.proofs.pool.take_from.Given as goal
+use Rattle.numa_examples.proofs.pools.take_from.Given as goal
 
 abbrev pub invariant-loop : goal.invariant-loop
 invariant-loop l = l.seat.table ≡ l.pools.table
