@@ -1,13 +1,12 @@
 //! Each call once, at the borders of words, and many threads at once.
-ghost use Rattle.std.specs.Prelude.{◌≡◌, ℕ, ◌<◌};
-ghost use Rattle.std.specs.Thread.{IsSync};
+ghost use Rattle.std.specs.Prelude.{◌≡◌};
 
 use numa_examples::flat_machine;
+use numa_examples::pools::take_by;
 use numa_machine::Frame;
 use numa_pool::{PoolSeat, Pools};
 use std::alloc::Global;
 use std::process::Abort;
-use std::thread::{Threads, join};
 
 /// The pools of a machine with so many frames on each node.
 fn open(rt: &impl Abort, alloc: Global, frames: &[u32]) -> (Pools, PoolSeat)
@@ -129,60 +128,6 @@ fn joins_and_closes(rt: HostRuntime) {
         assert_eq!(rt; (closed.taken[0], closed.taken[1]), (1, 2));
         assert_eq!(rt; closed.alone, joined);
     }
-}
-
-/// Takes frames of each node until none is left, beginning with one of them, and counts them.
-fn take_from(pools: &Pools, seat: &mut PoolSeat, start: u8) -> u64
-    requires { seat.old.table ≡ pools.now.table }
-    ensures { seat.new.table ≡ seat.old.table }
-{
-    let mut count = 0u64;
-    for step in 0..4u8 {
-        let node = start.wrapping_add(step) % 4;
-        for _ in 0..4096 {
-            if pools.take(seat, node).is_none() {
-                break;
-            }
-            count = count.wrapping_add(1);
-        }
-    }
-    count
-}
-
-/// Takes frames until none is left, by twice as many threads for each level, and joins their seats.
-#[cycle(taking)]
-fn take_by<R: Threads + Sync>(
-    rt: &R,
-    alloc: Global,
-    pools: &Pools,
-    mut seat: PoolSeat,
-    levels: u32,
-    start: u8,
-) -> (PoolSeat, u64)
-    requires { seat.table ≡ pools.now.table }
-    ensures { result.0.table ≡ pools.now.table }
-{
-    if levels > 0
-        && let Ok(other) = pools.split(alloc, &mut seat)
-    {
-        let (mine, others) = join(
-            rt,
-            move || -> (PoolSeat, u64)
-                requires { IsSync R.row × (0 < levels) × (seat.table ≡ pools.now.table) }
-                ensures { result.0.table ≡ pools.entry.now.table }
-            { take_by(rt, alloc, pools, seat, levels - 1, start) },
-            move || -> (PoolSeat, u64)
-                requires { IsSync R.row × (0 < levels) × (other.table ≡ pools.now.table) }
-                ensures { result.0.table ≡ pools.entry.now.table }
-            { take_by(rt, alloc, pools, other, levels - 1, start.wrapping_add(1)) },
-        );
-        let (mut seat, count) = mine;
-        let (other, more) = others;
-        pools.join(&mut seat, other);
-        return (seat, count.wrapping_add(more));
-    }
-    let count = take_from(pools, &mut seat, start);
-    (seat, count)
 }
 
 #[test]
