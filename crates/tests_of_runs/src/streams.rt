@@ -115,7 +115,7 @@ impl Write for Counting<'_> {
 /// Gives one byte a call, and notes how many bytes were written before each.
 #[derive(Drop)]
 struct Noting<'a> {
-    rest: &'a [u8],
+    source: Trickle<'a>,
     taken: &'a Cell<usize>,
     before: Vec<usize>,
 }
@@ -123,17 +123,7 @@ struct Noting<'a> {
 impl Read for Noting<'_> {
     fn read(&mut self, buf: &mut [u8]) -> io::Result<usize> {
         self.before.push(self.taken.get())?;
-        if buf.is_empty() {
-            return Ok(0);
-        }
-        match self.rest.split_first() {
-            None => Ok(0),
-            Some((first, rest)) => {
-                buf[0] = *first;
-                self.rest = rest;
-                Ok(1)
-            }
-        }
+        self.source.read(buf)
     }
 }
 
@@ -141,7 +131,7 @@ impl Read for Noting<'_> {
 fn answers_come_before_the_next_read(rt: HostRuntime) {
     let taken = Cell::new(0usize);
     let mut input = Watched::new(Noting {
-        rest: b"x\ny\n",
+        source: Trickle::new(b"x\ny\n", usize::MAX),
         taken: &taken,
         before: Vec::new(rt.alloc()),
     });
@@ -183,7 +173,7 @@ fn nothing_follows_a_failed_write(rt: HostRuntime) {
     let writes = Cell::new(0usize);
     let taken = Cell::new(0usize);
     let mut input = Watched::new(Noting {
-        rest: b"x\ny\n",
+        source: Trickle::new(b"x\ny\n", usize::MAX),
         taken: &taken,
         before: Vec::new(rt.alloc()),
     });

@@ -2,11 +2,10 @@
 ghost use Rattle.numa_fault.specs.Crew.{IsCrew};
 
 use crate::setting::same;
+use numa_examples::Narrow;
 use numa_script::{RunFault, Watched};
 use numa_storm::storm;
 use std::alloc::Global;
-use std::io;
-use std::io::Write;
 use std::process::Abort;
 use std::sync::Wait;
 use std::thread::Threads;
@@ -34,34 +33,6 @@ fn five_lines(rt: HostRuntime) {
     prints(&rt, rt.alloc(), 16, sixteen);
 }
 
-// Takes one byte a call, and fails at the call with so many before it.
-#[derive(Drop)]
-struct Narrow {
-    taken: Vec<u8>,
-    fails_at: usize,
-    failed: usize,
-}
-
-impl Write for Narrow {
-    fn write(&mut self, buf: &[u8]) -> io::Result<usize> {
-        if self.taken.len() >= self.fails_at {
-            self.failed = self.failed.saturating_add(1);
-            return Err(io::Error::other("refused"));
-        }
-        match buf.first() {
-            None => Ok(0),
-            Some(byte) => {
-                self.taken.push(*byte)?;
-                Ok(1)
-            }
-        }
-    }
-
-    fn flush(&mut self) -> io::Result<()> {
-        Ok(())
-    }
-}
-
 // The five lines of two workers.
 const WHOLE: &str = "workers 2\nplaced 256\nexhausted 64\nplans match yes\nframes held 256\n";
 
@@ -71,25 +42,21 @@ fn storm_by<R: Threads + Wait + Sync>(
     alloc: Global,
     fails_at: usize,
 ) -> (Result<u8, RunFault>, Narrow) {
-    let mut output = Watched::new(Narrow {
-        taken: Vec::new(alloc),
-        fails_at,
-        failed: 0,
-    });
+    let mut output = Watched::new(Narrow::new(alloc, fails_at, true));
     let answer = storm(rt, alloc, 2, &mut output);
     (answer, output.inner)
 }
 
 /// A storm whose output fails behind so many bytes says so, and has written those.
 fn fails_behind<R: Threads + Wait + Abort + Sync>(rt: &R, alloc: Global, bytes: usize) {
-    let (answer, Narrow { taken, failed, .. }) = storm_by(rt, alloc, bytes);
+    let (answer, output) = storm_by(rt, alloc, bytes);
     same(
         rt,
-        &(bytes, answer, failed),
+        &(bytes, answer, output.failed()),
         &(bytes, Err(RunFault::Write), 1),
     );
     let front = WHOLE.as_bytes().get(..bytes).unwrap_or(b"");
-    assert_eq!(rt; taken.as_slice(), front, "{bytes}");
+    assert_eq!(rt; output.taken(), front, "{bytes}");
 }
 
 #[test]
