@@ -16,6 +16,6 @@ pub mod wanted;
 pub use commands::{Asked, command_of, commands_of, spec_of};
 pub use machines::{flat_distances, flat_machine, machine_of};
 pub use marks::mark;
-pub use sets::{first_nodes, nodes_of_bits, set_of};
+pub use sets::{first_nodes, set_of};
 pub use spaces::{flat_space, limits, space_of};
 pub use streams::{Narrow, Trickle};
