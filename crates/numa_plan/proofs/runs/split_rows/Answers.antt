@@ -8,7 +8,7 @@ loop-low-preserved-in-Some c = record {
   cost = rw c.in-Some.ensures.counted (spare c.args.steps.now.comparisons c.loop-low.steps.comparisons (c.loop-low.high - c.loop-low.low) _ (length c.args.items.now) (omega arith) (omega arith) c.loop-low.invariant.cost);
   no_run = search rules;
   no_rule = search rules;
-  part = c.part_with.ensures.part;
+  part = c.part_with-part.ensures.part;
 }
 
 pub loop-low-preserved : goal.loop-low-preserved
@@ -17,7 +17,7 @@ loop-low-preserved c = record {
   cost = rw c.in-None.ensures.counted (spare c.args.steps.now.comparisons c.loop-low.steps.comparisons (c.loop-low.high - c.loop-low.low) _ (length c.args.items.now) (omega arith) (omega arith) c.loop-low.invariant.cost);
   no_run = search rules;
   no_rule = search rules;
-  part = c.part_with.ensures.part;
+  part = c.part_with-part.ensures.part;
 }
 
 pub returns-clause-split : goal.returns-clause-split
