@@ -54,7 +54,13 @@ impl<T: Copy + Drop> Block<T> for [T; 256] {
 }
 
 /// Puts rows among the first so many items, in the place of those from one place to another.
-fn put_among<T: Copy + Drop>(items: &mut [T], len: usize, from: usize, to: usize, rows: &[T])
+pub(crate) fn put_among<T: Copy + Drop>(
+    items: &mut [T],
+    len: usize,
+    from: usize,
+    to: usize,
+    rows: &[T],
+)
     requires rises { from ≤ to }
     requires within { to ≤ len }
     requires inside { len ≤ length items.old }

@@ -1,5 +1,5 @@
 //! A part of a list, for searches of one's own.
-ghost use Rattle.std.specs.Prelude.{◌≡◌, ◌-◌, ◌<◌, [], length, slice_index_or};
+ghost use Rattle.std.specs.Prelude.{◌≡◌, ◌+◌, ◌-◌, ◌<◌, ◌^◌, [], length, slice_index_or};
 ghost use Rattle.std.specs.Bool.{OnTrue};
 ghost use Rattle.numa_rows.specs.Parts.{flat, HasRank, IsTable};
 ghost use Rattle.numa_rows.specs.Searches.{IsChunkOf, HasRow, PartData};
@@ -73,6 +73,16 @@ impl<'a, T> Part<'a, T> {
             ≡ slice_index_or self.now.rows (rank - self.now.start) d }
     {
         &self.rows[rank - self.start]
+    }
+
+    /// The rank of its last row, where it has the row of a rank.
+    #[inline]
+    pub(crate) fn last_rank(&self, _rank: usize) -> usize
+        requires has { HasRow self.now _rank }
+        requires small { self.now.start + length self.now.rows < 2 ^ 32 }
+        ensures { HasRow self.now result }
+    {
+        self.start + (self.rows.len() - 1)
     }
 
     /// The number of its chunk, for the next guess.

@@ -1,0 +1,28 @@
+-- What the rows of one chunk tell of the others.
+use Rattle.std.proofs.Common.{arith}
+use Rattle.numa_rows.specs.Parts.{flat}
+use Rattle.numa_rows.proofs.InParts.{some-part}
+use Rattle.numa_rows.proofs.Narrowing.{at-start}
+use Rattle.numa_rows.proofs.search.ask_chunk.Goals as goal
+
+pub overflow_sub-starts : goal.overflow_sub-starts
+overflow_sub-starts g c = omega (arith, (some-part 256 c.args.chunks.now c.args.starts.now c.args.len 0 c.requires.table c.requires.some).0)
+
+pub bounds-starts-near : goal.bounds-starts-near
+bounds-starts-near g c = omega (arith, (some-part 256 c.args.chunks.now c.args.starts.now c.args.len 0 c.requires.table c.requires.some).0)
+
+pub returns-then-left-rank-clause-narrowed : goal.returns-then-left-rank-clause-narrowed
+returns-then-left-rank-clause-narrowed g c p gives parted =
+    c.ask_firsts.ensures.narrowed p gives parted (c.ask-left.ensures.narrowed p gives parted (at-start p (flat c.args.chunks.now) c.args.len c.requires.table.count))
+
+pub returns-then-not-has-2-clause-narrowed : goal.returns-then-not-has-2-clause-narrowed
+returns-then-not-has-2-clause-narrowed g c p gives parted =
+    c.ask-left.ensures.narrowed p gives parted (at-start p (flat c.args.chunks.now) c.args.len c.requires.table.count)
+
+pub returns-then-left-last-clause-narrowed : goal.returns-then-left-last-clause-narrowed
+returns-then-left-last-clause-narrowed g c p gives parted =
+    c.ask_firsts-then-left-last.ensures.narrowed p gives parted (c.ask-left-2.ensures.narrowed p gives parted (c.ask-left.ensures.narrowed p gives parted (at-start p (flat c.args.chunks.now) c.args.len c.requires.table.count)))
+
+pub returns-clause-narrowed : goal.returns-clause-narrowed
+returns-clause-narrowed g c p gives parted =
+    c.ask-left-2.ensures.narrowed p gives parted (c.ask-left.ensures.narrowed p gives parted (at-start p (flat c.args.chunks.now) c.args.len c.requires.table.count))
