@@ -61,7 +61,7 @@ pub fn write_maps<W: Write>(
             &mut line,
             space.policy_at(task, range.first),
             resident,
-            range,
+            &range,
         );
         let Ok(()) = output.put(line.as_str().as_bytes()) else {
             return Err(WriteFault);

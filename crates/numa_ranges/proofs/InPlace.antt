@@ -48,6 +48,11 @@ module _ {T : Type 0} (same : T → T → Bool) (exact : (a b : T) → same a b 
       let e : joined_from same (run ∷ rest) last ≡ last ∷ joined_from same rest run = rw (not-joins same exact itself last run stops) refl in
       ap (λ l. l ++ joined_from same rest run) (take_more_set runs kept last within) ∙ append_assoc (take kept runs) (last ∷ []) (joined_from same rest run) ∙ ap (λ l. take kept runs ++ l) (sym e) ∙ h
 
+  -- the first run is open, and none is kept
+  pub first-open : (runs : List (Run T)) (run : Run T) → 0 < length runs → run ≡ get_or runs 0 run → joined_from same (drop 1 runs) run ≡ joined same runs
+  first-open [] run some is = absurd (omega arith)
+  first-open (r ∷ runs) run some is = ap (joined_from same runs) is
+
   -- the open run is written, and what is behind it is cut off
   pub closed-last : (runs whole new cut : List (Run T)) (kept i : ℕ) (last : Run T) → kept < length runs → length whole ≤ i → new ≡ set runs kept last → cut ≡ take (kept + 1) new → take kept runs ++ joined_from same (drop i whole) last ≡ joined same whole → cut ≡ joined same whole
   closed-last runs whole new cut kept i last within past put taken so =

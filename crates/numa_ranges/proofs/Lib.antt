@@ -12,6 +12,7 @@ pub mod Joined
 pub mod Laws
 pub mod Pages
 pub mod Moves
+pub mod Numbered
 pub mod Placed
 pub mod Spans
 pub mod Walked

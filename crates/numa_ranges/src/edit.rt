@@ -8,14 +8,14 @@ ghost use Rattle.numa_ranges.specs.Gathered.{Gathered};
 
 use crate::exact::Exact;
 use crate::pieces::Pieces;
+use crate::range_iter::RangeIter;
 use crate::run::Run;
-use numa_rows::{Iter, Owned};
 use std::alloc::Global;
 
 /// Gathers the next runs, so many, with those pages edited that lie in the span.
 pub(crate) fn gather_edited<T: Exact, F: Fn(&T) -> Option<T>>(
     alloc: Global,
-    rest: &mut Iter<'_, Run<T>, Owned<Run<T>>>,
+    rest: &mut RangeIter<'_, T>,
     count: usize,
     first: u64,
     end: u64,
@@ -34,17 +34,13 @@ pub(crate) fn gather_edited<T: Exact, F: Fn(&T) -> Option<T>>(
         let Some(run) = rest.next() else {
             unreachable!()
         };
-        add_parts(&mut pieces, *run, first, end, edit);
+        add_parts(&mut pieces, run, first, end, edit);
     }
     pieces
 }
 
 /// Adds the next runs, so many, as they are.
-pub(crate) fn add_all<T: Exact>(
-    pieces: &mut Pieces<T>,
-    rest: &mut Iter<'_, Run<T>, Owned<Run<T>>>,
-    count: usize,
-)
+pub(crate) fn add_all<T: Exact>(pieces: &mut Pieces<T>, rest: &mut RangeIter<'_, T>, count: usize)
     requires within { count ≤ length rest.old }
     requires len { count ≤ 2 ^ 32 }
     requires in_range { All IsInRange (take count rest.old) }
@@ -58,7 +54,7 @@ pub(crate) fn add_all<T: Exact>(
         let Some(run) = rest.next() else {
             unreachable!()
         };
-        pieces.add(*run);
+        pieces.add(run);
     }
 }
 

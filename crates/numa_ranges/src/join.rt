@@ -1,46 +1,31 @@
-//! Runs that are changed and joined where they stand.
-ghost use Rattle.std.specs.Prelude.{◌≡◌, length, map, All};
-ghost use Rattle.std.specs.Fn.{FnReturnsAt};
-ghost use Rattle.numa_rows.specs.Changes.{Makes};
-ghost use Rattle.numa_ranges.specs.Edits.{IsInRange, IsRevalued, joined, revalued};
+//! Runs that are joined where they stand.
+ghost use Rattle.std.specs.Prelude.{◌≡◌, ◌<◌, length, slice_get, slice_set, slice_index_or, Some};
+ghost use Rattle.std.specs.Prelude.{All, take};
+ghost use Rattle.numa_ranges.specs.Edits.{IsInRange, joined};
+ghost use Rattle.numa_ranges.specs.Numbered.{AreNumbered, run_of, runs_of};
 
 use crate::exact::Exact;
+use crate::row::{Row, with_value};
 use crate::run::{Run, continues};
 use numa_rows::{Owned, Rows};
 
-/// Gives each run the value that `f` makes of its own.
-pub(crate) fn change_values<T: Exact, F: Fn(&T) -> T>(runs: &mut Rows<Run<T>, Owned<Run<T>>>, f: F)
-    requires callable { F.IsAlwaysCallable f }
-    ensures size { length runs.new ≡ length runs.old }
-    ensures made { (change : T → T) → Makes F.Fn f change
-        → runs.new ≡ map (revalued change) runs.old }
-{
-    let change = |run: &Run<T>| -> Run<T>
-        requires { F.IsAlwaysCallable f }
-        ensures { IsRevalued (FnReturnsAt F.Fn f) run.now result }
-    {
-        Run {
-            first: run.first,
-            pages: run.pages,
-            index: run.index,
-            value: f(&run.value),
-        }
-    };
-    runs.update_all(&change);
-}
-
 /// Joins each run that continues the one before it to that, and takes no memory.
-pub(crate) fn join_in_place<T: Exact>(runs: &mut Rows<Run<T>, Owned<Run<T>>>)
-    requires in_range { All IsInRange runs.old }
-    ensures { runs.new ≡ joined T.eq runs.old }
+pub(crate) fn join_in_place<T: Exact>(rows: &mut Rows<Row, Owned<Row>>, values: &[T])
+    requires numbered { AreNumbered values.now rows.old }
+    requires in_range { All IsInRange (runs_of values.now rows.old) }
+    ensures numbered { AreNumbered values.now rows.new }
+    ensures joined { runs_of values.now rows.new ≡ joined T.eq (runs_of values.now rows.old) }
 {
-    if runs.is_empty() {
+    if rows.is_empty() {
         return;
     }
-    let mut last = *runs.get(0);
+    let first = run_at(rows, values, 0);
+    let mut last = first.0;
+    let mut number = first.1;
     let mut kept = 0;
-    for i in 1..runs.len() {
-        let run = *runs.get(i);
+    for i in 1..rows.len() {
+        let seen = run_at(rows, values, i);
+        let run = seen.0;
         if continues(&last, &run) {
             last = Run {
                 first: last.first,
@@ -50,10 +35,58 @@ pub(crate) fn join_in_place<T: Exact>(runs: &mut Rows<Run<T>, Owned<Run<T>>>)
             };
             continue;
         }
-        runs.put(kept, last);
+        put_run(rows, values, kept, last, number);
         kept += 1;
         last = run;
+        number = seen.1;
     }
-    runs.put(kept, last);
-    runs.truncate(kept + 1);
+    put_run(rows, values, kept, last, number);
+    keep_runs(rows, values, kept + 1);
+}
+
+/// The run of a rank, and the number of its value.
+fn run_at<T: Exact>(rows: &Rows<Row, Owned<Row>>, values: &[T], rank: usize) -> (Run<T>, u32)
+    requires numbered { AreNumbered values.now rows.now }
+    requires within { rank < length rows.now }
+    ensures run { (d : Run T) → result.0 ≡ slice_index_or (runs_of values.now rows.now) rank d }
+    ensures number { slice_get values.now result.1 ≡ Some result.0.value }
+{
+    let row = *rows.get(rank);
+    (with_value(values, row), row.number)
+}
+
+/// Puts a run, whose value has a number, in the place of that of a rank.
+fn put_run<T: Exact>(
+    rows: &mut Rows<Row, Owned<Row>>,
+    _values: &[T],
+    rank: usize,
+    run: Run<T>,
+    number: u32,
+)
+    requires numbered { AreNumbered _values.now rows.old }
+    requires within { rank < length rows.old }
+    requires number { slice_get _values.now number ≡ Some run.value }
+    ensures size { length rows.new ≡ length rows.old }
+    ensures numbered { AreNumbered _values.now rows.new }
+    ensures runs { runs_of _values.now rows.new
+        ≡ slice_set (runs_of _values.now rows.old) rank run }
+{
+    rows.put(
+        rank,
+        Row {
+            first: run.first,
+            pages: run.pages,
+            index: run.index,
+            number,
+        },
+    );
+}
+
+/// Keeps the first so many runs, and takes out the others.
+fn keep_runs<T: Exact>(rows: &mut Rows<Row, Owned<Row>>, _values: &[T], count: usize)
+    requires numbered { AreNumbered _values.now rows.old }
+    ensures numbered { AreNumbered _values.now rows.new }
+    ensures runs { runs_of _values.now rows.new ≡ take count (runs_of _values.now rows.old) }
+{
+    rows.truncate(count);
 }

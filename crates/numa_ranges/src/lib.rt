@@ -17,11 +17,16 @@ mod exact;
 mod fault;
 mod join;
 mod pieces;
+mod range_iter;
 mod range_map;
+mod row;
 mod run;
+mod runs;
+mod values;
 mod walk;
 
 pub use exact::Exact;
 pub use fault::RangeFault;
+pub use range_iter::RangeIter;
 pub use range_map::RangeMap;
 pub use run::Run;

@@ -5,7 +5,7 @@ ghost use Rattle.numa_ranges.specs.Edits.{IsInRange};
 use crate::exact::Exact;
 use crate::fault::RangeFault;
 use crate::run::{Run, continues};
-use numa_rows::{Owned, Rows};
+use crate::runs::Runs;
 use std::alloc::Global;
 
 /// Runs that were added one after another, each joined to the one before where it continues that.
@@ -85,7 +85,7 @@ impl<T: Exact> Pieces<T> {
     /// Puts the gathered runs in the place of a window of runs, unless that makes too many.
     pub(crate) fn put(
         mut self,
-        runs: &mut Rows<Run<T>, Owned<Run<T>>>,
+        runs: &mut Runs<T>,
         from: usize,
         to: usize,
         limit: u32,

@@ -16,11 +16,11 @@ ghost use Rattle.numa_ranges.specs.Edits.{Becomes, edited_span};
 use crate::edit::{add_all, gather_edited};
 use crate::exact::Exact;
 use crate::fault::RangeFault;
-use crate::join::{change_values, join_in_place};
 use crate::pieces::Pieces;
+use crate::range_iter::RangeIter;
 use crate::run::Run;
+use crate::runs::Runs;
 use crate::walk::{lacks_page, starts_on};
-use numa_rows::{Iter, Owned, Rows};
 use std::alloc::{AllocError, Global};
 use std::marker::Model;
 
@@ -37,7 +37,7 @@ use std::marker::Model;
 /// number, and edits one chunk or a few.
 #[derive(Drop)]
 pub struct RangeMap<T: Exact> {
-    runs: Rows<Run<T>, Owned<Run<T>>>,
+    runs: Runs<T>,
     alloc: Global,
     max_ranges: u32,
 }
@@ -63,7 +63,7 @@ impl<T: Exact> RangeMap<T> {
         ensures { result ≡ record { runs = []; max_ranges = max_ranges } }
     {
         RangeMap {
-            runs: Rows::new(alloc),
+            runs: Runs::new(alloc),
             alloc,
             max_ranges,
         }
@@ -96,7 +96,7 @@ impl<T: Exact> RangeMap<T> {
 
     /// The ranges in rising order, each as its first page, its number of pages, its first index and
     /// its value.
-    pub fn iter(&self) -> Iter<'_, Run<T>, Owned<Run<T>>>
+    pub fn iter(&self) -> RangeIter<'_, T>
         ensures runs { result ≡ self.now.runs }
         ensures rising { AreApart 0 self.now.runs }
         ensures maximal { AreMaximal self.now.runs }
@@ -117,7 +117,7 @@ impl<T: Exact> RangeMap<T> {
         if place >= self.runs.len() {
             return None;
         }
-        Some(*self.runs.get(place))
+        Some(self.runs.get(place))
     }
 
     /// The index and the value of a page, where it is mapped. The search is binary.
@@ -217,7 +217,7 @@ impl<T: Exact> RangeMap<T> {
         if place == 0 {
             return Some(0);
         }
-        let run = *self.runs.get(place - 1);
+        let run = self.runs.get(place - 1);
         if run.first + run.pages > first {
             None
         } else {
@@ -320,8 +320,8 @@ impl<T: Exact> RangeMap<T> {
             ≡ changed_page change (page_at self.old.runs page) }
         ensures max_ranges { self.new.max_ranges ≡ self.old.max_ranges }
     {
-        change_values(&mut self.runs, f);
-        join_in_place(&mut self.runs);
+        self.runs.update_all(&f);
+        self.runs.join();
     }
 
     /// Gives every mapped page of a span the value that `edit` makes of its own, or unmaps it,
@@ -385,7 +385,7 @@ impl<T: Exact> RangeMap<T> {
         if count == 0 {
             return None;
         }
-        let run = *self.runs.get(count - 1);
+        let run = self.runs.get(count - 1);
         if page - run.first < run.pages {
             Some(run)
         } else {
@@ -400,7 +400,6 @@ impl<T: Exact> RangeMap<T> {
         ensures maximal { AreMaximal self.now.runs }
         ensures parts { StartsAround self.now.runs result page }
     {
-        self.runs
-            .partition_point(&mut |run: &Run<T>| run.first <= page)
+        self.runs.starts_up_to(page)
     }
 }

@@ -5,17 +5,11 @@ ghost use Rattle.numa_ranges.specs.Maps.{any_page};
 ghost use Rattle.numa_ranges.specs.Edits.{StartsAround};
 
 use crate::exact::Exact;
-use crate::run::Run;
-use numa_rows::{Owned, Rows};
+use crate::runs::Runs;
 
 /// Whether one of the pages of a span is not mapped, where so many runs start at its first page or
 /// before it.
-pub(crate) fn lacks_page<T: Exact>(
-    runs: &Rows<Run<T>, Owned<Run<T>>>,
-    place: usize,
-    first: u64,
-    pages: u64,
-) -> bool
+pub(crate) fn lacks_page<T: Exact>(runs: &Runs<T>, place: usize, first: u64, pages: u64) -> bool
     requires apart { AreApart 0 runs.now }
     requires within { place ≤ length runs.now }
     requires parts { StartsAround runs.now place first }
@@ -38,12 +32,7 @@ pub(crate) fn lacks_page<T: Exact>(
 
 /// How many runs start at a page or before it, where so many start at an earlier page or before
 /// that.
-pub(crate) fn starts_on<T: Exact>(
-    runs: &Rows<Run<T>, Owned<Run<T>>>,
-    place: usize,
-    _first: u64,
-    page: u64,
-) -> usize
+pub(crate) fn starts_on<T: Exact>(runs: &Runs<T>, place: usize, _first: u64, page: u64) -> usize
     requires rises { _first ≤ page }
     requires apart { AreApart 0 runs.now }
     requires within { place ≤ length runs.now }

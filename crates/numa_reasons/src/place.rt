@@ -23,8 +23,8 @@ pub fn range_of(space: &Space, page: u64) -> Option<Run<RangeRecord>>
     ensures small { IfSome result (λ run. run.index + run.pages ≤ 2 ^ 36) }
 {
     for range in space.range_iter() {
-        if has_page(range, page) {
-            return Some(*range);
+        if has_page(&range, page) {
+            return Some(range);
         }
     }
     None

@@ -173,7 +173,7 @@ pub fn fill_all<T: TakeRange>(
         return Err(ReportFault::Refused(PlaceRefusal::BadCpu));
     }
     for range in space.range_iter() {
-        fill_next(space, plan, task, cpu, range, free, taker)?;
+        fill_next(space, plan, task, cpu, &range, free, taker)?;
     }
     Ok(())
 }

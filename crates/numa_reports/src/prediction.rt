@@ -151,7 +151,7 @@ pub fn predict_all<T: TakeRange>(
     }
     let mut counts = [0u64; 256];
     for range in space.range_iter() {
-        predict_next(space, plan, task, cpu, range, &mut counts, taker)?;
+        predict_next(space, plan, task, cpu, &range, &mut counts, taker)?;
     }
     Ok(counts)
 }

@@ -19,8 +19,7 @@ use crate::range_record::RangeRecord;
 use crate::refusal::Refusal;
 use numa_mask::NodeMask;
 use numa_mode::Record;
-use numa_ranges::{RangeFault, RangeMap, Run};
-use numa_rows::{Iter, Owned};
+use numa_ranges::{RangeFault, RangeIter, RangeMap, Run};
 use std::alloc::{AllocError, Global};
 use std::marker::Model;
 
@@ -66,7 +65,7 @@ impl Pages {
     }
 
     /// The ranges, rising.
-    pub(crate) fn iter(&self) -> Iter<'_, Run<RangeRecord>, Owned<Run<RangeRecord>>>
+    pub(crate) fn iter(&self) -> RangeIter<'_, RangeRecord>
         ensures runs { result ≡ self.now.runs }
         ensures rising { AreApart 0 self.now.runs }
         ensures maximal { AreMaximal self.now.runs }
@@ -184,7 +183,7 @@ impl Pages {
     {
         let end = first + pages;
         for run in self.map.iter() {
-            if refuses(run, first, end) {
+            if refuses(&run, first, end) {
                 return true;
             }
         }

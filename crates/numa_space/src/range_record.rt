@@ -8,6 +8,9 @@ use numa_mode::Record;
 use numa_ranges::Exact;
 use std::marker::Model;
 
+/// 2^64 over the golden ratio: a product with it has bits of every factor at its top.
+const SPREAD: u64 = 0x9E37_79B9_7F4A_7C15;
+
 /// The policy that a range of pages has of its own, if it has one.
 #[derive(Clone, Copy, Debug, PartialEq, Eq)]
 pub struct RangeRecord {
@@ -78,4 +81,18 @@ impl Exact for RangeRecord {
     ghost use Rattle.numa_space.specs.Exact.{range-exact};
 
     ghost exact = { range-exact };
+
+    /// Policies of different modes, flags, nodes at present or homes mostly have different marks.
+    fn mark(&self) -> u64 {
+        let Some(policy) = self.policy else {
+            return 0;
+        };
+        let spec = policy.spec();
+        let [a, b, c, d] = policy.effective().words();
+        let nodes = a ^ b.rotate_left(16) ^ c.rotate_left(32) ^ d.rotate_left(48);
+        let home = policy.home().map_or(0, |home| u64::from(home) + 1);
+        let word = u64::from(spec.mode().word(spec.flags()));
+        let mixed = nodes ^ home.rotate_left(24) ^ word.rotate_left(40);
+        mixed.wrapping_mul(SPREAD) >> 56
+    }
 }

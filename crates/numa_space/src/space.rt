@@ -26,8 +26,7 @@ use crate::task_policies::Tasks;
 use numa_machine::{Machine, NoMemory, Weights};
 use numa_mask::NodeMask;
 use numa_mode::Record;
-use numa_ranges::Run;
-use numa_rows::{Iter, Owned};
+use numa_ranges::{RangeIter, Run};
 use std::alloc::Global;
 use std::marker::Model;
 
@@ -209,7 +208,7 @@ impl Space {
 
     /// The ranges, rising: each as its first page, how many pages it has, the index of the first
     /// and, by `value.policy()`, the policy of its own, if it has one. No two of them could be one.
-    pub fn range_iter(&self) -> Iter<'_, Run<RangeRecord>, Owned<Run<RangeRecord>>>
+    pub fn range_iter(&self) -> RangeIter<'_, RangeRecord>
         ensures runs { result ≡ self.now.ranges }
         ensures rising { AreApart 0 self.now.ranges }
         ensures maximal { AreMaximal self.now.ranges }

@@ -46,7 +46,7 @@ pub(crate) fn first_cells(
 {
     let mut cells = Vec::new(alloc);
     for range in space.range_iter() {
-        let nodes = cells_at(plan, task, cpu, range)?;
+        let nodes = cells_at(plan, task, cpu, &range)?;
         cells.extend_from_slice(&nodes)?;
     }
     Ok(cells)
@@ -93,7 +93,7 @@ pub(crate) fn filled_cells(
     let mut cells = Vec::new(alloc);
     for range in space.range_iter() {
         let mut nodes = [0u8; CELLS];
-        fill_range(plan, task, cpu, range, &mut nodes, free)?;
+        fill_range(plan, task, cpu, &range, &mut nodes, free)?;
         cells.extend_from_slice(&nodes)?;
     }
     Ok(cells)

@@ -26,7 +26,7 @@ loop-range-init c = record {
 pub number_for_range-requires-clause-in_force : goal.number_for_range-requires-clause-in_force
 number_for_range-requires-clause-in_force c =
     let ranges : List (Run (Option PolicyRecord)) = c.args.space.now.ranges in
-    let range = c.in-Some.range.now in
+    let range = c.in-Some.range in
     let inv = c.loop-range.invariant in
     let short = step-short ranges c.loop-range.range-iterator c.next.new.self inv.k range inv.left c.in-Some.ensures.steps in
     let read = step-read ranges c.loop-range.range-iterator c.next.new.self inv.k range range inv.left c.in-Some.ensures.steps in
@@ -36,7 +36,7 @@ number_for_range-requires-clause-in_force c =
 pub add_run-requires-clause-apart : goal.add_run-requires-clause-apart
 add_run-requires-clause-apart c =
     let ranges : List (Run (Option PolicyRecord)) = c.args.space.now.ranges in
-    let range = c.in-Some.range.now in
+    let range = c.in-Some.range in
     let inv = c.loop-range.invariant in
     let short = step-short ranges c.loop-range.range-iterator c.next.new.self inv.k range inv.left c.in-Some.ensures.steps in
     let read = step-read ranges c.loop-range.range-iterator c.next.new.self inv.k range range inv.left c.in-Some.ensures.steps in
@@ -53,7 +53,7 @@ add_run-requires-clause-apart c =
 pub add_run-requires-clause-named : goal.add_run-requires-clause-named
 add_run-requires-clause-named c =
     let ranges : List (Run (Option PolicyRecord)) = c.args.space.now.ranges in
-    let range = c.in-Some.range.now in
+    let range = c.in-Some.range in
     let inv = c.loop-range.invariant in
     let short = step-short ranges c.loop-range.range-iterator c.next.new.self inv.k range inv.left c.in-Some.ensures.steps in
     let read = step-read ranges c.loop-range.range-iterator c.next.new.self inv.k range range inv.left c.in-Some.ensures.steps in
@@ -70,7 +70,7 @@ add_run-requires-clause-named c =
 pub loop-range-preserved : goal.loop-range-preserved
 loop-range-preserved c =
     let ranges : List (Run (Option PolicyRecord)) = c.args.space.now.ranges in
-    let range = c.in-Some.range.now in
+    let range = c.in-Some.range in
     let inv = c.loop-range.invariant in
     let short = step-short ranges c.loop-range.range-iterator c.next.new.self inv.k range inv.left c.in-Some.ensures.steps in
     let read = step-read ranges c.loop-range.range-iterator c.next.new.self inv.k range range inv.left c.in-Some.ensures.steps in

@@ -13,14 +13,14 @@ unreachable-requires g c =
 
 pub add-requires-clause-in_range : goal.add-requires-clause-in_range
 add-requires-clause-in_range g c =
-    step-all IsInRange c.args.rest.now c.loop-k.rest c.next.new.self c.loop-k.k c.args.count c.in-Some.run'.now c.loop-k.invariant.rest c.in-Some.ensures.steps c.loop-k-test.true c.requires.in_range
+    step-all IsInRange c.args.rest.now c.loop-k.rest c.next.new.self c.loop-k.k c.args.count c.in-Some.run' c.loop-k.invariant.rest c.in-Some.ensures.steps c.loop-k-test.true c.requires.in_range
 
 pub loop-k-preserved : goal.loop-k-preserved
 loop-k-preserved g c =
-    let more = step-taken c.args.rest.now c.loop-k.rest c.next.new.self c.loop-k.k c.in-Some.run'.now c.loop-k.invariant.rest c.in-Some.ensures.steps in
+    let more = step-taken c.args.rest.now c.loop-k.rest c.next.new.self c.loop-k.k c.in-Some.run' c.loop-k.invariant.rest c.in-Some.ensures.steps in
     record {
-      rest = step-left c.args.rest.now c.loop-k.rest c.next.new.self c.loop-k.k c.in-Some.run'.now c.loop-k.invariant.rest c.in-Some.ensures.steps;
-      gathered = λ added h. subst (λ (l : List (Run g.row.T.Denot)). Gathered g.T.PartialEq.eq c.add.new.self l) (append_assoc added (take c.loop-k.k c.args.rest.now) (c.in-Some.run'.now ∷ []) ∙ ap (λ l. added ++ l) (sym more))
+      rest = step-left c.args.rest.now c.loop-k.rest c.next.new.self c.loop-k.k c.in-Some.run' c.loop-k.invariant.rest c.in-Some.ensures.steps;
+      gathered = λ added h. subst (λ (l : List (Run g.row.T.Denot)). Gathered g.T.PartialEq.eq c.add.new.self l) (append_assoc added (take c.loop-k.k c.args.rest.now) (c.in-Some.run' ∷ []) ∙ ap (λ l. added ++ l) (sym more))
           (c.add.ensures.gathered _ (c.loop-k.invariant.gathered added h));
       count = omega (arith, c.add.ensures.count, c.loop-k.invariant.count);
     }

@@ -14,7 +14,7 @@ unreachable-requires g c =
 
 pub add_parts-requires-clause-in_range : goal.add_parts-requires-clause-in_range
 add_parts-requires-clause-in_range g c =
-    step-all IsInRange c.args.rest.now c.loop-k.rest c.next.new.self c.loop-k.k c.args.count c.in-Some.run'.now c.loop-k.invariant.rest c.in-Some.ensures.steps c.loop-k-test.true c.requires.in_range
+    step-all IsInRange c.args.rest.now c.loop-k.rest c.next.new.self c.loop-k.k c.args.count c.in-Some.run' c.loop-k.invariant.rest c.in-Some.ensures.steps c.loop-k-test.true c.requires.in_range
 
 pub returns-clause-gathered : goal.returns-clause-gathered
 returns-clause-gathered g c change gives =
@@ -24,7 +24,7 @@ returns-clause-gathered g c change gives =
 pub loop-k-preserved : goal.loop-k-preserved
 loop-k-preserved g c =
     let whole = c.args.rest.now in
-    let run = c.in-Some.run'.now in
+    let run = c.in-Some.run' in
     let inv = c.loop-k.invariant in
     let steps = c.in-Some.ensures.steps in
     let short = step-short whole c.loop-k.rest c.next.new.self c.loop-k.k run inv.rest steps in

@@ -12,7 +12,7 @@ returns-then-page-end g c = sym (walk-whole c.args.runs.now c.loop-run.run-itera
 
 pub returns-then-page-run : goal.returns-then-page-run
 returns-then-page-run g c =
-    sym (walk-lacks c.args.runs.now c.loop-run.run-iterator c.next.new.self c.in-Some.run'.now c.args.first c.args.pages c.loop-run.page c.loop-run.invariant c.in-Some.ensures.steps (omega arith) (omega arith))
+    sym (walk-lacks c.args.runs.now c.loop-run.run-iterator c.next.new.self c.in-Some.run' c.args.first c.args.pages c.loop-run.page c.loop-run.invariant c.in-Some.ensures.steps (omega arith) (omega arith))
 
 pub returns : goal.returns
 returns g c = walk-ends c.args.runs.now c.loop-run.run-iterator c.args.first c.args.pages c.loop-run.page c.loop-run.invariant c.in-None.ensures.steps.0

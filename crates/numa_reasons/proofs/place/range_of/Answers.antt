@@ -4,10 +4,10 @@ use Rattle.numa_reasons.proofs.place.range_of.Goals as goal
 
 pub returns-then-has_page-clause-range : goal.returns-then-has_page-clause-range
 returns-then-has_page-clause-range c =
-    let here = run-here c.loop-range.range-iterator c.next.new.self c.in-Some.range.now c.args.page c.in-Some.ensures.steps (sym c.has_page.ensures ∙ c.if-has_page.true) in
-    (c.range_iter-range-items.ensures.ranges c.in-Some.range.now).0 (run-among c.args.space.now.ranges c.args.page c.in-Some.range.now (sym c.loop-range.invariant ∙ here))
+    let here = run-here c.loop-range.range-iterator c.next.new.self c.in-Some.range c.args.page c.in-Some.ensures.steps (sym c.has_page.ensures ∙ c.if-has_page.true) in
+    (c.range_iter-range-items.ensures.ranges c.in-Some.range).0 (run-among c.args.space.now.ranges c.args.page c.in-Some.range (sym c.loop-range.invariant ∙ here))
 
 pub returns-then-has_page-clause-small : goal.returns-then-has_page-clause-small
 returns-then-has_page-clause-small c =
-    let here = run-here c.loop-range.range-iterator c.next.new.self c.in-Some.range.now c.args.page c.in-Some.ensures.steps (sym c.has_page.ensures ∙ c.if-has_page.true) in
-    run-small 0 c.args.space.now.ranges c.args.page c.in-Some.range.now c.range_iter-range-items.ensures.rising (sym c.loop-range.invariant ∙ here)
+    let here = run-here c.loop-range.range-iterator c.next.new.self c.in-Some.range c.args.page c.in-Some.ensures.steps (sym c.has_page.ensures ∙ c.if-has_page.true) in
+    run-small 0 c.args.space.now.ranges c.args.page c.in-Some.range c.range_iter-range-items.ensures.rising (sym c.loop-range.invariant ∙ here)

@@ -22,7 +22,7 @@ loop-range-init g c =
     }
 
 pub fill_next-requires : goal.fill_next-requires
-fill_next-requires g c = omega (arith, left-end c.loop-range.range-iterator c.args.space.now.ranges c.next.new.self c.in-Some.range.now c.loop-range.invariant.rest c.in-Some.ensures.steps)
+fill_next-requires g c = omega (arith, left-end c.loop-range.range-iterator c.args.space.now.ranges c.next.new.self c.in-Some.range c.loop-range.invariant.rest c.in-Some.ensures.steps)
 
 pub loop-range-preserved : goal.loop-range-preserved
 loop-range-preserved g c =
@@ -32,10 +32,10 @@ loop-range-preserved g c =
           ∙ sym (ap (λ (runs : List (Run (Option PolicyRecord))). free_runs nodes c.loop-range.free runs) c.in-Some.ensures.steps)
           ∙ c.loop-range.invariant.left;
       apart = c.loop-range.invariant.apart;
-      rest = left-next c.loop-range.range-iterator c.args.space.now.ranges c.next.new.self c.in-Some.range.now c.loop-range.invariant.rest c.in-Some.ensures.steps;
+      rest = left-next c.loop-range.range-iterator c.args.space.now.ranges c.next.new.self c.in-Some.range c.loop-range.invariant.rest c.in-Some.ensures.steps;
       told = λ history stands end has.
           let takes = IsTaken c.args.space.now.machine history c.args.task in
-          let both = subst (λ (f : List ℕ). ToldOne g.T.TakeRange.told (takes c.loop-range.free f) c.in-Some.range.now c.loop-range.taker c.fill_next.new.taker × FilledEach g.T.TakeRange.told takes nodes f c.next.new.self c.fill_next.new.taker end) c.in_ok-fill_next.ensures.free
+          let both = subst (λ (f : List ℕ). ToldOne g.T.TakeRange.told (takes c.loop-range.free f) c.in-Some.range c.loop-range.taker c.fill_next.new.taker × FilledEach g.T.TakeRange.told takes nodes f c.next.new.self c.fill_next.new.taker end) c.in_ok-fill_next.ensures.free
           (c.in_ok-fill_next.ensures.told history stands, has) in
           c.loop-range.invariant.told history stands end
           (subst (λ (runs : List (Run (Option PolicyRecord))). FilledEach g.T.TakeRange.told takes nodes c.loop-range.free runs c.loop-range.taker end) (sym c.in-Some.ensures.steps)
@@ -59,4 +59,4 @@ returns-clause-told g c history stands planned =
 pub returns-in_err-fill_next-clause-err : goal.returns-in_err-fill_next-clause-err
 returns-in_err-fill_next-clause-err g c history stands planned =
     let exit = err_from_is_err_and c.from_residual.result c.from_residual.ensures.1 in
-    rw (exit.1, exit.2) (range-fails c.args.space.now c.args.plan.now history c.loop-range.range-iterator c.next.new.self c.in-Some.range.now c.args.cpu c.in_err-fill_next.field-0.0 stands planned c.loop-range.invariant.rest c.in-Some.ensures.steps c.in_err-fill_next.ensures.err)
+    rw (exit.1, exit.2) (range-fails c.args.space.now c.args.plan.now history c.loop-range.range-iterator c.next.new.self c.in-Some.range c.args.cpu c.in_err-fill_next.field-0.0 stands planned c.loop-range.invariant.rest c.in-Some.ensures.steps c.in_err-fill_next.ensures.err)

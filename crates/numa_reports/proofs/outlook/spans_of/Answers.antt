@@ -19,7 +19,7 @@ loop-range-preserved c =
     let rest = map span_of c.next.new.self in
     record {
       spans = ap (λ l. l ++ rest) c.in_ok-push.ensures.items
-          ∙ append_assoc c.loop-range.spans.items (span_of c.in-Some.range.now ∷ []) rest
+          ∙ append_assoc c.loop-range.spans.items (span_of c.in-Some.range ∷ []) rest
           ∙ ap (λ (runs : List (Run (Option PolicyRecord))). c.loop-range.spans.items ++ map span_of runs) (sym c.in-Some.ensures.steps)
           ∙ c.loop-range.invariant.spans;
       apart = c.loop-range.invariant.apart;

@@ -30,16 +30,16 @@ pub predict_next-requires-clause-room : goal.predict_next-requires-clause-room
 predict_next-requires-clause-room g c node small =
     let test : ℕ → Bool = λ page. is_number node (planned_first c.args.plan.now c.args.task page c.args.cpu) in
     let step = ap (λ (runs : List (Run (Option PolicyRecord))). count_runs test runs) c.in-Some.ensures.steps in
-    omega (arith, step, c.loop-range.invariant.counts node small, runs-most test 0 c.args.space.now.ranges c.loop-range.invariant.apart, sum_by-cons (λ run. count_pages test run.first run.pages) c.in-Some.range.now c.next.new.self)
+    omega (arith, step, c.loop-range.invariant.counts node small, runs-most test 0 c.args.space.now.ranges c.loop-range.invariant.apart, sum_by-cons (λ run. count_pages test run.first run.pages) c.in-Some.range c.next.new.self)
 
 pub loop-range-preserved : goal.loop-range-preserved
 loop-range-preserved g c = record {
   counts = λ node small.
       let test : ℕ → Bool = λ page. is_number node (planned_first c.args.plan.now c.args.task page c.args.cpu) in
       let step = ap (λ (runs : List (Run (Option PolicyRecord))). count_runs test runs) c.in-Some.ensures.steps in
-      omega (arith, step, c.in_ok-predict_next.ensures.counts node small, c.loop-range.invariant.counts node small, sum_by-cons (λ run. count_pages test run.first run.pages) c.in-Some.range.now c.next.new.self);
+      omega (arith, step, c.in_ok-predict_next.ensures.counts node small, c.loop-range.invariant.counts node small, sum_by-cons (λ run. count_pages test run.first run.pages) c.in-Some.range c.next.new.self);
   apart = c.loop-range.invariant.apart;
-  rest = left-next c.loop-range.range-iterator c.args.space.now.ranges c.next.new.self c.in-Some.range.now c.loop-range.invariant.rest c.in-Some.ensures.steps;
+  rest = left-next c.loop-range.range-iterator c.args.space.now.ranges c.next.new.self c.in-Some.range c.loop-range.invariant.rest c.in-Some.ensures.steps;
   long = omega arith;
   told = λ history stands planned end has. c.loop-range.invariant.told history stands planned end
       (subst (λ (runs : List (Run (Option PolicyRecord))). ToldEach g.T.TakeRange.told (IsPrediction c.args.space.now.machine history c.args.task c.args.cpu) runs c.loop-range.taker end) (sym c.in-Some.ensures.steps)
@@ -59,4 +59,4 @@ returns-clause-told g c history stands planned = c.loop-range.invariant.told his
 pub returns-in_err-predict_next-clause-err : goal.returns-in_err-predict_next-clause-err
 returns-in_err-predict_next-clause-err g c history stands planned =
     let exit = err_from_is_err_and c.from_residual.result c.from_residual.ensures.1 in
-    rw (exit.1, exit.2) (range-fails c.args.space.now c.args.plan.now history c.loop-range.range-iterator c.next.new.self c.in-Some.range.now c.args.cpu c.in_err-predict_next.field-0.0 stands planned c.loop-range.invariant.rest c.in-Some.ensures.steps c.in_err-predict_next.ensures.err)
+    rw (exit.1, exit.2) (range-fails c.args.space.now c.args.plan.now history c.loop-range.range-iterator c.next.new.self c.in-Some.range c.args.cpu c.in_err-predict_next.field-0.0 stands planned c.loop-range.invariant.rest c.in-Some.ensures.steps c.in_err-predict_next.ensures.err)

@@ -17,22 +17,22 @@ returns-then-place-eq0-clause-free g c =
 pub overflow_add-run : goal.overflow_add-run
 overflow_add-run g c =
     let found = c.starts_up_to-place.ensures in
-    let bounds = run-bounds c.args.self.now.runs (c.starts_up_to-place.result - 1) c.get-run.result.now found.apart (omega arith) (rw (← (ap (λ v. v.runs) c.self.view_is)) (c.get-run.ensures c.get-run.result.now)) in
+    let bounds = run-bounds c.args.self.now.runs (c.starts_up_to-place.result - 1) c.get-run.result found.apart (omega arith) (rw (← (ap (λ v. v.runs) c.self.view_is)) (c.get-run.ensures c.get-run.result)) in
     omega (arith, bounds.0, bounds.1)
 
 pub returns-then-run-first-clause-none : goal.returns-then-run-first-clause-none
 returns-then-run-first-clause-none g c =
     let found = c.starts_up_to-place.ensures in
-    room-taken c.args.self.now.runs c.starts_up_to-place.result c.args.first c.args.pages c.get-run.result.now found.apart found.within found.parts c.requires.some c.if-place-eq0.false (rw (← (ap (λ v. v.runs) c.self.view_is)) (c.get-run.ensures c.get-run.result.now)) c.if-run-first.true
-    (pages-some 0 c.args.self.now.runs (c.starts_up_to-place.result - 1) c.get-run.result.now found.apart (omega arith) (rw (← (ap (λ v. v.runs) c.self.view_is)) (c.get-run.ensures c.get-run.result.now)))
+    room-taken c.args.self.now.runs c.starts_up_to-place.result c.args.first c.args.pages c.get-run.result found.apart found.within found.parts c.requires.some c.if-place-eq0.false (rw (← (ap (λ v. v.runs) c.self.view_is)) (c.get-run.ensures c.get-run.result)) c.if-run-first.true
+    (pages-some 0 c.args.self.now.runs (c.starts_up_to-place.result - 1) c.get-run.result found.apart (omega arith) (rw (← (ap (λ v. v.runs) c.self.view_is)) (c.get-run.ensures c.get-run.result)))
 
 pub returns-else-run-first-clause-room : goal.returns-else-run-first-clause-room
 returns-else-run-first-clause-room g c =
     let found = c.starts_up_to-place.ensures in
-    room-some c.args.self.now.runs c.starts_up_to-place.result c.args.first (c.args.first + (c.args.pages - 1)) c.get-run.result.now found.apart found.maximal found.within found.parts c.if-place-eq0.false (rw (← (ap (λ v. v.runs) c.self.view_is)) (c.get-run.ensures c.get-run.result.now)) c.if-run-first.false
+    room-some c.args.self.now.runs c.starts_up_to-place.result c.args.first (c.args.first + (c.args.pages - 1)) c.get-run.result found.apart found.maximal found.within found.parts c.if-place-eq0.false (rw (← (ap (λ v. v.runs) c.self.view_is)) (c.get-run.ensures c.get-run.result)) c.if-run-first.false
 
 pub returns-else-run-first-clause-free : goal.returns-else-run-first-clause-free
 returns-else-run-first-clause-free g c =
     let found = c.starts_up_to-place.ensures in
     room-free c.args.self.now.runs c.starts_up_to-place.result c.args.first (c.args.first + (c.args.pages - 1)) c.args.pages
-    (room-some c.args.self.now.runs c.starts_up_to-place.result c.args.first (c.args.first + (c.args.pages - 1)) c.get-run.result.now found.apart found.maximal found.within found.parts c.if-place-eq0.false (rw (← (ap (λ v. v.runs) c.self.view_is)) (c.get-run.ensures c.get-run.result.now)) c.if-run-first.false) refl c.requires.some
+    (room-some c.args.self.now.runs c.starts_up_to-place.result c.args.first (c.args.first + (c.args.pages - 1)) c.get-run.result found.apart found.maximal found.within found.parts c.if-place-eq0.false (rw (← (ap (λ v. v.runs) c.self.view_is)) (c.get-run.ensures c.get-run.result)) c.if-run-first.false) refl c.requires.some

@@ -11,9 +11,9 @@ returns-then-count-eq0 g c =
 pub returns-then-page-run : goal.returns-then-page-run
 returns-then-page-run g c =
     let found = c.starts_up_to-count.ensures in
-    holds c.args.self.now.runs c.starts_up_to-count.result c.args.page c.get-run.result.now found.apart found.within found.parts c.if-count-eq0.false (rw (← (ap (λ v. v.runs) c.self.view_is)) (c.get-run.ensures c.get-run.result.now)) c.if-page-run.true
+    holds c.args.self.now.runs c.starts_up_to-count.result c.args.page c.get-run.result found.apart found.within found.parts c.if-count-eq0.false (rw (← (ap (λ v. v.runs) c.self.view_is)) (c.get-run.ensures c.get-run.result)) c.if-page-run.true
 
 pub returns-else-page-run : goal.returns-else-page-run
 returns-else-page-run g c =
     let found = c.starts_up_to-count.ensures in
-    sym (page_at-missed c.args.self.now.runs c.starts_up_to-count.result c.args.page c.get-run.result.now found.apart found.within found.parts c.if-count-eq0.false (rw (← (ap (λ v. v.runs) c.self.view_is)) (c.get-run.ensures c.get-run.result.now)) c.if-page-run.false)
+    sym (page_at-missed c.args.self.now.runs c.starts_up_to-count.result c.args.page c.get-run.result found.apart found.within found.parts c.if-count-eq0.false (rw (← (ap (λ v. v.runs) c.self.view_is)) (c.get-run.ensures c.get-run.result)) c.if-page-run.false)

@@ -6,15 +6,14 @@ use Rattle.numa_ranges.proofs.InPlace.{apart-revalued, in-range-revalued, page_a
 use Rattle.numa_ranges.proofs.Spans.{apart-joined-all, maximal-joined-all, page_at-joined-all}
 use Rattle.numa_ranges.proofs.range_map.RangeMap.update_all.Goals as goal
 
-pub join_in_place-requires : goal.join_in_place-requires
-join_in_place-requires g c =
-    record { in_range = rw (c.change_values.ensures.made c.requires.function.0 c.requires.function.1) (in-range-revalued c.requires.function.0 c.self.inside.runs c.self.invariant.0) }
+pub join-requires : goal.join-requires
+join-requires g c = rw (c.update_all.ensures.made c.requires.function.0 c.requires.function.1) (in-range-revalued c.requires.function.0 c.self.inside.runs c.self.invariant.0)
 
 pub invariant_of-self : goal.invariant_of-self
 invariant_of-self g c =
     let old = c.self.inside.runs in
     let change = c.requires.function.0 in
-    let all = c.join_in_place.ensures ∙ ap (joined g.T.PartialEq.eq) (c.change_values.ensures.made change c.requires.function.1) in
+    let all = c.join.ensures ∙ ap (joined g.T.PartialEq.eq) (c.update_all.ensures.made change c.requires.function.1) in
     rw all (
       apart-joined-all g.T.PartialEq.eq g.met.T.Exact.exact g.met.T.Eq.laws.refl (map (revalued change) old) (apart-revalued change 0 old c.self.invariant.0),
       maximal-joined-all g.T.PartialEq.eq g.met.T.Exact.exact g.met.T.Eq.laws.refl (map (revalued change) old),
@@ -24,5 +23,5 @@ invariant_of-self g c =
 pub returns-clause-pages : goal.returns-clause-pages
 returns-clause-pages g c change gives page =
     let old = c.self.inside.runs in
-    let all = c.join_in_place.ensures ∙ ap (joined g.T.PartialEq.eq) (c.change_values.ensures.made change gives) in
+    let all = c.join.ensures ∙ ap (joined g.T.PartialEq.eq) (c.update_all.ensures.made change gives) in
     rw (all, ← (ap (λ v. v.runs) c.self.view_is)) (page_at-joined-all g.T.PartialEq.eq g.met.T.Exact.exact g.met.T.Eq.laws.refl (map (revalued change) old) page ∙ page_at-revalued change old page)

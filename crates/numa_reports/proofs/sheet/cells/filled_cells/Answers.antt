@@ -8,16 +8,16 @@ pub loop-range-init : goal.loop-range-init
 loop-range-init c = left-all c.into_iter-range-iterator.result c.args.space.now.ranges (c.into_iter-range-iterator.ensures.into_iter_gives ∙ c.range_iter-range-items.ensures.runs) c.range_iter-range-items.ensures.rising
 
 pub loop-range-preserved : goal.loop-range-preserved
-loop-range-preserved c = left-next c.loop-range.range-iterator c.args.space.now.ranges c.next.new.self c.in-Some.range.now c.loop-range.invariant c.in-Some.ensures.steps
+loop-range-preserved c = left-next c.loop-range.range-iterator c.args.space.now.ranges c.next.new.self c.in-Some.range c.loop-range.invariant c.in-Some.ensures.steps
 
 pub fill_range-requires : goal.fill_range-requires
-fill_range-requires c = omega (arith, left-end c.loop-range.range-iterator c.args.space.now.ranges c.next.new.self c.in-Some.range.now c.loop-range.invariant c.in-Some.ensures.steps)
+fill_range-requires c = omega (arith, left-end c.loop-range.range-iterator c.args.space.now.ranges c.next.new.self c.in-Some.range c.loop-range.invariant c.in-Some.ensures.steps)
 
 pub returns-in_err-fill_range : goal.returns-in_err-fill_range
 returns-in_err-fill_range c = record {
   err = λ history stands planned.
       let exit = err_from_is_err_and c.from_residual.result c.from_residual.ensures.1 in
-      rw (exit.1, exit.2) (range-fails c.args.space.now c.args.plan.now history c.loop-range.range-iterator c.next.new.self c.in-Some.range.now c.args.cpu (Refused c.in_err-fill_range.field-0.0) stands planned c.loop-range.invariant c.in-Some.ensures.steps c.in_err-fill_range.ensures);
+      rw (exit.1, exit.2) (range-fails c.args.space.now c.args.plan.now history c.loop-range.range-iterator c.next.new.self c.in-Some.range c.args.cpu (Refused c.in_err-fill_range.field-0.0) stands planned c.loop-range.invariant c.in-Some.ensures.steps c.in_err-fill_range.ensures);
 }
 
 pub returns-in_err-extend_from_slice : goal.returns-in_err-extend_from_slice

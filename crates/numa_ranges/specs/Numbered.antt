@@ -1,0 +1,33 @@
+-- Runs whose values stand in a list of their own, each under a number, which is its place there.
+use Rattle.std.specs.Prelude.{◌≡◌, ℕ, ◌<◌, ◌≤◌, Option, Some, None, List, [], ◌∷◌, length, slice_get}
+use Rattle.std.specs.List.{flat_map}
+use Rattle.numa_ranges.specs.declared.run.Run.{Run}
+use Rattle.numa_ranges.specs.declared.row.Row.{Row}
+
+-- the run of a row, if it has a value
+abbrev pub valued : {T : Type 0} → Row → Option T → List (Run T)
+valued row None = []
+valued row (Some value) = record {
+  first = row.first;
+  pages = row.pages;
+  index = row.index;
+  value = value;
+} ∷ []
+
+-- the run of a row with the value that stands under the row's number
+abbrev pub run_of : {T : Type 0} → List T → Row → List (Run T)
+run_of values row = valued row (slice_get values row.number)
+
+-- the runs of rows
+abbrev pub runs_of : {T : Type 0} → List T → List Row → List (Run T)
+runs_of values rows = flat_map (run_of values) rows
+
+-- a value stands under the number of each row
+abbrev pub AreNumbered : {T : Type 0} → List T → List Row → Type 0
+AreNumbered values [] = Unit {0}
+AreNumbered values (row ∷ rows) = (row.number < length values) × AreNumbered values rows
+
+-- each number means what it meant, and there can be more
+pub record IsLonger {T : Type 0} (old new : List T) : Type 0 where
+  pub size : length old ≤ length new
+  pub same : (number : ℕ) → number < length old → slice_get new number ≡ slice_get old number

@@ -1,0 +1,234 @@
+//! The runs of a map, with their values under numbers.
+ghost use Rattle.std.specs.Prelude.{◌≡◌, ◌==◌, ◌+◌, ◌<◌, ◌≤◌, ◌^◌, [], length, map, drop, All};
+ghost use Rattle.std.specs.Prelude.{slice_index_or, IfSome, IfOk, OnOk, OnErr};
+ghost use Rattle.std.specs.List.{splice};
+ghost use Rattle.numa_rows.specs.Changes.{Makes};
+ghost use Rattle.numa_ranges.specs.Runs.{AreApart};
+ghost use Rattle.numa_ranges.specs.Edits.{IsInRange, StartsAround, joined, revalued};
+ghost use Rattle.numa_ranges.specs.Numbered.{AreNumbered, IsLonger, runs_of};
+
+use crate::exact::Exact;
+use crate::join::join_in_place;
+use crate::range_iter::RangeIter;
+use crate::row::{Row, with_value};
+use crate::run::Run;
+use crate::values::Values;
+use numa_rows::{Owned, Rows};
+use std::alloc::{AllocError, Global};
+use std::marker::Model;
+
+/// So many values more than two for each run are kept before they are numbered anew.
+const SPARE: usize = 512;
+
+/// A list of runs that is cheap to edit in the middle.
+///
+/// Values can be large, and an edit moves half a chunk of rows: so a row has the number of its
+/// value, and the values stand in a list of their own.
+#[derive(Drop)]
+pub(crate) struct Runs<T> {
+    rows: Rows<Row, Owned<Row>>,
+    values: Values<T>,
+    alloc: Global,
+}
+
+impl<T> Model for Runs<T> {
+    ghost use Rattle.std.specs.Prelude.{List};
+    ghost use Rattle.numa_ranges.specs.declared.run.Run.{Run};
+    ghost use Rattle.numa_ranges.specs.Numbered.{AreNumbered, runs_of};
+
+    ghost Value = { List (Run T) };
+
+    ghost view = { λ a. runs_of a.values a.rows };
+
+    ghost invariant = { λ a. AreNumbered a.values a.rows };
+}
+
+impl<T: Exact> Runs<T> {
+    /// No runs. It takes no memory.
+    pub(crate) fn new(alloc: Global) -> Runs<T>
+        ensures { result ≡ [] }
+    {
+        Runs {
+            rows: Rows::new(alloc),
+            values: Values::new(alloc),
+            alloc,
+        }
+    }
+
+    /// The same runs once more.
+    ///
+    /// # Errors
+    /// `AllocError` where memory is wanting.
+    pub(crate) fn copy(&self) -> Result<Runs<T>, AllocError>
+        ensures { IfOk result (λ copy. copy ≡ self.now) }
+    {
+        let rows = self.rows.copy()?;
+        let values = self.values.copy(self.alloc)?;
+        Ok(Runs {
+            rows,
+            values,
+            alloc: self.alloc,
+        })
+    }
+
+    /// How many runs there are.
+    #[inline]
+    pub(crate) fn len(&self) -> usize
+        ensures len { result ≡ length self.now }
+        ensures bound { result < 2 ^ 32 }
+    {
+        self.rows.len()
+    }
+
+    /// The run of a rank.
+    #[inline]
+    pub(crate) fn get(&self, rank: usize) -> Run<T>
+        requires { rank < length self.now }
+        ensures { (d : Run T) → result ≡ slice_index_or self.now rank d }
+    {
+        let row = *self.rows.get(rank);
+        with_value(self.values.items(), row)
+    }
+
+    /// How many runs start at the page or before it.
+    pub(crate) fn starts_up_to(&self, page: u64) -> usize
+        requires { AreApart 0 self.now }
+        ensures within { result ≤ length self.now }
+        ensures parts { StartsAround self.now result page }
+    {
+        self.rows
+            .partition_point(&mut |row: &Row| row.first <= page)
+    }
+
+    /// The runs in order.
+    pub(crate) fn iter(&self) -> RangeIter<'_, T>
+        ensures { result ≡ self.now }
+    {
+        RangeIter::new(self.rows.iter(), self.values.items())
+    }
+
+    /// The runs from a rank on, in order.
+    pub(crate) fn iter_from(&self, rank: usize) -> RangeIter<'_, T>
+        requires { rank ≤ length self.now }
+        ensures { result ≡ drop rank self.now }
+    {
+        RangeIter::new(self.rows.iter_from(rank), self.values.items())
+    }
+
+    /// Puts runs in the place of those from one rank to another.
+    ///
+    /// Values that no run has any more stay until there are far more values than runs: then the
+    /// values are numbered anew.
+    ///
+    /// # Errors
+    /// `AllocError` where memory is wanting; then the runs are as they were.
+    pub(crate) fn splice(
+        &mut self,
+        from: usize,
+        to: usize,
+        runs: &[Run<T>],
+    ) -> Result<(), AllocError>
+        requires rises { from ≤ to }
+        requires within { to ≤ length self.old }
+        ensures ok { OnOk result (self.new ≡ splice self.old from to runs.now) }
+        ensures unchanged { OnErr result (self.new ≡ self.old) }
+    {
+        self.tidy();
+        self.put(from, to, runs)
+    }
+
+    /// Puts runs in the place of others, and their values behind all others.
+    fn put(&mut self, from: usize, to: usize, runs: &[Run<T>]) -> Result<(), AllocError>
+        requires rises { from ≤ to }
+        requires within { to ≤ length self.old }
+        ensures ok { OnOk result (self.new ≡ splice self.old from to runs.now) }
+        ensures unchanged { OnErr result (self.new ≡ self.old) }
+    {
+        let rows = numbered(self.alloc, &mut self.values, runs)?;
+        self.rows.splice(from, to, &rows)?;
+        Ok(())
+    }
+
+    /// Numbers the values anew where there are far more of them than runs. Without memory for that
+    /// all stays as it is.
+    fn tidy(&mut self)
+        ensures { self.new ≡ self.old }
+    {
+        if let Some(fresh) = self.renumbered() {
+            *self = fresh;
+        }
+    }
+
+    /// The same runs without the values that none of them has, where those are many. None too where
+    /// memory is wanting.
+    fn renumbered(&self) -> Option<Runs<T>>
+        ensures { IfSome result (λ fresh. fresh ≡ self.now) }
+    {
+        let most = 2 * self.rows.len() + SPARE;
+        if self.values.items().len() <= most {
+            return None;
+        }
+        let Ok(all) = gathered(self.alloc, self) else {
+            return None;
+        };
+        let mut fresh = Runs::new(self.alloc);
+        let Ok(()) = fresh.put(0, 0, &all) else {
+            return None;
+        };
+        Some(fresh)
+    }
+
+    /// Gives each run the value that `f` makes of its own. It takes no memory and can't be refused.
+    pub(crate) fn update_all<F: Fn(&T) -> T>(&mut self, f: &F)
+        requires { F.IsAlwaysCallable f.now }
+        ensures size { length self.new ≡ length self.old }
+        ensures made { (change : T → T) → Makes F.Fn f.now change
+            → self.new ≡ map (revalued change) self.old }
+    {
+        self.values.change_all(f);
+    }
+
+    /// Joins each run that continues the one before it to that. It takes no memory and can't be
+    /// refused.
+    pub(crate) fn join(&mut self)
+        requires { All IsInRange self.old }
+        ensures { self.new ≡ joined T.eq self.old }
+    {
+        join_in_place(&mut self.rows, self.values.items());
+    }
+}
+
+/// The rows of some runs, whose values are added to others.
+fn numbered<T: Exact>(
+    alloc: Global,
+    values: &mut Values<T>,
+    runs: &[Run<T>],
+) -> Result<Vec<Row>, AllocError>
+    ensures longer { IsLonger values.old values.new }
+    ensures numbered { IfOk result (λ rows. AreNumbered values.new rows.items) }
+    ensures runs { IfOk result (λ rows. runs_of values.new rows.items ≡ runs.now) }
+{
+    let mut rows = Vec::with_capacity(alloc, runs.len())?;
+    for i in 0..runs.len() {
+        let run = runs[i];
+        let number = values.add(run.value)?;
+        rows.push(Row {
+            first: run.first,
+            pages: run.pages,
+            index: run.index,
+            number,
+        })?;
+    }
+    Ok(rows)
+}
+
+/// All runs, in a vector of their own.
+fn gathered<T: Exact>(alloc: Global, runs: &Runs<T>) -> Result<Vec<Run<T>>, AllocError>
+    ensures { IfOk result (λ all. all.items ≡ runs.now) }
+{
+    let mut all = Vec::with_capacity(alloc, runs.len())?;
+    for run in runs.iter() {
+        all.push(run)?;
+    }
+    Ok(all)
+}
