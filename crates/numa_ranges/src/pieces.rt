@@ -82,13 +82,15 @@ impl<T: Exact> Pieces<T> {
         }
     }
 
-    /// Puts the gathered runs in the place of a window of runs, unless that makes too many.
+    /// Puts the gathered runs in the place of a window of runs, unless that makes too many. `near`
+    /// is a guess at the chunk of the window.
     pub(crate) fn put(
         mut self,
         runs: &mut Runs<T>,
         from: usize,
         to: usize,
         limit: u32,
+        near: usize,
     ) -> Result<(), RangeFault>
         requires window { (from ≤ to) × (to ≤ length runs.old) }
         requires room { self.count < 2 ^ 62 }
@@ -115,7 +117,7 @@ impl<T: Exact> Pieces<T> {
         if is_refused {
             return Err(RangeFault::NoMemory);
         }
-        let Ok(()) = runs.splice(from, to, &closed) else {
+        let Ok(()) = runs.splice_near(from, to, &closed, near) else {
             return Err(RangeFault::NoMemory);
         };
         Ok(())

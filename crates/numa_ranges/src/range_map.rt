@@ -40,6 +40,7 @@ pub struct RangeMap<T: Exact> {
     runs: Runs<T>,
     alloc: Global,
     max_ranges: u32,
+    near: usize,
 }
 
 impl<T: Exact> Model for RangeMap<T> {
@@ -66,6 +67,7 @@ impl<T: Exact> RangeMap<T> {
             runs: Runs::new(alloc),
             alloc,
             max_ranges,
+            near: 0,
         }
     }
 
@@ -81,6 +83,7 @@ impl<T: Exact> RangeMap<T> {
             runs,
             alloc: self.alloc,
             max_ranges: self.max_ranges,
+            near: self.near,
         })
     }
 
@@ -136,8 +139,9 @@ impl<T: Exact> RangeMap<T> {
         ensures { result ≡ any_page (λ page. not (is_some (page_at self.now.runs page))) first
             pages }
     {
-        let place = self.starts_up_to(first);
-        lacks_page(&self.runs, place, first, pages)
+        let mut near = self.near;
+        let place = self.starts_near(first, &mut near);
+        lacks_page(&self.runs, place, first, pages, near)
     }
 
     /// Maps the `pages` pages from `first` on, with the indexes from `index` on and one value.
@@ -165,7 +169,8 @@ impl<T: Exact> RangeMap<T> {
         ensures unchanged { OnErr result (self.new ≡ self.old) }
         ensures max_ranges { self.new.max_ranges ≡ self.old.max_ranges }
     {
-        let Some(place) = self.place_between(first, pages) else {
+        let mut near = self.near;
+        let Some(place) = self.place_between(first, pages, &mut near) else {
             return Err(RangeFault::Overlap);
         };
         let run = Run {
@@ -174,12 +179,12 @@ impl<T: Exact> RangeMap<T> {
             index,
             value,
         };
-        self.insert_run(place, run)
+        self.insert_run(place, run, near)
     }
 
     /// Puts a run in at its place among the runs, joined to its neighbours where they go on from
-    /// one another.
-    fn insert_run(&mut self, place: usize, run: Run<T>) -> Result<(), RangeFault>
+    /// one another. `near` is a guess at the chunk of the place, kept for the next edit.
+    fn insert_run(&mut self, place: usize, run: Run<T>, near: usize) -> Result<(), RangeFault>
         requires some { 0 < run.pages }
         requires room { HasRoom self.old.runs place run.first (run.first + (run.pages - 1)) }
         requires span { end_of run ≤ 2 ^ 35 }
@@ -194,16 +199,18 @@ impl<T: Exact> RangeMap<T> {
         let from = place.saturating_sub(1);
         let to = self.runs.len().min(place + 1);
         let mut pieces = Pieces::new(self.alloc);
-        let mut rest = self.runs.iter_from(from);
+        let mut rest = self.runs.iter_near(from, near);
         add_all(&mut pieces, &mut rest, place - from);
         pieces.add(run);
         add_all(&mut pieces, &mut rest, to - place);
-        pieces.put(&mut self.runs, from, to, self.max_ranges)?;
+        pieces.put(&mut self.runs, from, to, self.max_ranges, near)?;
+        self.near = near;
         Ok(())
     }
 
-    /// The place of a span among the runs, where none of its pages is mapped.
-    fn place_between(&self, first: u64, pages: u64) -> Option<usize>
+    /// The place of a span among the runs, where none of its pages is mapped, sought from a chunk
+    /// on; `near` is afterwards where the search ended.
+    fn place_between(&self, first: u64, pages: u64, near: &mut usize) -> Option<usize>
         requires some { 0 < pages }
         requires span { first + pages ≤ 2 ^ 35 }
         ensures none { IfNone result (any_page
@@ -213,7 +220,7 @@ impl<T: Exact> RangeMap<T> {
         ensures free { OnSome result (any_page
             (λ page. is_some (page_at self.now.runs page)) first pages ≡ false) }
     {
-        let place = self.starts_up_to(first + (pages - 1));
+        let place = self.starts_near(first + (pages - 1), near);
         if place == 0 {
             return Some(0);
         }
@@ -243,11 +250,12 @@ impl<T: Exact> RangeMap<T> {
         ensures unchanged { OnErr result (self.new ≡ self.old) }
         ensures max_ranges { self.new.max_ranges ≡ self.old.max_ranges }
     {
-        let place = self.starts_up_to(first);
-        if lacks_page(&self.runs, place, first, pages) {
+        let mut near = self.near;
+        let place = self.starts_near(first, &mut near);
+        if lacks_page(&self.runs, place, first, pages, near) {
             return Err(RangeFault::Hole);
         }
-        self.edit_span(place, first, pages, &|_: &T| Some(value))
+        self.edit_span(place, first, pages, &|_: &T| Some(value), near)
     }
 
     /// Unmaps the `pages` pages from `first` on, as munmap(2) does: pages of the span that are not
@@ -268,8 +276,9 @@ impl<T: Exact> RangeMap<T> {
         ensures unchanged { OnErr result (self.new ≡ self.old) }
         ensures max_ranges { self.new.max_ranges ≡ self.old.max_ranges }
     {
-        let place = self.starts_up_to(first);
-        self.edit_span(place, first, pages, &|_: &T| None)
+        let mut near = self.near;
+        let place = self.starts_near(first, &mut near);
+        self.edit_span(place, first, pages, &|_: &T| None, near)
     }
 
     /// Gives each mapped page among the `pages` pages from `first` on the value that `f` makes of
@@ -305,8 +314,9 @@ impl<T: Exact> RangeMap<T> {
             requires { F.IsAlwaysCallable f }
             ensures { IsSomeAnd result (λ made. FnReturnsAt F.Fn f value.now made) }
         { Some(f(value)) };
-        let place = self.starts_up_to(first);
-        self.edit_span(place, first, pages, &edit)
+        let mut near = self.near;
+        let place = self.starts_near(first, &mut near);
+        self.edit_span(place, first, pages, &edit, near)
     }
 
     /// Gives each mapped page the value that `f` makes of its own. Each keeps its index, and
@@ -325,13 +335,15 @@ impl<T: Exact> RangeMap<T> {
     }
 
     /// Gives every mapped page of a span the value that `edit` makes of its own, or unmaps it,
-    /// where so many runs start at its first page or before it.
+    /// where so many runs start at its first page or before it. `near` is a guess at their chunk,
+    /// kept for the next edit.
     fn edit_span<F: Fn(&T) -> Option<T>>(
         &mut self,
         place: usize,
         first: u64,
         pages: u64,
         edit: &F,
+        near: usize,
     ) -> Result<(), RangeFault>
         requires within { place ≤ length self.old.runs }
         requires parts { StartsAround self.old.runs place first }
@@ -348,16 +360,17 @@ impl<T: Exact> RangeMap<T> {
         ensures max_ranges { self.new.max_ranges ≡ self.old.max_ranges }
     {
         let end = first + pages;
-        let (from, to) = self.window(place, first, end);
-        let mut rest = self.runs.iter_from(from);
+        let (from, to) = self.window(place, first, end, near);
+        let mut rest = self.runs.iter_near(from, near);
         let pieces = gather_edited(self.alloc, &mut rest, to - from, first, end, edit);
-        pieces.put(&mut self.runs, from, to, self.max_ranges)?;
+        pieces.put(&mut self.runs, from, to, self.max_ranges, near)?;
+        self.near = near;
         Ok(())
     }
 
     /// The places of the runs that an edit of a span can change or join, where so many start at its
     /// first page or before it.
-    fn window(&self, place: usize, first: u64, end: u64) -> (usize, usize)
+    fn window(&self, place: usize, first: u64, end: u64, near: usize) -> (usize, usize)
         requires rises { first ≤ end }
         requires within { place ≤ length self.now.runs }
         requires parts { StartsAround self.now.runs place first }
@@ -372,7 +385,7 @@ impl<T: Exact> RangeMap<T> {
         let to = self
             .runs
             .len()
-            .min(starts_on(&self.runs, place, first, end) + 1);
+            .min(starts_on(&self.runs, place, first, end, near) + 1);
         (from, to)
     }
 
@@ -391,6 +404,17 @@ impl<T: Exact> RangeMap<T> {
         } else {
             None
         }
+    }
+
+    /// How many runs start at the page or before it, sought from a chunk on; `near` is afterwards
+    /// where the search ended.
+    fn starts_near(&self, page: u64, near: &mut usize) -> usize
+        ensures within { result ≤ length self.now.runs }
+        ensures apart { AreApart 0 self.now.runs }
+        ensures maximal { AreMaximal self.now.runs }
+        ensures parts { StartsAround self.now.runs result page }
+    {
+        self.runs.starts_near(page, near)
     }
 
     /// How many runs start at the page or before it.

@@ -100,6 +100,17 @@ impl<T: Exact> Runs<T> {
             .partition_point(&mut |row: &Row| row.first <= page)
     }
 
+    /// How many runs start at the page or before it, sought from a chunk on; `chunk` is afterwards
+    /// where the search ended. Any number will do for it.
+    pub(crate) fn starts_near(&self, page: u64, chunk: &mut usize) -> usize
+        requires { AreApart 0 self.now }
+        ensures within { result ≤ length self.now }
+        ensures parts { StartsAround self.now result page }
+    {
+        self.rows
+            .partition_point_near(&|row: &Row| row.first <= page, chunk)
+    }
+
     /// The runs in order.
     pub(crate) fn iter(&self) -> RangeIter<'_, T>
         ensures { result ≡ self.now }
@@ -107,26 +118,29 @@ impl<T: Exact> Runs<T> {
         RangeIter::new(self.rows.iter(), self.values.items())
     }
 
-    /// The runs from a rank on, in order.
-    pub(crate) fn iter_from(&self, rank: usize) -> RangeIter<'_, T>
+    /// The runs from a rank on, in order. `near` is a guess at the chunk of the first.
+    #[inline]
+    pub(crate) fn iter_near(&self, rank: usize, near: usize) -> RangeIter<'_, T>
         requires { rank ≤ length self.now }
         ensures { result ≡ drop rank self.now }
     {
-        RangeIter::new(self.rows.iter_from(rank), self.values.items())
+        RangeIter::new(self.rows.iter_near(rank, near), self.values.items())
     }
 
-    /// Puts runs in the place of those from one rank to another.
+    /// Puts runs in the place of those from one rank to another. `near` is a guess at the chunk of
+    /// the first.
     ///
     /// Values that no run has any more stay until there are far more values than runs: then the
     /// values are numbered anew.
     ///
     /// # Errors
     /// `AllocError` where memory is wanting; then the runs are as they were.
-    pub(crate) fn splice(
+    pub(crate) fn splice_near(
         &mut self,
         from: usize,
         to: usize,
         runs: &[Run<T>],
+        near: usize,
     ) -> Result<(), AllocError>
         requires rises { from ≤ to }
         requires within { to ≤ length self.old }
@@ -134,18 +148,24 @@ impl<T: Exact> Runs<T> {
         ensures unchanged { OnErr result (self.new ≡ self.old) }
     {
         self.tidy();
-        self.put(from, to, runs)
+        self.put(from, to, runs, near)
     }
 
     /// Puts runs in the place of others, and their values behind all others.
-    fn put(&mut self, from: usize, to: usize, runs: &[Run<T>]) -> Result<(), AllocError>
+    fn put(
+        &mut self,
+        from: usize,
+        to: usize,
+        runs: &[Run<T>],
+        near: usize,
+    ) -> Result<(), AllocError>
         requires rises { from ≤ to }
         requires within { to ≤ length self.old }
         ensures ok { OnOk result (self.new ≡ splice self.old from to runs.now) }
         ensures unchanged { OnErr result (self.new ≡ self.old) }
     {
         let rows = numbered(self.alloc, &mut self.values, runs)?;
-        self.rows.splice(from, to, &rows)?;
+        self.rows.splice_near(from, to, &rows, near)?;
         Ok(())
     }
 
@@ -172,7 +192,7 @@ impl<T: Exact> Runs<T> {
             return None;
         };
         let mut fresh = Runs::new(self.alloc);
-        let Ok(()) = fresh.put(0, 0, &all) else {
+        let Ok(()) = fresh.put(0, 0, &all, 0) else {
             return None;
         };
         Some(fresh)

@@ -8,8 +8,14 @@ use crate::exact::Exact;
 use crate::runs::Runs;
 
 /// Whether one of the pages of a span is not mapped, where so many runs start at its first page or
-/// before it.
-pub(crate) fn lacks_page<T: Exact>(runs: &Runs<T>, place: usize, first: u64, pages: u64) -> bool
+/// before it. `near` is a guess at their chunk.
+pub(crate) fn lacks_page<T: Exact>(
+    runs: &Runs<T>,
+    place: usize,
+    first: u64,
+    pages: u64,
+    near: usize,
+) -> bool
     requires apart { AreApart 0 runs.now }
     requires within { place ≤ length runs.now }
     requires parts { StartsAround runs.now place first }
@@ -18,7 +24,7 @@ pub(crate) fn lacks_page<T: Exact>(runs: &Runs<T>, place: usize, first: u64, pag
 {
     let end = first + pages;
     let mut page = first;
-    for run in runs.iter_from(place.saturating_sub(1)) {
+    for run in runs.iter_near(place.saturating_sub(1), near) {
         if page >= end {
             return false;
         }
@@ -31,8 +37,14 @@ pub(crate) fn lacks_page<T: Exact>(runs: &Runs<T>, place: usize, first: u64, pag
 }
 
 /// How many runs start at a page or before it, where so many start at an earlier page or before
-/// that.
-pub(crate) fn starts_on<T: Exact>(runs: &Runs<T>, place: usize, _first: u64, page: u64) -> usize
+/// that. `near` is a guess at their chunk.
+pub(crate) fn starts_on<T: Exact>(
+    runs: &Runs<T>,
+    place: usize,
+    _first: u64,
+    page: u64,
+    near: usize,
+) -> usize
     requires rises { _first ≤ page }
     requires apart { AreApart 0 runs.now }
     requires within { place ≤ length runs.now }
@@ -43,7 +55,7 @@ pub(crate) fn starts_on<T: Exact>(runs: &Runs<T>, place: usize, _first: u64, pag
     // Tells the proof that the count fits.
     let _ = runs.len();
     let mut count = place;
-    for run in runs.iter_from(place) {
+    for run in runs.iter_near(place, near) {
         if run.first > page {
             return count;
         }

@@ -1,5 +1,5 @@
 -- One more run joins the open one, or closes it and opens.
-use Rattle.std.proofs.Common.{◌≡◌, ℕ, zero, suc, eqb, ◌<◌, ◌≤◌, ◌∷◌, ◌+◌, ◌++◌, [], true, false, drop, take, length, ap, sym, ◌∙◌, arith, refl}
+use Rattle.std.proofs.Common.{◌≡◌, ℕ, zero, suc, eqb, ◌<◌, ◌∷◌, ◌+◌, ◌++◌, [], true, false, drop, take, length, ap, sym, ◌∙◌, arith, refl}
 use Rattle.std.proofs.lemmas.Bool.{eqb-true}
 use Rattle.std.proofs.lemmas.List.{drop-set-lt}
 use Rattle.std.proofs.lemmas.Grind.{drop_more_same}

@@ -5,7 +5,7 @@ use Rattle.numa_ranges.proofs.walk.lacks_page.Goals as goal
 
 pub loop-run-init : goal.loop-run-init
 loop-run-init g c =
-    walk-begins c.args.runs.now c.into_iter-run-iterator.result c.args.place c.saturating_sub.result c.args.first c.requires.apart c.requires.within c.requires.parts (omega arith) (c.into_iter-run-iterator.ensures.into_iter_gives ∙ c.iter_from-run-items.ensures)
+    walk-begins c.args.runs.now c.into_iter-run-iterator.result c.args.place c.saturating_sub.result c.args.first c.requires.apart c.requires.within c.requires.parts (omega arith) (c.into_iter-run-iterator.ensures.into_iter_gives ∙ c.iter_near-run-items.ensures)
 
 pub returns-then-page-end : goal.returns-then-page-end
 returns-then-page-end g c = sym (walk-whole c.args.runs.now c.loop-run.run-iterator c.args.first c.args.pages c.loop-run.page c.loop-run.invariant (omega arith))

@@ -5,7 +5,7 @@ use Rattle.numa_ranges.proofs.walk.starts_on.Goals as goal
 
 pub loop-run-init : goal.loop-run-init
 loop-run-init g c =
-    count-begins c.args.runs.now c.into_iter-run-iterator.result c.args.place c.args._first c.args.page c.requires.rises c.requires.within c.requires.parts (c.into_iter-run-iterator.ensures.into_iter_gives ∙ c.iter_from-run-items.ensures)
+    count-begins c.args.runs.now c.into_iter-run-iterator.result c.args.place c.args._first c.args.page c.requires.rises c.requires.within c.requires.parts (c.into_iter-run-iterator.ensures.into_iter_gives ∙ c.iter_near-run-items.ensures)
 
 pub overflow_add-count : goal.overflow_add-count
 overflow_add-count g c =

@@ -14,18 +14,18 @@ use Rattle.numa_ranges.proofs.range_map.RangeMap.insert_run.Goals as goal
 pub add_all-requires-clause-in_range : goal.add_all-requires-clause-in_range
 add_all-requires-clause-in_range g c =
     let within : c.args.place ≤ length c.self.inside.runs = omega (arith, c.requires.room.within, ap (λ v. length v.runs) c.self.view_is) in
-    rw (c.iter_from-rest.ensures) (in-range-window c.self.inside.runs c.saturating_sub-from.result c.args.place c.self.invariant.0 (omega arith) within)
+    rw (c.iter_near-rest.ensures) (in-range-window c.self.inside.runs c.saturating_sub-from.result c.args.place c.self.invariant.0 (omega arith) within)
 
 pub add_all-requires-2-clause-in_range : goal.add_all-requires-2-clause-in_range
 add_all-requires-2-clause-in_range g c =
     let within : c.args.place ≤ length c.self.inside.runs = omega (arith, c.requires.room.within, ap (λ v. length v.runs) c.self.view_is) in
-    let ahead = left-of c.self.inside.runs c.iter_from-rest.result c.add_all.new.rest c.saturating_sub-from.result c.args.place (omega arith) c.iter_from-rest.ensures c.add_all.ensures.rest in
+    let ahead = left-of c.self.inside.runs c.iter_near-rest.result c.add_all.new.rest c.saturating_sub-from.result c.args.place (omega arith) c.iter_near-rest.ensures c.add_all.ensures.rest in
     rw ahead (in-range-window c.self.inside.runs c.args.place c.min-to.result c.self.invariant.0 (omega arith) (omega arith))
 
 pub add_all-requires-2-clause-within : goal.add_all-requires-2-clause-within
 add_all-requires-2-clause-within g c =
     let within : c.args.place ≤ length c.self.inside.runs = omega (arith, c.requires.room.within, ap (λ v. length v.runs) c.self.view_is) in
-    let ahead = left-of c.self.inside.runs c.iter_from-rest.result c.add_all.new.rest c.saturating_sub-from.result c.args.place (omega arith) c.iter_from-rest.ensures c.add_all.ensures.rest in
+    let ahead = left-of c.self.inside.runs c.iter_near-rest.result c.add_all.new.rest c.saturating_sub-from.result c.args.place (omega arith) c.iter_near-rest.ensures c.add_all.ensures.rest in
     omega (arith, ap length ahead, length-drop c.args.place c.self.inside.runs)
 
 pub returns-in_err-put-clause-err : goal.returns-in_err-put-clause-err
@@ -36,8 +36,8 @@ returns-in_err-put-clause-err g c =
     let room = c.requires.room in
     let from : c.saturating_sub-from.result ≡ c.args.place - 1 = omega arith in
     let to : c.min-to.result ≡ min (length now) (c.args.place + 1) = omega (arith, ap length runs) in
-    let ahead = left-of c.self.inside.runs c.iter_from-rest.result c.add_all.new.rest c.saturating_sub-from.result c.args.place (omega arith) c.iter_from-rest.ensures c.add_all.ensures.rest in
-    let gathered = both-seen (Gathered g.T.PartialEq.eq c.add_all-2.new.pieces) c.self.inside.runs c.iter_from-rest.result c.add_all.new.rest run c.saturating_sub-from.result c.args.place c.min-to.result c.iter_from-rest.ensures ahead
+    let ahead = left-of c.self.inside.runs c.iter_near-rest.result c.add_all.new.rest c.saturating_sub-from.result c.args.place (omega arith) c.iter_near-rest.ensures c.add_all.ensures.rest in
+    let gathered = both-seen (Gathered g.T.PartialEq.eq c.add_all-2.new.pieces) c.self.inside.runs c.iter_near-rest.result c.add_all.new.rest run c.saturating_sub-from.result c.args.place c.min-to.result c.iter_near-rest.ensures ahead
     (c.add_all-2.ensures.gathered _ (c.add.ensures.gathered _ (c.add_all.ensures.gathered _ c.new-pieces.ensures.gathered))) in
     let apart = apart-placed now c.args.place run room c.requires.some c.requires.span c.requires.index in
     let says = page_at-placed now c.args.place run room in
@@ -53,8 +53,8 @@ invariant_of-self-2 g c =
     let room = c.requires.room in
     let from : c.saturating_sub-from.result ≡ c.args.place - 1 = omega arith in
     let to : c.min-to.result ≡ min (length now) (c.args.place + 1) = omega (arith, ap length runs) in
-    let ahead = left-of c.self.inside.runs c.iter_from-rest.result c.add_all.new.rest c.saturating_sub-from.result c.args.place (omega arith) c.iter_from-rest.ensures c.add_all.ensures.rest in
-    let gathered = both-seen (Gathered g.T.PartialEq.eq c.add_all-2.new.pieces) c.self.inside.runs c.iter_from-rest.result c.add_all.new.rest run c.saturating_sub-from.result c.args.place c.min-to.result c.iter_from-rest.ensures ahead
+    let ahead = left-of c.self.inside.runs c.iter_near-rest.result c.add_all.new.rest c.saturating_sub-from.result c.args.place (omega arith) c.iter_near-rest.ensures c.add_all.ensures.rest in
+    let gathered = both-seen (Gathered g.T.PartialEq.eq c.add_all-2.new.pieces) c.self.inside.runs c.iter_near-rest.result c.add_all.new.rest run c.saturating_sub-from.result c.args.place c.min-to.result c.iter_near-rest.ensures ahead
     (c.add_all-2.ensures.gathered _ (c.add.ensures.gathered _ (c.add_all.ensures.gathered _ c.new-pieces.ensures.gathered))) in
     let apart = apart-placed now c.args.place run room c.requires.some c.requires.span c.requires.index in
     let says = page_at-placed now c.args.place run room in
@@ -70,8 +70,8 @@ returns-clause-ok g c =
     let room = c.requires.room in
     let from : c.saturating_sub-from.result ≡ c.args.place - 1 = omega arith in
     let to : c.min-to.result ≡ min (length now) (c.args.place + 1) = omega (arith, ap length runs) in
-    let ahead = left-of c.self.inside.runs c.iter_from-rest.result c.add_all.new.rest c.saturating_sub-from.result c.args.place (omega arith) c.iter_from-rest.ensures c.add_all.ensures.rest in
-    let gathered = both-seen (Gathered g.T.PartialEq.eq c.add_all-2.new.pieces) c.self.inside.runs c.iter_from-rest.result c.add_all.new.rest run c.saturating_sub-from.result c.args.place c.min-to.result c.iter_from-rest.ensures ahead
+    let ahead = left-of c.self.inside.runs c.iter_near-rest.result c.add_all.new.rest c.saturating_sub-from.result c.args.place (omega arith) c.iter_near-rest.ensures c.add_all.ensures.rest in
+    let gathered = both-seen (Gathered g.T.PartialEq.eq c.add_all-2.new.pieces) c.self.inside.runs c.iter_near-rest.result c.add_all.new.rest run c.saturating_sub-from.result c.args.place c.min-to.result c.iter_near-rest.ensures ahead
     (c.add_all-2.ensures.gathered _ (c.add.ensures.gathered _ (c.add_all.ensures.gathered _ c.new-pieces.ensures.gathered))) in
     let apart = apart-placed now c.args.place run room c.requires.some c.requires.span c.requires.index in
     let says = page_at-placed now c.args.place run room in

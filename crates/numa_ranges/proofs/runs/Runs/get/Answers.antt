@@ -1,5 +1,5 @@
 -- The row of the rank has the run of the rank.
-use Rattle.std.proofs.Common.{◌≡◌, ◌∷◌, [], ◌<◌, length, get_or, ap, sym, subst, ◌∙◌, arith}
+use Rattle.std.proofs.Common.{◌≡◌, ◌∷◌, [], ◌<◌, length, get_or, ap, sym, ◌∙◌, arith}
 use Rattle.numa_ranges.specs.Numbered.{run_of}
 use Rattle.numa_ranges.proofs.Numbered.{length-runs, number-at, run-at}
 use Rattle.numa_ranges.proofs.runs.Runs.get.Goals as goal

@@ -1,7 +1,7 @@
 -- Rows that are put in the place of others put in their runs; values that were added change no run.
 use Rattle.std.proofs.Common.{◌≡◌, List, length, ap, ◌∙◌, arith}
 use Rattle.std.specs.List.{splice}
-use Rattle.numa_ranges.specs.Numbered.{AreNumbered, runs_of}
+use Rattle.numa_ranges.specs.Numbered.{runs_of}
 use Rattle.numa_ranges.specs.declared.row.Row.{Row}
 use Rattle.numa_ranges.proofs.Numbered.{length-runs, numbered-longer, runs-longer, numbered-splice, runs-splice, at_err}
 use Rattle.numa_ranges.proofs.runs.Runs.put.Goals as goal
@@ -12,27 +12,27 @@ invariant_of-self g c = numbered-longer c.self.inside.values c.numbered.new.valu
 pub returns-in_err-rows-clause-unchanged : goal.returns-in_err-rows-clause-unchanged
 returns-in_err-rows-clause-unchanged g c = at_err c.from_residual.result (runs-longer c.self.inside.values c.numbered.new.values c.self.inside.rows c.numbered.ensures.longer c.self.invariant ∙ c.self.view_is)
 
-pub splice-requires-clause-within : goal.splice-requires-clause-within
-splice-requires-clause-within g c = omega (arith, c.requires.within, length-runs c.self.inside.values c.self.inside.rows c.self.invariant, ap length c.self.view_is)
+pub splice_near-requires-clause-within : goal.splice_near-requires-clause-within
+splice_near-requires-clause-within g c = omega (arith, c.requires.within, length-runs c.self.inside.values c.self.inside.rows c.self.invariant, ap length c.self.view_is)
 
-pub invariant_of-self-in_err-splice : goal.invariant_of-self-in_err-splice
-invariant_of-self-in_err-splice g c = rw c.in_err-splice.ensures.unchanged (numbered-longer c.self.inside.values c.numbered.new.values c.self.inside.rows c.numbered.ensures.longer c.self.invariant)
+pub invariant_of-self-in_err-splice_near : goal.invariant_of-self-in_err-splice_near
+invariant_of-self-in_err-splice_near g c = rw c.in_err-splice_near.ensures.unchanged (numbered-longer c.self.inside.values c.numbered.new.values c.self.inside.rows c.numbered.ensures.longer c.self.invariant)
 
-pub returns-in_err-splice-clause-unchanged : goal.returns-in_err-splice-clause-unchanged
-returns-in_err-splice-clause-unchanged g c =
-    at_err c.from_residual-in_err-splice.result (ap (runs_of c.numbered.new.values) c.in_err-splice.ensures.unchanged ∙ (runs-longer c.self.inside.values c.numbered.new.values c.self.inside.rows c.numbered.ensures.longer c.self.invariant ∙ c.self.view_is))
+pub returns-in_err-splice_near-clause-unchanged : goal.returns-in_err-splice_near-clause-unchanged
+returns-in_err-splice_near-clause-unchanged g c =
+    at_err c.from_residual-in_err-splice_near.result (ap (runs_of c.numbered.new.values) c.in_err-splice_near.ensures.unchanged ∙ (runs-longer c.self.inside.values c.numbered.new.values c.self.inside.rows c.numbered.ensures.longer c.self.invariant ∙ c.self.view_is))
 
 pub invariant_of-self-2 : goal.invariant_of-self-2
 invariant_of-self-2 g c =
     let more : List Row = c.in_ok-rows.rows.items in
-    let put : c.splice.new.self ≡ splice c.self.inside.rows c.args.from c.args.to more = c.in_ok-splice.ensures.ok ∙ ap (splice c.self.inside.rows c.args.from c.args.to) c.deref.ensures.value in
+    let put : c.splice_near.new.self ≡ splice c.self.inside.rows c.args.from c.args.to more = c.in_ok-splice_near.ensures.ok ∙ ap (splice c.self.inside.rows c.args.from c.args.to) c.deref.ensures.value in
     let kept = numbered-longer c.self.inside.values c.numbered.new.values c.self.inside.rows c.numbered.ensures.longer c.self.invariant in
     rw put (numbered-splice c.numbered.new.values c.self.inside.rows more c.args.from c.args.to kept c.in_ok-rows.ensures.numbered)
 
 pub returns-clause-ok : goal.returns-clause-ok
 returns-clause-ok g c =
     let more : List Row = c.in_ok-rows.rows.items in
-    let put : c.splice.new.self ≡ splice c.self.inside.rows c.args.from c.args.to more = c.in_ok-splice.ensures.ok ∙ ap (splice c.self.inside.rows c.args.from c.args.to) c.deref.ensures.value in
+    let put : c.splice_near.new.self ≡ splice c.self.inside.rows c.args.from c.args.to more = c.in_ok-splice_near.ensures.ok ∙ ap (splice c.self.inside.rows c.args.from c.args.to) c.deref.ensures.value in
     let kept = numbered-longer c.self.inside.values c.numbered.new.values c.self.inside.rows c.numbered.ensures.longer c.self.invariant in
     let same = runs-longer c.self.inside.values c.numbered.new.values c.self.inside.rows c.numbered.ensures.longer c.self.invariant ∙ c.self.view_is in
     ap (runs_of c.numbered.new.values) put ∙ (runs-splice c.numbered.new.values c.self.inside.rows more c.args.from c.args.to kept
