@@ -1,5 +1,5 @@
 //! Counts of the pages that rows in turns serve.
-ghost use Rattle.std.specs.Prelude.{◌*◌, ◌<◌, length};
+ghost use Rattle.std.specs.Prelude.{◌≡◌, ◌*◌, ◌/◌, ◌%◌, ◌<◌, length};
 ghost use Rattle.numa_lanes.specs.Spans.{counted};
 ghost use Rattle.numa_plan.specs.Rules.{first_nodes, turns_on};
 ghost use Rattle.numa_plan.specs.Tally.{Adds, HasRoom};
@@ -22,10 +22,33 @@ pub(crate) fn add_turns(
     ensures { Adds counts.old counts.new (turns_on rows.now width cycle.now index pages) }
 {
     let length = cycle.len() as u64;
-    add_places(rows, width, cycle, pages / length, counts);
-    let start = (index % length) as usize;
-    let rest = (pages % length) as usize;
+    add_places(rows, width, cycle, rounds_of(pages, length), counts);
+    let start = begun_of(index, length) as usize;
+    let rest = begun_of(pages, length) as usize;
     add_rest(rows, width, cycle, start, rest, counts);
+}
+
+/// How many whole rounds so many turns make. Few turns are compared alone, and not divided.
+#[inline]
+fn rounds_of(turns: u64, length: u64) -> u64
+    requires { 0 < length }
+    ensures { result ≡ turns / length }
+{
+    if turns < length { 0 } else { turns / length }
+}
+
+/// How many turns of the last round have begun, after so many turns. Few turns are compared alone,
+/// and not divided.
+#[inline]
+fn begun_of(turns: u64, length: u64) -> u64
+    requires { 0 < length }
+    ensures { result ≡ turns % length }
+{
+    if turns < length {
+        turns
+    } else {
+        turns % length
+    }
 }
 
 /// Adds to each node's count the pages whose row begins with the node, where fewer pages than a
