@@ -217,6 +217,7 @@ impl Plan {
     }
 
     /// The rule in a slot.
+    #[inline]
     fn rule_in(&self, number: u32) -> Option<&Rule>
         ensures is { MatchOption result (rule_in self.now.slots number ≡ None)
             (λ rule. rule_in self.now.slots number ≡ Some rule.now) }
@@ -232,6 +233,7 @@ impl Plan {
     }
 
     /// The number of a run's rule, and of the task's where the run has none.
+    #[inline]
     fn number_for(&self, task: u32, number: Option<u32>) -> Option<u32>
         ensures { result ≡ number_for self.now.tasks task number }
     {
@@ -242,6 +244,7 @@ impl Plan {
     }
 
     /// The rule that serves, which has its rows.
+    #[inline]
     fn rule_for(&self, task: u32, number: Option<u32>) -> &Rule
         ensures is { result.now ≡ rule_for self.now task number }
         ensures rows { HasRows self.now.nodes result.now }

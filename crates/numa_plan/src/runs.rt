@@ -190,16 +190,22 @@ impl Runs {
 
     /// What the runs say of a page, where `seen` tells how far a walk along the pages has come. It
     /// looks at the next run first, and searches where that doesn't have the page.
+    #[inline(always)]
     pub(crate) fn find_next(&self, page: u64, seen: &mut Seen) -> Option<Found>
         ensures found { IsFound self.now page result }
     {
         if let Some(found) = self.found_beside(page, seen) {
             return Some(found);
         }
-        self.find_first(page, seen, &mut Steps::new())
+        // The search works on a copy, so that a walk that needs none keeps its own in registers.
+        let mut sought = *seen;
+        let found = self.find_first(page, &mut sought, &mut Steps::new());
+        *seen = sought;
+        found
     }
 
     /// What the next run says of a page; none where it doesn't have the page.
+    #[inline(always)]
     fn found_beside(&self, page: u64, seen: &mut Seen) -> Option<Found>
         ensures { IfSome result (λ found. IsAt self.now page found) }
     {
