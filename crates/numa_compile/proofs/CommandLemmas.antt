@@ -42,8 +42,8 @@ module _ (space : SpaceState) (plan : PlanData) (window : Window) (start bytes :
   begins run = λ i. begins_in (sym first i) (sym end i) run
 
   -- where pages were unmapped no range begins
-  pub unmap-inside : IsBehind space (Unmap start bytes) plan → (number : Option ℕ) → NumbersInside space plan window number
-  unmap-inside behind number k d low high inside =
+  pub unmap-inside : IsBehind space (Unmap start bytes) plan → (now : PlanData) (number : Option ℕ) → NumbersInside space now window number
+  unmap-inside behind now number k d low high inside =
       let odd : true ≡ false = sym inside ∙ sym (begins (get_or space.ranges k d)) ∙ unmap-none behind.before space start bytes behind.step rising maximal k d (omega (arith, within)) in
       absurd (cc)
 

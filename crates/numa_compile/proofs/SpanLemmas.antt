@@ -56,6 +56,15 @@ span-stays (SetHome start bytes node) of_span = tt
 span-stays (SetWeight node weight) of_span = absurd of_span
 span-stays (SetMems mask) of_span = absurd of_span
 
+pub edits-of_span : (command : Command) → EditsSpan command → IsOfSpan command
+edits-of_span (Map start bytes offset) edits = absurd edits
+edits-of_span (Unmap start bytes) edits = tt
+edits-of_span (Mbind start bytes spec) edits = tt
+edits-of_span (SetTask task spec) edits = absurd edits
+edits-of_span (SetHome start bytes node) edits = tt
+edits-of_span (SetWeight node weight) edits = absurd edits
+edits-of_span (SetMems mask) edits = absurd edits
+
 -- ---- runs that copy ranges
 
 module _ (at : ℕ → Option PolicyRecord) where

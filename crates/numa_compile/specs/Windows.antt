@@ -10,7 +10,8 @@ use Rattle.numa_space.specs.declared.command.Command.{Command}
 use Rattle.numa_space.specs.declared.command.Command.TheVariants.{Map, Unmap, Mbind, SetTask}
 use Rattle.numa_space.specs.declared.command.Command.TheVariants.{SetHome, SetWeight, SetMems}
 use Rattle.numa_space.specs.Policies.{where_live}
-use Rattle.numa_space.specs.Spans.{span_first, span_end}
+use Rattle.numa_space.specs.History.{page_of, page_count}
+use Rattle.numa_space.specs.Spans.{span_first, span_pages, span_end, EditsSpan}
 use Rattle.numa_space.specs.Standing.{SpaceState}
 use Rattle.numa_plan.specs.Meaning.{PlanData}
 use Rattle.numa_plan.specs.Slots.{policy_in}
@@ -41,6 +42,14 @@ pub record IsOpen (space : SpaceState) (plan : PlanData) (window : Window) : Typ
   pub within : window.to ≤ length plan.runs
   pub place : window.to_now ≡ to_now behind.before.ranges space.ranges window.to
   pub moves : Moves behind.before.ranges space.ranges window.from window.to
+
+-- the plan is behind the space by a command that maps nothing, of a span of so many bytes
+pub record IsBehindSpan (space : SpaceState) (plan : PlanData) (start bytes : ℕ) : Type 0 where
+  pub command : Command
+  pub behind : IsBehind space command plan
+  pub edits : EditsSpan command
+  pub begins : span_first command ≡ page_of start
+  pub pages : span_pages command ≡ page_count bytes
 
 -- a run of the plan has the range's first page, and the number of the range's policy
 pub record IsNumbered (plan : PlanData) (range : Run (Option PolicyRecord)) : Type 0 where

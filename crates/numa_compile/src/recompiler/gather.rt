@@ -1,5 +1,5 @@
 //! The runs for the ranges that a command of a span has changed.
-ghost use Rattle.std.specs.Prelude.{◌≡◌, ◌≤◌, false, true, OnOk, [], length};
+ghost use Rattle.std.specs.Prelude.{◌≡◌, ◌≤◌, false, true, OnOk, [], ◌∷◌, ◌++◌, length};
 ghost use Rattle.std.specs.List.{slice_range};
 ghost use Rattle.numa_ranges.specs.Windows.{begins_in};
 ghost use Rattle.numa_space.specs.Policies.{where_live};
@@ -47,6 +47,28 @@ fn number_in(
     number_before(plan, range, steps)
 }
 
+/// Appends the run of a range, with the number of its policy's rule.
+pub(crate) fn push_run(
+    runs: &mut Vec<Run<Option<u32>>>,
+    range: &Run<RangeRecord>,
+    number: Option<u32>,
+) -> Result<(), NoMemory>
+    ensures { OnOk result (runs.new.items ≡ runs.old.items ++ record {
+      first = range.now.first;
+      pages = range.now.pages;
+      index = range.now.index;
+      value = number;
+    } ∷ []) }
+{
+    runs.push(Run {
+        first: range.first,
+        pages: range.pages,
+        index: range.index,
+        value: number,
+    })?;
+    Ok(())
+}
+
 /// Appends a run for each range of the window, with the given number for those that begin in its
 /// span, and the number that they had for the others.
 ///
@@ -74,12 +96,7 @@ pub(crate) fn gather_runs(
             unreachable!()
         };
         let value = number_in(plan, window, &range, given, steps);
-        runs.push(Run {
-            first: range.first,
-            pages: range.pages,
-            index: range.index,
-            value,
-        })?;
+        push_run(runs, &range, value)?;
     }
     Ok(())
 }

@@ -19,10 +19,10 @@ ghost use Rattle.numa_compile.specs.declared.recompiler.window.Window.{Window};
 
 use crate::compiler::survey;
 use crate::recompiler::added::number_or_add;
-use crate::recompiler::gather::number_before;
+use crate::recompiler::gather::{number_before, push_run};
 use crate::recompiler::put::put_runs;
 use crate::recompiler::unused::take_back;
-use crate::recompiler::window::{Window, begins_inside, find_window};
+use crate::recompiler::window::{Window, begins_inside, open_window};
 use numa_plan::{NoMemory, Plan, Steps};
 use numa_space::{RangeRecord, Run, Space};
 use std::alloc::Global;
@@ -104,12 +104,7 @@ fn gather_homes(
             unreachable!()
         };
         let value = number_of_home(alloc, plan, space, window, &range, added, steps)?;
-        runs.push(Run {
-            first: range.first,
-            pages: range.pages,
-            index: range.index,
-            value,
-        })?;
+        push_run(runs, &range, value)?;
     }
     Ok(())
 }
@@ -163,12 +158,9 @@ pub(crate) fn recompile_home(
         steps.old steps.new }
     ensures others { plan.new.tasks ≡ plan.old.tasks }
 {
-    survey(space);
-    let window = find_window(plan, space, start, bytes, steps);
-    if window.first == window.end {
-        plan.set_version(space.version());
+    let Some(window) = open_window(plan, space, start, bytes, steps) else {
         return Ok(());
-    }
+    };
     let mut added = Vec::new(alloc);
     let Ok(()) = rewrite_homes(alloc, plan, space, &window, &mut added, steps) else {
         take_all_back(plan, &mut added);

@@ -14,7 +14,7 @@ use crate::compiler::survey;
 use crate::recompiler::added::number_or_add;
 use crate::recompiler::rewrite::rewrite_window;
 use crate::recompiler::unused::take_back;
-use crate::recompiler::window::{Window, begins_inside, find_window};
+use crate::recompiler::window::{Window, begins_inside, open_window};
 use numa_mode::Record;
 use numa_plan::{NoMemory, Plan, Steps};
 use numa_space::Space;
@@ -60,11 +60,9 @@ pub(crate) fn recompile_mbind(
     ensures others { plan.new.tasks ≡ plan.old.tasks }
 {
     survey(space);
-    let window = find_window(plan, space, start, bytes, steps);
-    if window.first == window.end {
-        plan.set_version(space.version());
+    let Some(window) = open_window(plan, space, start, bytes, steps) else {
         return Ok(());
-    }
+    };
     let policy = policy_inside(space, &window);
     let (number, added) = number_or_add(alloc, space, policy, plan, steps)?;
     let Ok(()) = rewrite_window(alloc, plan, space, &window, number, steps) else {

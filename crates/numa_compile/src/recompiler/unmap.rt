@@ -6,7 +6,7 @@ ghost use Rattle.numa_compile.specs.Recompiling.{WritesFew};
 
 use crate::compiler::survey;
 use crate::recompiler::rewrite::rewrite_window;
-use crate::recompiler::window::find_window;
+use crate::recompiler::window::open_window;
 use numa_plan::{NoMemory, Plan, Steps};
 use numa_space::Space;
 use std::alloc::Global;
@@ -32,10 +32,8 @@ pub(crate) fn recompile_unmap(
     ensures others { plan.new.tasks ≡ plan.old.tasks }
 {
     survey(space);
-    let window = find_window(plan, space, start, bytes, steps);
-    if window.first == window.end {
-        plan.set_version(space.version());
+    let Some(window) = open_window(plan, space, start, bytes, steps) else {
         return Ok(());
-    }
+    };
     rewrite_window(alloc, plan, space, &window, None, steps)
 }

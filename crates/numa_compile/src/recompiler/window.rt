@@ -1,9 +1,12 @@
 //! Where the runs stand that a command of a span leaves to be written anew.
-ghost use Rattle.std.specs.Prelude.{◌≡◌, ◌+◌, ◌-◌, length};
-ghost use Rattle.numa_ranges.specs.Windows.{IsWindow, begins_in};
+ghost use Rattle.std.specs.Prelude.{◌≡◌, ◌+◌, ◌-◌, ◌≤◌, length, IfSome, OnSome, IfNone};
+ghost use Rattle.numa_ranges.specs.Windows.{IsWindow, begins_in, begun};
 ghost use Rattle.numa_space.specs.History.{page_of, page_count};
-ghost use Rattle.numa_compile.specs.Recompiling.{WritesRules};
+ghost use Rattle.numa_compile.specs.Follows.{Follows};
+ghost use Rattle.numa_compile.specs.Recompiling.{WritesRules, met_by};
+ghost use Rattle.numa_compile.specs.Windows.{IsBehindSpan, IsOpen};
 
+use crate::compiler::survey;
 use numa_plan::{Plan, Steps};
 use numa_space::{PAGE_BYTES, RangeRecord, Run, Space};
 
@@ -53,6 +56,38 @@ pub(crate) fn find_window(
         to,
         to_now: space.ranges().saturating_sub(behind),
     }
+}
+
+/// The window of a command that maps nothing. It has at most two ranges more than runs met the
+/// span, and at most as many that begin in the span. There is none for a span without pages: then
+/// the plan takes the space's version, and follows it.
+pub(crate) fn open_window(
+    plan: &mut Plan,
+    space: &Space,
+    start: u64,
+    bytes: u64,
+    steps: &mut Steps,
+) -> Option<Window>
+    requires behind { IsBehindSpan space.now plan.old start bytes }
+    ensures first { IfSome result (λ window. window.first ≡ page_of start) }
+    ensures end { IfSome result (λ window. window.end ≡ page_of start + page_count bytes) }
+    ensures open { IfSome result (λ window. IsOpen space.now plan.new window) }
+    ensures few { IfSome result (λ window.
+        window.to_now - window.from ≤ met_by start bytes plan.old + 2) }
+    ensures begun { IfSome result (λ window.
+        begun window.first window.end space.now.ranges ≤ met_by start bytes plan.old) }
+    ensures same { OnSome result (plan.new ≡ plan.old) }
+    ensures follows { IfNone result (Follows space.now plan.new) }
+    ensures tasks { plan.new.tasks ≡ plan.old.tasks }
+    ensures writes { WritesRules 0 steps.old steps.new }
+{
+    survey(space);
+    let window = find_window(plan, space, start, bytes, steps);
+    if window.first == window.end {
+        plan.set_version(space.version());
+        return None;
+    }
+    Some(window)
 }
 
 /// Whether a range begins in the window's span.

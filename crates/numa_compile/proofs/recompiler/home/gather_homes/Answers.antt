@@ -44,8 +44,8 @@ returns-in_err-value-clause-few c =
     (begun-writes c.args.steps.now c.loop-k.steps c.number_of_home.new.steps window.first window.end c.loop-k.k ranges c.in-Some.range short there c.loop-k.invariant.writes c.number_of_home.ensures.few)
     (begun-take window.first window.end (c.loop-k.k + 1) ranges)
 
-pub returns-in_err-push-clause-few : goal.returns-in_err-push-clause-few
-returns-in_err-push-clause-few c =
+pub returns-in_err-push_run-clause-few : goal.returns-in_err-push_run-clause-few
+returns-in_err-push_run-clause-few c =
     let ranges = c.args.space.now.ranges in
     let window = c.args.window.now in
     let short = slice_get_within ranges c.loop-k.k c.in-Some.range (sym c.in-Some.ensures.range) in
@@ -64,7 +64,7 @@ loop-k-preserved c =
     let there = get_or_from_slice_get ranges c.loop-k.k range range (sym c.in-Some.ensures.range) in
     let before = copies-grown c.loop-k.plan.slots c.number_of_home.new.plan.slots (slice_range ranges window.from c.loop-k.k) c.loop-k.runs.items c.number_of_home.ensures.kept c.loop-k.invariant.copies in
     record {
-      copies = subst (λ (runs : List (Run (Option ℕ))). AreCopies at (slice_range ranges window.from (c.loop-k.k + 1)) runs) (sym c.in_ok-push.ensures.items)
+      copies = subst (λ (runs : List (Run (Option ℕ))). AreCopies at (slice_range ranges window.from (c.loop-k.k + 1)) runs) (sym c.in_ok-push_run.ensures)
           (gathered-next at ranges c.loop-k.runs.items window.from c.loop-k.k range c.in_ok-value.value (omega arith) short there c.in_ok-value.ensures.number before);
       added = c.number_of_home.ensures.added c.args.plan.now c.loop-k.invariant.added;
       writes = begun-writes c.args.steps.now c.loop-k.steps c.number_of_home.new.steps window.first window.end c.loop-k.k ranges range short there c.loop-k.invariant.writes c.number_of_home.ensures.few;

@@ -1,33 +1,18 @@
-use Rattle.std.proofs.Common.{sym, ap, subst, ◌∙◌, arith}
+use Rattle.std.proofs.Common.{refl}
 use Rattle.numa_space.specs.declared.command.Command.TheVariants.{Unmap}
-use Rattle.numa_plan.specs.Meaning.{PlanData}
-use Rattle.numa_compile.specs.Follows.{Follows}
 use Rattle.numa_compile.proofs.CommandLemmas.{open-within, unmap-inside}
-use Rattle.numa_compile.proofs.SpanLemmas.{none-follows, open-few, open-found, writes-few}
+use Rattle.numa_compile.proofs.SpanLemmas.{writes-few}
 use Rattle.numa_compile.proofs.recompiler.unmap.recompile_unmap.Goals as goal
 
-pub returns-then-window-clause-follows : goal.returns-then-window-clause-follows
-returns-then-window-clause-follows c =
-    let plan = c.args.plan.now in
-    let none = none-follows c.args.space.now plan (Unmap c.args.start c.args.bytes) c.requires.behind tt c.survey.ensures.rising c.survey.ensures.maximal
-    (omega (arith, c.find_window-window.ensures.first, c.find_window-window.ensures.end, c.if-window.true)) in
-    subst (λ (p : PlanData). Follows c.args.space.now p) (sym (c.set_version.ensures ∙ ap (λ version. record plan { version = version }) c.version.ensures.version)) none
-
-pub rewrite_window-requires-clause-of : goal.rewrite_window-requires-clause-of
-rewrite_window-requires-clause-of c =
-    let found = c.find_window-window in
-    open-found c.args.space.now c.args.plan.now found.result (Unmap c.args.start c.args.bytes) c.requires.behind tt c.survey.ensures.rising c.survey.ensures.maximal found.ensures.first found.ensures.end found.ensures.place found.ensures.window
+pub open_window-requires : goal.open_window-requires
+open_window-requires c = record { behind = record { command = Unmap c.args.start c.args.bytes; behind = c.requires.behind; edits = tt; begins = refl; pages = refl } }
 
 pub rewrite_window-requires-clause-inside : goal.rewrite_window-requires-clause-inside
 rewrite_window-requires-clause-inside c =
-    let found = c.find_window-window in
     let space = c.args.space.now in
-    let of = open-found space c.args.plan.now found.result (Unmap c.args.start c.args.bytes) c.requires.behind tt c.survey.ensures.rising c.survey.ensures.maximal found.ensures.first found.ensures.end found.ensures.place found.ensures.window in
-    unmap-inside space c.args.plan.now found.result c.args.start c.args.bytes found.ensures.first found.ensures.end (open-within space c.args.plan.now found.result of).1 c.survey.ensures.rising c.survey.ensures.maximal c.requires.behind _
+    let window = c.in-Some.window in
+    unmap-inside space c.args.plan.now window c.args.start c.args.bytes c.in-Some.ensures.first c.in-Some.ensures.end (open-within space c.open_window.new.plan window c.in-Some.ensures.open).1 c.survey.ensures.rising c.survey.ensures.maximal c.requires.behind c.open_window.new.plan _
 
 pub returns-clause-few : goal.returns-clause-few
 returns-clause-few c =
-    let found = c.find_window-window in
-    writes-few c.args.steps.now found.new.steps c.rewrite_window.new.steps 0 _ _ found.ensures.writes c.rewrite_window.ensures.few
-    (open-few c.args.space.now c.args.plan.now found.result (Unmap c.args.start c.args.bytes) c.requires.behind tt c.survey.ensures.rising c.survey.ensures.maximal
-    (omega (arith, found.ensures.first, found.ensures.end, c.if-window.false)) found.ensures.first found.ensures.end found.ensures.place found.ensures.window)
+    writes-few c.args.steps.now c.open_window.new.steps c.rewrite_window.new.steps 0 _ _ c.open_window.ensures.writes c.rewrite_window.ensures.few c.in-Some.ensures.few
