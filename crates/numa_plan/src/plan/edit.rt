@@ -1,9 +1,9 @@
 //! How a plan is edited in place.
 ghost use Rattle.std.specs.Prelude.{◌≡◌, ◌≢◌, ℕ, ◌+◌, ◌<◌, ◌≤◌, ◌^◌, length, All};
-ghost use Rattle.std.specs.Prelude.{IsSome, IfSome, Some, None, OnOk, OnErr};
+ghost use Rattle.std.specs.Prelude.{IsSome, IfSome, Some, None, IfOk, OnOk, OnErr};
 ghost use Rattle.std.specs.Bool.{OnTrue};
 ghost use Rattle.std.specs.Option.{ForSome};
-ghost use Rattle.std.specs.List.{splice};
+ghost use Rattle.std.specs.List.{slice_range, splice};
 ghost use Rattle.numa_ranges.specs.Runs.{AreApart};
 ghost use Rattle.numa_plan.specs.Counted.{more_runs, one_rule};
 ghost use Rattle.numa_plan.specs.Rows.{HasRows, Kept};
@@ -55,13 +55,40 @@ impl Plan {
             → kept_in self.new.slots number ≡ kept_in self.old.slots number) }
         ensures err { OnErr result ((self.new ≡ self.old) × (steps.new ≡ steps.old)) }
     {
+        self.replace_runs(from, to, runs, steps)?;
+        Ok(())
+    }
+
+    /// Does what [`Plan::splice_runs`] does, and hands back the runs that it takes out.
+    ///
+    /// # Errors
+    /// As for `splice_runs`.
+    pub fn replace_runs(
+        &mut self,
+        from: usize,
+        to: usize,
+        runs: &[Run<Option<u32>>],
+        steps: &mut Steps,
+    ) -> Result<Vec<Run<Option<u32>>>, NoMemory>
+        requires rises { from ≤ to }
+        requires within { to ≤ length self.old.runs }
+        requires apart { AreApart 0 (splice self.old.runs from to runs.now) }
+        requires named { All (λ run. ForSome run.value (λ number.
+            IsSome (rule_in self.old.slots number))) runs.now }
+        ensures gone { IfOk result (λ gone. gone.items ≡ slice_range self.old.runs from to) }
+        ensures ok { OnOk result ((self.new ≡ with_runs self.old from to runs.now)
+            × (steps.new ≡ more_runs (length runs.now) steps.old)) }
+        ensures kept { OnOk result ((number : ℕ)
+            → kept_in self.new.slots number ≡ kept_in self.old.slots number) }
+        ensures err { OnErr result ((self.new ≡ self.old) × (steps.new ≡ steps.old)) }
+    {
         if !can_count(self.runs.len(), self.tasks.len(), runs.len()) {
             return Err(NoMemory);
         }
         let gone = self.runs.splice(from, to, runs, steps)?;
         use_all(&mut self.slots, runs);
         leave_all(&mut self.slots, &gone);
-        Ok(())
+        Ok(gone)
     }
 
     /// Writes a rule, with a row for each of the plan's nodes at each index, in the place of that

@@ -4,7 +4,7 @@ use Rattle.numa_plan.specs.Slots.{kept_in}
 use Rattle.numa_plan.specs.Editing.{all_unused}
 use Rattle.numa_plan.specs.declared.slots.Slot.{Slot}
 use Rattle.numa_plan.proofs.EditLemmas.{AreThere, keeps_spliced, window-used, kept_in-spliced}
-use Rattle.numa_plan.proofs.plan.Plan.splice_runs.Goals as goal
+use Rattle.numa_plan.proofs.plan.Plan.replace_runs.Goals as goal
 
 pub leave_all-requires : goal.leave_all-requires
 leave_all-requires c =
