@@ -133,7 +133,7 @@ fn rewrite_homes(
     survey(space);
     let mut runs = Vec::new(alloc);
     gather_homes(alloc, plan, space, window, &mut runs, added, steps)?;
-    put_runs(alloc, plan, space, window, &runs, steps)?;
+    put_runs(plan, space, window, &runs, steps)?;
     Ok(())
 }
 

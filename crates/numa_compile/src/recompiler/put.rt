@@ -13,30 +13,14 @@ use crate::recompiler::unused::drop_unused;
 use crate::recompiler::window::Window;
 use numa_plan::{NoMemory, Plan, Steps};
 use numa_space::{Run, Space};
-use std::alloc::Global;
 
-/// Appends the numbers of the window's runs.
-fn push_numbers(
-    plan: &Plan,
-    window: &Window,
-    numbers: &mut Vec<Option<u32>>,
-) -> Result<(), NoMemory> {
-    for place in window.from..window.to {
-        let Some(run) = plan.run_at(place) else {
-            return Ok(());
-        };
-        numbers.push(run.value)?;
-    }
-    Ok(())
-}
-
-/// Drops the rules of these numbers that no run and no task uses any more.
-fn drop_all(plan: &mut Plan, numbers: &[Option<u32>])
+/// Drops the rules of these runs that no run and no task uses any more.
+fn drop_all(plan: &mut Plan, runs: &[Run<Option<u32>>])
     ensures rest { plan.new ≡ record plan.old { slots = plan.new.slots } }
     ensures slots { KeepsNamed plan.old plan.new }
 {
-    for number in numbers {
-        drop_unused(plan, *number);
+    for run in runs {
+        drop_unused(plan, run.value);
     }
 }
 
@@ -46,7 +30,6 @@ fn drop_all(plan: &mut Plan, numbers: &[Option<u32>])
 /// # Errors
 /// `NoMemory` where there is none for the runs; the plan is as it was.
 pub(crate) fn put_runs(
-    alloc: Global,
     plan: &mut Plan,
     space: &Space,
     window: &Window,
@@ -67,10 +50,8 @@ pub(crate) fn put_runs(
     ensures unchanged { OnErr result ((plan.new ≡ plan.old) × (steps.new ≡ steps.old)) }
 {
     survey(space);
-    let mut had = Vec::new(alloc);
-    push_numbers(plan, window, &mut had)?;
-    plan.splice_runs(window.from, window.to, runs, steps)?;
+    let gone = plan.replace_runs(window.from, window.to, runs, steps)?;
     plan.set_version(space.version());
-    drop_all(plan, &had);
+    drop_all(plan, &gone);
     Ok(())
 }

@@ -36,6 +36,6 @@ pub(crate) fn rewrite_window(
     survey(space);
     let mut runs = Vec::new(alloc);
     gather_runs(plan, space, window, given, &mut runs, steps)?;
-    put_runs(alloc, plan, space, window, &runs, steps)?;
+    put_runs(plan, space, window, &runs, steps)?;
     Ok(())
 }
