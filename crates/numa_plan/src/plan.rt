@@ -157,10 +157,10 @@ impl Plan {
         if cpu >= self.nodes {
             return Err(PlaceRefusal::BadCpu);
         }
-        if !self.runs.covers(first, out.len() as u64) {
+        let mut seen = self.runs.walk_from(first);
+        if !self.runs.covers(first, out.len() as u64, seen) {
             return Err(PlaceRefusal::Unmapped);
         }
-        let mut seen = Runs::seen();
         let mut page = first;
         let mut done = 0usize;
         while done < out.len() {

@@ -188,6 +188,15 @@ impl Runs {
         }
     }
 
+    /// Where a walk begins that finds the run of this page, if there is one, without a search.
+    pub(crate) fn walk_from(&self, page: u64) -> Seen {
+        let at = self.split(page, &mut Steps::new());
+        Seen {
+            place: at.0.saturating_sub(1),
+            chunk: at.2,
+        }
+    }
+
     /// What the runs say of a page, where `seen` tells how far a walk along the pages has come. It
     /// looks at the next run first, and searches where that doesn't have the page.
     #[inline(always)]
@@ -286,12 +295,12 @@ impl Runs {
         }
     }
 
-    /// Whether each page of the span is mapped.
-    pub(crate) fn covers(&self, first: u64, pages: u64) -> bool
+    /// Whether each page of the span is mapped, by a walk that begins at `start`.
+    pub(crate) fn covers(&self, first: u64, pages: u64, start: Seen) -> bool
         ensures all { OnTrue result (IsMapped self.now first pages) }
         ensures hole { OnFalse result (HasHole self.now first pages) }
     {
-        let mut seen = Runs::seen();
+        let mut seen = start;
         let mut page = first;
         let mut todo = pages;
         while todo > 0 {
