@@ -29,4 +29,5 @@ pub use exact::Exact;
 pub use fault::RangeFault;
 pub use range_iter::RangeIter;
 pub use range_map::RangeMap;
+pub use row::Row;
 pub use run::Run;

@@ -12,15 +12,18 @@ ghost use Rattle.numa_ranges.specs.Maps.{changed_page, changed_span, count_refus
 ghost use Rattle.numa_ranges.specs.Maps.{set_refusal};
 ghost use Rattle.numa_ranges.specs.Edits.{StartsAround, joined, edited, HoldsPage, HasRoom};
 ghost use Rattle.numa_ranges.specs.Edits.{Becomes, edited_span};
+ghost use Rattle.numa_ranges.specs.Numbered.{AreNumbered, runs_of};
 
 use crate::edit::{add_all, gather_edited};
 use crate::exact::Exact;
 use crate::fault::RangeFault;
 use crate::pieces::Pieces;
 use crate::range_iter::RangeIter;
+use crate::row::Row;
 use crate::run::Run;
 use crate::runs::Runs;
 use crate::walk::{lacks_page, starts_on};
+use numa_rows::{Iter, Owned};
 use std::alloc::{AllocError, Global};
 use std::marker::Model;
 
@@ -110,6 +113,17 @@ impl<T: Exact> RangeMap<T> {
             → others ≡ self.now.runs }
     {
         self.runs.iter()
+    }
+
+    /// The ranges in rising order with numbers in the place of their values, and the values, each at
+    /// the place that is its number: so what follows from a value can be found once for all ranges
+    /// that have its number. Equal numbers are equal values; equal values can have several numbers,
+    /// and there can be values that no range has.
+    pub fn rows(&self) -> (Iter<'_, Row, Owned<Row>>, &[T])
+        ensures numbered { AreNumbered result.1.now result.0 }
+        ensures runs { runs_of result.1.now result.0 ≡ self.now.runs }
+    {
+        self.runs.rows()
     }
 
     /// The range at a place, where the ranges stand in the order of their first pages and are

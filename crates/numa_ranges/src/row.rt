@@ -5,13 +5,18 @@ ghost use Rattle.numa_ranges.specs.Numbered.{run_of};
 use crate::exact::Exact;
 use crate::run::Run;
 
-/// A run of pages with the number of its value.
+/// A range with the number of its value in the place of the value, as
+/// [`RangeMap::rows`](crate::RangeMap::rows) lends it.
 #[derive(Clone, Copy, Debug, PartialEq, Eq)]
-pub(crate) struct Row {
-    pub(crate) first: u64,
-    pub(crate) pages: u64,
-    pub(crate) index: u64,
-    pub(crate) number: u32,
+pub struct Row {
+    /// The first page.
+    pub first: u64,
+    /// How many pages: at least one.
+    pub pages: u64,
+    /// The index of the first page.
+    pub index: u64,
+    /// The number of the value: its place among the values.
+    pub number: u32,
 }
 
 /// The run of a row, with its value.

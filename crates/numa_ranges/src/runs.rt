@@ -13,7 +13,7 @@ use crate::range_iter::RangeIter;
 use crate::row::{Row, with_value};
 use crate::run::Run;
 use crate::values::Values;
-use numa_rows::{Owned, Rows};
+use numa_rows::{Iter, Owned, Rows};
 use std::alloc::{AllocError, Global};
 use std::marker::Model;
 
@@ -116,6 +116,15 @@ impl<T: Exact> Runs<T> {
         ensures { result ≡ self.now }
     {
         RangeIter::new(self.rows.iter(), self.values.items())
+    }
+
+    /// The rows in order, and the values under their numbers.
+    #[inline]
+    pub(crate) fn rows(&self) -> (Iter<'_, Row, Owned<Row>>, &[T])
+        ensures numbered { AreNumbered result.1.now result.0 }
+        ensures runs { runs_of result.1.now result.0 ≡ self.now }
+    {
+        (self.rows.iter(), self.values.items())
     }
 
     /// The runs from a rank on, in order. `near` is a guess at the chunk of the first.

@@ -7,6 +7,7 @@ ghost use Rattle.numa_ranges.specs.Runs.{AreApart, AreMaximal, page_at};
 ghost use Rattle.numa_ranges.specs.declared.run.Run.{Run};
 ghost use Rattle.numa_ranges.specs.Counts.{IsRange, range_count};
 ghost use Rattle.numa_ranges.specs.Maps.{any_page};
+ghost use Rattle.numa_ranges.specs.Numbered.{AreNumbered, runs_of};
 ghost use Rattle.numa_ranges.specs.Maps.{with_span, without_span, changed_span, changed_page};
 ghost use Rattle.numa_space.specs.Edits.{IsEdit, too_many, overlap_cause, hole_cause, refusal_from};
 ghost use Rattle.numa_space.specs.Edits.{refuses};
@@ -19,7 +20,8 @@ use crate::range_record::RangeRecord;
 use crate::refusal::Refusal;
 use numa_mask::NodeMask;
 use numa_mode::Record;
-use numa_ranges::{RangeFault, RangeIter, RangeMap, Run};
+use numa_ranges::{RangeFault, RangeIter, RangeMap, Row, Run};
+use numa_rows::{Iter, Owned};
 use std::alloc::{AllocError, Global};
 use std::marker::Model;
 
@@ -73,6 +75,14 @@ impl Pages {
             ↔ IsRange same_record (page_at self.now.runs) run }
     {
         self.map.iter()
+    }
+
+    /// The ranges, rising, with numbers in the place of their records, and the records.
+    pub(crate) fn rows(&self) -> (Iter<'_, Row, Owned<Row>>, &[RangeRecord])
+        ensures numbered { AreNumbered result.1.now result.0 }
+        ensures runs { runs_of result.1.now result.0 ≡ self.now.runs }
+    {
+        self.map.rows()
     }
 
     /// The range at a place, by rising first pages; None from `len` on.

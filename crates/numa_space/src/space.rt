@@ -6,6 +6,7 @@ ghost use Rattle.numa_machine.specs.Machine.{Hardware};
 ghost use Rattle.numa_machine.specs.Weights.{weight_at};
 ghost use Rattle.numa_mode.specs.Policy.{PolicyRecord};
 ghost use Rattle.numa_ranges.specs.Counts.{IsRange, range_count};
+ghost use Rattle.numa_ranges.specs.Numbered.{AreNumbered, runs_of};
 ghost use Rattle.numa_ranges.specs.Runs.{AreApart, AreMaximal, page_at};
 ghost use Rattle.numa_ranges.specs.declared.run.Run.{Run};
 ghost use Rattle.numa_space.specs.declared.command.Command.{Command};
@@ -26,7 +27,8 @@ use crate::task_policies::Tasks;
 use numa_machine::{Machine, NoMemory, Weights};
 use numa_mask::NodeMask;
 use numa_mode::Record;
-use numa_ranges::{RangeIter, Run};
+use numa_ranges::{RangeIter, Row, Run};
+use numa_rows::{Iter, Owned};
 use std::alloc::Global;
 use std::marker::Model;
 
@@ -219,6 +221,17 @@ impl Space {
             ↔ IsRange same_record (page_in self.now.machine history) run }
     {
         self.pages.iter()
+    }
+
+    /// The ranges, rising, with numbers in the place of their records, and the records, each at the
+    /// place that is its number: so what follows from a record can be found once for all ranges that
+    /// have its number. Equal records can have several numbers, and there can be records that no
+    /// range has.
+    pub fn range_rows(&self) -> (Iter<'_, Row, Owned<Row>>, &[RangeRecord])
+        ensures numbered { AreNumbered result.1.now result.0 }
+        ensures runs { runs_of result.1.now result.0 ≡ self.now.ranges }
+    {
+        self.pages.rows()
     }
 
     /// The range at a place, where the ranges stand in the order of their first pages and are
