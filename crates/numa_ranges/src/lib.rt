@@ -8,8 +8,8 @@
 //!
 //! What a call makes of the map is told page by page in `specs/Maps.antt`, what a range is in
 //! `specs/Counts.antt`, and what a list of runs says of a page in `specs/Runs.antt`.
-//! `specs/Edits.antt` and `specs/Gathered.antt` serve the private functions; of the first, `joined`
-//! also tells crates above how runs of pages become ranges.
+//! `specs/Edits.antt`, `specs/Gathered.antt` and `specs/Numbered.antt` serve the private functions;
+//! of the first, `joined` also tells crates above how runs of pages become ranges.
 #![tactic(auto)]
 
 mod edit;

@@ -35,9 +35,10 @@ use std::marker::Model;
 /// beside it. Ranges split and join as Linux splits and merges the areas of an address space under
 /// mbind(2).
 ///
-/// The ranges stand in one sorted list in chunks. A call over a span finds its first range by one
-/// search, works on the ranges that it touches and one or two more on each side, judges their
-/// number, and edits one chunk or a few.
+/// The ranges stand in one sorted list in chunks, and their values in a list of their own, so that
+/// an edit moves few bytes. A call over a span finds its first range by one search, works on the
+/// ranges that it touches and one or two more on each side, judges their number, and edits one
+/// chunk or a few.
 #[derive(Drop)]
 pub struct RangeMap<T: Exact> {
     runs: Runs<T>,
