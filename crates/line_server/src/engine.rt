@@ -4,7 +4,7 @@ ghost use Rattle.line_server.specs.Lines.{IsPiece};
 ghost use Rattle.line_server.specs.Progress.{Takes};
 ghost use Rattle.line_server.specs.Watching.{has_failed, held_in};
 
-use crate::open_line::OpenLine;
+use crate::held::Held;
 use crate::serve::Serve;
 use crate::watched::{CallFailed, Watched};
 use memchr::memchr;
@@ -15,7 +15,7 @@ use std::io::Write;
 #[derive(Drop)]
 pub(crate) struct Engine<S> {
     pub server: S,
-    pub line: OpenLine,
+    pub line: Held,
 }
 
 impl<S: Serve + Drop> Engine<S> {
@@ -24,7 +24,7 @@ impl<S: Serve + Drop> Engine<S> {
         ensures server { IfOk result (λ e. e.server ≡ server) }
         ensures line { IfOk result (λ e. e.line ≡ []) }
     {
-        let line = OpenLine::new(alloc)?;
+        let line = Held::new(alloc)?;
         Ok(Engine { server, line })
     }
 

@@ -1,13 +1,18 @@
-//! Texts on their way to a writer.
-ghost use Rattle.std.specs.Prelude.{◌≡◌, ◌++◌, [], IfOk, if◌then◌else◌};
+//! Bytes that are held over calls: texts on their way to a writer, or a line that is not ended.
+ghost use Rattle.std.specs.Prelude.{◌≡◌, ℕ, ◌++◌, [], List, IfOk, if◌then◌else◌};
+ghost use Rattle.line_server.specs.Lines.{seen};
 
 use std::alloc::{AllocError, Global};
 use std::marker::Model;
 
-/// How many bytes are held at most.
+/// How many bytes of texts are held at most.
 const ROOM: usize = 4096;
 
-/// Texts that are not yet handed to the writer.
+/// The most bytes of a line that a server is given.
+const LIMIT: usize = 4097;
+
+/// Texts that are not yet handed to the writer, or the line that no line feed has ended yet: as
+/// many of its bytes as a server is given.
 #[derive(Drop)]
 pub(crate) struct Held {
     bytes: Vec<u8>,
@@ -20,15 +25,15 @@ impl Model for Held {
 
     ghost view = { λ h. h.bytes.items };
 
-    ghost invariant = { λ h. 4096 ≤ vec_capacity h.bytes };
+    ghost invariant = { λ h. 4097 ≤ vec_capacity h.bytes };
 }
 
 impl Held {
-    /// Room for texts, of which there are none yet.
+    /// Room for a line or for texts, and nothing held yet.
     pub fn new(alloc: Global) -> Result<Held, AllocError>
         ensures { IfOk result (λ h. h ≡ []) }
     {
-        let bytes = Vec::with_capacity(alloc, ROOM)?;
+        let bytes = Vec::with_capacity(alloc, LIMIT)?;
         Ok(Held { bytes })
     }
 
@@ -41,6 +46,19 @@ impl Held {
         }
         self.bytes.extend_from_slice(text).unwrap();
         true
+    }
+
+    /// Takes more bytes of the line.
+    #[tactic(auto, using(crate::proofs::Seeing::seen_more, crate::proofs::Seeing::seen_full))]
+    pub fn hold(&mut self, bytes: &[u8])
+        ensures { (line : List ℕ) → self.old ≡ seen line → self.new ≡ seen (line ++ bytes.now) }
+    {
+        if self.bytes.len() >= LIMIT {
+            return;
+        }
+        let room = LIMIT - self.bytes.len();
+        let kept = bytes.len().min(room);
+        self.bytes.extend_from_slice(&bytes[..kept]).unwrap();
     }
 
     /// What is held.

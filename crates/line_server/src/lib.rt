@@ -4,7 +4,6 @@
 
 mod engine;
 mod held;
-mod open_line;
 pub mod run;
 mod say;
 pub mod serve;
