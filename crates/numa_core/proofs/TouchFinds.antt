@@ -1,11 +1,13 @@
 -- A touch over tables: what a look through the owners of a node finds.
-use Rattle.std.proofs.Common.{◌≡◌, ℕ, ◌+◌, ◌<◌, Bool, true, false, not, Option, Some, None, is_some, is_none, option_and_then, List, length, refl, sym, ap, subst, ◌∙◌, slice_index, slice_get, get_or, if◌then◌else◌}
+use Rattle.std.proofs.Common.{◌≡◌, ℕ, ◌+◌, ◌<◌, ◌≤◌, Bool, true, false, not, Option, Some, None, is_some, is_none, option_and_then, List, length, refl, sym, ap, subst, ◌∙◌, arith, slice_index, slice_get, get_or, if◌then◌else◌}
+use native.Mathlib.Decide.{dec_lt}
 use Rattle.std.specs.Option.{option_map}
 use Rattle.std.proofs.lemmas.Bool.{lt-ltb}
 use Rattle.std.proofs.lemmas.Option.{slice_get_read}
 use Rattle.numa_core.specs.World.{Setup, World}
 use Rattle.numa_core.specs.Standing.{owner_at, place_in, frames_before}
 use Rattle.numa_core.specs.Touching.{Shows, lowest_free}
+use Rattle.numa_core.proofs.InARow.{place-is}
 use Rattle.numa_core.proofs.TouchLowest.{lowest-none, lowest-some}
 use Rattle.numa_core.proofs.TouchLaw.{some_not_none}
 
@@ -27,14 +29,25 @@ finds-frame s frames owners world n k shows low free before =
       first = λ j less. shown_owned s frames owners world n j shows (before j less);
     })
 
--- what is read at a node's first place and a number is the owner of that frame
-pub owner-read : (frames : List ℕ) (owners : List (Option ℕ)) (total first n k : ℕ) (x : Option ℕ) → first ≡ frames_before frames n → k < slice_index frames n → total ≡ length owners → first + k < total → x ≡ get_or owners (first + k) x → owner_at owners (place_in frames n k) ≡ x
-owner-read frames owners total first n k x here low all within read =
-    let at : slice_get owners (frames_before frames n + k) ≡ Some x = subst (λ p. slice_get owners (p + k) ≡ Some x) here (slice_get_read owners total (first + k) x all within read) in
-    ap (λ b. owner_at owners (if b then Some (frames_before frames n + k) else None)) (lt-ltb k (slice_index frames n) low) ∙ ap (λ o. option_and_then (λ o. o) o) at
+tested-owned : (o : Option ℕ) → false ≡ is_none o → is_some o ≡ true
+tested-owned None e = absurd (cc)
+tested-owned (Some v) e = refl
 
--- an owner that was tested
-pub none-of : (o : Option ℕ) (tested : Bool) → is_some o ≡ not tested → tested ≡ true → o ≡ None
-none-of None tested e h = refl
-none-of (Some v) true e h = absurd (cc)
-none-of (Some v) false e h = absurd (cc)
+tested-free : (o : Option ℕ) → true ≡ is_none o → o ≡ None
+tested-free None e = refl
+tested-free (Some v) e = absurd (cc)
+
+-- a frame's owner, by what a test of its place says
+pub free-there : (frames : List ℕ) (owners : List (Option ℕ)) (n k : ℕ) → k < slice_index frames n → true ≡ is_none (owner_at owners (Some (frames_before frames n + k))) → owner_at owners (place_in frames n k) ≡ None
+free-there frames owners n k low free = ap (owner_at owners) (place-is frames n k low) ∙ tested-free (owner_at owners (Some (frames_before frames n + k))) free
+
+-- the frames below a number are known to be owned, and those from it on were tested
+pub owned-below : (frames : List ℕ) (owners : List (Option ℕ)) (n from end : ℕ) → end ≤ slice_index frames n → ((k : ℕ) → k < from → k < slice_index frames n → is_some (owner_at owners (place_in frames n k)) ≡ true)
+    → ((k : ℕ) → from ≤ k → k < end → false ≡ is_none (owner_at owners (Some (frames_before frames n + k)))) → (k : ℕ) → k < end → is_some (owner_at owners (place_in frames n k)) ≡ true
+owned-below frames owners n from end within known tested k low = by (dec_lt k from)
+  where
+    by : Dec (k < from) → is_some (owner_at owners (place_in frames n k)) ≡ true
+    by (yes less) = known k less (omega (arith, within, low))
+    by (no more) =
+        ap (λ o. is_some (owner_at owners o)) (place-is frames n k (omega (arith, within, low)))
+        ∙ tested-owned (owner_at owners (Some (frames_before frames n + k))) (tested k (omega (arith, more)) low)

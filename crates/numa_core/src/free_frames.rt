@@ -1,8 +1,8 @@
 //! Frames without an owner. The frames that a touch would try in vain are owned, so it is found at
 //! once where it ends: at the lowest frame without an owner of the first listed node that has one,
 //! or at the end of the list.
-ghost use Rattle.std.specs.Prelude.{◌≡◌, ℕ, ◌<◌, ◌≤◌, true, Option, None, is_some, List};
-ghost use Rattle.std.specs.Prelude.{IfOk, IfSome, length, vec_len, slice_index};
+ghost use Rattle.std.specs.Prelude.{◌≡◌, ℕ, ◌<◌, ◌≤◌, true, Option, None, Some, is_none, is_some};
+ghost use Rattle.std.specs.Prelude.{List, IfOk, IfSome, length, vec_len, slice_index};
 ghost use Rattle.numa_core.specs.World.{Setup, World};
 ghost use Rattle.numa_core.specs.Steps.{put_frame};
 ghost use Rattle.numa_core.specs.Standing.{frames_before, owner_at, place_in};
@@ -56,20 +56,18 @@ fn lowest_free(places: &Places, owners: &Vec<Option<u8>>, node: u8, from: u32) -
         result ≡ lowest_free s world node }
     ensures low { IfSome result (IsLow places.now owners.now.items) }
 {
-    let frames = places.frames(node);
-    if from >= frames {
-        return None;
-    }
-    let first = places.first(node);
-    for number in from..frames {
-        if owners[(first + number) as usize].is_none() {
-            return Some(Frame {
-                node,
-                number: number as u16,
-            });
-        }
-    }
-    None
+    let number = places.lowest(
+        node,
+        from,
+        |place|
+            requires { place < vec_len owners.now }
+            ensures { result ≡ is_none (owner_at owners.entry.now.items (Some place)) }
+        { owners[place as usize].is_none() },
+    )?;
+    Some(Frame {
+        node,
+        number: number as u16,
+    })
 }
 
 /// The lowest frame without an owner of the first listed node that has one.

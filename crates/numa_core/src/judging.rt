@@ -1,11 +1,23 @@
 //! What a Begin is judged by.
-ghost use Rattle.std.specs.Prelude.{◌<◌, ◌≤◌, None, Some, IfOk, IfErr, OnOk, length, vec_len};
+ghost use Rattle.std.specs.Prelude.{◌≡◌, ◌<◌, ◌≤◌, None, Some, IfOk, IfErr, OnOk, length, vec_len};
 ghost use Rattle.numa_core.specs.Judging.{Judges, Lists};
 
 use crate::seat::Seat;
 use numa_plan::{Plan, Steps};
 use numa_space::event::CoreRefusal;
 use numa_space::{PlaceRefusal, Request};
+
+/// That a worker is one of those with these seats.
+pub(crate) fn seated(seats: &Vec<Seat>, worker: u32) -> Result<(), CoreRefusal>
+    ensures ok { OnOk result (worker < vec_len seats.now) }
+    ensures err { IfErr result (λ refusal. (refusal ≡ CoreRefusal.NoSuchWorker)
+        × (vec_len seats.now ≤ worker)) }
+{
+    if worker as usize >= seats.len() {
+        return Err(CoreRefusal::NoSuchWorker);
+    }
+    Ok(())
+}
 
 /// The list of nodes that the plan of the newest published version has for a worker's request, lent
 /// by the plan. Or the refusal of the worker's Begin.
@@ -22,9 +34,7 @@ pub(crate) fn row_for<'a>(
     ensures refused { IfErr result (λ refusal.
         Judges plan.now seats.now.items worker request (Some refusal)) }
 {
-    if worker as usize >= seats.len() {
-        return Err(CoreRefusal::NoSuchWorker);
-    }
+    seated(seats, worker)?;
     if seats[worker as usize].job.is_some() {
         return Err(CoreRefusal::Busy);
     }

@@ -1,5 +1,6 @@
 //! Frames in a row: the place of each frame among all, node by node.
-ghost use Rattle.std.specs.Prelude.{◌≡◌, ℕ, ◌+◌, ◌<◌, ◌≤◌, IfOk, IfSome, length, slice_index};
+ghost use Rattle.std.specs.Prelude.{◌≡◌, ℕ, ◌+◌, ◌<◌, ◌≤◌, true, false, None, IfOk, IfSome, length};
+ghost use Rattle.std.specs.Prelude.{slice_index};
 ghost use Rattle.numa_core.specs.Standing.{frames_before, place_in};
 
 use numa_machine::Machine;
@@ -80,6 +81,32 @@ impl Places {
         ensures at_most { result ≤ 1048576 }
     {
         self.before[node as usize]
+    }
+
+    /// The lowest number of a node's frames, from one on, whose place meets the test.
+    pub(crate) fn lowest<F: Fn(u32) -> bool>(&self, node: u8, from: u32, test: F) -> Option<u32>
+        requires { (place : ℕ) → place < frames_before self.now (length self.now)
+            → F.pre test place }
+        ensures found { IfSome result (λ number. (from ≤ number)
+            × (number < slice_index self.now node)
+            × F.post test (frames_before self.now node + number) true) }
+        ensures small { IfSome result (λ number. number < 4096) }
+        ensures below { IfSome result (λ number. (k : ℕ) → from ≤ k → k < number
+            → F.post test (frames_before self.now node + k) false) }
+        ensures none { result ≡ None → (k : ℕ) → from ≤ k → k < slice_index self.now node
+            → F.post test (frames_before self.now node + k) false }
+    {
+        let frames = self.frames(node);
+        if from >= frames {
+            return None;
+        }
+        let first = self.first(node);
+        for number in from..frames {
+            if test(first + number) {
+                return Some(number);
+            }
+        }
+        None
     }
 
     /// The place of a frame, where the node has it.

@@ -1,9 +1,11 @@
 //! A worker's seat: what it is about, the list that it took and the frames that it met.
-ghost use Rattle.std.specs.Prelude.{◌≡◌, ℕ, ◌<◌, ◌≤◌, true, false, None, Some, IfOk, IfSome, OnOk};
-ghost use Rattle.std.specs.Prelude.{OnErr, MatchOption, is_some, length, vec_len, slice_index};
+ghost use Rattle.std.specs.Prelude.{◌≡◌, ℕ, ◌*◌, ◌<◌, ◌≤◌, true, false, not, None, Some, IfOk};
+ghost use Rattle.std.specs.Prelude.{IfSome, OnOk, OnErr, MatchOption, is_some, length, vec_len};
+ghost use Rattle.std.specs.Prelude.{slice_index};
 ghost use Rattle.numa_core.specs.World.{Setup, World};
 ghost use Rattle.numa_core.specs.Steps.{goes_on, going_on};
-ghost use Rattle.numa_core.specs.Standing.{frames_before, owner_at, place_in, met_at, hunt_in};
+ghost use Rattle.numa_core.specs.Standing.{frames_before, owner_at, place_in, is_met, met_at};
+ghost use Rattle.numa_core.specs.Standing.{hunt_in};
 ghost use Rattle.numa_core.specs.Seats.{busy_at, busy_of, seat_hunt, fresh, HasRoom, IsPassed};
 ghost use Rattle.numa_core.specs.Seats.{IsCursor, IsAllMet, IsSeatCopy};
 ghost use Rattle.numa_core.specs.Seats.{SeatFits, SeatLooks, SeatTries};
@@ -49,17 +51,14 @@ fn first_unmet(places: &Places, met: &Vec<u64>, node: u8, from: u32) -> Option<u
     ensures none { (k : ℕ) → result ≡ None → from ≤ k → k < slice_index places.now node →
         met_at places.now met.now.items node k ≡ true }
 {
-    let frames = places.frames(node);
-    if from >= frames {
-        return None;
-    }
-    let first = places.first(node);
-    for number in from..frames {
-        if !is_met(met, first + number) {
-            return Some(number);
-        }
-    }
-    None
+    places.lowest(
+        node,
+        from,
+        |place|
+            requires { place < 64 * vec_len met.now }
+            ensures { result ≡ not (is_met met.entry.now.items (Some place)) }
+        { !is_met(met, place) },
+    )
 }
 
 /// The lowest unmet frame of the first listed node with one, where all before this place is met.

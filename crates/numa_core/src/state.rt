@@ -12,7 +12,7 @@ ghost use Rattle.numa_core.specs.declared.seat.Seat.{Seat};
 ghost use Rattle.numa_space.specs.declared.event.Event.{Event};
 
 use crate::free_frames::{first_free, lower, none_taken};
-use crate::judging::row_for;
+use crate::judging::{row_for, seated};
 use crate::places::Places;
 use crate::seat::Seat;
 use crate::tables::none_owned;
@@ -179,9 +179,7 @@ impl State {
         ensures unchanged { OnErr result (shown self.new ≡ shown self.old) }
         ensures setup { setup_of (shown self.new) ≡ setup_of (shown self.old) }
     {
-        if worker as usize >= self.seats.len() {
-            return Err(CoreRefusal::NoSuchWorker);
-        }
+        seated(&self.seats, worker)?;
         self.seats[worker as usize].look(&self.places, &self.owners, word)
     }
 
@@ -194,9 +192,7 @@ impl State {
         ensures unchanged { OnErr result (shown self.new ≡ shown self.old) }
         ensures setup { setup_of (shown self.new) ≡ setup_of (shown self.old) }
     {
-        if worker as usize >= self.seats.len() {
-            return Err(CoreRefusal::NoSuchWorker);
-        }
+        seated(&self.seats, worker)?;
         let Some(place) = self.places.place(frame.node, frame.number) else {
             return Err(self.seats[worker as usize].no_try());
         };
@@ -220,9 +216,7 @@ impl State {
         ensures unchanged { OnErr result (shown self.new ≡ shown self.old) }
         ensures setup { setup_of (shown self.new) ≡ setup_of (shown self.old) }
     {
-        if worker as usize >= self.seats.len() {
-            return Err(CoreRefusal::NoSuchWorker);
-        }
+        seated(&self.seats, worker)?;
         let seat = &self.seats[worker as usize];
         if seat.job.is_some() {
             return Err(CoreRefusal::Busy);

@@ -1,33 +1,18 @@
-use Rattle.std.proofs.Common.{◌≡◌, inl, inr, ◌<◌, true, is_some, vec_len, slice_index, sym, ap, subst, ◌∙◌, arith}
-use Rattle.std.proofs.lemmas.Bool.Decides.{eqb_tells}
-use Rattle.numa_core.specs.Standing.{owner_at, place_in}
-use Rattle.numa_core.proofs.TouchFinds.{finds-none, finds-frame, owner-read, none-of}
+use Rattle.std.proofs.Common.{◌∙◌, sym, refl, arith, slice_index}
+use Rattle.numa_core.proofs.TouchFinds.{finds-none, finds-frame, free-there, owned-below}
 use Rattle.numa_core.proofs.free_frames.lowest_free.Goals as goal
 
-pub returns-then-is_none-clause-lowest : goal.returns-then-is_none-clause-lowest
-returns-then-is_none-clause-lowest c s world shows =
-    let low : c.loop-number.number < slice_index c.args.places.now c.args.node = subst (λ n. c.loop-number.number < n) c.frames-frames.ensures.frames c.loop-number-test.true in
-    let owner = owner-read c.args.places.now c.args.owners.now.items (vec_len c.args.owners.now) c.first-first.result c.args.node c.loop-number.number c.index.result.now c.first-first.ensures.first low c.args.owners.now.ok.0
-    (omega (arith, c.first-first.ensures.within, c.requires.owners)) c.index.ensures in
-    sym (finds-frame s c.args.places.now c.args.owners.now.items world c.args.node c.loop-number.number shows low (owner ∙ none-of c.index.result.now c.is_none.result c.is_none.ensures c.if-is_none.true) (λ j less. c.loop-number.invariant j less (omega arith)))
-
-pub loop-number-preserved : goal.loop-number-preserved
-loop-number-preserved c k low fits = elim (eqb_tells k c.loop-number.number) [
-  | inl e ↦
-      let within : c.loop-number.number < slice_index c.args.places.now c.args.node = subst (λ n. c.loop-number.number < n) c.frames-frames.ensures.frames c.loop-number-test.true in
-      let owner = owner-read c.args.places.now c.args.owners.now.items (vec_len c.args.owners.now) c.first-first.result c.args.node c.loop-number.number c.index.result.now c.first-first.ensures.first within c.args.owners.now.ok.0
-      (omega (arith, c.first-first.ensures.within, c.requires.owners)) c.index.ensures in
-      subst (λ n. is_some (owner_at c.args.owners.now.items (place_in c.args.places.now c.args.node n)) ≡ true) (sym e.1) (ap is_some owner ∙ c.if-is_none.ensures)
-  | inr e ↦ c.loop-number.invariant k (omega arith) fits
-]
+pub returns-in_err-number-clause-lowest : goal.returns-in_err-number-clause-lowest
+returns-in_err-number-clause-lowest c s world shows =
+    let frames = c.args.places.now in
+    let owners = c.args.owners.now.items in
+    c.from_residual.ensures
+    ∙ sym (finds-none s frames owners world c.args.node shows (owned-below frames owners c.args.node c.args.from (slice_index frames c.args.node) (omega arith) c.requires.taken (λ k low high. c.in_err-number.ensures.none refl k low high)))
 
 pub returns-clause-lowest : goal.returns-clause-lowest
-returns-clause-lowest c s world shows = sym (finds-none s c.args.places.now c.args.owners.now.items world c.args.node shows (λ k low. c.loop-number.invariant k (omega (arith, c.frames-frames.ensures.frames, c.loop-number-test.false)) low))
-
-pub returns-then-is_none-clause-low : goal.returns-then-is_none-clause-low
-returns-then-is_none-clause-low c =
-    let low : c.loop-number.number < slice_index c.args.places.now c.args.node = subst (λ n. c.loop-number.number < n) c.frames-frames.ensures.frames c.loop-number-test.true in
-    record { there = low; below = λ k less. c.loop-number.invariant k less (omega arith) }
-
-pub returns-then-from-frames-clause-lowest : goal.returns-then-from-frames-clause-lowest
-returns-then-from-frames-clause-lowest c s world shows = sym (finds-none s c.args.places.now c.args.owners.now.items world c.args.node shows (λ k low. c.requires.taken k (omega (arith, c.frames-frames.ensures.frames, c.if-from-frames.true)) low))
+returns-clause-lowest c s world shows =
+    let frames = c.args.places.now in
+    let owners = c.args.owners.now.items in
+    let number = c.in_ok-number.number in
+    let found = c.in_ok-number.ensures.found in
+    sym (finds-frame s frames owners world c.args.node number shows found.1 (free-there frames owners c.args.node number found.1 found.2) (owned-below frames owners c.args.node c.args.from number (omega (arith, found.1)) c.requires.taken (λ k low high. c.in_ok-number.ensures.below k low high)))

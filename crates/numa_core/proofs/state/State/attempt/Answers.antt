@@ -9,7 +9,7 @@ use Rattle.numa_core.proofs.TouchTaken.{taken-put}
 use Rattle.numa_core.proofs.state.State.attempt.Goals as goal
 
 pub attempt-requires-clause-fits : goal.attempt-requires-clause-fits
-attempt-requires-clause-fits c = c.requires.kept.seats c.args.worker c.index_mut.result.now (there_at c.args.self.now.seats.items c.args.worker c.index_mut.result.now (omega (arith, c.len.ensures, c.args.self.now.seats.ok.0)) c.index_mut.ensures.value)
+attempt-requires-clause-fits c = c.requires.kept.seats c.args.worker c.index_mut.result.now (there_at c.args.self.now.seats.items c.args.worker c.index_mut.result.now (omega (arith, c.in_ok-seated.ensures.ok, c.args.self.now.seats.ok.0)) c.index_mut.ensures.value)
 
 pub returns-then-is_some-clause-kept : goal.returns-then-is_some-clause-kept
 returns-then-is_some-clause-kept c = record {
@@ -22,7 +22,7 @@ returns-then-is_some-clause-kept c = record {
 
 pub returns-then-is_some-clause-follows : goal.returns-then-is_some-clause-follows
 returns-then-is_some-clause-follows c world stands =
-    let low : c.args.worker < length c.args.self.now.seats.items = omega (arith, c.len.ensures, c.args.self.now.seats.ok.0) in
+    let low : c.args.worker < length c.args.self.now.seats.items = omega (arith, c.in_ok-seated.ensures.ok, c.args.self.now.seats.ok.0) in
     let there = there_at c.args.self.now.seats.items c.args.worker c.index_mut.result.now low c.index_mut.ensures.value in
     let within : c.in-Some.place < length c.args.self.now.owners.items = omega (arith, c.in-Some.ensures.within, c.requires.kept.owners, c.args.self.now.owners.ok.0) in
     let owned : is_some (owner_at c.args.self.now.owners.items (Some c.in-Some.place)) ≡ true = ap is_some (owner_read c.args.self.now.owners.items c.in-Some.place c.index-2.result.now within c.index-2.ensures) ∙ sym c.is_some.ensures ∙ c.if-is_some.true in
@@ -30,7 +30,7 @@ returns-then-is_some-clause-follows c world stands =
     (c.attempt.ensures.tries (setup_of (shown c.args.self.now)) c.requires.kept.places)
 
 pub attempt-requires-2-clause-fits : goal.attempt-requires-2-clause-fits
-attempt-requires-2-clause-fits c = c.requires.kept.seats c.args.worker c.index_mut-2.result.now (there_at c.args.self.now.seats.items c.args.worker c.index_mut-2.result.now (omega (arith, c.len.ensures, c.args.self.now.seats.ok.0)) c.index_mut-2.ensures.value)
+attempt-requires-2-clause-fits c = c.requires.kept.seats c.args.worker c.index_mut-2.result.now (there_at c.args.self.now.seats.items c.args.worker c.index_mut-2.result.now (omega (arith, c.in_ok-seated.ensures.ok, c.args.self.now.seats.ok.0)) c.index_mut-2.ensures.value)
 
 pub returns-in-Err-clause-kept : goal.returns-in-Err-clause-kept
 returns-in-Err-clause-kept c = record {
@@ -43,7 +43,7 @@ returns-in-Err-clause-kept c = record {
 
 pub returns-in-Err-clause-follows : goal.returns-in-Err-clause-follows
 returns-in-Err-clause-follows c world stands =
-    let low : c.args.worker < length c.args.self.now.seats.items = omega (arith, c.len.ensures, c.args.self.now.seats.ok.0) in
+    let low : c.args.worker < length c.args.self.now.seats.items = omega (arith, c.in_ok-seated.ensures.ok, c.args.self.now.seats.ok.0) in
     let there = there_at c.args.self.now.seats.items c.args.worker c.index_mut-2.result.now low c.index_mut-2.ensures.value in
     let within : c.in-Some.place < length c.args.self.now.owners.items = omega (arith, c.in-Some.ensures.within, c.requires.kept.owners, c.args.self.now.owners.ok.0) in
     let owned : is_some (owner_at c.args.self.now.owners.items (Some c.in-Some.place)) ≡ false = ap is_some (owner_read c.args.self.now.owners.items c.in-Some.place c.index-2.result.now within c.index-2.ensures) ∙ sym c.is_some.ensures ∙ c.if-is_some.false in
@@ -64,7 +64,7 @@ returns-clause-kept c = record {
 
 pub returns-clause-follows : goal.returns-clause-follows
 returns-clause-follows c world stands =
-    let low : c.args.worker < length c.args.self.now.seats.items = omega (arith, c.len.ensures, c.args.self.now.seats.ok.0) in
+    let low : c.args.worker < length c.args.self.now.seats.items = omega (arith, c.in_ok-seated.ensures.ok, c.args.self.now.seats.ok.0) in
     let there = there_at c.args.self.now.seats.items c.args.worker c.index_mut-2.result.now low c.index_mut-2.ensures.value in
     let within : c.in-Some.place < length c.args.self.now.owners.items = omega (arith, c.in-Some.ensures.within, c.requires.kept.owners, c.args.self.now.owners.ok.0) in
     let owned : is_some (owner_at c.args.self.now.owners.items (Some c.in-Some.place)) ≡ false = ap is_some (owner_read c.args.self.now.owners.items c.in-Some.place c.index-2.result.now within c.index-2.ensures) ∙ sym c.is_some.ensures ∙ c.if-is_some.false in

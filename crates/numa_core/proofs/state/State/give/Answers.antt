@@ -6,7 +6,7 @@ use Rattle.numa_core.proofs.state.State.give.Goals as goal
 
 pub returns-clause-follows : goal.returns-clause-follows
 returns-clause-follows c world stands =
-    let low : c.args.worker < length c.args.self.now.seats.items = omega (arith, c.len.ensures, c.args.self.now.seats.ok.0) in
+    let low : c.args.worker < length c.args.self.now.seats.items = omega (arith, c.in_ok-seated.ensures.ok, c.args.self.now.seats.ok.0) in
     let there = there_at c.args.self.now.seats.items c.args.worker c.index-seat.result.now low c.index-seat.ensures in
     let within : c.in-Some.place < length c.args.self.now.owners.items = omega (arith, c.in-Some.ensures.within, c.requires.kept.owners, c.args.self.now.owners.ok.0) in
     give-follows c.args.self.now.space c.args.self.now.plan c.args.self.now.places c.args.self.now.seats.items c.args.self.now.owners.items world c.requires.kept.places stands c.args.worker c.index-seat.result.now low there c.args.frame c.in-Some.place (no_job c.index-seat.result.now.job (sym c.is_some.ensures ∙ c.if-is_some.false)) (sym c.place.ensures.place ∙ c.in-Some.is) within

@@ -6,7 +6,7 @@ use Rattle.numa_core.proofs.CoreSteps.{there_at, each-set, look-follows}
 use Rattle.numa_core.proofs.state.State.look.Goals as goal
 
 pub look-requires-clause-fits : goal.look-requires-clause-fits
-look-requires-clause-fits c = c.requires.kept.seats c.args.worker c.index_mut.result.now (there_at c.args.self.now.seats.items c.args.worker c.index_mut.result.now (omega (arith, c.len.ensures, c.args.self.now.seats.ok.0)) c.index_mut.ensures.value)
+look-requires-clause-fits c = c.requires.kept.seats c.args.worker c.index_mut.result.now (there_at c.args.self.now.seats.items c.args.worker c.index_mut.result.now (omega (arith, c.in_ok-seated.ensures.ok, c.args.self.now.seats.ok.0)) c.index_mut.ensures.value)
 
 pub returns-clause-kept : goal.returns-clause-kept
 returns-clause-kept c = record {
@@ -19,7 +19,7 @@ returns-clause-kept c = record {
 
 pub returns-clause-follows : goal.returns-clause-follows
 returns-clause-follows c world stands =
-    let low : c.args.worker < length c.args.self.now.seats.items = omega (arith, c.len.ensures, c.args.self.now.seats.ok.0) in
+    let low : c.args.worker < length c.args.self.now.seats.items = omega (arith, c.in_ok-seated.ensures.ok, c.args.self.now.seats.ok.0) in
     let there = there_at c.args.self.now.seats.items c.args.worker c.index_mut.result.now low c.index_mut.ensures.value in
     look-follows c.args.self.now.space c.args.self.now.plan c.args.self.now.places c.args.self.now.seats.items c.args.self.now.owners.items world c.requires.kept.places stands c.args.worker c.index_mut.result.now low there c.args.word c.look.new.self c.look.result c.look.ensures.unchanged
     (λ owner. c.look.ensures.looks (setup_of (shown c.args.self.now)) world c.requires.kept.places owner)
