@@ -1,9 +1,7 @@
 -- A touch over tables: what a look through the owners of a node finds.
-use Rattle.std.proofs.Common.{◌≡◌, ℕ, ◌+◌, ◌<◌, ◌≤◌, Bool, true, false, not, Option, Some, None, is_some, is_none, option_and_then, List, length, refl, sym, ap, subst, ◌∙◌, arith, slice_index, slice_get, get_or, if◌then◌else◌}
+use Rattle.std.proofs.Common.{◌≡◌, ℕ, ◌+◌, ◌<◌, ◌≤◌, true, false, Option, Some, None, is_some, is_none, List, refl, sym, ap, subst, ◌∙◌, arith, slice_index}
 use native.Mathlib.Decide.{dec_lt}
 use Rattle.std.specs.Option.{option_map}
-use Rattle.std.proofs.lemmas.Bool.{lt-ltb}
-use Rattle.std.proofs.lemmas.Option.{slice_get_read}
 use Rattle.numa_core.specs.World.{Setup, World}
 use Rattle.numa_core.specs.Standing.{owner_at, place_in, frames_before}
 use Rattle.numa_core.specs.Touching.{Shows, lowest_free}

@@ -1,4 +1,4 @@
-use Rattle.std.proofs.Common.{◌≡◌, ℕ, ◌+◌, ◌<◌, ◌≤◌, false}
+use Rattle.std.proofs.Common.{ℕ, ◌+◌, ◌<◌, ◌≤◌, false}
 use Rattle.numa_core.specs.Standing.{frames_before}
 use Rattle.numa_core.proofs.places.Places.lowest.Given as goal
 
