@@ -49,10 +49,8 @@ impl Script {
         ensures { (state : State) → ScriptStandsFor self.now state
             → MatchOption result (state.machine ≡ None) (λ core. IsCoreIn core.now state) }
     {
-        match &self.running {
-            Some(running) => Some(&running.core),
-            None => None,
-        }
+        let running = self.running.as_ref()?;
+        Some(&running.core)
     }
 
     /// The pages that are placed on the machine that is ready.
@@ -60,10 +58,8 @@ impl Script {
         ensures { (state : State) → ScriptStandsFor self.now state
             → MatchOption result (state.machine ≡ None) (λ kept. IsResidentIn kept.now state) }
     {
-        match &self.running {
-            Some(running) => Some(&running.resident),
-            None => None,
-        }
+        let running = self.running.as_ref()?;
+        Some(&running.resident)
     }
 
     /// Does what a line says, and gives its reply. A question to a machine that is ready, and a
