@@ -1,6 +1,5 @@
 //! Nodes as text, gathered before they are said.
-ghost use Rattle.std.specs.Prelude.{◌≡◌, ◌+◌, ◌*◌, ◌/◌, ◌%◌, ◌<◌, ◌≤◌, ◌++◌, ◌∷◌, decimal};
-ghost use Rattle.std.specs.Prelude.{length};
+ghost use Rattle.std.specs.Prelude.{◌≡◌, ◌+◌, ◌*◌, ◌<◌, ◌≤◌, ◌++◌, ◌∷◌, decimal, length};
 ghost use Rattle.line_server.specs.Written.{Said};
 ghost use Rattle.numa_script.specs.Texts.{nodes_text};
 
@@ -24,19 +23,19 @@ fn push_digit(text: &mut BlockText, digit: u8)
     text.push(b'0' + digit);
 }
 
-/// Appends the digit of a number whose place is worth so much, unless the number is less.
-fn push_place(text: &mut BlockText, number: u8, worth: u8)
-    requires worth { 0 < worth }
-    requires room { length text.old.items + 1 ≤ 256 }
-    ensures none { number < worth → text.new.items ≡ text.old.items }
-    ensures digit { worth ≤ number →
-        text.new.items ≡ text.old.items ++ decimal (number / worth % 10) }
-    ensures short { length text.new.items ≤ length text.old.items + 1 }
+/// Appends a number of at most two digits.
+fn push_two(text: &mut BlockText, number: u8)
+    requires number { number < 100 }
+    requires room { length text.old.items + 2 ≤ 256 }
+    ensures items { text.new.items ≡ text.old.items ++ decimal number }
+    ensures short { length text.new.items ≤ length text.old.items + 2 }
 {
-    if number < worth {
+    if number < 10 {
+        push_digit(text, number);
         return;
     }
-    push_digit(text, number / worth % 10);
+    push_digit(text, number / 10);
+    push_digit(text, number % 10);
 }
 
 /// Appends a number of at most three digits.
@@ -45,8 +44,11 @@ fn push_number(text: &mut BlockText, node: u8)
     ensures items { text.new.items ≡ text.old.items ++ decimal node }
     ensures short { length text.new.items ≤ length text.old.items + 3 }
 {
-    push_place(text, node, 100);
-    push_place(text, node, 10);
+    if node < 100 {
+        push_two(text, node);
+        return;
+    }
+    push_two(text, node / 10);
     push_digit(text, node % 10);
 }
 
