@@ -1,22 +1,26 @@
 //! Nodes as text, gathered before they are said.
-ghost use Rattle.std.specs.Prelude.{◌≡◌, ◌+◌, ◌*◌, ◌<◌, ◌≤◌, ◌++◌, ◌∷◌, decimal, length};
+ghost use Rattle.std.specs.Prelude.{◌≡◌, ◌+◌, ◌*◌, ◌<◌, ◌≤◌, ◌++◌, ◌∷◌, codes, decimal, length};
 ghost use Rattle.line_server.specs.Written.{Said};
-ghost use Rattle.numa_script.specs.Texts.{nodes_text};
+ghost use Rattle.numa_script.specs.Texts.{nodes_answer, nodes_text};
 
 use arrayvec::ArrayVec;
+use itoa::Buffer;
 use line_server::Watched;
 use std::io::Write;
 
 /// How many nodes are gathered at most.
-const BLOCK: usize = 64;
+const BLOCK: usize = 60;
+
+/// How many nodes are said at most together with their version.
+pub(crate) const FEW: usize = 48;
 
 /// The text of some nodes: a space and at most three digits for each.
-type BlockText = ArrayVec<u8, 256>;
+type BlockText = ArrayVec<u8, 240>;
 
 /// Appends a digit.
 fn push_digit(text: &mut BlockText, digit: u8)
     requires digit { digit < 10 }
-    requires room { length text.old.items + 1 ≤ 256 }
+    requires room { length text.old.items + 1 ≤ 240 }
     ensures items { text.new.items ≡ text.old.items ++ decimal digit }
     ensures len { length text.new.items ≡ length text.old.items + 1 }
 {
@@ -26,7 +30,7 @@ fn push_digit(text: &mut BlockText, digit: u8)
 /// Appends a number of at most two digits.
 fn push_two(text: &mut BlockText, number: u8)
     requires number { number < 100 }
-    requires room { length text.old.items + 2 ≤ 256 }
+    requires room { length text.old.items + 2 ≤ 240 }
     ensures items { text.new.items ≡ text.old.items ++ decimal number }
     ensures short { length text.new.items ≤ length text.old.items + 2 }
 {
@@ -40,7 +44,7 @@ fn push_two(text: &mut BlockText, number: u8)
 
 /// Appends a number of at most three digits.
 fn push_number(text: &mut BlockText, node: u8)
-    requires { length text.old.items + 3 ≤ 256 }
+    requires { length text.old.items + 3 ≤ 240 }
     ensures items { text.new.items ≡ text.old.items ++ decimal node }
     ensures short { length text.new.items ≤ length text.old.items + 3 }
 {
@@ -54,7 +58,7 @@ fn push_number(text: &mut BlockText, node: u8)
 
 /// Appends a node behind a space.
 fn push_node(text: &mut BlockText, node: u8)
-    requires { length text.old.items + 4 ≤ 256 }
+    requires { length text.old.items + 4 ≤ 240 }
     ensures items { text.new.items ≡ text.old.items ++ 32 ∷ decimal node }
     ensures short { length text.new.items ≤ length text.old.items + 4 }
 {
@@ -62,10 +66,24 @@ fn push_node(text: &mut BlockText, node: u8)
     push_number(text, node);
 }
 
+/// Appends a version: `v2:`.
+fn push_version(text: &mut BlockText, version: u64)
+    requires { length text.old.items + 42 ≤ 240 }
+    ensures items { text.new.items ≡ text.old.items ++ codes "v" ++ decimal version ++ codes ":" }
+    ensures short { length text.new.items ≤ length text.old.items + 42 }
+{
+    let mut buffer = Buffer::new();
+    let digits = buffer.format(version).as_bytes();
+    text.push(b'v');
+    text.try_extend_from_slice(digits).unwrap();
+    text.push(b':');
+}
+
 /// Appends nodes, each behind a space.
 fn push_nodes(text: &mut BlockText, nodes: &[u8])
-    requires { length text.old.items + 4 * length nodes.now ≤ 256 }
-    ensures { text.new.items ≡ text.old.items ++ nodes_text nodes.now }
+    requires { length text.old.items + 4 * length nodes.now ≤ 240 }
+    ensures items { text.new.items ≡ text.old.items ++ nodes_text nodes.now }
+    ensures short { length text.new.items ≤ length text.old.items + 4 * length nodes.now }
 {
     for node in nodes {
         push_node(text, *node);
@@ -74,11 +92,23 @@ fn push_nodes(text: &mut BlockText, nodes: &[u8])
 
 /// Says some nodes, each behind a space.
 fn say_block<W: Write>(output: &mut Watched<W>, nodes: &[u8])
-    requires { length nodes.now ≤ 64 }
+    requires { length nodes.now ≤ 60 }
     ensures { Said W.contents output.old output.new (nodes_text nodes.now) }
 {
     let mut text = BlockText::new();
     push_nodes(&mut text, nodes);
+    output.say(text.as_slice());
+}
+
+/// Says a version and few nodes as a line: `v2: 0 1`.
+pub(crate) fn say_few<W: Write>(output: &mut Watched<W>, version: u64, nodes: &[u8])
+    requires { length nodes.now ≤ 48 }
+    ensures { Said W.contents output.old output.new (nodes_answer version nodes.now) }
+{
+    let mut text = BlockText::new();
+    push_version(&mut text, version);
+    push_nodes(&mut text, nodes);
+    text.push(b'\n');
     output.say(text.as_slice());
 }
 

@@ -10,7 +10,7 @@ ghost use Rattle.numa_script.specs.Texts.{nodes_answer, place_name, ranges_answe
 ghost use Rattle.numa_script.specs.Texts.{refused_text, text_of, win_answer, word_text};
 
 use crate::names::{errno_name, list_name, machine_name, place_name, policy_name, refusal_name};
-use crate::nodes::say_each_node;
+use crate::nodes::{FEW, say_each_node, say_few};
 use crate::policy::WordFault;
 use crate::reply::{Reply, Win};
 use line_server::Watched;
@@ -142,6 +142,10 @@ fn say_version<W: Write>(output: &mut Watched<W>, version: u64)
 pub fn say_nodes<W: Write>(output: &mut Watched<W>, version: u64, nodes: &[u8])
     ensures { Said W.contents output.old output.new (nodes_answer version nodes.now) }
 {
+    if nodes.len() <= FEW {
+        say_few(output, version, nodes);
+        return;
+    }
     say_version(output, version);
     say_each_node(output, nodes);
     output.say(b"\n");

@@ -14,7 +14,7 @@ loop-rest-preserved g c =
     let rest : List ℕ = c.loop-rest.rest.now in
     let halves : nodes_text c.split_at.result.0.now ++ nodes_text c.split_at.result.1.now ≡ nodes_text rest =
     (λ i. nodes_text (c.split_at.ensures.front i) ++ nodes_text (c.split_at.ensures.back i))
-    ∙ sym (flat_map-append (λ (node : ℕ). 32 ∷ decimal node) (take 64 rest) (drop 64 rest)) ∙ ap nodes_text (take-append-drop 64 rest) in (
+    ∙ sym (flat_map-append (λ (node : ℕ). 32 ∷ decimal node) (take 60 rest) (drop 60 rest)) ∙ ap nodes_text (take-append-drop 60 rest) in (
       so_far.0 ++ nodes_text c.split_at.result.0.now,
       said_both g.W.Write.contents c.args.output.now c.loop-rest.output c.say_block.new.output _ _ so_far.1 c.say_block.ensures,
       append_assoc so_far.0 (nodes_text c.split_at.result.0.now) (nodes_text c.split_at.result.1.now) ∙ ap (λ t. so_far.0 ++ t) halves ∙ so_far.2,
