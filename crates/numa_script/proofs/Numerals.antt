@@ -1,4 +1,4 @@
-use Rattle.std.specs.Prelude.{◌≡◌, ◌==◌, ℕ, ◌+◌, ◌*◌, ◌^◌, ◌<◌, ◌≤◌, Bool, List, [], ◌∷◌, length, take, drop, Option, Some, None, nat_lt, MatchOption, true, false, cond, refl, ◌++◌, codes, ◌≢◌}
+use Rattle.std.specs.Prelude.{◌≡◌, ◌==◌, ℕ, ◌+◌, ◌*◌, ◌^◌, ◌<◌, ◌≤◌, Bool, List, [], ◌∷◌, length, take, drop, Option, Some, None, nat_lt, MatchOption, true, false, cond, refl, ◌++◌, codes, ◌≢◌, suc}
 use Rattle.std.proofs.Common.{sym, ◌∙◌, ap, arith, get_or, subst, inl, inr}
 use Rattle.std.specs.Char.{is_digit, digit_value}
 use Rattle.std.specs.List.{list_all}
@@ -7,6 +7,7 @@ use Rattle.std.proofs.lemmas.List.Folds.{list_all_at, list_all_more}
 use Rattle.std.proofs.lemmas.Str.Parse.{digits_value-take-le}
 use Rattle.std.proofs.lemmas.Int.Digits.{digits_value_more}
 use Rattle.std.proofs.lemmas.Bool.Decides.{nat_tests}
+use native.Mathlib.Nat.{pow-suc, pow-le-pow_right}
 use Rattle.std.specs.Str.{bytes_eq}
 use Rattle.numa_script.specs.Numbers.{numeral_of, number_of, IsNumber, IsNumeral, fitting, digit_of}
 
@@ -87,6 +88,27 @@ none_long radix most ds h =
     rw e (none_then (length ds == 0))
 
 pub ruleset numeral_steps = (none_empty, none_long, no_digit, too_large, more_digits, all_digits, digits_value_more)
+
+-- sixteen hexadecimal digits always fit
+pub hexadecimal_fits : (i value digit : ℕ) → i < 16 → value < 16 ^ i → digit < 16 → value * 16 + digit < 2 ^ 64
+hexadecimal_fits i value digit lt small one =
+    let few : i ≤ 15 = omega (arith, lt) in
+    let most : 16 ^ i ≤ 16 ^ 15 = pow-le-pow_right (omega arith) few in
+    let room : value < 16 ^ 15 = omega (arith, most, small) in
+    omega (arith, room, one)
+
+pub hexadecimal_more : (i value digit : ℕ) → value < 16 ^ i → digit < 16 → value * 16 + digit < 16 ^ (i + 1)
+hexadecimal_more i value digit small one =
+    let after : i + 1 ≡ suc i = omega arith in
+    let next : 16 ^ (i + 1) ≡ 16 ^ i * 16 = ap (λ k. 16 ^ k) after ∙ pow-suc 16 i in
+    omega (arith, next, small, one)
+
+-- the value of a digit
+pub digit_below : (radix c d : ℕ) → digit_of radix c ≡ Some d → d < radix
+digit_below radix c d h =
+    let is = digit_is radix c d h in
+    let below : digit_value c < radix = grind (arith, nat_tests, is.0) in
+    omega (arith, is.1, below)
 
 match_from : (o : Option ℕ) (P : Type 0) (Q : ℕ → Type 0) → (o ≡ None → P) → ((n : ℕ) → o ≡ Some n → Q n) → MatchOption o P Q
 match_from None P Q none some = none refl

@@ -6,6 +6,9 @@ ghost use Rattle.numa_script.specs.Numbers.{span_pages_of, below, IsNumber};
 
 use numa_space::PAGE_BYTES;
 
+/// The most hexadecimal digits of a number.
+const HEXADECIMAL_DIGITS: usize = 16;
+
 /// The digit that a byte is in the radix.
 #[tactic(auto, unfolding(crate::specs::Numbers::digit_of))]
 fn digit_in(byte: u8, radix: u32) -> Option<u32>
@@ -13,7 +16,14 @@ fn digit_in(byte: u8, radix: u32) -> Option<u32>
     requires high { radix ≤ 36 }
     ensures { result ≡ digit_of radix byte }
 {
-    char::from(byte).to_digit(radix)
+    let digit = match byte {
+        b'0'..=b'9' => byte - b'0',
+        b'A'..=b'Z' => byte - b'A' + 10,
+        b'a'..=b'z' => byte - b'a' + 10,
+        _ => return None,
+    };
+    let digit = u32::from(digit);
+    if digit < radix { Some(digit) } else { None }
 }
 
 /// The number with one more digit, where it fits.
@@ -47,6 +57,25 @@ fn numeral(digits: &[u8], radix: u32, most: usize) -> Option<u64>
     Some(value)
 }
 
+/// The number that the digits write, where they are 1 to 16 hexadecimal digits. It always fits.
+#[tactic(auto, using(crate::proofs::Numerals::numeral_steps))]
+fn hexadecimal(digits: &[u8]) -> Option<u64>
+    ensures { result ≡ numeral_of 16 16 digits.now }
+{
+    if digits.is_empty() {
+        return None;
+    }
+    if digits.len() > HEXADECIMAL_DIGITS {
+        return None;
+    }
+    let mut value = 0u64;
+    for byte in digits {
+        let digit = digit_in(*byte, 16)?;
+        value = value * 16 + u64::from(digit);
+    }
+    Some(value)
+}
+
 /// The number of a word: `0x` and 1 to 16 hexadecimal digits, or 1 to 20 decimal digits, in 64
 /// bits.
 #[tactic(auto, using(crate::proofs::Numerals::number_steps))]
@@ -56,7 +85,7 @@ pub fn number(word: &[u8]) -> Option<u64>
         ((n : ℕ) → IsNumber word.now n → ⊥) (λ n. IsNumber word.now n) }
 {
     match word.strip_prefix(b"0x") {
-        Some(digits) => numeral(digits, 16, 16),
+        Some(digits) => hexadecimal(digits),
         None => numeral(word, 10, 20),
     }
 }
