@@ -325,10 +325,20 @@ fn of_words(mut words: Parts) -> Option<Line>
 }
 
 /// Whether a word of the line has no byte: there are two spaces in a row, or one at an end.
+#[tactic(auto, using(crate::proofs::EmptyWords::empty_words))]
 fn has_empty_word(line: &[u8]) -> bool
     ensures { result ≡ has_empty_word line.now }
 {
-    words(line).any(|word| word.is_empty())
+    let mut start = 0;
+    for place in 0..line.len() {
+        if line[place] == b' ' {
+            if place == start {
+                return true;
+            }
+            start = place + 1;
+        }
+    }
+    start == line.len()
 }
 
 /// What a line says, without its line feed.
