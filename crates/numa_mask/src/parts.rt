@@ -5,7 +5,9 @@ ghost use Rattle.numa_mask.specs.Parts.{parts_of};
 
 use std::marker::Model;
 
-/// Where the byte comes first.
+/// Where the byte comes first. The loop stays a function of its own: where it is part of a larger
+/// one, what that one keeps is written anew for each byte.
+#[inline(never)]
 pub fn first_place(text: &[u8], byte: u8) -> Option<usize>
     ensures { result ≡ position (λ b. b == byte) text.now }
 {
