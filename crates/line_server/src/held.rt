@@ -38,6 +38,7 @@ impl Held {
     }
 
     /// Keeps a text after those that are held, where there is room for it. Whether there is.
+    #[inline(always)]
     pub fn keep(&mut self, text: &[u8]) -> bool
         ensures { self.new ≡ (if result then self.old ++ text.now else self.old) }
     {

@@ -45,6 +45,7 @@ impl<W: Write> Watched<W> {
     }
 
     /// Holds a text back, where there is room for it. Whether there is.
+    #[inline(always)]
     fn keep(&mut self, text: &[u8]) -> bool
         ensures inner { self.new.inner ≡ self.old.inner }
         ensures failed { has_failed self.new ≡ has_failed self.old }
@@ -128,6 +129,16 @@ impl<W: Write> Watched<W> {
         if self.keep(text) {
             return;
         }
+        self.say_past(text);
+    }
+
+    /// Says a text for which there is no room behind what is held back: that goes to the writer
+    /// first.
+    #[cold]
+    #[inline(never)]
+    fn say_past(&mut self, text: &[u8])
+        ensures { Said W.contents self.old self.new text.now }
+    {
         self.flush();
         if self.keep(text) {
             return;

@@ -1,11 +1,7 @@
-use Rattle.std.proofs.Common.{◌∙◌}
-use Rattle.line_server.proofs.Saying.{said_sent, said_unchanged}
+use Rattle.line_server.proofs.Saying.{said_unchanged}
 use Rattle.line_server.proofs.watched.Watched.say.Goals as goal
 
 pub returns : goal.returns
 returns g c =
     let first = said_unchanged g.W.Write.contents c.args.self.now c.keep.new.self c.if-keep.ensures.inner c.if-keep.ensures.failed c.if-keep.ensures.held in
-    let later = said_unchanged g.W.Write.contents c.flush.new.self c.keep-2.new.self c.if-keep-2.ensures.inner c.if-keep-2.ensures.failed c.if-keep-2.ensures.held in
-    said_sent g.W.Write.contents c.args.self.now c.keep-2.new.self c.send.new.self c.args.text.now
-    (λ start said is. later start said (c.flush.ensures.says start said (first start said is)))
-    (c.if-keep-2.ensures.held ∙ c.flush.ensures.empty) c.send.ensures.sent c.send.ensures.held
+    λ start said is. c.say_past.ensures start said (first start said is)
