@@ -6,6 +6,7 @@ pub mod CopyLemmas
 pub mod FollowLemmas
 pub mod GrownLemmas
 pub mod HomeLemmas
+pub mod KnownLemmas
 pub mod Meaning
 pub mod PlanLemmas
 pub mod PutLemmas

@@ -1,6 +1,6 @@
 -- How the runs and tasks of a space become those of a plan.
 use Rattle.std.specs.Prelude.{◌≡◌, ◌≢◌, ◌↔◌, AllPairs, ℕ, ◌⊎◌, Option, Some, None, List, [], ◌∷◌}
-use Rattle.std.specs.Prelude.{◌++◌, length, Contains, slice_get}
+use Rattle.std.specs.Prelude.{◌++◌, length, Contains, slice_get, slice_index_or}
 use Rattle.numa_mode.specs.Policy.{PolicyRecord}
 use Rattle.numa_ranges.specs.declared.run.Run.{Run}
 use Rattle.numa_space.specs.Policies.{where_live}
@@ -14,6 +14,13 @@ use Rattle.numa_compile.specs.Sharing.{AreServed, AreServing, IsUsed}
 abbrev pub IsNumber : (ℕ → Option PolicyRecord) → Option PolicyRecord → Option ℕ → Type 0
 IsNumber at None number = number ≡ None
 IsNumber at (Some r) number = (place : ℕ) × (number ≡ Some place) × (at place ≡ Some r)
+
+-- what is known of a value under its number is a number of a rule for the value
+abbrev pub AreKnown : (ℕ → Option PolicyRecord) → List (Option PolicyRecord)
+    → List (Option (Option ℕ)) → Type 0
+AreKnown at values known = (value : ℕ) (number : Option ℕ)
+    → slice_index_or known value None ≡ Some number
+    → IsNumber at (where_live (slice_index_or values value None)) number
 
 -- the run has the pages and indexes of the range, and the rule of its policy, where that is live
 pub record IsCopy (at : ℕ → Option PolicyRecord) (range : Run (Option PolicyRecord))

@@ -14,7 +14,6 @@ ghost use Rattle.numa_compile.specs.Follows.{Follows};
 ghost use Rattle.numa_compile.specs.Rules.{IsReady};
 ghost use Rattle.numa_compile.specs.Standing.{IsPlanOf, PlanStandsFor};
 
-use crate::guesses::Guesses;
 use crate::numbers::{number_for, number_for_range};
 use crate::rules::local_rule;
 use indexmap::IndexSet;
@@ -108,22 +107,19 @@ fn add_runs(
     ensures tasks { OnOk result (plan.new.tasks ≡ []) }
     ensures room { OnOk result (length records.new.keys ≤ length space.now.ranges) }
 {
-    let mut guesses = Guesses::new();
+    survey(space);
+    let (rows, values) = space.range_rows();
+    let mut known = Vec::new(alloc);
+    known.resize(values.len(), None)?;
     let mut waiting = Vec::with_capacity(alloc, BLOCK)?;
-    for range in space.range_iter() {
+    for row in rows {
         let value = number_for_range(
-            alloc,
-            space,
-            &range.value,
-            plan,
-            records,
-            &mut guesses,
-            steps,
+            alloc, space, values, row.number, plan, records, &mut known, steps,
         )?;
         let run = Run {
-            first: range.first,
-            pages: range.pages,
-            index: range.index,
+            first: row.first,
+            pages: row.pages,
+            index: row.index,
             value,
         };
         add_run(plan, &mut waiting, run, steps)?;

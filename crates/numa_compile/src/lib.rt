@@ -2,7 +2,6 @@
 #![tactic(auto)]
 
 mod compiler;
-mod guesses;
 mod laws;
 mod numbers;
 mod planned;

@@ -1,14 +1,13 @@
 //! The numbers of rules.
-ghost use Rattle.std.specs.Prelude.{◌≡◌, ◌^◌, ◌<◌, Some, IfOk, OnOk, OnSome, length, slice_get};
-ghost use Rattle.std.specs.Prelude.{true};
+ghost use Rattle.std.specs.Prelude.{◌≡◌, ◌^◌, ◌<◌, Some, None, IfOk, OnOk, length, slice_get};
+ghost use Rattle.std.specs.Prelude.{true, slice_index_or};
 ghost use Rattle.std.specs.Option.{ForSome};
 ghost use Rattle.numa_mode.specs.Policy.{is_live};
 ghost use Rattle.numa_space.specs.Policies.{where_live};
 ghost use Rattle.numa_space.specs.Standing.{IsInForce};
-ghost use Rattle.numa_compile.specs.Copies.{Grows, IsNumber, Serves};
+ghost use Rattle.numa_compile.specs.Copies.{AreKnown, Grows, IsNumber, Serves};
 ghost use Rattle.numa_compile.specs.Rules.{IsReady};
 
-use crate::guesses::Guesses;
 use crate::rules::rule_of;
 use indexmap::IndexSet;
 use numa_mode::Record;
@@ -78,48 +77,42 @@ pub(crate) fn number_for(
     Ok(Some(number))
 }
 
-/// The number that is guessed, where its record is that of a range's live policy.
-#[inline]
-fn guessed(records: &IndexSet<Record>, guesses: &Guesses, value: &RangeRecord) -> Option<u32>
-    ensures { OnSome result (IsNumber (slice_get records.now.keys) (where_live value.now) result) }
-{
-    let number = guesses.next();
-    let record: &Record = records.get_index(number as usize)?;
-    let policy = value.policy()?;
-    if record.is_live() && record.is_same(&policy) {
-        Some(number)
-    } else {
-        None
-    }
-}
-
-/// The number of the rule of a range's policy, and none for one that isn't live or isn't there. A
-/// policy that is guessed isn't looked up.
+/// The number of the rule of the policy under a number of the space's records, and none for one that
+/// isn't live or isn't there. What was found once under a number is known from then on.
 pub(crate) fn number_for_range(
     alloc: Global,
     space: &Space,
-    value: &RangeRecord,
+    values: &[RangeRecord],
+    value: u32,
     plan: &mut Plan,
     records: &mut IndexSet<Record>,
-    guesses: &mut Guesses,
+    known: &mut Vec<Option<Option<u32>>>,
     steps: &mut Steps,
 ) -> Result<Option<u32>, NoMemory>
     requires ready { IsReady space.now }
-    requires in_force { ForSome value.now (IsInForce space.now.machine space.now.allowed) }
+    requires within { value < length values.now }
+    requires size { length known.old.items ≡ length values.now }
+    requires in_force { ForSome (slice_index_or values.now value None)
+        (IsInForce space.now.machine space.now.allowed) }
     requires nodes { plan.old.nodes ≡ space.now.machine.nodes }
     requires serves { Serves space.now plan.old records.old.keys }
     requires room { length records.old.keys < 2 ^ 32 }
-    ensures number { IfOk result (λ number.
-        IsNumber (slice_get records.new.keys) (where_live value.now) number) }
+    requires known { AreKnown (slice_get records.old.keys) values.now known.old.items }
+    ensures number { IfOk result (λ number. IsNumber (slice_get records.new.keys)
+        (where_live (slice_index_or values.now value None)) number) }
     ensures serves { OnOk result (Serves space.now plan.new records.new.keys) }
-    ensures grows { OnOk result (Grows records.old.keys value.now records.new.keys) }
+    ensures grows { OnOk result (Grows records.old.keys (slice_index_or values.now value None)
+        records.new.keys) }
     ensures rest { OnOk result (plan.new ≡ record plan.old { slots = plan.new.slots }) }
+    ensures size { length known.new.items ≡ length values.now }
+    ensures known { OnOk result
+        (AreKnown (slice_get records.new.keys) values.now known.new.items) }
 {
-    if let Some(number) = guessed(records, guesses, value) {
-        guesses.came(number);
-        return Ok(Some(number));
+    if let Some(number) = known[value as usize] {
+        return Ok(number);
     }
-    let number = number_for(alloc, space, value.policy(), plan, records, steps)?;
-    guesses.came(number.unwrap_or(0));
+    let policy = values[value as usize].policy();
+    let number = number_for(alloc, space, policy, plan, records, steps)?;
+    known[value as usize] = Some(number);
     Ok(number)
 }
