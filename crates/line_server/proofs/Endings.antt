@@ -3,7 +3,7 @@ use Rattle.std.specs.Prelude.{◌≡◌, ℕ, ◌++◌, Bool, true, false, Optio
 use Rattle.std.proofs.Common.{sym, ◌∙◌, ap, subst}
 use Rattle.std.proofs.lemmas.List.{append-nil}
 use Rattle.std.specs.Io.KnownBytes.{Appends}
-use Rattle.line_server.specs.Lines.{lines_of, ended}
+use Rattle.line_server.specs.Lines.{lines_of, ended_lines}
 use Rattle.line_server.specs.Output.{SeesEnough, answers, on_seen, output_of}
 use Rattle.line_server.specs.Progress.{Progress, among}
 use Rattle.line_server.specs.Watching.{has_failed, held_in, unsent}
@@ -48,8 +48,8 @@ module _ {State W : Type 0} (contents : W → Option (List ℕ)) (answer_of : Bo
 
   -- the lines that had ended were answered
   pub answered_so_far : (from now : Watched W) (line front : List ℕ) → Progress contents answer_of after start stands from now line front
-      → (refused : ℕ → Bool) × Said contents from now (answers answer_of after refused start (ended front))
-  answered_so_far from now line front so_far = (among so_far.flags, subst (Said contents from now) (answers_seen (among so_far.flags) (ended front)) so_far.says)
+      → (refused : ℕ → Bool) × Said contents from now (answers answer_of after refused start (ended_lines front))
+  answered_so_far from now line front so_far = (among so_far.flags, subst (Said contents from now) (answers_seen (among so_far.flags) (ended_lines front)) so_far.says)
 
   -- the script was answered to its end
   pub answered_to_end : (from now : Watched W) (line front script : List ℕ) → script ≡ front → Progress contents answer_of after start stands from now line (front ++ 10 ∷ [])

@@ -2,7 +2,7 @@
 use Rattle.std.specs.Prelude.{◌≡◌, ℕ, ◌+◌, ◌++◌, Bool, Option, List, [], ◌∷◌, length, refl}
 use Rattle.std.proofs.Common.{sym, ◌∙◌, ap, subst, append_assoc, length-append}
 use Rattle.std.proofs.lemmas.List.{append-nil}
-use Rattle.line_server.specs.Lines.{IsPiece, ended, open_line, seen}
+use Rattle.line_server.specs.Lines.{IsPiece, ended_lines, open_line, seen}
 use Rattle.line_server.specs.Output.{answers, on_seen, state_after}
 use Rattle.line_server.specs.Progress.{Progress, among}
 use Rattle.line_server.specs.Written.{Said, SaidNothing}
@@ -40,18 +40,18 @@ module _ {State W : Type 0} (contents : W → Option (List ℕ)) (answer_of : Bo
       Progress contents answer_of after start stands from now line front → Progress contents answer_of after start later from then [] (front ++ 10 ∷ [])
   unfolding all reached_by
   progress_feed stands later from now then line said front is serves so_far =
-      let lines : List (List ℕ) = ended front in
+      let lines : List (List ℕ) = ended_lines front in
       let last : List ℕ = open_line front in
       let state : State = reached_by (among so_far.flags) lines in
       let given : said ≡ seen last = is ∙ so_far.line_is in
       let served = serves state so_far.reached in
       let flag : Bool = served.0 in
       let flags : List Bool = so_far.flags ++ flag ∷ [] in
-      let grown : ended (front ++ 10 ∷ []) ≡ lines ++ last ∷ [] = ended_feed front in
-      let answered : all (among flags) (ended (front ++ 10 ∷ [])) ≡ all (among so_far.flags) lines ++ answer_of flag state said =
+      let grown : ended_lines (front ++ 10 ∷ []) ≡ lines ++ last ∷ [] = ended_feed front in
+      let answered : all (among flags) (ended_lines (front ++ 10 ∷ [])) ≡ all (among so_far.flags) lines ++ answer_of flag state said =
       ap (all (among flags)) grown ∙ answers_more (on_seen answer_of) (on_seen after) so_far.flags flag start lines last so_far.count
       ∙ ap (λ l. all (among so_far.flags) lines ++ answer_of flag state l) (sym given) in
-      let moved : reached_by (among flags) (ended (front ++ 10 ∷ [])) ≡ after flag state said =
+      let moved : reached_by (among flags) (ended_lines (front ++ 10 ∷ [])) ≡ after flag state said =
       ap (reached_by (among flags)) grown ∙ state_more (on_seen answer_of) (on_seen after) so_far.flags flag start lines last so_far.count ∙ ap (after flag state) (sym given) in
       record {
         flags = flags;
@@ -66,7 +66,7 @@ module _ {State W : Type 0} (contents : W → Option (List ℕ)) (answer_of : Bo
       ((l : List ℕ) → line ≡ seen l → more ≡ seen (l ++ piece)) →
       Progress contents answer_of after start stands from now line front → Progress contents answer_of after start stands from now more (front ++ piece)
   progress_hold stands from now line more front piece other holds so_far =
-      let same : ended (front ++ piece) ≡ ended front = ended_piece front piece other in
+      let same : ended_lines (front ++ piece) ≡ ended_lines front = ended_piece front piece other in
       record {
         flags = so_far.flags;
         count = so_far.count ∙ ap length (sym same);

@@ -4,7 +4,7 @@ use Prim.Native.Nat.{suc}
 use Rattle.std.proofs.Common.{sym, ◌∙◌, ap, arith, append_assoc}
 use Rattle.std.proofs.lemmas.List.{append-nil}
 use Rattle.std.specs.List.{onto_first}
-use Rattle.line_server.specs.Lines.{IsPiece, lines_of, all_but_last, last_of, ended, open_line}
+use Rattle.line_server.specs.Lines.{IsPiece, lines_of, all_but_last, last_of, ended_lines, open_line}
 
 data IsCons : List (List ℕ) → Type 0 where
   is_cons : (p : List ℕ) (ps : List (List ℕ)) → IsCons (p ∷ ps)
@@ -63,20 +63,20 @@ whole [] h = elim h [ ]
 whole (p ∷ []) h = refl
 whole (p ∷ q ∷ qs) h = ap (λ k. p ∷ k) (whole (q ∷ qs) (is_cons q qs))
 
-pub ended_all : (bs : List ℕ) → ended (bs ++ 10 ∷ []) ≡ lines_of bs
-unfolding ended
+pub ended_all : (bs : List ℕ) → ended_lines (bs ++ 10 ∷ []) ≡ lines_of bs
+unfolding ended_lines
 ended_all bs = ap all_but_last (lines_feed bs) ∙ front_of_push (lines_of bs) []
 
-pub ended_feed : (bs : List ℕ) → ended (bs ++ 10 ∷ []) ≡ ended bs ++ open_line bs ∷ []
-unfolding ended open_line
+pub ended_feed : (bs : List ℕ) → ended_lines (bs ++ 10 ∷ []) ≡ ended_lines bs ++ open_line bs ∷ []
+unfolding ended_lines open_line
 ended_feed bs = ended_all bs ∙ whole (lines_of bs) (lines_cons bs)
 
 pub open_feed : (bs : List ℕ) → open_line (bs ++ 10 ∷ []) ≡ []
 unfolding open_line
 open_feed bs = ap last_of (lines_feed bs) ∙ last_of_push (lines_of bs) []
 
-pub ended_hold : (bs : List ℕ) (b : ℕ) → (b == 10) ≡ false → ended (bs ++ b ∷ []) ≡ ended bs
-unfolding ended
+pub ended_hold : (bs : List ℕ) (b : ℕ) → (b == 10) ≡ false → ended_lines (bs ++ b ∷ []) ≡ ended_lines bs
+unfolding ended_lines
 ended_hold bs b h = ap all_but_last (lines_hold bs b h) ∙ front_of_push _ _
 
 pub open_hold : (bs : List ℕ) (b : ℕ) → (b == 10) ≡ false → open_line (bs ++ b ∷ []) ≡ open_line bs ++ b ∷ []
@@ -86,10 +86,10 @@ open_hold bs b h = ap last_of (lines_hold bs b h) ∙ last_of_push (all_but_last
 piece_tail : (b : ℕ) (piece : List ℕ) → IsPiece (b ∷ piece) → IsPiece piece
 piece_tail b piece h = λ k lt. h (suc k) (omega (arith, lt))
 
-pub ended_piece : (bs piece : List ℕ) → IsPiece piece → ended (bs ++ piece) ≡ ended bs
-ended_piece bs [] h = ap ended (append-nil bs)
+pub ended_piece : (bs piece : List ℕ) → IsPiece piece → ended_lines (bs ++ piece) ≡ ended_lines bs
+ended_piece bs [] h = ap ended_lines (append-nil bs)
 ended_piece bs (b ∷ piece) h =
-    ap ended (sym (append_assoc bs (b ∷ []) piece)) ∙ ended_piece (bs ++ b ∷ []) piece (piece_tail b piece h) ∙ ended_hold bs b (h 0 (omega arith))
+    ap ended_lines (sym (append_assoc bs (b ∷ []) piece)) ∙ ended_piece (bs ++ b ∷ []) piece (piece_tail b piece h) ∙ ended_hold bs b (h 0 (omega arith))
 
 pub open_piece : (bs piece : List ℕ) → IsPiece piece → open_line (bs ++ piece) ≡ open_line bs ++ piece
 open_piece bs [] h = ap open_line (append-nil bs) ∙ sym (append-nil (open_line bs))
@@ -97,8 +97,8 @@ open_piece bs (b ∷ piece) h =
     ap open_line (sym (append_assoc bs (b ∷ []) piece)) ∙ open_piece (bs ++ b ∷ []) piece (piece_tail b piece h)
     ∙ ap (λ l. l ++ piece) (open_hold bs b (h 0 (omega arith))) ∙ append_assoc (open_line bs) (b ∷ []) piece
 
-pub ended_nil : ended [] ≡ []
-unfolding ended
+pub ended_nil : ended_lines [] ≡ []
+unfolding ended_lines
 ended_nil = refl
 
 pub open_nil : open_line [] ≡ []

@@ -18,8 +18,8 @@ last_of (line ∷ []) = line
 last_of (line ∷ next ∷ lines) = last_of (next ∷ lines)
 
 -- the lines that a line feed has ended in the bytes, and the line that is open
-unfoldable pub ended : List ℕ → List (List ℕ)
-ended bytes = all_but_last (lines_of bytes)
+unfoldable pub ended_lines : List ℕ → List (List ℕ)
+ended_lines bytes = all_but_last (lines_of bytes)
 
 unfoldable pub open_line : List ℕ → List ℕ
 open_line bytes = last_of (lines_of bytes)

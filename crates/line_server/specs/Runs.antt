@@ -2,7 +2,7 @@
 -- `contents` those that a writer has taken, where they are known.
 use Rattle.std.specs.Prelude.{◌≡◌, ℕ, ◌+◌, ◌⊎◌, Bool, true, false, Option, List}
 use Rattle.std.specs.Io.KnownBytes.{Consumes, IsAtEnd, Keeps}
-use Rattle.line_server.specs.Lines.{ended}
+use Rattle.line_server.specs.Lines.{ended_lines}
 use Rattle.line_server.specs.Output.{answers, output_of}
 use Rattle.line_server.specs.Watching.{has_failed, read_count}
 use Rattle.line_server.specs.Written.{Wrote, WroteFront}
@@ -33,7 +33,7 @@ module _ {State R W : Type 0} (remaining : R → Option (List ℕ)) (contents : 
     pub refused : ℕ → Bool
     pub read : Consumes (remaining input.inner) (remaining input_then.inner) front
     pub written : Wrote contents output output_then
-        (answers answer_of after refused start (ended front))
+        (answers answer_of after refused start (ended_lines front))
     pub cause : (has_failed input_then ≡ true)
         ⊎ (read_count input_then ≡ read_count input + most_reads)
     pub output_is_sound : has_failed output_then ≡ false
@@ -45,7 +45,7 @@ module _ {State R W : Type 0} (remaining : R → Option (List ℕ)) (contents : 
     pub refused : ℕ → Bool
     pub read : Consumes (remaining input.inner) (remaining input_then.inner) front
     pub written : WroteFront contents output output_then
-        (answers answer_of after refused start (ended front))
+        (answers answer_of after refused start (ended_lines front))
         ⊎ (IsAtEnd (remaining input_then.inner) × WroteFront contents output output_then
         (output_of answer_of after start refused front))
     pub input_is_sound : has_failed input_then ≡ false

@@ -28,23 +28,15 @@ impl<S: Serve + Drop> Engine<S> {
         Ok(Engine { server, line })
     }
 
-    /// Answers the open line, and opens the next.
-    fn end_line<W: Write>(&mut self, alloc: Global, output: &mut Watched<W>)
-        ensures { Takes W.contents S.answer_of S.after S.start S.stands_for
-            output.old self.old output.new self.new (10 ∷ []) }
-    {
-        self.server.serve(alloc, self.line.bytes(), output);
-        self.line.clear();
-    }
-
     /// Takes the last bytes of the open line, answers it, and opens the next.
-    fn end_with<W: Write>(&mut self, alloc: Global, bytes: &[u8], output: &mut Watched<W>)
+    fn end_line<W: Write>(&mut self, alloc: Global, bytes: &[u8], output: &mut Watched<W>)
         requires piece { IsPiece bytes.now }
         ensures { Takes W.contents S.answer_of S.after S.start S.stands_for
             output.old self.old output.new self.new (bytes.now ++ 10 ∷ []) }
     {
         self.line.hold(bytes);
-        self.end_line(alloc, output);
+        self.server.serve(alloc, self.line.bytes(), output);
+        self.line.clear();
     }
 
     /// Answers the lines that end in the bytes.
@@ -54,7 +46,7 @@ impl<S: Serve + Drop> Engine<S> {
     {
         let mut rest = bytes;
         while let Some(end) = memchr(b'\n', rest) {
-            self.end_with(alloc, &rest[..end], output);
+            self.end_line(alloc, &rest[..end], output);
             rest = &rest[end + 1..];
         }
         self.line.hold(rest);
@@ -89,7 +81,7 @@ impl<S: Serve + Drop> Engine<S> {
         ensures ok { OnOk result (has_failed output.new ≡ false) }
         ensures err { OnErr result (has_failed output.new ≡ true) }
     {
-        self.end_line(alloc, output);
+        self.end_line(alloc, &[], output);
         output.hand_over()
     }
 }

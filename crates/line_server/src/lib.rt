@@ -5,7 +5,6 @@
 mod engine;
 mod held;
 pub mod run;
-mod say;
 pub mod serve;
 pub mod watched;
 

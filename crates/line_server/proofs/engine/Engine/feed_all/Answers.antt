@@ -14,8 +14,8 @@ pub loop-end-preserved : goal.loop-end-preserved
 loop-end-preserved g c =
     let line : List ℕ = take c.in-Some.end c.loop-end.rest.now in (
       c.loop-end.invariant.0 ++ (line ++ 10 ∷ []),
-      takes_both g.W.Write.contents g.S.Serve.answer_of g.S.Serve.after g.S.Serve.start (g.S.Serve.stands_for c.args.self.now.server) (g.S.Serve.stands_for c.loop-end.self.server) (g.S.Serve.stands_for c.end_with.new.self.server)
-          c.args.output.now c.loop-end.output c.end_with.new.output c.args.self.now.line c.loop-end.self.line c.end_with.new.self.line c.loop-end.invariant.0 (line ++ 10 ∷ []) c.loop-end.invariant.1 c.end_with.ensures,
+      takes_both g.W.Write.contents g.S.Serve.answer_of g.S.Serve.after g.S.Serve.start (g.S.Serve.stands_for c.args.self.now.server) (g.S.Serve.stands_for c.loop-end.self.server) (g.S.Serve.stands_for c.end_line.new.self.server)
+          c.args.output.now c.loop-end.output c.end_line.new.output c.args.self.now.line c.loop-end.self.line c.end_line.new.self.line c.loop-end.invariant.0 (line ++ 10 ∷ []) c.loop-end.invariant.1 c.end_line.ensures,
       cut_at c.in-Some.end c.args.bytes.now c.loop-end.invariant.0 c.loop-end.rest.now c.in-Some.ensures.0.high c.in-Some.ensures.1 c.loop-end.invariant.2,
     )
 
