@@ -1,10 +1,10 @@
 -- Turns of a cycle, by the table that it is kept in.
-use Rattle.std.proofs.Common.{◌≡◌, ℕ, ◌+◌, ◌-◌, ◌<◌, ◌≤◌, ◌%◌, List, length, get_or, take, ap, sym, ◌∙◌, arith, inl, inr}
+use Rattle.std.proofs.Common.{◌≡◌, ℕ, ◌+◌, ◌-◌, ◌<◌, ◌≤◌, ◌%◌, List, length, get_or, take, drop, ap, sym, ◌∙◌, arith, inl, inr}
 use Rattle.std.specs.Simd.Lanes.{chunk, put_chunk}
 use Rattle.std.proofs.Math.Nat.{add-mod, mod-add-mod, mod-eq_of_lt}
 use Rattle.std.proofs.lemmas.Bool.{cases_lt}
 use Rattle.std.proofs.lemmas.Nat.{mod_below}
-use Rattle.std.proofs.lemmas.List.{get_or-take, length-take-le}
+use Rattle.std.proofs.lemmas.List.{get_or-take, get_or-drop, length-take, length-take-le}
 use Rattle.std.proofs.lemmas.Grind.{same_number_lists}
 use Rattle.std.proofs.lemmas.Simd.{length-chunk, get_or-chunk, get_or-put_chunk_below, get_or-put_chunk_at}
 
@@ -48,3 +48,16 @@ pub turn_of_front : (table cycle : List ℕ) (len turn : ℕ) → 0 < len → le
 turn_of_front table cycle len turn some long front =
     let wide : length cycle ≡ len = sym (ap length front) ∙ length-take-le len table (omega arith) in
     sym (get_or-take len table (turn % len) 0 (omega (arith, mod_below turn len some))) ∙ ap (λ l. get_or l (turn % len) 0) front ∙ ap (λ n. get_or cycle (turn % n) 0) (sym wide)
+
+-- turns that follow one another stand so in the table
+pub turns_at : (table cycle : List ℕ) (len start count : ℕ) → 0 < len → length table ≡ len + 64 → ((i : ℕ) → i < len + 64 → get_or table i 0 ≡ get_or table (i % len) 0) → take len table ≡ cycle → count ≤ 64
+    → (k : ℕ) → k < length (take (start % len + count - start % len) (drop (start % len) table)) → get_or (take (start % len + count - start % len) (drop (start % len) table)) k 0 ≡ get_or cycle ((start + k) % length cycle) 0
+turns_at table cycle len start count some long again front few k lt =
+    let low : start % len < len = mod_below start len some in
+    let short : length (take (start % len + count - start % len) (drop (start % len) table)) ≤ start % len + count - start % len = simp length-take (omega arith) in
+    let size : k < start % len + count - start % len = omega (arith, lt, short) in
+    get_or-take (start % len + count - start % len) (drop (start % len) table) k 0 size
+    ∙ get_or-drop (start % len) table k 0
+    ∙ again (start % len + k) (omega (arith, low, size))
+    ∙ ap (λ n. get_or table n 0) (mod-add-mod start len k)
+    ∙ turn_of_front table cycle len (start + k) some long front

@@ -7,7 +7,8 @@ use crate::ends::near_ends;
 use crate::lanes::{LANES, ROUNDS, WORTH};
 
 /// Adds to each node's count the pages of a span that are on it, one page after another.
-fn tally(span: &[u8], counts: &mut [u64; 256])
+#[inline]
+pub fn tally(span: &[u8], counts: &mut [u64; 256])
     requires { (node : ℕ) → node < 256 →
         slice_index counts.old node + counted node span.now < 2 ^ 64 }
     ensures { Adds span.now counts.old counts.new }

@@ -51,6 +51,27 @@ impl Cycle {
         }
         Ok(Cycle { len, table })
     }
+
+    /// Its entries.
+    #[inline]
+    pub fn nodes(&self) -> &[u8]
+        ensures is { result.now ≡ self.now }
+        ensures some { 0 < length result.now }
+    {
+        &self.table[..self.len]
+    }
+
+    /// The nodes of so many turns from one on, at most 64. Turn t is that of entry t modulo the
+    /// cycle's length.
+    #[inline]
+    pub fn turns(&self, start: u64, count: usize) -> &[u8]
+        requires { count ≤ 64 }
+        ensures size { length result.now ≡ count }
+        ensures nodes { cycled self.now start result.now }
+    {
+        let turn = (start % self.len as u64) as usize;
+        &self.table[turn..turn + count]
+    }
 }
 
 /// The turn that comes so many turns after another, as places of a cycle of this length.
@@ -89,6 +110,10 @@ pub fn fill_cycle(cycle: &Cycle, start: u64, out: &mut [u8])
     requires { start < 2 ^ 36 }
     ensures { cycled cycle.now start out.new }
 {
+    if out.len() <= WIDE {
+        out.copy_from_slice(cycle.turns(start, out.len()));
+        return;
+    }
     let len = cycle.len;
     let table = cycle.table.as_slice();
     let done = fill_vectors(table, len, start as usize, out);
