@@ -1,11 +1,11 @@
 -- LOCAL has no node.
 use Rattle.std.proofs.Common.{◌≡◌, ℕ, true, refl}
 use Rattle.numa_mask.specs.NodeSet.{members, remap_set}
-use Rattle.numa_mode.specs.Policy.{Specification, is_local, is_local_mode, kept, given_nodes, effect_when_set}
+use Rattle.numa_mode.specs.Policy.{Specification, is_local, is_local_mode, kept_nodes, given_nodes, effect_when_set}
 use Rattle.numa_mode.specs.declared.modes.Mode.{Mode}
 use Rattle.numa_mode.specs.declared.modes.Mode.TheVariants.{Default, Preferred, Bind, Interleave, Local, PreferredMany, WeightedInterleave}
 
-kept-local : (mode : Mode) (set : ℕ) → is_local_mode mode ≡ true → kept mode set ≡ 0
+kept-local : (mode : Mode) (set : ℕ) → is_local_mode mode ≡ true → kept_nodes mode set ≡ 0
 kept-local Default set h = cc
 kept-local Preferred set h = cc
 kept-local Bind set h = cc

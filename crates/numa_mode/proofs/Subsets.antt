@@ -9,7 +9,7 @@ use Rattle.std.proofs.lemmas.Nat.Bits.{bit_at_and, bit_at_or, bit_at-lt, bit_at-
 use Rattle.std.proofs.lemmas.List.Elements.{All-map, All-take, All-from_recursion, recursion_from_All, filter_passes}
 use Rattle.std.proofs.lemmas.Option.{slice_get_within, get_or_from_slice_get}
 use Rattle.numa_mask.specs.NodeSet.{has, members, weight_of, nth_member, ordinal_of, with_node, set_of, both, fold_set, onto_set, moved, remap_set}
-use Rattle.numa_mode.specs.Policy.{Specification, lowest, kept, given_nodes, effect_when_set, effect_by_flag, effect_after}
+use Rattle.numa_mode.specs.Policy.{Specification, lowest, kept_nodes, given_nodes, effect_when_set, effect_by_flag, effect_after}
 use Rattle.numa_mode.specs.declared.modes.Mode.{Mode}
 use Rattle.numa_mode.specs.declared.modes.Mode.TheVariants.{Default, Preferred, Bind, Interleave, Local, PreferredMany, WeightedInterleave}
 use Rattle.numa_mode.specs.declared.modes.NodeFlag.{NodeFlag}
@@ -90,7 +90,7 @@ remap-within set old new some inside =
     let each : All (λ n. P (moved old new n)) (members set) = λ k d within. moved-within old new (get_or (members set) k d) some (inside (get_or (members set) k d) (members-within set k d within)) in
     set_of-within new (map (moved old new) (members set)) (All-map P (moved old new) (members set) each)
 
-kept-within : (mode : Mode) (set : ℕ) → IsWithin (kept mode set) set
+kept-within : (mode : Mode) (set : ℕ) → IsWithin (kept_nodes mode set) set
 kept-within Default set node member = member
 kept-within Preferred set node member = lowest-within set node member
 kept-within Bind set node member = member

@@ -199,10 +199,10 @@ abbrev pub lowest : ℕ → ℕ
 lowest set = set_of (take 1 (members set))
 
 -- PREFERRED has one node, LOCAL none
-abbrev pub kept : Mode → ℕ → ℕ
-kept Preferred set = lowest set
-kept Local set = 0
-kept _ set = set
+abbrev pub kept_nodes : Mode → ℕ → ℕ
+kept_nodes Preferred set = lowest set
+kept_nodes Local set = 0
+kept_nodes _ set = set
 
 -- the nodes that a flag gives to a mask, within the allowed nodes
 abbrev pub given_nodes : NodeFlag → ℕ → ℕ → ℕ
@@ -212,7 +212,7 @@ given_nodes Relative mask allowed = onto_set (fold_set mask (weight_of allowed))
 
 -- the effective set of a policy that is set where these nodes are allowed
 abbrev pub effect_when_set : Specification → ℕ → ℕ
-effect_when_set spec allowed = kept spec.mode (given_nodes spec.flag spec.mask allowed)
+effect_when_set spec allowed = kept_nodes spec.mode (given_nodes spec.flag spec.mask allowed)
 
 -- with a flag the mask is read again, without one the nodes that stand move
 abbrev pub effect_by_flag : NodeFlag → Specification → ℕ → ℕ → ℕ → ℕ

@@ -1,7 +1,7 @@
 //! The effective set of a policy that is set.
 ghost use Rattle.std.specs.Prelude.{◌≡◌, ◌<◌};
 ghost use Rattle.numa_mask.specs.NodeSet.{weight_of};
-ghost use Rattle.numa_mode.specs.Policy.{lowest, kept, given_nodes, effect_when_set};
+ghost use Rattle.numa_mode.specs.Policy.{lowest, kept_nodes, given_nodes, effect_when_set};
 ghost use Rattle.numa_mode.specs.Within.{IsWithin};
 
 use crate::modes::{Mode, NodeFlag};
@@ -34,7 +34,7 @@ fn given(flag: NodeFlag, mask: &NodeMask, allowed: &NodeMask, size: u32) -> Node
 
 /// What a mode keeps of the nodes that it is given.
 fn kept_by(mode: Mode, set: NodeMask) -> NodeMask
-    ensures kept { result ≡ kept mode set }
+    ensures kept { result ≡ kept_nodes mode set }
     ensures within { IsWithin result set }
 {
     match mode {
