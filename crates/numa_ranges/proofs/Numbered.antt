@@ -1,5 +1,5 @@
 -- Runs whose values stand under numbers: what is done to their rows is done to them.
-use Rattle.std.proofs.Common.{◌≡◌, ℕ, zero, suc, ◌+◌, ◌<◌, ◌≤◌, Some, List, [], ◌∷◌, ◌++◌, length, map, take, drop, get_or, refl, sym, ap, subst, ◌∙◌, arith}
+use Rattle.std.proofs.Common.{◌≡◌, ℕ, zero, suc, ◌+◌, ◌-◌, ◌<◌, ◌≤◌, Some, List, [], ◌∷◌, ◌++◌, length, map, take, drop, get_or, refl, sym, ap, subst, ◌∙◌, arith}
 use Rattle.std.proofs.Math.ListN.{set}
 use Rattle.std.specs.Prelude.{slice_get, Result, Ok, Err, OnErr}
 use Rattle.std.specs.List.{AllWithin, splice}
@@ -193,6 +193,13 @@ module _ {T : Type 0} where
         λ k d a b. omega (arith, low k none a b, first-at values rows k none d numbered (omega arith)),
         λ k d a b. omega (arith, high k none a (omega (arith, size)), first-at values rows k none d numbered (omega (arith, size))),
       )
+
+  -- two rows beside each other tell where those end that start at a page or before it
+  pub starts-beside : (values : List T) (rows : List Row) (count page : ℕ) → AreNumbered values rows → AreApart 0 (runs_of values rows) → 0 < count → count < length rows → ((d : Row) → (get_or rows (count - 1) d).first ≤ page) → ((d : Row) → page < (get_or rows count d).first) → StartsAround (runs_of values rows) count page
+  starts-beside values rows count page numbered apart some within before behind =
+      starts-around values rows count page numbered (omega arith)
+      (λ k d low high. omega (arith, rows-rising values rows numbered apart k (count - 1) d (omega arith) (omega arith), before d))
+      (λ k d low high. omega (arith, rows-rising values rows numbered apart count k d low high, behind d))
 
   -- ---- one more row
 

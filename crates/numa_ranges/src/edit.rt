@@ -29,7 +29,7 @@ pub(crate) fn gather_edited<T: Exact, F: Fn(&T) -> Option<T>>(
         → Gathered T.eq result (edited first end change (take count rest.old)) }
     ensures count { result.count ≤ 3 * count }
 {
-    let mut pieces = Pieces::new(alloc);
+    let mut pieces = Pieces::new(alloc, count + 2);
     for k in 0..count {
         let Some(run) = rest.next() else {
             unreachable!()

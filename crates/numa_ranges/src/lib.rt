@@ -13,6 +13,7 @@
 #![tactic(auto)]
 
 mod edit;
+mod even;
 mod exact;
 mod fault;
 mod join;

@@ -1,4 +1,5 @@
 //! Runs, joined as they are gathered.
+ghost use Rattle.std.specs.Prelude.{◌≡◌, []};
 ghost use Rattle.std.specs.Option.{ForSome};
 ghost use Rattle.numa_ranges.specs.Edits.{IsInRange};
 
@@ -29,13 +30,14 @@ impl<T: Exact> Pieces<T> {
     ghost use Rattle.numa_ranges.specs.declared.fault.RangeFault.TheVariants.{TooManyRanges};
     ghost use Rattle.numa_ranges.specs.declared.fault.RangeFault.TheVariants.{NoMemory};
 
-    /// No runs.
-    pub(crate) fn new(alloc: Global) -> Pieces<T>
+    /// No runs, with room for so many where there is memory for it.
+    pub(crate) fn new(alloc: Global, room: usize) -> Pieces<T>
         ensures gathered { Gathered T.eq result [] }
         ensures count { result.count ≡ 0 }
     {
+        let closed = with_room(alloc, room);
         Pieces {
-            closed: Vec::new(alloc),
+            closed,
             open_run: None,
             count: 0,
             is_refused: false,
@@ -136,4 +138,14 @@ impl<T: Exact> Pieces<T> {
             self.is_refused = true;
         }
     }
+}
+
+/// A vector without items, with room for so many where there is memory for it.
+fn with_room<T: Copy + Drop>(alloc: Global, room: usize) -> Vec<T>
+    ensures { result.items ≡ [] }
+{
+    let Ok(items) = Vec::with_capacity(alloc, room) else {
+        return Vec::new(alloc);
+    };
+    items
 }

@@ -38,13 +38,15 @@ use std::marker::Model;
 /// The ranges stand in one sorted list in chunks, and their values in a list of their own, so that
 /// an edit moves few bytes. A call over a span finds its first range by one search, works on the
 /// ranges that it touches and one or two more on each side, judges their number, and edits one
-/// chunk or a few.
+/// chunk or a few. Where the last edit was is kept, since the next is often beside it: nothing
+/// depends on it but time.
 #[derive(Drop)]
 pub struct RangeMap<T: Exact> {
     runs: Runs<T>,
     alloc: Global,
     max_ranges: u32,
     near: usize,
+    edited: usize,
 }
 
 impl<T: Exact> Model for RangeMap<T> {
@@ -72,6 +74,7 @@ impl<T: Exact> RangeMap<T> {
             alloc,
             max_ranges,
             near: 0,
+            edited: 0,
         }
     }
 
@@ -88,6 +91,7 @@ impl<T: Exact> RangeMap<T> {
             alloc: self.alloc,
             max_ranges: self.max_ranges,
             near: self.near,
+            edited: self.edited,
         })
     }
 
@@ -135,7 +139,13 @@ impl<T: Exact> RangeMap<T> {
         if place >= self.runs.len() {
             return None;
         }
-        Some(self.runs.get(place))
+        Some(self.runs.get_near(place, self.near))
+    }
+
+    /// Beside which place the last edit was: a guess at where the ranges stand that it has changed.
+    /// Nothing depends on it but time.
+    pub fn edited_place(&self) -> usize {
+        self.edited
     }
 
     /// The index and the value of a page, where it is mapped. The search is binary.
@@ -213,13 +223,14 @@ impl<T: Exact> RangeMap<T> {
     {
         let from = place.saturating_sub(1);
         let to = self.runs.len().min(place + 1);
-        let mut pieces = Pieces::new(self.alloc);
+        let mut pieces = Pieces::new(self.alloc, to - from + 1);
         let mut rest = self.runs.iter_near(from, near);
         add_all(&mut pieces, &mut rest, place - from);
         pieces.add(run);
         add_all(&mut pieces, &mut rest, to - place);
         pieces.put(&mut self.runs, from, to, self.max_ranges, near)?;
         self.near = near;
+        self.edited = place;
         Ok(())
     }
 
@@ -380,6 +391,7 @@ impl<T: Exact> RangeMap<T> {
         let pieces = gather_edited(self.alloc, &mut rest, to - from, first, end, edit);
         pieces.put(&mut self.runs, from, to, self.max_ranges, near)?;
         self.near = near;
+        self.edited = place;
         Ok(())
     }
 

@@ -7,6 +7,7 @@ ghost use Rattle.numa_ranges.specs.Runs.{AreApart};
 ghost use Rattle.numa_ranges.specs.Edits.{IsInRange, StartsAround, joined, revalued};
 ghost use Rattle.numa_ranges.specs.Numbered.{AreNumbered, IsLonger, runs_of};
 
+use crate::even::starts_beside;
 use crate::exact::Exact;
 use crate::join::join_in_place;
 use crate::range_iter::RangeIter;
@@ -90,6 +91,19 @@ impl<T: Exact> Runs<T> {
         with_value(self.values.items(), row)
     }
 
+    /// The run of a rank. `near` is a guess at its chunk.
+    #[inline]
+    pub(crate) fn get_near(&self, rank: usize, near: usize) -> Run<T>
+        requires { rank < length self.now }
+        ensures { (d : Run T) → result ≡ slice_index_or self.now rank d }
+    {
+        let mut rest = self.iter_near(rank, near);
+        let Some(run) = rest.next() else {
+            unreachable!()
+        };
+        run
+    }
+
     /// How many runs start at the page or before it.
     pub(crate) fn starts_up_to(&self, page: u64) -> usize
         requires { AreApart 0 self.now }
@@ -100,13 +114,17 @@ impl<T: Exact> Runs<T> {
             .partition_point(&mut |row: &Row| row.first <= page)
     }
 
-    /// How many runs start at the page or before it, sought from a chunk on; `chunk` is afterwards
-    /// where the search ended. Any number will do for it.
+    /// How many runs start at the page or before it, looked for as if they were spread evenly, and
+    /// then sought from a chunk on; `chunk` is afterwards where the search ended. Any number will do
+    /// for it.
     pub(crate) fn starts_near(&self, page: u64, chunk: &mut usize) -> usize
         requires { AreApart 0 self.now }
         ensures within { result ≤ length self.now }
         ensures parts { StartsAround self.now result page }
     {
+        if let Some(count) = starts_beside(&self.rows, page, chunk) {
+            return count;
+        }
         self.rows
             .partition_point_near(&|row: &Row| row.first <= page, chunk)
     }
@@ -183,20 +201,27 @@ impl<T: Exact> Runs<T> {
     fn tidy(&mut self)
         ensures { self.new ≡ self.old }
     {
+        let most = 2 * self.rows.len() + SPARE;
+        if self.values.items().len() > most {
+            self.renumber();
+        }
+    }
+
+    /// Numbers the values anew, if there is memory for it. A function of its own, so that an edit
+    /// that leaves the values as they are takes no stack for it.
+    #[inline(never)]
+    fn renumber(&mut self)
+        ensures { self.new ≡ self.old }
+    {
         if let Some(fresh) = self.renumbered() {
             *self = fresh;
         }
     }
 
-    /// The same runs without the values that none of them has, where those are many. None too where
-    /// memory is wanting.
+    /// The same runs without the values that none of them has. None where memory is wanting.
     fn renumbered(&self) -> Option<Runs<T>>
         ensures { IfSome result (λ fresh. fresh ≡ self.now) }
     {
-        let most = 2 * self.rows.len() + SPARE;
-        if self.values.items().len() <= most {
-            return None;
-        }
         let Ok(all) = gathered(self.alloc, self) else {
             return None;
         };

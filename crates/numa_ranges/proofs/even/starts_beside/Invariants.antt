@@ -1,0 +1,7 @@
+-- The row before the loop's place starts at the page or before it.
+use Rattle.std.proofs.Common.{◌-◌, ◌<◌, ◌≤◌, get_or}
+use Rattle.numa_ranges.specs.declared.row.Row.{Row}
+use Rattle.numa_ranges.proofs.even.starts_beside.Given as goal
+
+abbrev pub invariant-loop-place : goal.invariant-loop-place
+invariant-loop-place l = (d : Row) → l.start < l.place → (get_or l.rows (l.place - 1) d).first ≤ l.page

@@ -1,0 +1,49 @@
+//! Where a row would stand if all were spread evenly.
+ghost use Rattle.std.specs.Prelude.{◌-◌, ◌<◌, ◌≤◌, length, slice_index_or, IfSome};
+
+use crate::row::Row;
+use numa_rows::{Owned, Rows};
+
+/// At so many rows a look about a guess looks.
+const LOOKED_AT: usize = 4;
+
+/// The rank at which a row that starts at a page would stand, if all rows were spread evenly from
+/// the first to the last. Nothing depends on it but time.
+fn even_rank(rows: &Rows<Row, Owned<Row>>, page: u64) -> Option<usize> {
+    let last = rows.len().checked_sub(1)?;
+    let mut chunk = rows.chunk_count();
+    let top = rows.get_near(last, &mut chunk).first;
+    let low = rows.get_near(0, &mut 0).first;
+    let whole = top.saturating_sub(low).max(1);
+    let product = page.checked_sub(low)?.checked_mul(last as u64)?;
+    Some((product / whole) as usize)
+}
+
+/// How many rows start at a page or before it, where few rows about the rank tell at which a row
+/// would stand if all were spread evenly; `chunk` is then theirs.
+pub(crate) fn starts_beside(
+    rows: &Rows<Row, Owned<Row>>,
+    page: u64,
+    chunk: &mut usize,
+) -> Option<usize>
+    ensures some { IfSome result (λ count. 0 < count) }
+    ensures within { IfSome result (λ count. count < length rows.now) }
+    ensures before { IfSome result (λ count. (d : _)
+        → (slice_index_or rows.now (count - 1) d).first ≤ page) }
+    ensures behind { IfSome result (λ count. (d : _)
+        → page < (slice_index_or rows.now count d).first) }
+{
+    let start = even_rank(rows, page)?.saturating_sub(1);
+    let mut near = start.checked_mul(rows.chunk_count())? / rows.len().max(1);
+    for place in start..rows.len().min(start.saturating_add(LOOKED_AT)) {
+        let row = rows.get_near(place, &mut near);
+        if page < row.first {
+            if place == start {
+                return None;
+            }
+            *chunk = near;
+            return Some(place);
+        }
+    }
+    None
+}
