@@ -8,6 +8,7 @@ use Rattle.numa_ranges.specs.Maps.{any_page, changed_span}
 use Rattle.numa_ranges.specs.declared.run.Run.{Run}
 use Rattle.numa_space.specs.declared.command.Command.TheVariants.{Mbind, SetTask}
 use Rattle.numa_space.specs.declared.refusal.Refusal.{Refusal}
+use Rattle.numa_space.specs.declared.refusal.Refusal.TheVariants.{Hole, NodesNotAllowed}
 use Rattle.numa_space.specs.Edits.{PageRanges, IsEdit, hole_cause, too_many}
 use Rattle.numa_space.specs.History.{page_of, page_count}
 use Rattle.numa_space.specs.Refusals.{PageMap, bad_span, first_of, has_no_node, refusal_in}
@@ -20,8 +21,8 @@ module _ (old : SpaceState) (start bytes : ℕ) (spec : Specification) (room : o
   abbrev pub bound : ℕ → ℕ → Option PolicyRecord → PageMap
   bound first count policy = changed_span first count (λ r. policy) (page_at old.ranges)
 
-  bind-cause : any_page (λ page. not (is_some (page_at old.ranges page))) (page_of start) (page_count bytes) ≡ false → refusal_in (scene_in old (Mbind start bytes spec)) (Mbind start bytes spec) ≡ too_many old.bounds.max_ranges (bound (page_of start) (page_count bytes) (record_now old.allowed spec))
-  bind-cause mapped = rw (lt-leb old.bounds.max_commands old.version room, span, some, mapped, node) refl
+  bind-cause : refusal_in (scene_in old (Mbind start bytes spec)) (Mbind start bytes spec) ≡ first_of (hole_cause (page_at old.ranges) (page_of start) (page_count bytes)) (too_many old.bounds.max_ranges (bound (page_of start) (page_count bytes) (record_now old.allowed spec)))
+  bind-cause = rw (lt-leb old.bounds.max_commands old.version room, span, some, node) refl
 
   bind-next : (runs : List (Run (Option PolicyRecord))) → ((page : ℕ) → page_at runs page ≡ bound (page_of start) (page_count bytes) (record_now old.allowed spec) page) → IsNext old (Mbind start bytes spec) (record old { ranges = runs; version = old.version + 1 })
   bind-next runs pages = record { machine = refl; bounds = refl; version = refl; allowed = refl; pages = pages; tasks = λ task. refl; task_count = refl; weights = λ n. refl }
@@ -40,18 +41,31 @@ module _ (old : SpaceState) (start bytes : ℕ) (spec : Specification) (room : o
 
   pub bind-answer : (first count limit : ℕ) (policy : Option PolicyRecord) (new : PageRanges) (result : Result (Unit {0}) Refusal)
       → first ≡ page_of start → count ≡ page_count bytes → limit ≡ old.bounds.max_ranges → policy ≡ record_now old.allowed spec
-      → any_page (λ page. not (is_some (page_at old.ranges page))) first count ≡ false
       → IsEdit (first_of (hole_cause (page_at old.ranges) first count) (too_many limit (bound first count policy))) (bound first count policy) (record { runs = old.ranges; limit = limit }) result new
       → IsAnswer old (Mbind start bytes spec) result (bind-after result new)
-  bind-answer first count limit policy new result is_first is_count is_limit is_policy mapped edit =
-      let P : ℕ → ℕ → ℕ → Option PolicyRecord → Type 0 = λ a b l p. IsEdit (too_many l (bound a b p)) (bound a b p) (record { runs = old.ranges; limit = limit }) result new in
-      let free : P first count limit policy = rw mapped at edit in
+  bind-answer first count limit policy new result is_first is_count is_limit is_policy edit =
+      let P : ℕ → ℕ → ℕ → Option PolicyRecord → Type 0 = λ a b l p. IsEdit (first_of (hole_cause (page_at old.ranges) a b) (too_many l (bound a b p))) (bound a b p) (record { runs = old.ranges; limit = limit }) result new in
       let placed : P (page_of start) (page_count bytes) old.bounds.max_ranges (record_now old.allowed spec) =
       subst (λ p. P (page_of start) (page_count bytes) old.bounds.max_ranges p) is_policy
-      (subst (λ l. P (page_of start) (page_count bytes) l policy) is_limit (subst (λ b. P (page_of start) b limit policy) is_count (subst (λ a. P a count limit policy) is_first free))) in
-      let clear : any_page (λ page. not (is_some (page_at old.ranges page))) (page_of start) (page_count bytes) ≡ false =
-      subst (λ b. any_page (λ page. not (is_some (page_at old.ranges page))) (page_of start) b ≡ false) is_count (subst (λ a. any_page (λ page. not (is_some (page_at old.ranges page))) a count ≡ false) is_first mapped) in
-      by_result limit new result (too_many old.bounds.max_ranges (bound (page_of start) (page_count bytes) (record_now old.allowed spec))) (bind-cause clear) placed
+      (subst (λ l. P (page_of start) (page_count bytes) l policy) is_limit (subst (λ b. P (page_of start) b limit policy) is_count (subst (λ a. P a count limit policy) is_first edit))) in
+      by_result limit new result (first_of (hole_cause (page_at old.ranges) (page_of start) (page_count bytes)) (too_many old.bounds.max_ranges (bound (page_of start) (page_count bytes) (record_now old.allowed spec)))) bind-cause placed
+
+module _ (old : SpaceState) (start bytes : ℕ) (spec : Specification) (room : old.version < old.bounds.max_commands) (span : bad_span start bytes ≡ None) (some : (bytes == 0) ≡ false) (node : has_no_node old.allowed spec ≡ true) where
+  -- a policy without a node is refused, behind a hole
+  pub bind-refused : (first count : ℕ) (refusal : Refusal) → first ≡ page_of start → count ≡ page_count bytes → refusal ≡ (if any_page (λ page. not (is_some (page_at old.ranges page))) first count then Hole else NodesNotAllowed)
+      → IsAnswer old (Mbind start bytes spec) (Err refusal) old
+  bind-refused first count refusal is_first is_count is =
+      go (any_page (λ page. not (is_some (page_at old.ranges page))) (page_of start) (page_count bytes)) refl
+      (subst (λ b. refusal ≡ (if any_page (λ page. not (is_some (page_at old.ranges page))) (page_of start) b then Hole else NodesNotAllowed)) is_count
+      (subst (λ a. refusal ≡ (if any_page (λ page. not (is_some (page_at old.ranges page))) a count then Hole else NodesNotAllowed)) is_first is))
+    where
+      go : (b : Bool) → any_page (λ page. not (is_some (page_at old.ranges page))) (page_of start) (page_count bytes) ≡ b → refusal ≡ (if b then Hole else NodesNotAllowed) → IsAnswer old (Mbind start bytes spec) (Err refusal) old
+      go true e is =
+          let cause : refusal_in (scene_in old (Mbind start bytes spec)) (Mbind start bytes spec) ≡ Some Hole = rw (lt-leb old.bounds.max_commands old.version room, span, some, e) refl in
+          rw cause (ap Err is, refl)
+      go false e is =
+          let cause : refusal_in (scene_in old (Mbind start bytes spec)) (Mbind start bytes spec) ≡ Some NodesNotAllowed = rw (lt-leb old.bounds.max_commands old.version room, span, some, e, node) refl in
+          rw cause (ap Err is, refl)
 
 -- ---- a task's policy
 

@@ -92,6 +92,11 @@ impl Pages {
         self.map.range_at(place)
     }
 
+    /// Beside which place the last edit was, as a guess.
+    pub(crate) fn edited_place(&self) -> usize {
+        self.map.edited_place()
+    }
+
     /// The index of a page and its range's policy, where it is mapped.
     pub(crate) fn at(&self, page: u64) -> Option<(u64, Option<Record>)>
         ensures { result ≡ page_at self.now.runs page }

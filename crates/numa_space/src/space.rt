@@ -246,6 +246,12 @@ impl Space {
         self.pages.range_at(place)
     }
 
+    /// Beside which place the last edit of the ranges was: a guess at where those stand that it has
+    /// changed. Nothing depends on it but time.
+    pub fn edited_place(&self) -> usize {
+        self.pages.edited_place()
+    }
+
     /// How many tasks have a policy. Each task is there once.
     pub fn task_count(&self) -> usize
         ensures tasks { result ≡ length self.now.tasks }

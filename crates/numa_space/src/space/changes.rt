@@ -1,9 +1,12 @@
 //! What each command changes.
 ghost use Rattle.std.specs.Prelude.{◌≡◌, ◌+◌, ◌<◌, ◌≤◌, ◌^◌, ◌&&◌, ℕ, true, false, not, nat_le};
 ghost use Rattle.std.specs.Prelude.{is_some, length, Option, Some, None, MatchResult, IfErr};
+ghost use Rattle.std.specs.Prelude.{if◌then◌else◌};
 ghost use Rattle.std.specs.List.{list_any};
 ghost use Rattle.numa_mask.specs.NodeSet.{members};
 ghost use Rattle.numa_mode.specs.Policy.{PolicyRecord};
+ghost use Rattle.numa_ranges.specs.Maps.{any_page};
+ghost use Rattle.numa_ranges.specs.Runs.{page_at};
 ghost use Rattle.numa_space.specs.declared.command.Command.{Command};
 ghost use Rattle.numa_space.specs.History.{page_of, page_count};
 ghost use Rattle.numa_space.specs.Refusals.{bad_span, has_no_node};
@@ -124,6 +127,19 @@ impl Space {
         Ok(())
     }
 
+    /// The refusal of a policy that has no node, for a span: a hole in it comes first.
+    fn hole_or_nodes(&self, first: u64, pages: u64) -> Refusal
+        requires span { first + pages ≤ 2 ^ 35 }
+        ensures { result ≡ (if any_page (λ page. not (is_some (page_at self.now.ranges page))) first
+            pages then Refusal.Hole else Refusal.NodesNotAllowed) }
+    {
+        if self.pages.has_hole(first, pages) {
+            Refusal::Hole
+        } else {
+            Refusal::NodesNotAllowed
+        }
+    }
+
     fn bind(&mut self, start: u64, length: u64, spec: PolicySpec) -> Result<(), Refusal>
         requires { self.old.version < self.old.bounds.max_commands }
         ensures answer { IsAnswer self.old (Command.Mbind start length spec) result self.new }
@@ -135,10 +151,9 @@ impl Space {
             self.version += 1;
             return Ok(());
         }
-        if self.pages.has_hole(first, pages) {
-            return Err(Refusal::Hole);
-        }
-        let policy = self.policy_of(spec)?;
+        let Ok(policy) = self.policy_of(spec) else {
+            return Err(self.hole_or_nodes(first, pages));
+        };
         self.pages.bind_span(first, pages, policy)?;
         self.version += 1;
         Ok(())
