@@ -1,10 +1,10 @@
 -- Counts over a cycle, round by round.
-use Rattle.std.proofs.Common.{◌≡◌, ◌≢◌, ℕ, zero, suc, ◌+◌, ◌-◌, ◌*◌, ◌%◌, ◌/◌, ◌<◌, ◌≤◌, Bool, true, false, cond, eqb, List, [], ◌∷◌, ◌++◌, length, get_or, set, take, drop, map, inl, inr, refl, sym, ap, ◌∙◌, arith, add-zero, mul-suc, length-drop}
+use Rattle.std.proofs.Common.{◌≡◌, ◌≢◌, ℕ, zero, suc, ◌+◌, ◌-◌, ◌*◌, ◌%◌, ◌/◌, ◌<◌, ◌≤◌, Bool, true, false, cond, eqb, List, [], ◌∷◌, ◌++◌, length, get_or, set, take, drop, inl, inr, refl, sym, ap, ◌∙◌, arith, add-zero, mul-suc, length-drop}
 use Rattle.std.specs.Prelude.{slice_range}
 use Rattle.std.proofs.Math.Nat.{mul-add-mod_self_left, add-mod_left, mod-eq_of_lt, mul-le-mul_left, div-add-mod}
 use Rattle.std.proofs.lemmas.Bool.{eq-eqb}
 use Rattle.std.proofs.lemmas.Bool.Decides.{eqb_tells}
-use Rattle.std.proofs.lemmas.List.{get_or-map, get_or-take, get_or-drop, length-map, length-take, get_or-set_same, get_or-set_other}
+use Rattle.std.proofs.lemmas.List.{get_or-take, get_or-drop, length-take, get_or-set_same, get_or-set_other}
 use Rattle.std.proofs.lemmas.List.Sums.{count_by-le-length, sum_by-cons, sum_by_push}
 use Rattle.numa_lanes.specs.Spans.{counted}
 use Rattle.numa_ranges.specs.Counts.{count_pages}
@@ -35,12 +35,12 @@ places_next counts nodes hit pages base within before node small =
     ]
 
 -- a node counts once more behind a place that has it
-pub places_left : (f : ℕ → ℕ) (numbers : List ℕ) (i node : ℕ) → i < length numbers → f (get_or numbers i 0) ≡ node → counted node (map f (take i numbers)) + 1 ≤ counted node (map f numbers)
-places_left f [] i node l is = absurd (omega arith)
-places_left f (x ∷ numbers) zero node l is =
-    let one : cond {A = ℕ} (eqb (f x) node) 1 0 ≡ 1 = ap (λ (b : Bool). cond {A = ℕ} b 1 0) (eq-eqb (f x) node is) in
-    omega (arith, count-cons node (map f numbers) (f x), one)
-places_left f (x ∷ numbers) (suc i) node l is = omega (arith, count-cons node (map f numbers) (f x), count-cons node (map f (take i numbers)) (f x), places_left f numbers i node (omega arith) is)
+pub places_left : (nodes : List ℕ) (i node : ℕ) → i < length nodes → get_or nodes i 0 ≡ node → counted node (take i nodes) + 1 ≤ counted node nodes
+places_left [] i node l is = absurd (omega arith)
+places_left (x ∷ nodes) zero node l is =
+    let one : cond {A = ℕ} (eqb x node) 1 0 ≡ 1 = ap (λ (b : Bool). cond {A = ℕ} b 1 0) (eq-eqb x node is) in
+    omega (arith, count-cons node nodes x, one)
+places_left (x ∷ nodes) (suc i) node l is = omega (arith, count-cons node nodes x, count-cons node (take i nodes) x, places_left nodes i node (omega arith) is)
 
 pub places_room : (pages some all had old top : ℕ) → some + 1 ≤ all → had ≡ old + pages * some → old + pages * all < top → had + pages < top
 places_room pages some all had old top le is room = omega (arith, mul-le-mul_left pages le, mul-suc pages some)
@@ -93,35 +93,38 @@ rounds p n (suc q) s again =
     let more : suc q * count_pages p 0 n ≡ q * count_pages p 0 n + count_pages p 0 n = omega arith in
     omega (arith, split, rest, round p n s again, more)
 
--- ---- the first nodes of a cycle's rows
+-- ---- the nodes of a cycle
 
-module _ (f : ℕ → ℕ) (cycle : List ℕ) (node : ℕ) where
-  -- whether the row whose turn it is begins with the node
+module _ (cycle : List ℕ) (node : ℕ) where
+  -- whether the entry whose turn it is is the node
   abbrev pub turn_is : ℕ → Bool
-  turn_is turn = eqb (get_or (map f cycle) (turn % length cycle) 0) node
+  turn_is turn = eqb (get_or cycle (turn % length cycle) 0) node
 
   again : (k : ℕ) → turn_is (length cycle + k) ≡ turn_is k
-  again k = ap (λ (m : ℕ). eqb (get_or (map f cycle) m 0) node) (add-mod_left (length cycle) k)
+  again k = ap (λ (m : ℕ). eqb (get_or cycle m 0) node) (add-mod_left (length cycle) k)
+
+  -- a span whose pages take turns
+  pub count-span : (span : List ℕ) (a : ℕ) → ((k : ℕ) → k < length span → get_or span k 0 ≡ get_or cycle ((a + k) % length cycle) 0) → count_pages turn_is a (length span) ≡ counted node span
+  unfolding count_pages
+  count-span [] a same = refl
+  count-span (x ∷ span) a same =
+      let here : turn_is a ≡ eqb x node = ap (λ (m : ℕ). eqb m node) (sym (same 0 (omega arith) ∙ ap (λ (m : ℕ). get_or cycle (m % length cycle) 0) (add-zero a))) in
+      let rest : count_pages turn_is (a + 1) (length span) ≡ counted node span = count-span span (a + 1) (λ k lt.
+      let place : a + suc k ≡ a + 1 + k = omega arith in
+      same (suc k) (omega arith) ∙ ap (λ (m : ℕ). get_or cycle (m % length cycle) 0) place) in
+      (λ i. cond {A = ℕ} (here i) 1 0 + rest i) ∙ sym (count-cons node span x)
 
   -- a part of the cycle
-  pub count-part : (part : List ℕ) (a : ℕ) → ((k : ℕ) → k < length part → get_or cycle (a + k) 0 ≡ get_or part k 0) → a + length part ≤ length cycle → count_pages turn_is a (length part) ≡ counted node (map f part)
-  unfolding count_pages
-  count-part [] a same within = refl
-  count-part (x ∷ part) a same within =
-      let inside : a < length cycle = omega arith in
-      let own : get_or cycle a 0 ≡ x = sym (ap (λ (m : ℕ). get_or cycle m 0) (add-zero a)) ∙ same 0 (omega arith) in
-      let first : get_or (map f cycle) (a % length cycle) 0 ≡ f x = ap (λ (m : ℕ). get_or (map f cycle) m 0) (mod-eq_of_lt inside) ∙ get_or-map f cycle a 0 0 inside ∙ ap f own in
-      let here : turn_is a ≡ eqb (f x) node = ap (λ (m : ℕ). eqb m node) first in
-      let rest : count_pages turn_is (a + 1) (length part) ≡ counted node (map f part) = count-part part (a + 1) (λ k lt.
-      let place : a + 1 + k ≡ a + suc k = omega arith in
-      ap (λ (m : ℕ). get_or cycle m 0) place ∙ same (suc k) (omega arith)) (omega arith) in
-      (λ i. cond {A = ℕ} (here i) 1 0 + rest i) ∙ sym (count-cons node (map f part) (f x))
+  count-part : (part : List ℕ) (a : ℕ) → ((k : ℕ) → k < length part → get_or cycle (a + k) 0 ≡ get_or part k 0) → a + length part ≤ length cycle → count_pages turn_is a (length part) ≡ counted node part
+  count-part part a same within = count-span part a (λ k lt.
+      let inside : a + k < length cycle = omega arith in
+      sym (same k lt) ∙ ap (λ (m : ℕ). get_or cycle m 0) (sym (mod-eq_of_lt inside)))
 
-  pub count-cycle : count_pages turn_is 0 (length cycle) ≡ counted node (map f cycle)
+  pub count-cycle : count_pages turn_is 0 (length cycle) ≡ counted node cycle
   count-cycle = count-part cycle 0 (λ k lt. let e : 0 + k ≡ k = omega arith in ap (λ (m : ℕ). get_or cycle m 0) e) (omega arith)
 
   -- a window inside the cycle
-  pub count-window : (a m : ℕ) → a + m ≤ length cycle → count_pages turn_is a m ≡ counted node (map f (slice_range cycle a (a + m)))
+  pub count-window : (a m : ℕ) → a + m ≤ length cycle → count_pages turn_is a m ≡ counted node (slice_range cycle a (a + m))
   count-window a m within =
       let size : a + m - a ≡ m = omega arith in
       let long : length (slice_range cycle a (a + m)) ≡ m = simp (length-take, length-drop) (omega arith) in
@@ -130,14 +133,14 @@ module _ (f : ℕ → ℕ) (cycle : List ℕ) (node : ℕ) where
 
   -- a window that goes on behind the end of the cycle
   pub count-around : (a m begun : ℕ) → a < length cycle → begun + (length cycle - a) ≡ m → begun ≤ length cycle
-      → count_pages turn_is a m ≡ counted node (map f (drop a cycle)) + counted node (map f (take begun cycle))
+      → count_pages turn_is a m ≡ counted node (drop a cycle) + counted node (take begun cycle)
   count-around a m begun within is few =
       let split : count_pages turn_is a m ≡ count_pages turn_is a (length cycle - a) + count_pages turn_is (a + (length cycle - a)) begun = count-split turn_is a (length cycle - a) begun m (omega arith) in
       let long : length (drop a cycle) ≡ length cycle - a = length-drop a cycle in
-      let one : count_pages turn_is a (length (drop a cycle)) ≡ counted node (map f (drop a cycle)) = count-part (drop a cycle) a (λ k lt. sym (get_or-drop a cycle k 0)) (omega (arith, long)) in
+      let one : count_pages turn_is a (length (drop a cycle)) ≡ counted node (drop a cycle) = count-part (drop a cycle) a (λ k lt. sym (get_or-drop a cycle k 0)) (omega (arith, long)) in
       let one' : count_pages turn_is a (length (drop a cycle)) ≡ count_pages turn_is a (length cycle - a) = ap (count_pages turn_is a) long in
       let short : length (take begun cycle) ≡ begun = simp length-take (omega arith) in
-      let two : count_pages turn_is 0 (length (take begun cycle)) ≡ counted node (map f (take begun cycle)) = count-part (take begun cycle) 0 (λ k lt. let e : 0 + k ≡ k = omega arith in ap (λ (j : ℕ). get_or cycle j 0) e ∙ sym (get_or-take begun cycle k 0 (omega (arith, short)))) (omega (arith, short)) in
+      let two : count_pages turn_is 0 (length (take begun cycle)) ≡ counted node (take begun cycle) = count-part (take begun cycle) 0 (λ k lt. let e : 0 + k ≡ k = omega arith in ap (λ (j : ℕ). get_or cycle j 0) e ∙ sym (get_or-take begun cycle k 0 (omega (arith, short)))) (omega (arith, short)) in
       let two' : count_pages turn_is 0 (length (take begun cycle)) ≡ count_pages turn_is 0 begun = ap (count_pages turn_is 0) short in
       let place : a + (length cycle - a) ≡ length cycle = omega arith in
       let round_on : count_pages turn_is (a + (length cycle - a)) begun ≡ count_pages turn_is 0 begun = shift turn_is turn_is (a + (length cycle - a)) 0 begun (λ k lt.
@@ -148,20 +151,20 @@ module _ (f : ℕ → ℕ) (cycle : List ℕ) (node : ℕ) where
 
   -- any number of turns: whole rounds by multiplication, and the rest
   pub count-turns : (index pages : ℕ) → 0 < length cycle
-      → count_pages turn_is index pages ≡ pages / length cycle * counted node (map f cycle) + count_pages turn_is (index % length cycle) (pages % length cycle)
+      → count_pages turn_is index pages ≡ pages / length cycle * counted node cycle + count_pages turn_is (index % length cycle) (pages % length cycle)
   count-turns index pages some =
       let n : ℕ = length cycle in
       let split : count_pages turn_is index pages ≡ count_pages turn_is index (n * (pages / n)) + count_pages turn_is (index + n * (pages / n)) (pages % n) = count-split turn_is index (n * (pages / n)) (pages % n) pages (div-add-mod pages n) in
       let whole : count_pages turn_is index (n * (pages / n)) ≡ pages / n * count_pages turn_is 0 n = rounds turn_is n (pages / n) index again in
-      let one : pages / n * count_pages turn_is 0 n ≡ pages / n * counted node (map f cycle) = ap (λ (m : ℕ). pages / n * m) count-cycle in
+      let one : pages / n * count_pages turn_is 0 n ≡ pages / n * counted node cycle = ap (λ (m : ℕ). pages / n * m) count-cycle in
       let rest : count_pages turn_is (index + n * (pages / n)) (pages % n) ≡ count_pages turn_is (index % n) (pages % n) = shift turn_is turn_is (index + n * (pages / n)) (index % n) (pages % n) (λ k lt.
       let left : index + n * (pages / n) + k ≡ n * (pages / n) + (index + k) = omega arith in
       let right : index + k ≡ n * (index / n) + (index % n + k) = omega (arith, div-add-mod index n) in
-      ap (λ (m : ℕ). eqb (get_or (map f cycle) m 0) node) (ap (λ (m : ℕ). m % n) left ∙ mul-add-mod_self_left n (pages / n) (index + k) ∙ ap (λ (m : ℕ). m % n) right ∙ mul-add-mod_self_left n (index / n) (index % n + k))) in
+      ap (λ (m : ℕ). eqb (get_or cycle m 0) node) (ap (λ (m : ℕ). m % n) left ∙ mul-add-mod_self_left n (pages / n) (index + k) ∙ ap (λ (m : ℕ). m % n) right ∙ mul-add-mod_self_left n (index / n) (index % n + k))) in
       omega (arith, split, whole, one, rest)
 
   -- whole rounds fit where all turns do
-  pub rounds_fit : (pages old top : ℕ) → 0 < length cycle → old + pages < top → old + pages / length cycle * counted node (map f cycle) + pages % length cycle < top
+  pub rounds_fit : (pages old top : ℕ) → 0 < length cycle → old + pages < top → old + pages / length cycle * counted node cycle + pages % length cycle < top
   rounds_fit pages old top some room =
-      let few : counted node (map f cycle) ≤ length cycle = omega (arith, count_by-le-length (λ (x : ℕ). eqb x node) (map f cycle), length-map cycle f) in
+      let few : counted node cycle ≤ length cycle = count_by-le-length (λ (x : ℕ). eqb x node) cycle in
       omega (arith, div-add-mod pages (length cycle), mul-le-mul_left (pages / length cycle) few)

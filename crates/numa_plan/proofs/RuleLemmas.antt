@@ -2,9 +2,10 @@
 use Rattle.std.proofs.Common.{◌≡◌, ◌≢◌, ℕ, zero, suc, ◌+◌, ◌-◌, ◌*◌, ◌%◌, ◌<◌, Bool, true, eqb, List, length, get_or, set, take, drop, map, inl, inr, refl, sym, ap, subst, ◌∙◌, arith, add-zero}
 use Rattle.std.proofs.Math.Nat.{mod-lt}
 use Rattle.std.proofs.lemmas.Bool.Decides.{eqb_tells}
-use Rattle.std.proofs.lemmas.List.{get_or-map, get_or-take, get_or-drop, get_or-set_same, get_or-set_other}
+use Rattle.std.proofs.lemmas.List.{get_or-map, length-map, get_or-take, get_or-drop, get_or-set_same, get_or-set_other}
 use Rattle.numa_ranges.specs.Counts.{count_pages}
 use Rattle.numa_ranges.proofs.Counted.{count-none}
+use Rattle.numa_plan.specs.Rules.{first_nodes}
 use Rattle.numa_plan.specs.Rows.{RuleData, InTurns, HasRow, row_number, first_of}
 use Rattle.numa_plan.proofs.CountLemmas.{turn_is, shift}
 
@@ -21,13 +22,16 @@ first-turn width rows cycle cpu k some has =
     first-there rows (get_or cycle (k % length cycle) 0 * width) width has.some
     ∙ sym (get_or-map (λ number. get_or rows (number * width) 0) cycle (k % length cycle) 0 0 (mod-lt k some))
 
--- the pages of a rule in turns, counted over its cycle
-pub count-in_turns : (rule : RuleData) (width : ℕ) (rows cycle : List ℕ) (cpu node index pages : ℕ) → rule ≡ record { key = InTurns cycle; width = width; rows = rows } → 0 < length cycle → ((k : ℕ) → HasRow rule (row_number rule cpu k))
-    → count_pages (λ k. eqb (first_of rule cpu k) node) index pages ≡ count_pages (turn_is (λ number. get_or rows (number * width) 0) cycle node) index pages
-count-in_turns rule width rows cycle cpu node index pages is some has =
-    shift (λ k. eqb (first_of rule cpu k) node) (turn_is (λ number. get_or rows (number * width) 0) cycle node) index index pages (λ k lt.
+-- the pages of a rule in turns, counted over the first nodes of its rows
+pub count-in_turns : (rule : RuleData) (width : ℕ) (rows cycle firsts : List ℕ) (cpu node index pages : ℕ) → rule ≡ record { key = InTurns cycle; width = width; rows = rows } → 0 < length cycle → firsts ≡ first_nodes rows width cycle → ((k : ℕ) → HasRow rule (row_number rule cpu k))
+    → count_pages (λ k. eqb (first_of rule cpu k) node) index pages ≡ count_pages (turn_is firsts node) index pages
+count-in_turns rule width rows cycle firsts cpu node index pages is some kept has =
+    let size : length cycle ≡ length firsts = sym (ap length kept ∙ length-map cycle (λ number. get_or rows (number * width) 0)) in
+    shift (λ k. eqb (first_of rule cpu k) node) (turn_is firsts node) index index pages (λ k lt.
     ap (λ (m : ℕ). eqb m node) (ap (λ (r : RuleData). first_of r cpu (index + k)) is
-    ∙ first-turn width rows cycle cpu (index + k) some (subst (λ (r : RuleData). HasRow r (row_number r cpu (index + k))) is (has (index + k)))))
+    ∙ first-turn width rows cycle cpu (index + k) some (subst (λ (r : RuleData). HasRow r (row_number r cpu (index + k))) is (has (index + k)))
+    ∙ ap (λ (nodes : List ℕ). get_or nodes ((index + k) % length cycle) 0) (sym kept)
+    ∙ ap (λ (n : ℕ). get_or firsts ((index + k) % n) 0) size))
 
 count-all : (test : ℕ → Bool) (a n : ℕ) → ((k : ℕ) → test k ≡ true) → count_pages test a n ≡ n
 unfolding count_pages

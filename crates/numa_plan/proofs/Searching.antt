@@ -69,7 +69,7 @@ read_far runs place run far page is lies d = subst (λ (r : Run (Option ℕ)). r
 pub read_above : (runs : List (Run (Option ℕ))) (place : ℕ) (run : Run (Option ℕ)) (page : ℕ) → ((d : Run (Option ℕ)) → run ≡ get_or runs place d) → page < run.first → (d : Run (Option ℕ)) → page < (get_or runs place d).first
 read_above runs place run page is above d = subst (λ (r : Run (Option ℕ)). page < r.first) (is d) above
 
-apart-ends : (from : ℕ) (runs : List (Run (Option ℕ))) → AreApart from runs → (i j : ℕ) (d : Run (Option ℕ)) → i < j → j < length runs → end_of (get_or runs i d) ≤ (get_or runs j d).first
+pub apart-ends : (from : ℕ) (runs : List (Run (Option ℕ))) → AreApart from runs → (i j : ℕ) (d : Run (Option ℕ)) → i < j → j < length runs → end_of (get_or runs i d) ≤ (get_or runs j d).first
 apart-ends from [] apart i j d lt l = absurd (omega arith)
 apart-ends from (run ∷ runs) apart zero zero d lt l = absurd (omega arith)
 apart-ends from (run ∷ runs) apart zero (suc j) d lt l = apart-from (end_of run) runs j d apart.3 (omega arith)

@@ -23,8 +23,8 @@ IsRule (kept.Fixed rows) = Unit {0}
 IsRule (kept.Turns width rows cycle firsts) = (0 < length cycle.items)
     × (firsts ≡ first_nodes rows.items width cycle.items)
 
--- how many of so many turns, from one on, have a row that begins with the node
-abbrev pub turns_on : List ℕ → ℕ → List ℕ → ℕ → ℕ → ℕ → ℕ
-turns_on rows width cycle start turns node =
-    count_pages (λ turn. slice_index (first_nodes rows width cycle) (turn % length cycle) == node)
-    start turns
+-- how many of so many turns, from one on, have the node, in a cycle that begins again after its
+-- last entry
+abbrev pub turns_on : List ℕ → ℕ → ℕ → ℕ → ℕ
+turns_on nodes start turns node =
+    count_pages (λ turn. slice_index nodes (turn % length nodes) == node) start turns

@@ -164,12 +164,7 @@ impl Rule {
             count_pages (λ k. first_of self.now cpu k == node) index pages) }
     {
         match &self.body {
-            Body::Turns {
-                width,
-                rows,
-                cycle,
-                ..
-            } => add_turns(rows, *width, cycle, index, pages, counts),
+            Body::Turns { firsts, .. } => add_turns(firsts, index, pages, counts),
             Body::Faulting { .. } => counts[usize::from(self.row(cpu, index)[0])] += pages,
             Body::Fixed { .. } => counts[usize::from(self.row(cpu, index)[0])] += pages,
         }

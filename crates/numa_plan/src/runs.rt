@@ -1,7 +1,7 @@
 //! The runs of a plan, in rising order.
 ghost use Rattle.std.specs.Prelude.{◌≡◌, ℕ, ◌+◌, ◌-◌, ◌<◌, ◌≤◌, ◌^◌, List, [], ◌∷◌};
 ghost use Rattle.std.specs.Prelude.{◌++◌, length, slice_index_or, MatchOption, Option, slice_get};
-ghost use Rattle.std.specs.Prelude.{IfOk, IfSome, OnOk, OnErr, Some, None, IsSome};
+ghost use Rattle.std.specs.Prelude.{IfOk, IfSome, OnOk, OnErr, Some, None, IsSome, true, false};
 ghost use Rattle.std.specs.Bool.{OnTrue, OnFalse};
 ghost use Rattle.numa_ranges.specs.Runs.{AreApart, end_of, page_at};
 ghost use Rattle.numa_ranges.specs.declared.run.Run.{Run};
@@ -33,6 +33,20 @@ pub(crate) struct Found {
 pub(crate) struct Seen {
     place: usize,
     chunk: usize,
+}
+
+/// So many places before a guess a window is looked for.
+const BEFORE: usize = 3;
+
+/// At so many runs a look for a window beside a guess looks, before it is sought.
+const LOOKED_AT: usize = 16;
+
+/// A span's window: its first place and the one behind its last, and a guess at its chunk.
+#[derive(Clone, Copy, Debug)]
+pub(crate) struct Beside {
+    pub(crate) from: usize,
+    pub(crate) to: usize,
+    pub(crate) near: usize,
 }
 
 /// How far a page lies behind the first page of a run; none where it lies before it. Nothing else
@@ -103,6 +117,93 @@ fn split_rows(
         }
     }
     (low, far, below)
+}
+
+/// Whether a run begins behind a page.
+#[inline]
+fn begins_behind(run: &Run<Option<u32>>, page: u64) -> bool
+    ensures behind { result ≡ true → page < run.now.first }
+    ensures begun { result ≡ false → run.now.first ≤ page }
+{
+    behind_first(run, page, &mut Steps::new()).is_none()
+}
+
+/// The place behind a run that ends before a page; for another the place from before.
+#[inline]
+fn behind_ended(run: &Run<Option<u32>>, page: u64, from: usize, place: usize) -> usize
+    requires { end_of run.now ≤ 2 ^ 35 }
+    ensures ended { end_of run.now < page → result ≡ place }
+    ensures reaches { page ≤ end_of run.now → result ≡ from }
+{
+    match behind_first(run, page, &mut Steps::new()) {
+        Some(far) if run.pages < far => place,
+        _ => from,
+    }
+}
+
+/// A window that was looked for from a place on, where a run before it was seen or is none.
+#[inline]
+fn seen_window(start: usize, from: usize, to: usize, near: usize) -> Option<Beside>
+    ensures from { IfSome result (λ found. found.from ≡ from) }
+    ensures to { IfSome result (λ found. found.to ≡ to) }
+    ensures seen { IfSome result (λ found. from ≡ start → start ≡ 0) }
+{
+    if from == start && start > 0 {
+        return None;
+    }
+    Some(Beside { from, to, near })
+}
+
+/// The window of a span, looked for from a place on, which stands in a chunk or near it; none where
+/// it begins before that place, or ends many runs behind it.
+fn window_from(
+    items: &Rows<Run<Option<u32>>, Shared<Run<Option<u32>>>>,
+    first: u64,
+    end: u64,
+    start: usize,
+    guess: usize,
+) -> Option<Beside>
+    requires apart { AreApart 0 items.now }
+    requires within { start ≤ length items.now }
+    ensures { first ≤ end → IfSome result (λ found. IsWindow items.now first end found.from
+        found.to) }
+{
+    let mut chunk = guess;
+    let mut from = start;
+    let mut to = start;
+    while to < items.len() {
+        let run = items.get_near(to, &mut chunk);
+        if begins_behind(run, end) {
+            return seen_window(start, from, to, chunk);
+        }
+        to += 1;
+        if to - start > LOOKED_AT {
+            return None;
+        }
+        from = behind_ended(run, first, from, to);
+    }
+    seen_window(start, from, to, chunk)
+}
+
+/// The runs from one place to another, in a vector of their own. `near` is a guess at the chunk of
+/// the first.
+fn gathered(
+    alloc: Global,
+    items: &Rows<Run<Option<u32>>, Shared<Run<Option<u32>>>>,
+    from: usize,
+    to: usize,
+    near: usize,
+) -> Result<Vec<Run<Option<u32>>>, AllocError>
+    requires rises { from ≤ to }
+    requires within { to ≤ length items.now }
+    ensures { IfOk result (λ runs. runs.items ≡ slice_range items.now from to) }
+{
+    let mut runs = Vec::with_capacity(alloc, to - from)?;
+    let mut chunk = near;
+    for place in from..to {
+        runs.push(*items.get_near(place, &mut chunk))?;
+    }
+    Ok(runs)
 }
 
 /// Runs of pages, in rising order and apart, each with the number of its rule or none. They stand
@@ -284,6 +385,39 @@ impl Runs {
         (from, to)
     }
 
+    /// The same places, looked for beside a guess at the first of them before they are sought.
+    pub(crate) fn window_near(&self, first: u64, end: u64, guess: usize) -> Beside
+        ensures { first ≤ end → IsWindow self.now first end result.from result.to }
+    {
+        let place = guess.min(self.items.len());
+        let start = place.saturating_sub(BEFORE);
+        let chunk = self.chunk_of(start);
+        if let Some(found) = window_from(&self.items, first, end, start, chunk) {
+            return found;
+        }
+        let (from, to) = self.window(first, end, &mut Steps::new());
+        Beside {
+            from,
+            to,
+            near: chunk,
+        }
+    }
+
+    /// A guess at the chunk of a place, as if all chunks had as many runs.
+    fn chunk_of(&self, place: usize) -> usize {
+        let chunks = self.items.chunk_count();
+        place.saturating_mul(chunks) / self.items.len().max(1)
+    }
+
+    /// What the runs say of a page, which the run at a place, that stands in a chunk or near it, is
+    /// looked at for before it is sought.
+    pub(crate) fn find_near(&self, page: u64, place: usize, near: usize) -> Option<Found>
+        ensures { IsFound self.now page result }
+    {
+        let mut seen = Seen { place, chunk: near };
+        self.find_next(page, &mut seen)
+    }
+
     /// The run at a place.
     pub(crate) fn at(&self, place: usize) -> Option<Run<Option<u32>>>
         ensures { result ≡ slice_get self.now place }
@@ -339,12 +473,15 @@ impl Runs {
         Ok(())
     }
 
-    /// Puts runs in the place of those from one place to another, which it hands back.
+    /// Puts runs in the place of those from one place to another, which it hands back. `near` is a
+    /// guess at the chunk of the first.
     pub(crate) fn splice(
         &mut self,
+        alloc: Global,
         from: usize,
         to: usize,
         runs: &[Run<Option<u32>>],
+        near: usize,
         steps: &mut Steps,
     ) -> Result<Vec<Run<Option<u32>>>, NoMemory>
         requires rises { from ≤ to }
@@ -355,8 +492,8 @@ impl Runs {
             × (steps.new ≡ more_runs (length runs.now) steps.old)) }
         ensures err { OnErr result ((self.new ≡ self.old) × (steps.new ≡ steps.old)) }
     {
-        let gone = self.items.gather(from, to)?;
-        self.items.splice(from, to, runs)?;
+        let gone = gathered(alloc, &self.items, from, to, near)?;
+        self.items.splice_near(from, to, runs, near)?;
         steps.runs_written(runs.len());
         Ok(gone)
     }

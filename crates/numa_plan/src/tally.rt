@@ -1,92 +1,70 @@
-//! Counts of the pages that rows in turns serve.
+//! Counts of the pages that take the nodes of a cycle in turn.
 ghost use Rattle.std.specs.Prelude.{◌≡◌, ◌*◌, ◌/◌, ◌%◌, ◌<◌, length};
 ghost use Rattle.numa_lanes.specs.Spans.{counted};
-ghost use Rattle.numa_plan.specs.Rules.{first_nodes, turns_on};
+ghost use Rattle.numa_plan.specs.Rules.{turns_on};
 ghost use Rattle.numa_plan.specs.Tally.{Adds, HasRoom};
 
-use crate::rows::first_at;
+use numa_lanes::{Cycle, tally};
 
-/// Adds to each node's count the pages whose row begins with the node, where so many pages from an
-/// index on take the rows of a cycle in turn: whole rounds of the cycle by multiplication, and the
-/// rest place by place.
-pub(crate) fn add_turns(
-    rows: &[u8],
-    width: u32,
-    cycle: &[u8],
-    index: u64,
-    pages: u64,
-    counts: &mut [u64; 256],
-)
-    requires some { 0 < length cycle.now }
-    requires room { HasRoom counts.old (λ _. pages) }
-    ensures { Adds counts.old counts.new (turns_on rows.now width cycle.now index pages) }
-{
-    let length = cycle.len() as u64;
-    add_places(rows, width, cycle, rounds_of(pages, length), counts);
-    let start = begun_of(index, length) as usize;
-    let rest = begun_of(pages, length) as usize;
-    add_rest(rows, width, cycle, start, rest, counts);
-}
+/// How many turns a cycle lends at once.
+const LENT: u64 = 64;
 
-/// How many whole rounds so many turns make. Few turns are compared alone, and not divided.
+/// Adds to each node's count the pages that are on it, where so many pages from an index on take
+/// the nodes of a cycle in turn.
 #[inline]
-fn rounds_of(turns: u64, length: u64) -> u64
-    requires { 0 < length }
-    ensures { result ≡ turns / length }
+pub(crate) fn add_turns(cycle: &Cycle, index: u64, pages: u64, counts: &mut [u64; 256])
+    requires { HasRoom counts.old (λ _. pages) }
+    ensures { Adds counts.old counts.new (turns_on cycle.now index pages) }
 {
-    if turns < length { 0 } else { turns / length }
-}
-
-/// How many turns of the last round have begun, after so many turns. Few turns are compared alone,
-/// and not divided.
-#[inline]
-fn begun_of(turns: u64, length: u64) -> u64
-    requires { 0 < length }
-    ensures { result ≡ turns % length }
-{
-    if turns < length {
-        turns
-    } else {
-        turns % length
+    if pages > LENT {
+        add_rounds(cycle.nodes(), index, pages, counts);
+        return;
     }
+    tally(cycle.turns(index, pages as usize), counts);
 }
 
-/// Adds to each node's count the pages whose row begins with the node, where fewer pages than a
-/// round take the rows of a cycle in turn, from this place of the cycle on.
-fn add_rest(
-    rows: &[u8],
-    width: u32,
-    cycle: &[u8],
-    start: usize,
-    pages: usize,
-    counts: &mut [u64; 256],
-)
-    requires start { start < length cycle.now }
-    requires pages { pages < length cycle.now }
+/// Adds to each node's count the pages that are on it, where so many pages from an index on take
+/// the nodes of a cycle in turn: whole rounds of it by multiplication, and the rest page by page.
+#[inline(never)]
+fn add_rounds(nodes: &[u8], index: u64, pages: u64, counts: &mut [u64; 256])
+    requires some { 0 < length nodes.now }
     requires room { HasRoom counts.old (λ _. pages) }
-    ensures { Adds counts.old counts.new (turns_on rows.now width cycle.now start pages) }
+    ensures { Adds counts.old counts.new (turns_on nodes.now index pages) }
 {
-    let length = cycle.len();
+    let length = nodes.len() as u64;
+    add_places(nodes, pages / length, counts);
+    let start = (index % length) as usize;
+    let rest = (pages % length) as usize;
+    add_rest(nodes, start, rest, counts);
+}
+
+/// Adds to each node's count the pages that are on it, where fewer pages than a round take the
+/// nodes of a cycle in turn, from this place of the cycle on.
+fn add_rest(nodes: &[u8], start: usize, pages: usize, counts: &mut [u64; 256])
+    requires start { start < length nodes.now }
+    requires pages { pages < length nodes.now }
+    requires room { HasRoom counts.old (λ _. pages) }
+    ensures { Adds counts.old counts.new (turns_on nodes.now start pages) }
+{
+    let length = nodes.len();
     if pages <= length - start {
-        add_places(rows, width, &cycle[start..start + pages], 1, counts);
+        tally(&nodes[start..start + pages], counts);
     } else {
         let begun = pages - (length - start);
-        add_places(rows, width, &cycle[start..], 1, counts);
-        add_places(rows, width, &cycle[..begun], 1, counts);
+        tally(&nodes[start..], counts);
+        tally(&nodes[..begun], counts);
     }
 }
 
-/// Adds so many pages for each of these rows to the count of the row's first node.
-fn add_places(rows: &[u8], width: u32, numbers: &[u8], pages: u64, counts: &mut [u64; 256])
-    requires { HasRoom counts.old (λ node.
-        pages * counted node (first_nodes rows.now width numbers.now)) }
-    ensures { Adds counts.old counts.new (λ node.
-        pages * counted node (first_nodes rows.now width numbers.now)) }
+/// Adds so many pages for each of these nodes to the node's count.
+fn add_places(nodes: &[u8], pages: u64, counts: &mut [u64; 256])
+    requires { HasRoom counts.old (λ node. pages * counted node nodes.now) }
+    ensures { Adds counts.old counts.new (λ node. pages * counted node nodes.now) }
 {
     if pages == 0 {
         return;
     }
-    for number in numbers {
-        counts[usize::from(first_at(rows, width, *number))] += pages;
+    for node in nodes {
+        counts[usize::from(*node)] += pages;
     }
 }

@@ -55,11 +55,12 @@ impl Plan {
             → kept_in self.new.slots number ≡ kept_in self.old.slots number) }
         ensures err { OnErr result ((self.new ≡ self.old) × (steps.new ≡ steps.old)) }
     {
-        self.replace_runs(from, to, runs, steps)?;
+        self.replace_runs(from, to, runs, 0, steps)?;
         Ok(())
     }
 
-    /// Does what [`Plan::splice_runs`] does, and hands back the runs that it takes out.
+    /// Does what [`Plan::splice_runs`] does, and hands back the runs that it takes out. `near` is a
+    /// guess at their chunk, as [`Plan::window_near`] gives one; nothing depends on it but time.
     ///
     /// # Errors
     /// As for `splice_runs`.
@@ -68,6 +69,7 @@ impl Plan {
         from: usize,
         to: usize,
         runs: &[Run<Option<u32>>],
+        near: usize,
         steps: &mut Steps,
     ) -> Result<Vec<Run<Option<u32>>>, NoMemory>
         requires rises { from ≤ to }
@@ -85,7 +87,7 @@ impl Plan {
         if !can_count(self.runs.len(), self.tasks.len(), runs.len()) {
             return Err(NoMemory);
         }
-        let gone = self.runs.splice(from, to, runs, steps)?;
+        let gone = self.runs.splice(self.alloc, from, to, runs, near, steps)?;
         use_all(&mut self.slots, runs);
         leave_all(&mut self.slots, &gone);
         Ok(gone)

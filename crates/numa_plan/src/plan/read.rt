@@ -86,4 +86,26 @@ impl Plan {
     {
         self.runs.window(first, end, steps)
     }
+
+    /// The window of a span, as [`Plan::window`] finds it, and a guess at the chunk of its runs. It is
+    /// looked for beside a guess at its place before it is sought: nothing depends on the guess but
+    /// time, which a good one makes short.
+    pub fn window_near(&self, first: u64, end: u64, guess: usize) -> (usize, usize, usize)
+        ensures { first ≤ end → IsWindow self.now.runs first end result.0 result.1 }
+    {
+        let found = self.runs.window_near(first, end, guess);
+        (found.from, found.to, found.near)
+    }
+
+    /// The number of the rule of the run that has a page, as [`Plan::number_at`] finds it. The run
+    /// at a place is looked at before it is sought; `near` is a guess at its chunk, as
+    /// [`Plan::window_near`] gives one. Nothing depends on the two but time.
+    pub fn number_near(&self, page: u64, place: usize, near: usize) -> Option<Option<u32>>
+        ensures { result ≡ option_map (λ at. at.1) (page_at self.now.runs page) }
+    {
+        match self.runs.find_near(page, place, near) {
+            Some(found) => Some(found.rule),
+            None => None,
+        }
+    }
 }

@@ -1,4 +1,4 @@
-use Rattle.std.proofs.Common.{◌≡◌, ℕ, ◌*◌, ◌-◌, List, take, drop, length, length-drop, get_or, map, ap, arith}
+use Rattle.std.proofs.Common.{◌≡◌, ℕ, ◌-◌, List, take, drop, length, length-drop, ap, arith}
 use Rattle.std.proofs.lemmas.List.{take_all}
 use Rattle.numa_lanes.specs.Spans.{counted}
 use Rattle.numa_plan.proofs.CountLemmas.{count-window, count-around}
@@ -6,16 +6,15 @@ use Rattle.numa_plan.proofs.tally.add_rest.Goals as goal
 
 pub returns-then-pages-length : goal.returns-then-pages-length
 returns-then-pages-length c node small =
-    let f : ℕ → ℕ = λ number. get_or c.args.rows.now (number * c.args.width) 0 in
-    omega (arith, c.add_places.ensures node small, count-window f c.args.cycle.now node c.args.start c.args.pages (omega arith))
+    omega (arith, c.tally.ensures node small, count-window c.args.nodes.now node c.args.start c.args.pages (omega arith))
 
 pub returns-else-pages-length : goal.returns-else-pages-length
 returns-else-pages-length c node small =
-    let f : ℕ → ℕ = λ number. get_or c.args.rows.now (number * c.args.width) 0 in
-    let tail : List ℕ = drop c.args.start c.args.cycle.now in
-    let all : take (length c.args.cycle.now - c.args.start) tail ≡ tail = take_all (length c.args.cycle.now - c.args.start) tail (omega (arith, length-drop c.args.start c.args.cycle.now)) in
-    let begun : ℕ = c.args.pages - (length c.args.cycle.now - c.args.start) in
+    let nodes : List ℕ = c.args.nodes.now in
+    let tail : List ℕ = drop c.args.start nodes in
+    let all : take (length nodes - c.args.start) tail ≡ tail = take_all (length nodes - c.args.start) tail (omega (arith, length-drop c.args.start nodes)) in
+    let begun : ℕ = c.args.pages - (length nodes - c.args.start) in
     let whole : begun - 0 ≡ begun = omega arith in
-    let one = ap (λ (part : List ℕ). counted node (map f part)) all in
-    let two = ap (λ (n : ℕ). counted node (map f (take n c.args.cycle.now))) whole in
-    omega (arith, one, two, c.add_places-else-pages-length.ensures node small, c.add_places-else-pages-length-2.ensures node small, count-around f c.args.cycle.now node c.args.start c.args.pages begun c.requires.start (omega arith) (omega arith))
+    let one = ap (λ (part : List ℕ). counted node part) all in
+    let two = ap (λ (n : ℕ). counted node (take n nodes)) whole in
+    omega (arith, one, two, c.tally-else-pages-length.ensures node small, c.tally-else-pages-length-2.ensures node small, count-around nodes node c.args.start c.args.pages begun c.requires.start (omega arith) (omega arith))

@@ -15,11 +15,7 @@ pub returns-in-Turns : goal.returns-in-Turns
 returns-in-Turns c node small =
     let is : c.args.self.now ≡ record { key = InTurns c.in-Turns.cycle.items; width = c.in-Turns.width; rows = c.in-Turns.rows.items } = sym c.self.view_is ∙ ap data_of c.in-Turns.is in
     let whole : IsRule (Turns c.in-Turns.width c.in-Turns.rows c.in-Turns.cycle c.in-Turns.firsts) = subst IsRule c.in-Turns.is c.self.invariant in
-    omega (
-      arith,
-      rw (c.deref.ensures.value, c.deref-in-Turns.ensures.value) at (c.add_turns.ensures node small),
-      count-in_turns c.args.self.now c.in-Turns.width c.in-Turns.rows.items c.in-Turns.cycle.items c.args.cpu node c.args.index c.args.pages is whole.0 c.requires.rows,
-    )
+    omega (arith, c.add_turns.ensures node small, count-in_turns c.args.self.now c.in-Turns.width c.in-Turns.rows.items c.in-Turns.cycle.items c.in-Turns.firsts c.args.cpu node c.args.index c.args.pages is whole.0 whole.1 c.requires.rows)
 
 pub returns-in-Faulting : goal.returns-in-Faulting
 returns-in-Faulting c node small =
