@@ -195,8 +195,8 @@ open-few space plan window command behind edits rising maximal some first end pl
     let few = changed-few behind.before space command behind.step edits rising maximal some window.from window.to (copies-window at behind.before.ranges plan.runs (span_first command) (span_end command) window.from window.to behind.follows.copies own) in
     omega (arith, few, place, copies-length at behind.before.ranges plan.runs behind.follows.copies, copies-met at (span_first command) (span_end command) behind.before.ranges plan.runs behind.follows.copies)
 
+pub writes-none : (steps : Counted) → WritesRules 0 steps steps
+writes-none steps = record { runs = refl; rules = omega arith }
+
 pub writes-few : (old next new : Counted) (rules runs few : ℕ) → WritesRules rules old next → WritesBoth runs 0 next new → runs ≤ few → WritesBoth few rules old new
 writes-few old next new rules runs few one two le = record { runs = omega (arith, one.runs, two.runs); rules = omega (arith, one.rules, two.rules) }
-
-pub writes-rules : (old next new : Counted) (rules : ℕ) → WritesRules 0 old next → WritesRules rules next new → WritesRules rules old new
-writes-rules old next new rules one two = record { runs = two.runs ∙ one.runs; rules = omega (arith, one.rules, two.rules) }

@@ -91,9 +91,18 @@ fn prepare(alloc: Global, plan: &mut Option<Plan>, space: &Space) -> Result<(), 
     ensures { ForSome plan.new (Follows space.now) }
 {
     if plan.is_none() {
-        *plan = Some(compile(alloc, space)?);
+        *plan = Some(compile_anew(alloc, space)?);
     }
     Ok(())
+}
+
+/// The plan of a space. A function of its own, so that a question about a space with a plan takes
+/// no stack for it.
+#[inline(never)]
+fn compile_anew(alloc: Global, space: &Space) -> Result<Plan, NoMemory>
+    ensures { IfOk result (λ plan. Follows space.now plan) }
+{
+    compile(alloc, space)
 }
 
 impl PlannedSpace {

@@ -5,22 +5,25 @@ ghost use Rattle.numa_ranges.specs.Windows.{begins_in};
 ghost use Rattle.numa_space.specs.Policies.{where_live};
 ghost use Rattle.numa_plan.specs.Slots.{policy_in};
 ghost use Rattle.numa_compile.specs.Copies.{AreCopies, IsNumber};
-ghost use Rattle.numa_compile.specs.Recompiling.{WritesRules};
 ghost use Rattle.numa_compile.specs.Windows.{IsNumbered, KeepsOutside, NumbersInside};
 ghost use Rattle.numa_compile.specs.declared.recompiler.window.Window.{Window};
 
 use crate::recompiler::window::{Window, begins_inside};
-use numa_plan::{NoMemory, Plan, Steps};
+use numa_plan::{NoMemory, Plan};
 use numa_space::{RangeRecord, Run, Space};
 
 /// The number of a range that begins outside the window's span: that of the run that has its first
-/// page.
-pub(crate) fn number_before(plan: &Plan, range: &Run<RangeRecord>, steps: &mut Steps) -> Option<u32>
+/// page, which is the first or the last of the window.
+pub(crate) fn number_before(plan: &Plan, window: &Window, range: &Run<RangeRecord>) -> Option<u32>
     requires numbered { IsNumbered plan.now range.now }
-    ensures number { IsNumber (policy_in plan.now.slots) (where_live range.now.value) result }
-    ensures writes { WritesRules 0 steps.old steps.new }
+    ensures { IsNumber (policy_in plan.now.slots) (where_live range.now.value) result }
 {
-    let Some(number) = plan.number_at(range.first, steps) else {
+    let place = if range.first < window.first {
+        window.from
+    } else {
+        window.to.saturating_sub(1)
+    };
+    let Some(number) = plan.number_near(range.first, place, window.near) else {
         unreachable!()
     };
     number
@@ -32,19 +35,17 @@ fn number_in(
     window: &Window,
     range: &Run<RangeRecord>,
     given: Option<u32>,
-    steps: &mut Steps,
 ) -> Option<u32>
     requires outside { begins_in window.now.first window.now.end range.now ≡ false
         → IsNumbered plan.now range.now }
     requires inside { begins_in window.now.first window.now.end range.now ≡ true
         → IsNumber (policy_in plan.now.slots) (where_live range.now.value) given }
-    ensures number { IsNumber (policy_in plan.now.slots) (where_live range.now.value) result }
-    ensures writes { WritesRules 0 steps.old steps.new }
+    ensures { IsNumber (policy_in plan.now.slots) (where_live range.now.value) result }
 {
     if begins_inside(range, window) {
         return given;
     }
-    number_before(plan, range, steps)
+    number_before(plan, window, range)
 }
 
 /// Appends the run of a range, with the number of its policy's rule.
@@ -80,22 +81,20 @@ pub(crate) fn gather_runs(
     window: &Window,
     given: Option<u32>,
     runs: &mut Vec<Run<Option<u32>>>,
-    steps: &mut Steps,
 ) -> Result<(), NoMemory>
     requires none { runs.old.items ≡ [] }
     requires rises { window.now.from ≤ window.now.to_now }
     requires within { window.now.to_now ≤ length space.now.ranges }
     requires outside { KeepsOutside space.now plan.now window.now }
     requires inside { NumbersInside space.now plan.now window.now given }
-    ensures copies { OnOk result (AreCopies (policy_in plan.now.slots)
+    ensures { OnOk result (AreCopies (policy_in plan.now.slots)
         (slice_range space.now.ranges window.now.from window.now.to_now) runs.new.items) }
-    ensures writes { WritesRules 0 steps.old steps.new }
 {
     for k in window.from..window.to_now {
         let Some(range) = space.range_at(k) else {
             unreachable!()
         };
-        let value = number_in(plan, window, &range, given, steps);
+        let value = number_in(plan, window, &range, given);
         push_run(runs, &range, value)?;
     }
     Ok(())

@@ -65,7 +65,7 @@ fn number_of_home(
         steps.old steps.new }
 {
     if !begins_inside(range, window) {
-        return Ok(number_before(plan, range, steps));
+        return Ok(number_before(plan, window, range));
     }
     let (number, new) = number_or_add(alloc, space, range.value.policy(), plan, steps)?;
     let Ok(()) = added.push(new) else {
@@ -158,7 +158,7 @@ pub(crate) fn recompile_home(
         steps.old steps.new }
     ensures others { plan.new.tasks ≡ plan.old.tasks }
 {
-    let Some(window) = open_window(plan, space, start, bytes, steps) else {
+    let Some(window) = open_window(plan, space, start, bytes) else {
         return Ok(());
     };
     let mut added = Vec::new(alloc);

@@ -49,7 +49,7 @@ pub(crate) fn recompile_map(
     ensures others { plan.new.tasks ≡ plan.old.tasks }
 {
     survey(space);
-    let window = find_window(plan, space, start, bytes, steps);
+    let window = find_window(plan, space, start, bytes);
     if begins_beside(space, &window) {
         let rest = Window {
             first: window.first,
@@ -57,6 +57,7 @@ pub(crate) fn recompile_map(
             from: window.from + 1,
             to: window.to,
             to_now: window.to_now,
+            near: window.near,
         };
         return rewrite_window(alloc, plan, space, &rest, None, steps);
     }

@@ -60,7 +60,7 @@ pub(crate) fn recompile_mbind(
     ensures others { plan.new.tasks ≡ plan.old.tasks }
 {
     survey(space);
-    let Some(window) = open_window(plan, space, start, bytes, steps) else {
+    let Some(window) = open_window(plan, space, start, bytes) else {
         return Ok(());
     };
     let policy = policy_inside(space, &window);

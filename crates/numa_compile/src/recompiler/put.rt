@@ -50,7 +50,7 @@ pub(crate) fn put_runs(
     ensures unchanged { OnErr result ((plan.new ≡ plan.old) × (steps.new ≡ steps.old)) }
 {
     survey(space);
-    let gone = plan.replace_runs(window.from, window.to, runs, steps)?;
+    let gone = plan.replace_runs(window.from, window.to, runs, window.near, steps)?;
     plan.set_version(space.version());
     drop_all(plan, &gone);
     Ok(())

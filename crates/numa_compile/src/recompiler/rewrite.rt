@@ -34,8 +34,8 @@ pub(crate) fn rewrite_window(
     ensures unchanged { OnErr result (plan.new ≡ plan.old) }
 {
     survey(space);
-    let mut runs = Vec::new(alloc);
-    gather_runs(plan, space, window, given, &mut runs, steps)?;
+    let mut runs = Vec::with_capacity(alloc, window.to_now.saturating_sub(window.from))?;
+    gather_runs(plan, space, window, given, &mut runs)?;
     put_runs(plan, space, window, &runs, steps)?;
     Ok(())
 }

@@ -32,7 +32,7 @@ pub(crate) fn recompile_unmap(
     ensures others { plan.new.tasks ≡ plan.old.tasks }
 {
     survey(space);
-    let Some(window) = open_window(plan, space, start, bytes, steps) else {
+    let Some(window) = open_window(plan, space, start, bytes) else {
         return Ok(());
     };
     rewrite_window(alloc, plan, space, &window, None, steps)

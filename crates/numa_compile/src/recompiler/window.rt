@@ -3,16 +3,16 @@ ghost use Rattle.std.specs.Prelude.{◌≡◌, ◌+◌, ◌-◌, ◌≤◌, leng
 ghost use Rattle.numa_ranges.specs.Windows.{IsWindow, begins_in, begun};
 ghost use Rattle.numa_space.specs.History.{page_of, page_count};
 ghost use Rattle.numa_compile.specs.Follows.{Follows};
-ghost use Rattle.numa_compile.specs.Recompiling.{WritesRules, met_by};
+ghost use Rattle.numa_compile.specs.Recompiling.{met_by};
 ghost use Rattle.numa_compile.specs.Windows.{IsBehindSpan, IsOpen};
 
 use crate::compiler::survey;
-use numa_plan::{Plan, Steps};
+use numa_plan::Plan;
 use numa_space::{PAGE_BYTES, RangeRecord, Run, Space};
 
 /// A span from its first page to the page behind its last, and the runs that meet it or stand
 /// beside it: from a place to the place behind the last of them, and where that last place has come
-/// to stand among the ranges of the space.
+/// to stand among the ranges of the space. `near` is a guess at their chunk in the plan.
 #[derive(Clone, Copy)]
 pub(crate) struct Window {
     pub first: u64,
@@ -20,6 +20,7 @@ pub(crate) struct Window {
     pub from: usize,
     pub to: usize,
     pub to_now: usize,
+    pub near: usize,
 }
 
 /// The page behind the last of a span.
@@ -30,24 +31,17 @@ fn end_of(start: u64, bytes: u64) -> u64
     start / PAGE_BYTES + pages
 }
 
-/// Finds the window of a span of bytes by two searches of the plan.
-pub(crate) fn find_window(
-    plan: &Plan,
-    space: &Space,
-    start: u64,
-    bytes: u64,
-    steps: &mut Steps,
-) -> Window
+/// Finds the window of a span of bytes, beside the place of the space's last edit if it is there.
+pub(crate) fn find_window(plan: &Plan, space: &Space, start: u64, bytes: u64) -> Window
     ensures first { result.first ≡ page_of start }
     ensures end { result.end ≡ page_of start + page_count bytes }
     ensures place { result.to_now ≡ length space.now.ranges
         - (length plan.now.runs - result.to) }
     ensures window { IsWindow plan.now.runs result.first result.end result.from result.to }
-    ensures writes { WritesRules 0 steps.old steps.new }
 {
     let first = start / PAGE_BYTES;
     let end = end_of(start, bytes);
-    let (from, to) = plan.window(first, end, steps);
+    let (from, to, near) = plan.window_near(first, end, space.edited_place());
     let behind = plan.run_count() - to;
     Window {
         first,
@@ -55,19 +49,14 @@ pub(crate) fn find_window(
         from,
         to,
         to_now: space.ranges().saturating_sub(behind),
+        near,
     }
 }
 
 /// The window of a command that maps nothing. It has at most two ranges more than runs met the
 /// span, and at most as many that begin in the span. There is none for a span without pages: then
 /// the plan takes the space's version, and follows it.
-pub(crate) fn open_window(
-    plan: &mut Plan,
-    space: &Space,
-    start: u64,
-    bytes: u64,
-    steps: &mut Steps,
-) -> Option<Window>
+pub(crate) fn open_window(plan: &mut Plan, space: &Space, start: u64, bytes: u64) -> Option<Window>
     requires behind { IsBehindSpan space.now plan.old start bytes }
     ensures first { IfSome result (λ window. window.first ≡ page_of start) }
     ensures end { IfSome result (λ window. window.end ≡ page_of start + page_count bytes) }
@@ -79,10 +68,9 @@ pub(crate) fn open_window(
     ensures same { OnSome result (plan.new ≡ plan.old) }
     ensures follows { IfNone result (Follows space.now plan.new) }
     ensures tasks { plan.new.tasks ≡ plan.old.tasks }
-    ensures writes { WritesRules 0 steps.old steps.new }
 {
     survey(space);
-    let window = find_window(plan, space, start, bytes, steps);
+    let window = find_window(plan, space, start, bytes);
     if window.first == window.end {
         plan.set_version(space.version());
         return None;

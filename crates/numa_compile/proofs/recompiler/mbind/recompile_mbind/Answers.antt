@@ -2,7 +2,7 @@ use Rattle.std.proofs.Common.{refl}
 use Rattle.numa_space.specs.declared.command.Command.TheVariants.{Mbind}
 use Rattle.numa_compile.proofs.CommandLemmas.{mbind-inside, open-within}
 use Rattle.numa_compile.proofs.GrownLemmas.{open-added}
-use Rattle.numa_compile.proofs.SpanLemmas.{writes-few, writes-rules}
+use Rattle.numa_compile.proofs.SpanLemmas.{writes-few}
 use Rattle.numa_compile.proofs.recompiler.mbind.recompile_mbind.Goals as goal
 
 pub open_window-requires : goal.open_window-requires
@@ -20,8 +20,8 @@ rewrite_window-requires-clause-inside c =
 
 pub returns-in_default-rewrite_window-clause-few : goal.returns-in_default-rewrite_window-clause-few
 returns-in_default-rewrite_window-clause-few c =
-    writes-few c.args.steps.now c.number_or_add.new.steps c.rewrite_window.new.steps 1 _ _ (writes-rules c.args.steps.now c.open_window.new.steps c.number_or_add.new.steps 1 c.open_window.ensures.writes c.number_or_add.ensures.few) c.rewrite_window.ensures.few c.in-Some.ensures.few
+    writes-few c.args.steps.now c.number_or_add.new.steps c.rewrite_window.new.steps 1 _ _ c.number_or_add.ensures.few c.rewrite_window.ensures.few c.in-Some.ensures.few
 
 pub returns-clause-few : goal.returns-clause-few
 returns-clause-few c =
-    writes-few c.args.steps.now c.number_or_add.new.steps c.rewrite_window.new.steps 1 _ _ (writes-rules c.args.steps.now c.open_window.new.steps c.number_or_add.new.steps 1 c.open_window.ensures.writes c.number_or_add.ensures.few) c.rewrite_window.ensures.few c.in-Some.ensures.few
+    writes-few c.args.steps.now c.number_or_add.new.steps c.rewrite_window.new.steps 1 _ _ c.number_or_add.ensures.few c.rewrite_window.ensures.few c.in-Some.ensures.few

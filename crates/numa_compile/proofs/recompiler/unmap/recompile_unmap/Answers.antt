@@ -1,7 +1,7 @@
 use Rattle.std.proofs.Common.{refl}
 use Rattle.numa_space.specs.declared.command.Command.TheVariants.{Unmap}
 use Rattle.numa_compile.proofs.CommandLemmas.{open-within, unmap-inside}
-use Rattle.numa_compile.proofs.SpanLemmas.{writes-few}
+use Rattle.numa_compile.proofs.SpanLemmas.{writes-few, writes-none}
 use Rattle.numa_compile.proofs.recompiler.unmap.recompile_unmap.Goals as goal
 
 pub open_window-requires : goal.open_window-requires
@@ -15,4 +15,4 @@ rewrite_window-requires-clause-inside c =
 
 pub returns-clause-few : goal.returns-clause-few
 returns-clause-few c =
-    writes-few c.args.steps.now c.open_window.new.steps c.rewrite_window.new.steps 0 _ _ c.open_window.ensures.writes c.rewrite_window.ensures.few c.in-Some.ensures.few
+    writes-few c.args.steps.now c.args.steps.now c.rewrite_window.new.steps 0 _ _ (writes-none c.args.steps.now) c.rewrite_window.ensures.few c.in-Some.ensures.few
