@@ -68,6 +68,27 @@ slice_get-set xs w x v low = go (eqb_tells w v)
     go (inl e) = rw e.0 (ap (λ u. slice_get (set xs w x) u) (sym e.1) ∙ set_same xs w x low)
     go (inr e) = rw e.0 (set_other xs w x v e.1)
 
+set-length : {X : Type 0} (xs : List X) (w : ℕ) (x : X) → length (set xs w x) ≡ length xs
+set-length [] w x = refl
+set-length (z ∷ xs) zero x = refl
+set-length (z ∷ xs) (suc w) x = omega (arith, set-length xs w x)
+
+set-again : {X : Type 0} (xs : List X) (w : ℕ) (x : X) → slice_get xs w ≡ Some x → set xs w x ≡ xs
+set-again [] w x e = refl
+set-again (z ∷ xs) zero x e = let same : x ≡ z = cc in ap (λ y. y ∷ xs) same
+set-again (z ∷ xs) (suc w) x e = ap (λ ys. z ∷ ys) (set-again xs w x e)
+
+abbrev setup_with_workers : SpaceState → ℕ → Setup
+setup_with_workers space n = record { machine = space.machine; bounds = space.bounds; workers = n }
+
+-- another seat in a worker's place leaves the setup
+pub setup-set : (space : SpaceState) (plan : PlanData) (seats : List Seat) (owners : List (Option ℕ)) (w : ℕ) (seat : Seat) → setup_of (core_of space plan (set seats w seat) owners) ≡ setup_of (core_of space plan seats owners)
+setup-set space plan seats owners w seat = ap (setup_with_workers space) (length-map (set seats w seat) busy_of ∙ set-length seats w seat ∙ sym (length-map seats busy_of))
+
+-- and the same seat leaves the core
+pub shown-again : (space : SpaceState) (plan : PlanData) (seats : List Seat) (owners : List (Option ℕ)) (w : ℕ) (seat later : Seat) → slice_get seats w ≡ Some seat → later ≡ seat → core_of space plan (set seats w later) owners ≡ core_of space plan seats owners
+shown-again space plan seats owners w seat later there same = ap (λ others. core_of space plan others owners) (ap (set seats w) same ∙ set-again seats w seat there)
+
 -- each element of a list with one changed
 pub each-set : {X : Type 0} (P : X → Type 0) (xs : List X) (w : ℕ) (x : X) → P x → ((v : ℕ) (y : X) → slice_get xs v ≡ Some y → P y) → (v : ℕ) (y : X) → slice_get (set xs w x) v ≡ Some y → P y
 each-set P [] w x p each v y e = each v y e

@@ -18,7 +18,7 @@ use Rattle.numa_core.specs.World.{World, newest_published, first_commands, hunt_
 use Rattle.numa_core.specs.Steps.{refusal_of, first_refusal}
 use Rattle.numa_core.specs.Standing.{CoreState, CoreStandsFor, Busy, setup_of, hunt_by}
 use Rattle.numa_core.specs.Seats.{busy_of, busy_by}
-use Rattle.numa_core.specs.Judging.{IsJudged, IsListed}
+use Rattle.numa_core.specs.Judging.{IsJudged, IsListed, cause_at}
 
 low_false : (a b : ℕ) → b < a → nat_le a b ≡ false
 low_false a b h = grind (arith, nat_tests)
@@ -73,13 +73,13 @@ pub judged-listed : (core : CoreState) (request : Request) (nodes : List ℕ) �
 judged-listed core request nodes cpu listed world stands = list-planned core world request stands (subst (λ n. request.cpu < n) stands.plan.nodes cpu) ∙ listed
 
 -- the faulting node is none of the plan's
-pub judged-bad_cpu : (core : CoreState) (w : ℕ) (request : Request) → slice_get core.workers w ≡ Some None → core.plan.nodes ≤ request.cpu → IsJudged core w request (Some BadCpu)
+judged-bad_cpu : (core : CoreState) (w : ℕ) (request : Request) → slice_get core.workers w ≡ Some None → core.plan.nodes ≤ request.cpu → IsJudged core w request (Some BadCpu)
 judged-bad_cpu core w request idle high world stands =
     judged-idle core w request world stands idle
     ∙ rw (high_true core.space.machine.nodes request.cpu (subst (λ n. n ≤ request.cpu) stands.plan.nodes high)) refl
 
 -- no execution of the plan has the page
-pub judged-unmapped : (core : CoreState) (w : ℕ) (request : Request) → slice_get core.workers w ≡ Some None → request.cpu < core.plan.nodes → planned_list core.plan request.task request.page request.cpu ≡ None → IsJudged core w request (Some (Unmapped core.plan.version))
+judged-unmapped : (core : CoreState) (w : ℕ) (request : Request) → slice_get core.workers w ≡ Some None → request.cpu < core.plan.nodes → planned_list core.plan request.task request.page request.cpu ≡ None → IsJudged core w request (Some (Unmapped core.plan.version))
 judged-unmapped core w request idle cpu none world stands =
     let within : request.cpu < core.space.machine.nodes = subst (λ n. request.cpu < n) stands.plan.nodes cpu in
     judged-idle core w request world stands idle
@@ -96,8 +96,13 @@ second_row f true o e = absurd (cc)
 second_row f false None e = (refl, refl)
 second_row f false (Some x) e = absurd (cc)
 
-pub refused-bad_cpu : (plan : PlanData) (page cpu : ℕ) → place_refusal plan page cpu ≡ Some NoCpu → plan.nodes ≤ cpu
+refused-bad_cpu : (plan : PlanData) (page cpu : ℕ) → place_refusal plan page cpu ≡ Some NoCpu → plan.nodes ≤ cpu
 refused-bad_cpu plan page cpu e = leb-true plan.nodes cpu (first_row (nat_le plan.nodes cpu) _ e)
 
-pub refused-unmapped : (plan : PlanData) (task page cpu : ℕ) → place_refusal plan page cpu ≡ Some NoPage → (cpu < plan.nodes) × (planned_list plan task page cpu ≡ None)
+refused-unmapped : (plan : PlanData) (task page cpu : ℕ) → place_refusal plan page cpu ≡ Some NoPage → (cpu < plan.nodes) × (planned_list plan task page cpu ≡ None)
 refused-unmapped plan task page cpu e = let rows = second_row _ (nat_le plan.nodes cpu) _ e in (omega (arith, leb-false plan.nodes cpu rows.0), rows.1)
+
+-- what refuses the request by the plan refuses the Begin
+pub judged-refused : (core : CoreState) (w : ℕ) (request : Request) (refusal : PlaceRefusal) → slice_get core.workers w ≡ Some None → place_refusal core.plan request.page request.cpu ≡ Some refusal → IsJudged core w request (Some (cause_at core.plan.version refusal))
+judged-refused core w request NoCpu idle e = judged-bad_cpu core w request idle (refused-bad_cpu core.plan request.page request.cpu e)
+judged-refused core w request NoPage idle e = let none = refused-unmapped core.plan request.task request.page request.cpu e in judged-unmapped core w request idle none.0 none.1

@@ -3,6 +3,9 @@ use Rattle.std.specs.Prelude.{◌≡◌, ℕ, Option, Some, List}
 use Rattle.numa_space.specs.declared.request.Request.{Request}
 use Rattle.numa_space.specs.declared.event.Event.TheVariants.{Begin}
 use Rattle.numa_space.specs.declared.event.CoreRefusal.{CoreRefusal}
+use Rattle.numa_space.specs.declared.event.CoreRefusal.TheVariants as core
+use Rattle.numa_space.specs.declared.refusal.PlaceRefusal.{PlaceRefusal}
+use Rattle.numa_space.specs.declared.refusal.PlaceRefusal.TheVariants as place
 use Rattle.numa_core.specs.World.{World, newest_published, list_at}
 use Rattle.numa_core.specs.Steps.{refusal_of}
 use Rattle.numa_core.specs.Standing.{CoreState, CoreStandsFor, setup_of}
@@ -10,6 +13,11 @@ use Rattle.numa_core.specs.Seats.{core_of}
 use Rattle.numa_core.specs.declared.seat.Seat.{Seat}
 use Rattle.numa_space.specs.Standing.{SpaceState}
 use Rattle.numa_plan.specs.Meaning.{PlanData}
+
+-- why a Begin is refused that takes the version, by what refuses its request there
+abbrev pub cause_at : ℕ → PlaceRefusal → CoreRefusal
+cause_at version place.BadCpu = core.BadCpu
+cause_at version place.Unmapped = core.Unmapped version
 
 -- in each world that the core stands for, the worker's Begin of the request is refused so, or not
 -- at all

@@ -1,5 +1,5 @@
 -- What a core keeps of its tables, and what it shows.
-use Rattle.std.specs.Prelude.{◌≡◌, ℕ, ◌≤◌, Some, length, vec_len, slice_get, Result}
+use Rattle.std.specs.Prelude.{◌≡◌, ℕ, ◌≤◌, Some, OnErr, length, vec_len, slice_get, Result}
 use Rattle.numa_core.specs.declared.state.State.{State}
 use Rattle.numa_core.specs.declared.seat.Seat.{Seat}
 use Rattle.numa_space.specs.declared.event.Event.{Event}
@@ -31,3 +31,12 @@ abbrev pub Follows : CoreState → Event → Result CoreReply CoreRefusal → Co
 Follows old event answer new = (world : World) → CoreStandsFor old world →
     IsAnswer (setup_of old) world (newest_published world) event answer
     × CoreStandsFor new (world_after (setup_of old) world (newest_published world) event answer)
+
+-- the core performs an event: it stays in order, answers as the world does and follows it, and where
+-- the event is refused nothing changes
+pub record Performs (old : State) (event : Event) (answer : Result CoreReply CoreRefusal)
+    (new : State) : Type 0 where
+  pub kept : IsKept new
+  pub follows : Follows (shown old) event answer (shown new)
+  pub unchanged : OnErr answer (shown new ≡ shown old)
+  pub setup : setup_of (shown new) ≡ setup_of (shown old)

@@ -1,6 +1,6 @@
 //! What a Begin is judged by.
 ghost use Rattle.std.specs.Prelude.{◌≡◌, ◌<◌, ◌≤◌, None, Some, IfOk, IfErr, OnOk, length, vec_len};
-ghost use Rattle.numa_core.specs.Judging.{Judges, Lists};
+ghost use Rattle.numa_core.specs.Judging.{Judges, Lists, cause_at};
 
 use crate::seat::Seat;
 use numa_plan::{Plan, Steps};
@@ -17,6 +17,16 @@ pub(crate) fn seated(seats: &Vec<Seat>, worker: u32) -> Result<(), CoreRefusal>
         return Err(CoreRefusal::NoSuchWorker);
     }
     Ok(())
+}
+
+/// Why a worker's Begin is refused that takes this version, by what refuses its request there.
+pub fn cause_at(version: u64, refusal: PlaceRefusal) -> CoreRefusal
+    ensures { result ≡ cause_at version refusal }
+{
+    match refusal {
+        PlaceRefusal::BadCpu => CoreRefusal::BadCpu,
+        PlaceRefusal::Unmapped => CoreRefusal::Unmapped(version),
+    }
 }
 
 /// The list of nodes that the plan of the newest published version has for a worker's request, lent
@@ -40,7 +50,6 @@ pub(crate) fn row_for<'a>(
     }
     match plan.choice(request.task, request.page, request.cpu, &mut Steps::new()) {
         Ok(row) => Ok(row),
-        Err(PlaceRefusal::BadCpu) => Err(CoreRefusal::BadCpu),
-        Err(PlaceRefusal::Unmapped) => Err(CoreRefusal::Unmapped(plan.version())),
+        Err(refusal) => Err(cause_at(plan.version(), refusal)),
     }
 }

@@ -22,6 +22,7 @@ mod seat;
 mod state;
 mod tables;
 
+pub use crate::judging::cause_at;
 use crate::state::State;
 use numa_machine::Machine;
 pub use numa_machine::NoMemory;

@@ -4,7 +4,7 @@ ghost use Rattle.std.specs.List.{AllZip};
 ghost use Rattle.numa_core.specs.World.{World, opening};
 ghost use Rattle.numa_core.specs.Steps.{put_frame};
 ghost use Rattle.numa_core.specs.Standing.{CoreStandsFor, owner_at, place_in, setup_of};
-ghost use Rattle.numa_core.specs.Kept.{shown, IsKept, Follows};
+ghost use Rattle.numa_core.specs.Kept.{shown, IsKept, Performs};
 ghost use Rattle.numa_core.specs.Hints.{IsLow};
 ghost use Rattle.numa_core.specs.Seats.{SeatFits, IsSeatCopy};
 ghost use Rattle.numa_core.specs.Touching.{touch_answer, touch_world};
@@ -120,10 +120,7 @@ impl State {
     /// The command is accepted, where nothing refuses it.
     pub(crate) fn accept(&mut self, command: Command) -> Result<CoreReply, CoreRefusal>
         requires kept { IsKept self.old }
-        ensures kept { IsKept self.new }
-        ensures follows { Follows (shown self.old) (Event.Accept command) result (shown self.new) }
-        ensures unchanged { OnErr result (shown self.new ≡ shown self.old) }
-        ensures setup { setup_of (shown self.new) ≡ setup_of (shown self.old) }
+        ensures { Performs self.old (Event.Accept command) result self.new }
     {
         match self.space.apply(self.alloc, &command) {
             Ok(()) => {}
@@ -144,10 +141,7 @@ impl State {
     /// All accepted commands are published.
     pub(crate) fn publish(&mut self) -> Result<CoreReply, CoreRefusal>
         requires kept { IsKept self.old }
-        ensures kept { IsKept self.new }
-        ensures follows { Follows (shown self.old) Event.Publish result (shown self.new) }
-        ensures unchanged { OnErr result (shown self.new ≡ shown self.old) }
-        ensures setup { setup_of (shown self.new) ≡ setup_of (shown self.old) }
+        ensures { Performs self.old Event.Publish result self.new }
     {
         match self.space.plan_copy(self.alloc) {
             Ok(plan) => self.plan = plan,
@@ -159,11 +153,7 @@ impl State {
     /// A worker takes the newest published version, and its list for the request.
     pub(crate) fn begin(&mut self, worker: u32, request: Request) -> Result<CoreReply, CoreRefusal>
         requires kept { IsKept self.old }
-        ensures kept { IsKept self.new }
-        ensures follows { Follows (shown self.old) (Event.Begin worker request)
-            result (shown self.new) }
-        ensures unchanged { OnErr result (shown self.new ≡ shown self.old) }
-        ensures setup { setup_of (shown self.new) ≡ setup_of (shown self.old) }
+        ensures { Performs self.old (Event.Begin worker request) result self.new }
     {
         let row = row_for(&self.plan, &self.seats, worker, request)?;
         let version = self.plan.version();
@@ -173,11 +163,7 @@ impl State {
     /// A worker looks at a word of its current node.
     pub(crate) fn look(&mut self, worker: u32, word: u32) -> Result<CoreReply, CoreRefusal>
         requires kept { IsKept self.old }
-        ensures kept { IsKept self.new }
-        ensures follows { Follows (shown self.old) (Event.Look worker word)
-            result (shown self.new) }
-        ensures unchanged { OnErr result (shown self.new ≡ shown self.old) }
-        ensures setup { setup_of (shown self.new) ≡ setup_of (shown self.old) }
+        ensures { Performs self.old (Event.Look worker word) result self.new }
     {
         seated(&self.seats, worker)?;
         self.seats[worker as usize].look(&self.places, &self.owners, word)
@@ -186,11 +172,7 @@ impl State {
     /// A worker tries a frame of its current node.
     pub(crate) fn attempt(&mut self, worker: u32, frame: Frame) -> Result<CoreReply, CoreRefusal>
         requires kept { IsKept self.old }
-        ensures kept { IsKept self.new }
-        ensures follows { Follows (shown self.old) (Event.Try worker frame)
-            result (shown self.new) }
-        ensures unchanged { OnErr result (shown self.new ≡ shown self.old) }
-        ensures setup { setup_of (shown self.new) ≡ setup_of (shown self.old) }
+        ensures { Performs self.old (Event.Try worker frame) result self.new }
     {
         seated(&self.seats, worker)?;
         let Some(place) = self.places.place(frame.node, frame.number) else {
@@ -210,11 +192,7 @@ impl State {
     /// A worker gives a frame back.
     pub(crate) fn give(&mut self, worker: u32, frame: Frame) -> Result<CoreReply, CoreRefusal>
         requires kept { IsKept self.old }
-        ensures kept { IsKept self.new }
-        ensures follows { Follows (shown self.old) (Event.Give worker frame)
-            result (shown self.new) }
-        ensures unchanged { OnErr result (shown self.new ≡ shown self.old) }
-        ensures setup { setup_of (shown self.new) ≡ setup_of (shown self.old) }
+        ensures { Performs self.old (Event.Give worker frame) result self.new }
     {
         seated(&self.seats, worker)?;
         let seat = &self.seats[worker as usize];
