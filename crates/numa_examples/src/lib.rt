@@ -1,10 +1,11 @@
 //! What examples of several crates begin with: sets of nodes, machines, pools, commands, spaces,
-//! readers and writers that fail, marks for refused growths, and times. Tests and measurements use it; no
-//! other crate does.
+//! many ranges, readers and writers that fail, marks for refused growths, and times. Tests and
+//! measurements use it; no other crate does.
 #![tactic(auto)]
 
 pub mod commands;
 pub mod machines;
+pub mod many;
 pub mod marks;
 pub mod pools;
 pub mod sets;
@@ -15,7 +16,7 @@ pub mod wanted;
 
 pub use commands::{Asked, command_of, commands_of, spec_of};
 pub use machines::{flat_distances, flat_machine, machine_of};
-pub use marks::mark;
-pub use sets::{first_nodes, set_of};
+pub use marks::{made, mark};
+pub use sets::{first_nodes, nodes_of, set_of};
 pub use spaces::{flat_space, limits, space_of};
 pub use streams::{Narrow, Trickle};

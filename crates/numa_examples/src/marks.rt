@@ -11,3 +11,21 @@ const MARK: usize = 1_000_003;
 pub fn mark(alloc: Global) -> bool {
     Vec::<u8>::with_capacity(alloc, MARK).is_ok()
 }
+
+/// Makes something between two marks, and once more where memory was refused: None where there was
+/// none for a mark, or still none.
+pub fn made<T: Drop, F: Fn() -> Option<T>>(alloc: Global, make: &F) -> Option<T>
+    requires { F.IsAlwaysCallable make.now }
+{
+    if !mark(alloc) {
+        return None;
+    }
+    let first = make();
+    if !mark(alloc) {
+        return None;
+    }
+    match first {
+        Some(made) => Some(made),
+        None => make(),
+    }
+}
