@@ -11,6 +11,7 @@ use Rattle.numa_space.specs.declared.request.Request.{Request}
 use Rattle.numa_space.specs.declared.event.Event.{Event}
 use Rattle.numa_space.specs.declared.event.Event.TheVariants.{Give}
 use Rattle.numa_space.specs.declared.event.CoreReply.{CoreReply}
+use Rattle.numa_space.specs.declared.event.CoreReply.TheVariants as done
 use Rattle.numa_space.specs.declared.event.CoreRefusal.{CoreRefusal}
 use Rattle.numa_space.specs.declared.event.CoreRefusal.TheVariants.{NoMemory}
 use Rattle.numa_maps.specs.Residents.{Kept, placed_at, with_placement, without_page}
@@ -127,6 +128,15 @@ gives-starved old new w placement answer steps same resident free =
     )
 
 -- ---- touch
+
+-- an answer that wins no frame
+pub none_won : (answer : CoreReply) → ((placement : Placement) → answer ≡ done.Won placement → ⊥) → won_by (Ok answer) ≡ None
+none_won (done.Won placement) none = absurd (none placement refl)
+none_won (done.Accepted version) none = refl
+none_won (done.Published version) none = refl
+none_won done.Still none = refl
+none_won (done.Exhausted version) none = refl
+none_won done.Given none = refl
 
 -- the machine after the core's touch
 touched-there : (old mid : Running) (w : ℕ) (request : Request) (answer : Result CoreReply CoreRefusal) → Touches old.core w request answer mid.core → setup_of mid.core ≡ setup_of old.core → mid.resident ≡ old.resident

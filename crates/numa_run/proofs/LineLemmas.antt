@@ -18,7 +18,7 @@ use Rattle.numa_run.specs.Answers.{State, answer_of, reply_of, after}
 use Rattle.numa_run.specs.Machines.{limits_fit, hardware_of, first_fault}
 use Rattle.numa_run.specs.Questions.{question_text}
 use Rattle.numa_run.specs.Ranges.{listing_of}
-use Rattle.numa_run.specs.Replies.{Answer, Replied, Shown, bytes_of, reply_in, Served, shown, replied, machine_unless, machine_served, served_first, served_later, moved, served_by, served}
+use Rattle.numa_run.specs.Replies.{Answer, Replied, Shown, bytes_of, reply_in, Served, with_text, with_reply, machine_unless, machine_served, served_first, served_later, with_outcome, served_by, served}
 use Rattle.numa_run.specs.Standing.{RunsAs, Stands, Replies, Takes, Does}
 use Rattle.numa_run.specs.States.{setup_with}
 use Rattle.numa_script.specs.Texts.{text_of}
@@ -35,10 +35,10 @@ unfolding served
 first_is limits said refused state stands = ap (λ m. served_by m refused state said) stands.1
 
 -- a line that changes nothing
-pub first_same : (limits : Bounds) (said : Line) (answer : Reply) (refused : Bool) → ((state : State) → served_first refused state said ≡ replied answer state) → Replies limits None said (Some answer) limits None
+pub first_same : (limits : Bounds) (said : Line) (answer : Reply) (refused : Bool) → ((state : State) → served_first refused state said ≡ with_reply answer state) → Replies limits None said (Some answer) limits None
 first_same limits said answer refused right =
     λ state stands.
-    let is : served refused state said ≡ replied answer state = first_is limits said refused state stands ∙ right state in
+    let is : served refused state said ≡ with_reply answer state = first_is limits said refused state stands ∙ right state in
     (refused, sym (ap (λ r. reply_in r.answer) is), subst (λ (r : Served). Stands limits None r.state) (sym is) stands)
 
 -- limits that are taken
@@ -47,8 +47,8 @@ pub first_limits : (limits : Bounds) (ranges tasks commands : ℕ) → limits_fi
 first_limits limits ranges tasks commands fits =
     λ state stands.
     let taken : State = record { bounds = record { max_ranges = ranges; max_tasks = tasks; max_commands = commands }; machine = state.machine; world = state.world; resident = state.resident } in
-    let is : served false state (line.Limits ranges tasks commands) ≡ replied reply.LimitsOk taken =
-    first_is limits (line.Limits ranges tasks commands) false state stands ∙ ap (λ b. if b then replied reply.LimitsOk taken else replied reply.BadLimits state) fits in
+    let is : served false state (line.Limits ranges tasks commands) ≡ with_reply reply.LimitsOk taken =
+    first_is limits (line.Limits ranges tasks commands) false state stands ∙ ap (λ b. if b then with_reply reply.LimitsOk taken else with_reply reply.BadLimits state) fits in
     (false, sym (ap (λ r. reply_in r.answer) is), subst (λ (r : Served). Stands (record { max_ranges = ranges; max_tasks = tasks; max_commands = commands }) None r.state) (sym is) (refl, stands.1))
 
 pub first_no_limits : (limits : Bounds) (ranges tasks commands : ℕ) → limits_fit ranges tasks ≡ false → Replies limits None (line.Limits ranges tasks commands) (Some reply.BadLimits) limits None
@@ -61,7 +61,7 @@ pub first_ready : (limits : Bounds) (said : MachineLine) (memory : ℕ) (running
 first_ready limits said memory running named sound setup leads resident =
     λ state stands.
     let ready : State = record { bounds = state.bounds; machine = Some (hardware_of said memory); world = opening; resident = [] } in
-    let is : served false state (line.Machine said) ≡ replied reply.Ready ready =
+    let is : served false state (line.Machine said) ≡ with_reply reply.Ready ready =
     first_is limits (line.Machine said) false state stands ∙ ap (λ m. machine_served false said m state) named ∙ ap (λ f. machine_unless f (hardware_of said memory) state) sound in
     let reached : RunsAs running ready = record {
       core = record {
@@ -102,23 +102,23 @@ setup_is running state stands = λ i. record { machine = (setup_of running.core)
 
 -- a line that changes nothing
 pub later_same : (running : Running) (said : Line) (answer : Reply)
-    → ((machine : Hardware) (state : State) → served_later false machine state said ≡ replied answer state)
+    → ((machine : Hardware) (state : State) → served_later false machine state said ≡ with_reply answer state)
     → Takes running said (taken.Reply answer) running
 later_same running said answer right =
     λ state stands.
-    let is : served false state said ≡ replied answer state = later_is running said false state stands ∙ right (setup_of running.core).machine state in
+    let is : served false state said ≡ with_reply answer state = later_is running said false state stands ∙ right (setup_of running.core).machine state in
     (false, sym (ap (λ r. reply_in r.answer) is), subst (λ (r : Served). RunsAs running r.state) (sym is) stands)
 
 -- a command, or a line of workers
 pub later_done : (old new : Running) (said : Line) (answer : Reply) (outcome : Bool → Setup → State → Outcome)
     → Does old answer new (λ refused state. outcome refused (setup_of old.core) state)
-    → ((refused : Bool) (machine : Hardware) (state : State) → served_later refused machine state said ≡ moved state (outcome refused (setup_with machine state.bounds) state))
+    → ((refused : Bool) (machine : Hardware) (state : State) → served_later refused machine state said ≡ with_outcome state (outcome refused (setup_with machine state.bounds) state))
     → Takes old said (taken.Reply answer) new
 later_done old new said answer outcome does right =
     λ state stands.
     let d = does state stands in
-    let is : served d.0 state said ≡ moved state (outcome d.0 (setup_of old.core) state) =
-    later_is old said d.0 state stands ∙ right d.0 (setup_of old.core).machine state ∙ ap (λ s. moved state (outcome d.0 s state)) (setup_is old state stands) in
+    let is : served d.0 state said ≡ with_outcome state (outcome d.0 (setup_of old.core) state) =
+    later_is old said d.0 state stands ∙ right d.0 (setup_of old.core).machine state ∙ ap (λ s. with_outcome state (outcome d.0 s state)) (setup_is old state stands) in
     (d.0, ap Some d.1 ∙ sym (ap (λ r. reply_in r.answer) is), subst (λ (r : Served). RunsAs new r.state) (sym is) d.2)
 
 -- ---- answers as bytes
@@ -155,7 +155,7 @@ asked_later old mid new said asked P is same h =
     (subst (λ (r : Running). IsServed r new (line.Question asked) P) same
     (λ state stands.
     let a = h state stands in
-    let is : served a.0 state (line.Question asked) ≡ shown (question_text a.0 (setup_of mid.core).machine state.world.history asked) state = later_is mid (line.Question asked) a.0 state stands in
+    let is : served a.0 state (line.Question asked) ≡ with_text (question_text a.0 (setup_of mid.core).machine state.world.history asked) state = later_is mid (line.Question asked) a.0 state stands in
     (a.0, subst (λ (r : Served). RunsAs new r.state) (sym is) a.1, subst (λ (r : Served). P (bytes_of r.answer)) (sym is) a.2)))
 
 -- maps
@@ -166,7 +166,7 @@ listed_later old mid said task P is same h =
     subst (λ (l : Line). IsServed old mid l P) (sym is)
     (subst (λ (r : Running). IsServed r mid (line.Maps task) P) same
     (λ state stands.
-    let is : served false state (line.Maps task) ≡ shown (listing_of (setup_of mid.core).machine state.world.history task state.resident) state = later_is mid (line.Maps task) false state stands in
+    let is : served false state (line.Maps task) ≡ with_text (listing_of (setup_of mid.core).machine state.world.history task state.resident) state = later_is mid (line.Maps task) false state stands in
     (false, subst (λ (r : Served). RunsAs mid r.state) (sym is) stands, subst (λ (r : Served). P (bytes_of r.answer)) (sym is) (h state stands))))
 
 -- ---- a question and `maps` have no reply
@@ -179,7 +179,7 @@ question_has_none old new said asked is same =
     subst (λ (l : Line). HasNone old new l) (sym is)
     (subst (λ (r : Running). HasNone r new (line.Question asked)) same
     (λ state stands.
-    let is : served false state (line.Question asked) ≡ shown (question_text false (setup_of new.core).machine state.world.history asked) state = later_is new (line.Question asked) false state stands in
+    let is : served false state (line.Question asked) ≡ with_text (question_text false (setup_of new.core).machine state.world.history asked) state = later_is new (line.Question asked) false state stands in
     (false, sym (ap (λ r. reply_in r.answer) is), subst (λ (r : Served). RunsAs new r.state) (sym is) stands)))
 
 pub maps_have_none : (old new : Running) (said : Line) (task : ℕ) → said ≡ line.Maps task → new ≡ old → HasNone old new said
@@ -187,5 +187,5 @@ maps_have_none old new said task is same =
     subst (λ (l : Line). HasNone old new l) (sym is)
     (subst (λ (r : Running). HasNone r new (line.Maps task)) same
     (λ state stands.
-    let is : served false state (line.Maps task) ≡ shown (listing_of (setup_of new.core).machine state.world.history task state.resident) state = later_is new (line.Maps task) false state stands in
+    let is : served false state (line.Maps task) ≡ with_text (listing_of (setup_of new.core).machine state.world.history task state.resident) state = later_is new (line.Maps task) false state stands in
     (false, sym (ap (λ r. reply_in r.answer) is), subst (λ (r : Served). RunsAs new r.state) (sym is) stands)))

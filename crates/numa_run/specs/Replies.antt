@@ -41,11 +41,11 @@ pub record Served : Type 0 where
   pub state : State
 
 -- an answer that changes nothing
-abbrev pub replied : Reply → State → Served
-replied answer state = record { answer = Replied answer; state = state }
+abbrev pub with_reply : Reply → State → Served
+with_reply answer state = record { answer = Replied answer; state = state }
 
-abbrev pub shown : List ℕ → State → Served
-shown text state = record { answer = Shown text; state = state }
+abbrev pub with_text : List ℕ → State → Served
+with_text text state = record { answer = Shown text; state = state }
 
 -- ---- before a machine is ready
 
@@ -53,68 +53,68 @@ shown text state = record { answer = Shown text; state = state }
 abbrev pub limits_served : ℕ → ℕ → ℕ → State → Served
 limits_served ranges tasks commands state =
     if limits_fit ranges tasks
-    then replied reply.LimitsOk (record state {
+    then with_reply reply.LimitsOk (record state {
       bounds = record { max_ranges = ranges; max_tasks = tasks; max_commands = commands };
     })
-    else replied reply.BadLimits state
+    else with_reply reply.BadLimits state
 
 -- a machine, where it has no fault: nothing is accepted yet, and no page is placed
 abbrev pub machine_unless : Option MachineFault → Hardware → State → Served
 machine_unless None hardware state =
-    replied reply.Ready (record {
+    with_reply reply.Ready (record {
       bounds = state.bounds;
       machine = Some hardware;
       world = opening;
       resident = [];
     })
-machine_unless (Some fault) hardware state = replied (reply.BadMachine fault) state
+machine_unless (Some fault) hardware state = with_reply (reply.BadMachine fault) state
 
 -- machine NODES MEM FRAMES DIST: a fault of the list of nodes comes before every fault of the
 -- machine
 abbrev pub machine_served : Bool → MachineLine → Result ℕ ListFault → State → Served
 machine_served refused said (Err fault) state =
-    replied (reply.BadWord (word_fault.List fault)) state
+    with_reply (reply.BadWord (word_fault.List fault)) state
 machine_served refused said (Ok memory) state =
     machine_unless (first_fault refused (hardware_of said memory)) (hardware_of said memory) state
 
 abbrev pub served_first : Bool → State → Line → Served
-served_first refused state line.Silent = replied reply.Silent state
-served_first refused state line.Malformed = replied reply.BadWords state
+served_first refused state line.Silent = with_reply reply.Silent state
+served_first refused state line.Malformed = with_reply reply.BadWords state
 served_first refused state (line.Limits ranges tasks commands) =
     limits_served ranges tasks commands state
 served_first refused state (line.Machine said) = machine_served refused said said.memory state
-served_first refused state (line.Command said) = replied reply.BadState state
-served_first refused state (line.Question said) = replied reply.BadState state
-served_first refused state (line.Maps task) = replied reply.BadState state
-served_first refused state (line.Work said) = replied reply.BadState state
+served_first refused state (line.Command said) = with_reply reply.BadState state
+served_first refused state (line.Question said) = with_reply reply.BadState state
+served_first refused state (line.Maps task) = with_reply reply.BadState state
+served_first refused state (line.Work said) = with_reply reply.BadState state
 
 -- ---- with a machine
 
-abbrev pub moved : State → Outcome → Served
-moved state outcome =
-    replied outcome.reply (record state { world = outcome.world; resident = outcome.resident })
+abbrev pub with_outcome : State → Outcome → Served
+with_outcome state outcome =
+    with_reply outcome.reply (record state { world = outcome.world; resident = outcome.resident })
 
 -- map, unmap, mbind, home, task, weight, mems: a fault of a list or a policy comes before every
 -- refusal
 abbrev pub command_served : Bool → Hardware → State → Result Command WordFault → Served
-command_served refused machine state (Err fault) = replied (reply.BadWord fault) state
+command_served refused machine state (Err fault) = with_reply (reply.BadWord fault) state
 command_served refused machine state (Ok command) =
-    moved state (event_outcome refused (setup_with machine state.bounds) state.world
+    with_outcome state (event_outcome refused (setup_with machine state.bounds) state.world
     state.resident (Accept command))
 
 abbrev pub served_later : Bool → Hardware → State → Line → Served
-served_later refused machine state line.Silent = replied reply.Silent state
-served_later refused machine state line.Malformed = replied reply.BadWords state
+served_later refused machine state line.Silent = with_reply reply.Silent state
+served_later refused machine state line.Malformed = with_reply reply.BadWords state
 served_later refused machine state (line.Limits ranges tasks commands) =
-    replied reply.BadState state
-served_later refused machine state (line.Machine said) = replied reply.BadState state
+    with_reply reply.BadState state
+served_later refused machine state (line.Machine said) = with_reply reply.BadState state
 served_later refused machine state (line.Command said) = command_served refused machine state said
 served_later refused machine state (line.Question said) =
-    shown (question_text refused machine state.world.history said) state
+    with_text (question_text refused machine state.world.history said) state
 served_later refused machine state (line.Maps task) =
-    shown (listing_of machine state.world.history task state.resident) state
+    with_text (listing_of machine state.world.history task state.resident) state
 served_later refused machine state (line.Work said) =
-    moved state (work_outcome refused (setup_with machine state.bounds) state.world
+    with_outcome state (work_outcome refused (setup_with machine state.bounds) state.world
     state.resident said)
 
 -- ---- every line

@@ -1,9 +1,9 @@
 //! A running script: from a line to its reply, and to the answer of a question.
 #![tactic(auto)]
 
-mod ask;
 mod build;
 mod judging;
+mod questions;
 mod running;
 pub mod script;
 pub mod streams;

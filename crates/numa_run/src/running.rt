@@ -11,14 +11,14 @@ ghost use Rattle.numa_run.specs.Work.{event_outcome, kept_outcome, release_outco
 ghost use Rattle.numa_run.specs.Work.{work_outcome, won_by};
 ghost use Rattle.numa_script.specs.Replies.{reply_to};
 
-use crate::ask::answer_by_plan;
 use crate::judging::refusal_by_plan;
+use crate::questions::answer_by_plan;
 use line_server::Watched;
 use numa_core::{Core, CoreRefusal, CoreReply, Event, Frame, Placement, Request};
 use numa_maps::{RecordRefusal, Resident, write_maps};
 use numa_script::tell::{say_ranges, say_reply, say_starved};
-use numa_script::{Line, Question, Reply, Win, WordFault, Work};
-use numa_space::{Command, PlaceRefusal};
+use numa_script::{Line, Question, Reply, Win, Work};
+use numa_space::PlaceRefusal;
 use std::alloc::Global;
 use std::io::Write;
 
@@ -27,14 +27,13 @@ fn won_by(answer: Result<CoreReply, CoreRefusal>) -> Result<Placement, Reply>
     ensures { MatchResult result (λ placement. won_by answer ≡ Some placement)
         (λ reply. (won_by answer ≡ None) × (reply ≡ reply_to answer)) }
 {
+    let reply = Reply::to_event(&answer);
     match answer {
-        Ok(CoreReply::Won(placement)) => Ok(placement),
-        Ok(CoreReply::Accepted(version)) => Err(Reply::Accepted(version)),
-        Ok(CoreReply::Published(version)) => Err(Reply::Published(version)),
-        Ok(CoreReply::Still) => Err(Reply::Still),
-        Ok(CoreReply::Exhausted(version)) => Err(Reply::Exhausted(version)),
-        Ok(CoreReply::Given) => Err(Reply::Given),
-        Err(cause) => Err(Reply::Refused(cause)),
+        Ok(done) => match done {
+            CoreReply::Won(placement) => Ok(placement),
+            _ => Err(reply),
+        },
+        Err(_) => Err(reply),
     }
 }
 
@@ -173,16 +172,6 @@ impl Running {
         let _ = write_maps(space, task, &self.resident, output);
     }
 
-    /// Carries out a command, unless its list or policy is faulty.
-    fn command(&mut self, said: &Result<Command, WordFault>) -> Reply
-        ensures { Takes self.old (Line.Command said.now) (Taken.Reply result) self.new }
-    {
-        match said {
-            Ok(command) => self.step(Event::Accept(*command)),
-            Err(fault) => Reply::BadWord(*fault),
-        }
-    }
-
     /// Does what a line says. The answer of a question and of a line `maps` is left to be said.
     pub fn take(&mut self, line: &Line<'_>) -> Taken
         ensures { Takes self.old line.now result self.new }
@@ -192,7 +181,10 @@ impl Running {
             Line::Malformed => Taken::Reply(Reply::BadWords),
             Line::Limits { .. } => Taken::Reply(Reply::BadState),
             Line::Machine(_) => Taken::Reply(Reply::BadState),
-            Line::Command(said) => Taken::Reply(self.command(said)),
+            Line::Command(said) => match said {
+                Ok(command) => Taken::Reply(self.step(Event::Accept(*command))),
+                Err(fault) => Taken::Reply(Reply::BadWord(*fault)),
+            },
             Line::Work(work) => Taken::Reply(self.work(*work)),
             Line::Question(question) => Taken::Question(*question),
             Line::Maps(task) => Taken::Maps(*task),
@@ -221,6 +213,7 @@ impl Running {
         if let Question::Ranges = question {
             return None;
         }
+        // Where it finds no memory, there may be no plan to ask.
         let _ = self.core.prepare();
         let Some(plan) = self.core.accepted_plan() else {
             return Some(CoreRefusal::NoMemory);

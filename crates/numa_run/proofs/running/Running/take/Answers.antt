@@ -1,5 +1,7 @@
 use Rattle.std.proofs.Common.{refl}
-use Rattle.numa_run.specs.Work.{work_outcome}
+use Rattle.std.specs.Prelude.{Ok, Err}
+use Rattle.numa_space.specs.declared.event.Event.TheVariants.{Accept}
+use Rattle.numa_run.specs.Work.{event_outcome, work_outcome}
 use Rattle.numa_script.specs.declared.reply.Reply.TheVariants as reply
 use Rattle.numa_script.specs.declared.line.Line.TheVariants as line
 use Rattle.numa_run.proofs.LineLemmas.{later_same, later_done}
@@ -16,6 +18,17 @@ returns-in-Limits c = rw c.in-Limits.is (later_same c.args.self.now _ reply.BadS
 
 pub returns-in-Machine : goal.returns-in-Machine
 returns-in-Machine c = rw c.in-Machine.is (later_same c.args.self.now _ reply.BadState (λ machine state. refl))
+
+pub returns-in-Ok : goal.returns-in-Ok
+returns-in-Ok c =
+    rw (c.in-Command.is, c.in-Ok.is)
+    (later_done c.args.self.now c.step.new.self (line.Command (Ok c.in-Ok.command)) c.step.result
+    (λ refused s state. event_outcome refused s state.world state.resident (Accept c.in-Ok.command)) c.step.ensures (λ refused machine state. refl))
+
+pub returns-in-Err : goal.returns-in-Err
+returns-in-Err c =
+    rw (c.in-Command.is, c.in-Err.is)
+    (later_same c.args.self.now (line.Command (Err c.in-Err.fault)) (reply.BadWord c.in-Err.fault) (λ machine state. refl))
 
 pub returns-in-Work : goal.returns-in-Work
 returns-in-Work c =

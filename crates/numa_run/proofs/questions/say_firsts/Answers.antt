@@ -3,7 +3,7 @@ use Rattle.line_server.proofs.Adding.{said_same}
 use Rattle.numa_run.proofs.Spanned.{span-ok, span-err}
 use Rattle.numa_run.specs.Questions.{span_text, first_nodes}
 use Rattle.numa_script.specs.Texts.{nodes_answer}
-use Rattle.numa_run.proofs.ask.say_firsts.Goals as goal
+use Rattle.numa_run.proofs.questions.say_firsts.Goals as goal
 
 pub returns-in-Ok : goal.returns-in-Ok
 returns-in-Ok g c =

@@ -1,7 +1,7 @@
 use Rattle.std.proofs.Common.{◌∙◌, ap, false, ℕ, length, ◌≡◌}
 use Rattle.line_server.proofs.Adding.{said_same}
 use Rattle.numa_run.specs.Questions.{span_text}
-use Rattle.numa_run.proofs.ask.say_span.Goals as goal
+use Rattle.numa_run.proofs.questions.say_span.Goals as goal
 
 pub returns : goal.returns
 returns g c =

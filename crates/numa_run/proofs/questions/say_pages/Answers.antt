@@ -3,7 +3,7 @@ use Rattle.line_server.proofs.Adding.{said_same}
 use Rattle.numa_run.proofs.Spanned.{count-ok, span-err}
 use Rattle.numa_script.specs.Texts.{counts_answer}
 use Rattle.numa_compile.specs.Spans.{meant_count}
-use Rattle.numa_run.proofs.ask.say_pages.Goals as goal
+use Rattle.numa_run.proofs.questions.say_pages.Goals as goal
 
 pub returns-in-Ok : goal.returns-in-Ok
 returns-in-Ok g c =
