@@ -1,47 +1,89 @@
--- The last mark of a text, as it is met from the front.
-use Rattle.std.proofs.Common.{◌≡◌, ℕ, ◌+◌, Bool, true, false, List, [], ◌∷◌, Option, Some, None, length, codes, ap, arith, refl, sym, take, ◌≤◌, ◌<◌}
-use Rattle.std.proofs.lemmas.List.{take_all, length-take, length-take-le}
+-- The last mark of a text, as it is met from the end.
+use Rattle.std.proofs.Common.{◌≡◌, ℕ, ◌+◌, Bool, true, false, List, [], ◌∷◌, Option, Some, None, length, codes, ap, arith, refl, sym, take, drop, get_or, suc, zero, subst, ◌-◌, ◌∙◌, ◌≤◌, ◌<◌}
+use Rattle.std.proofs.lemmas.List.{take_all, length-take, length-take-le, at_drop_more, at_drop_all, take_rest}
 use Rattle.numa_files.specs.Worked.{begins_with, further, or_here, last_mark}
 
--- the last mark, where this is the one of the rest, which begins at the place, and that the one before it
-abbrev pub found : ℕ → Option ℕ → Option ℕ → Option ℕ
-found place (Some k) last = Some (place + k)
-found place None last = last
+none_here : (here : Bool) (m : Option ℕ) → here ≡ false → m ≡ None
+    → or_here here (further m) ≡ None
+none_here true m lacks empty = absurd (cc lacks)
+none_here false None lacks empty = refl
+none_here false (Some k) lacks empty = absurd (cc empty)
 
-somes : {m n : ℕ} → m ≡ n → Some m ≡ Some n
-somes same = ap Some same
+one_here : (here : Bool) (m : Option ℕ) → here ≡ true → m ≡ None
+    → or_here here (further m) ≡ Some 0
+one_here true None starts empty = refl
+one_here true (Some k) starts empty = absurd (cc empty)
+one_here false m starts empty = absurd (cc starts)
 
-joined : (place : ℕ) (here : Bool) (m last : Option ℕ)
-    → here ≡ true → found (place + 1) m (Some place) ≡ found place (or_here here (further m)) last
-joined place true (Some k) last is = somes (omega arith)
-joined place true None last is = somes (omega arith)
-joined place false m last is = absurd (cc is)
+one_further : (here : Bool) (m : Option ℕ) (k : ℕ) → m ≡ Some k
+    → or_here here (further m) ≡ Some (k + 1)
+one_further here None k is = absurd (cc is)
+one_further here (Some j) k is = cc is
 
-passed : (place : ℕ) (here : Bool) (m last : Option ℕ)
-    → here ≡ false → found (place + 1) m last ≡ found place (or_here here (further m)) last
-passed place false (Some k) last is = somes (omega arith)
-passed place false None last is = refl
-passed place true m last is = absurd (cc is)
-
-pub marked_here : (place : ℕ) (b : ℕ) (bs : List ℕ) (last : Option ℕ)
-    → begins_with (codes " => ") (b ∷ bs) ≡ true
-    → found (place + 1) (last_mark bs) (Some place) ≡ found place (last_mark (b ∷ bs)) last
+-- where the rest has no mark, and none begins here
+pub not_from : (text : List ℕ) (place : ℕ) → place < length text
+    → begins_with (codes " => ") (drop place text) ≡ false
+    → last_mark (drop (place + 1) text) ≡ None → last_mark (drop place text) ≡ None
 unfolding last_mark
-marked_here place b bs last is =
-    joined place (begins_with (codes " => ") (b ∷ bs)) (last_mark bs) last is
+not_from text place within lacks empty =
+    let rest = drop (place + 1) text in
+    let byte = get_or text place 0 in
+    at_drop_more last_mark text place 0 within ∙ none_here
+    (begins_with (codes " => ") (byte ∷ rest)) (last_mark rest)
+    (sym (at_drop_more (begins_with (codes " => ")) text place 0 within) ∙ lacks) empty
 
-pub not_here : (place : ℕ) (b : ℕ) (bs : List ℕ) (last : Option ℕ)
-    → begins_with (codes " => ") (b ∷ bs) ≡ false
-    → found (place + 1) (last_mark bs) last ≡ found place (last_mark (b ∷ bs)) last
+-- where the rest has no mark, and one begins here
+pub one_from : (text : List ℕ) (place : ℕ) → place < length text
+    → begins_with (codes " => ") (drop place text) ≡ true
+    → last_mark (drop (place + 1) text) ≡ None → last_mark (drop place text) ≡ Some 0
 unfolding last_mark
-not_here place b bs last is =
-    passed place (begins_with (codes " => ") (b ∷ bs)) (last_mark bs) last is
+one_from text place within starts empty =
+    let rest = drop (place + 1) text in
+    let byte = get_or text place 0 in
+    at_drop_more last_mark text place 0 within ∙ one_here
+    (begins_with (codes " => ") (byte ∷ rest)) (last_mark rest)
+    (sym (at_drop_more (begins_with (codes " => ")) text place 0 within) ∙ starts) empty
 
-pub at_end : (place : ℕ) (rest : List ℕ) (last : Option ℕ)
-    → length rest ≡ 0 → found place (last_mark rest) last ≡ last
+-- the mark of what is left is that of the text
+pub from_front : (place : ℕ) (text : List ℕ) (k : ℕ)
+    → last_mark (drop place text) ≡ Some k → last_mark text ≡ Some (place + k)
 unfolding last_mark
-at_end place [] last none = refl
-at_end place (b ∷ bs) last none = absurd (omega (arith, none))
+from_front zero text k is = is ∙ ap Some (omega arith)
+from_front (suc place) [] k is = absurd (cc is)
+from_front (suc place) (b ∷ bs) k is =
+    one_further (begins_with (codes " => ") (b ∷ bs)) (last_mark bs) (place + k)
+    (from_front place bs k is) ∙ ap Some (omega arith)
+
+-- no mark begins behind the text
+pub none_behind : (text : List ℕ) → last_mark (drop (length text) text) ≡ None
+unfolding last_mark
+none_behind text = at_drop_all last_mark text (length text) (omega arith)
+
+before_one : (text : List ℕ) (place : ℕ) → 0 < place
+    → last_mark (drop place text) ≡ None → last_mark (drop (place - 1 + 1) text) ≡ None
+before_one text place some empty =
+    subst (λ k. last_mark (drop k text) ≡ None) (omega (arith, some)) empty
+
+-- a mark begins at the place before one behind which none does
+pub mark_here : (text : List ℕ) (place : ℕ) → 0 < place → place ≤ length text
+    → last_mark (drop place text) ≡ None
+    → begins_with (codes " => ") (take (length text - (place - 1)) (drop (place - 1) text)) ≡ true
+    → Some (place - 1) ≡ last_mark text
+mark_here text place some within empty starts =
+    let here = ap (begins_with (codes " => ")) (take_rest text (place - 1)) in
+    let one = one_from text (place - 1) (omega (arith, some, within)) (sym here ∙ starts)
+    (before_one text place some empty) in
+    sym (from_front (place - 1) text 0 one ∙ ap Some (omega arith))
+
+-- none does
+pub none_here_either : (text : List ℕ) (place : ℕ) → 0 < place → place ≤ length text
+    → last_mark (drop place text) ≡ None
+    → begins_with (codes " => ") (take (length text - (place - 1)) (drop (place - 1) text)) ≡ false
+    → last_mark (drop (place - 1) text) ≡ None
+none_here_either text place some within empty lacks =
+    let here = ap (begins_with (codes " => ")) (take_rest text (place - 1)) in
+    not_from text (place - 1) (omega (arith, some, within)) (sym here ∙ lacks)
+    (before_one text place some empty)
 
 pub all_taken : (line : List ℕ) → length line ≤ 4101 → line ≡ take 4101 line
 all_taken line fits = sym (take_all 4101 line fits)

@@ -1,6 +1,9 @@
 //! Worked scripts, compared with what their lines are answered as they are read.
+ghost use Rattle.std.specs.Prelude.{◌≤◌, length, IfOk};
+
 use crate::reading::{Stop, TakeText};
 use crate::worked::{HEAD, LineForm, read_form};
+use memchr::memchr;
 use std::alloc::{AllocError, Global};
 use std::io::Write;
 use std::mem;
@@ -68,7 +71,7 @@ fn line_from(text: &[u8], start: usize) -> &[u8] {
     let Some(rest) = text.get(start..) else {
         return &[];
     };
-    match rest.iter().position(|byte| *byte == b'\n') {
+    match memchr(b'\n', rest) {
         Some(end) => &rest[..end],
         None => rest,
     }
@@ -168,28 +171,49 @@ impl<A: Respond, W: Write> Expect<A, W> {
         self.matched = 0;
     }
 
-    /// Takes a byte of a wanted line.
-    fn want(&mut self, byte: u8) -> Result<(), Stop> {
+    /// Whether the answer goes on with these bytes, behind what the wanted line has of it.
+    fn goes_on_with(&self, bytes: &[u8]) -> bool {
         let at = self.next.saturating_add(self.matched);
+        match self.answer.get(at..) {
+            Some(rest) => rest.starts_with(bytes),
+            None => false,
+        }
+    }
+
+    /// Takes the next bytes of a wanted line, up to the first that isn't as given.
+    fn match_bytes(&mut self, bytes: &[u8]) -> usize {
+        let mut count = 0usize;
+        for byte in bytes {
+            if !self.goes_on_with(&[*byte]) {
+                return count;
+            }
+            self.matched = self.matched.saturating_add(1);
+            count = count.saturating_add(1);
+        }
+        count
+    }
+
+    /// Takes bytes of a wanted line.
+    fn want(&mut self, bytes: &[u8]) -> Result<(), Stop> {
+        let mut rest = bytes;
         if self.reading == Reading::Same {
-            if self.answer.get(at) == Some(&byte) {
-                self.matched = self.matched.saturating_add(1);
+            if self.goes_on_with(bytes) {
+                self.matched = self.matched.saturating_add(bytes.len());
                 return Ok(());
             }
+            let count = self.match_bytes(bytes);
             self.tell_wanted()?;
             self.reading = Reading::Different;
+            rest = bytes.get(count..).unwrap_or(&[]);
         }
-        self.tell(&[byte])
+        self.tell_pieces(rest)
     }
 
     /// Takes the bytes of a wanted line that begins.
     fn want_from(&mut self, start: &[u8]) -> Result<(), Stop> {
         self.reading = Reading::Same;
         self.is_wanted = true;
-        for byte in start {
-            self.want(*byte)?;
-        }
-        Ok(())
+        self.want(start)
     }
 
     /// Compares the end of a wanted line.
@@ -272,18 +296,29 @@ impl<A: Respond, W: Write> Expect<A, W> {
         Ok(())
     }
 
-    /// Takes one byte of the line at hand.
-    fn feed(&mut self, byte: u8) -> Result<(), Stop> {
+    /// Takes the first bytes of the line at hand, up to those that show what it holds, and tells how
+    /// many these are.
+    fn take_first(&mut self, bytes: &[u8]) -> Result<usize, Stop>
+        ensures { IfOk result (λ count. count ≤ length bytes.now) }
+    {
+        let count = HEAD.saturating_sub(self.head.len()).min(bytes.len());
+        self.head.extend_from_slice(&bytes[..count])?;
+        if self.head.len() >= HEAD {
+            self.see()?;
+        }
+        Ok(count)
+    }
+
+    /// Takes the next bytes of the line at hand.
+    fn feed(&mut self, bytes: &[u8]) -> Result<(), Stop> {
+        let mut rest = bytes;
+        if self.reading == Reading::Head {
+            let count = self.take_first(bytes)?;
+            rest = &bytes[count..];
+        }
         match self.reading {
-            Reading::Head => {
-                self.head.push(byte)?;
-                if self.head.len() >= HEAD {
-                    self.see()?;
-                }
-                Ok(())
-            }
-            Reading::Passed => Ok(()),
-            Reading::Same | Reading::Different => self.want(byte),
+            Reading::Head | Reading::Passed => Ok(()),
+            Reading::Same | Reading::Different => self.want(rest),
         }
     }
 
@@ -312,14 +347,13 @@ impl<A: Respond, W: Write> TakeText for Expect<A, W> {
     }
 
     fn take(&mut self, piece: &[u8]) -> Result<(), Stop> {
-        for byte in piece {
-            if *byte == b'\n' {
-                self.end_line()?;
-            } else {
-                self.feed(*byte)?;
-            }
+        let mut rest = piece;
+        while let Some(end) = memchr(b'\n', rest) {
+            self.feed(&rest[..end])?;
+            self.end_line()?;
+            rest = &rest[end + 1..];
         }
-        Ok(())
+        self.feed(rest)
     }
 
     fn end(&mut self) -> Result<(), Stop> {

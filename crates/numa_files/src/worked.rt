@@ -29,23 +29,19 @@ pub enum LineForm {
     Answer,
 }
 
-/// Where the last ` => ` of a text begins.
-#[tactic(auto, using(crate::proofs::Marks::marked_here, crate::proofs::Marks::not_here, crate::proofs::Marks::at_end))]
+/// Where the last ` => ` of a text begins, sought from the end: answers are short.
 fn last_mark(text: &[u8]) -> Option<usize>
     ensures value { result ≡ last_mark text.now }
     ensures within { IfSome result (λ place. place + 4 ≤ length text.now) }
 {
-    let mut last = None;
-    let mut place = 0;
-    let mut rest = text;
-    while let Some((_, tail)) = rest.split_first() {
-        if rest.starts_with(MARK) {
-            last = Some(place);
+    let mut place = text.len();
+    while place > 0 {
+        place -= 1;
+        if text[place..].starts_with(MARK) {
+            return Some(place);
         }
-        place += 1;
-        rest = tail;
     }
-    last
+    None
 }
 
 /// The first 4,101 bytes of a line.
