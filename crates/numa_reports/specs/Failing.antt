@@ -1,10 +1,13 @@
 -- Why there is no report.
-use Rattle.std.specs.Prelude.{ℕ, ◌≤◌, ◌⊎◌, List}
+use Rattle.std.specs.Prelude.{ℕ, ◌≤◌, ◌⊎◌, List, Result, IfErr}
 use Rattle.numa_machine.specs.Machine.{Hardware}
+use Rattle.numa_space.specs.Standing.{SpaceState, StandsFor}
 use Rattle.numa_space.specs.declared.command.Command.{Command}
 use Rattle.numa_space.specs.declared.refusal.PlaceRefusal.{PlaceRefusal}
 use Rattle.numa_space.specs.declared.refusal.PlaceRefusal.TheVariants.{BadCpu, Unmapped}
+use Rattle.numa_plan.specs.Meaning.{PlanData, RefusesSpan}
 use Rattle.numa_compile.specs.Spans.{SpanIsRefused}
+use Rattle.numa_compile.specs.Standing.{PlanStandsFor}
 use Rattle.numa_reports.specs.declared.fault.ReportFault.{ReportFault}
 use Rattle.numa_reports.specs.declared.fault.ReportFault.TheVariants.{Memory, Refused}
 
@@ -21,6 +24,16 @@ MayRefuse nodes cpu Unmapped = ⊥
 -- why there is no report on all mapped pages
 abbrev pub MayFail : ℕ → ℕ → ReportFault → Type 0
 MayFail nodes cpu = FailsBy (MayRefuse nodes cpu)
+
+-- by a plan of the space, a report on all mapped pages fails for its node alone, or for memory
+abbrev pub FailsForNode : {T : Type 0} → SpaceState → PlanData → ℕ → Result T ReportFault → Type 0
+FailsForNode space plan cpu result = (history : List Command) → StandsFor space history
+    → PlanStandsFor space.machine plan history → IfErr result (MayFail space.machine.nodes cpu)
+
+-- a span is refused by the one plan or by the other
+abbrev pub RefusesEither : PlanData → PlanData → ℕ → ℕ → ℕ → PlaceRefusal → Type 0
+RefusesEither before after first pages cpu refusal =
+    RefusesSpan before first pages cpu refusal ⊎ RefusesSpan after first pages cpu refusal
 
 -- why there is none on how a span's pages move: it is refused before or after
 abbrev pub MovesMayFail : Hardware → List Command → List Command → ℕ → ℕ → ℕ → ReportFault → Type 0

@@ -4,6 +4,8 @@ use Rattle.numa_machine.specs.Machine.{Hardware}
 use Rattle.numa_mode.specs.Policy.{PolicyRecord}
 use Rattle.numa_ranges.specs.Counts.{count_pages}
 use Rattle.numa_ranges.specs.declared.run.Run.{Run}
+use Rattle.numa_plan.specs.Meaning.{PlanData, planned_count}
+use Rattle.numa_plan.specs.Tally.{Adds}
 use Rattle.numa_space.specs.Pages.{resolved_policy}
 use Rattle.numa_space.specs.declared.command.Command.{Command}
 use Rattle.numa_compile.specs.Spans.{meant_count}
@@ -12,6 +14,11 @@ use Rattle.numa_reports.specs.declared.prediction.RangePrediction.{RangePredicti
 -- in how many places a list has the node
 abbrev pub places : List ℕ → ℕ → ℕ
 places nodes node = count_pages (λ k. slice_index nodes k == node) 0 (length nodes)
+
+-- each node's count has as many more as pages of the span go there first by the plan
+abbrev pub AddsSpan : PlanData → ℕ → ℕ → ℕ → ℕ → List ℕ → List ℕ → Type 0
+AddsSpan plan task cpu first pages old new =
+    Adds old new (planned_count plan task cpu first pages)
 
 -- each node's count is that of the mapped pages of the span whose node list begins with it
 abbrev pub AreFirsts : Hardware → List Command → ℕ → ℕ → ℕ → ℕ → List ℕ → Type 0

@@ -1,5 +1,5 @@
 -- What a taker is told of ranges, one after the other.
-use Rattle.std.specs.Prelude.{◌≡◌, ℕ, ◌+◌, ◌-◌, ◌<◌, Option, List, [], ◌∷◌, slice_index}
+use Rattle.std.specs.Prelude.{◌≡◌, ◌⊎◌, ℕ, ◌+◌, ◌-◌, ◌<◌, Option, List, [], ◌∷◌, slice_index}
 use Rattle.numa_machine.specs.Machine.{Hardware}
 use Rattle.numa_mode.specs.Policy.{PolicyRecord}
 use Rattle.numa_ranges.specs.declared.run.Run.{Run}
@@ -15,6 +15,15 @@ Meaning = Run (Option PolicyRecord) → RangePrediction → Type 0
 -- that a taker in one state was told of a range, which left it in another
 abbrev pub Telling : Type 0 → Type 1
 Telling T = T → Run (Option PolicyRecord) → RangePrediction → T → Type 0
+
+-- that a taker in one state had no memory for a range
+abbrev pub Lacking : Type 0 → Type 1
+Lacking T = T → Run (Option PolicyRecord) → Type 0
+
+-- the taker had no memory for one of the ranges, in some state
+abbrev pub LacksOne : {T : Type 0} → Lacking T → List (Run (Option PolicyRecord)) → Type 0
+LacksOne lacks [] = ⊥
+LacksOne {T} lacks (range ∷ ranges) = ((state : T) × lacks state range) ⊎ LacksOne lacks ranges
 
 -- the taker was told of the range once, and it is as meant
 abbrev pub ToldOne : {T : Type 0} → Telling T → Meaning → Run (Option PolicyRecord) → T → T → Type 0

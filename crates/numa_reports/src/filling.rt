@@ -6,11 +6,11 @@ ghost use Rattle.numa_plan.specs.Meaning.{RefusesSpan};
 ghost use Rattle.numa_space.specs.Standing.{StandsFor};
 ghost use Rattle.numa_space.specs.declared.command.Command.{Command};
 ghost use Rattle.numa_space.specs.declared.refusal.PlaceRefusal.TheVariants.{BadCpu};
-ghost use Rattle.numa_reports.specs.declared.fault.ReportFault.TheVariants.{Refused};
-ghost use Rattle.numa_reports.specs.Failing.{FailsBy, MayFail};
+ghost use Rattle.numa_reports.specs.declared.fault.ReportFault.TheVariants.{Memory, Refused};
+ghost use Rattle.numa_reports.specs.Failing.{FailsBy, FailsForNode};
 ghost use Rattle.numa_reports.specs.Filled.{first_free, one_less, free_behind};
 ghost use Rattle.numa_reports.specs.Filled.{nodes_of, planned_nodes, with_named};
-ghost use Rattle.numa_reports.specs.Told.{IsFilling, IsTaken, ToldEach, ToldOne};
+ghost use Rattle.numa_reports.specs.Told.{IsFilling, IsTaken, LacksOne, ToldEach, ToldOne};
 
 use crate::fault::ReportFault;
 use crate::prediction::TakeRange;
@@ -132,6 +132,7 @@ fn fill_next<T: TakeRange>(
         range.now taker.old taker.new) }
     ensures err { IfErr result
         (FailsBy (RefusesSpan plan.now range.now.first range.now.pages cpu)) }
+    ensures lack { IfErr result (λ why. why ≡ Memory → T.lacks taker.old range.now) }
 {
     let before = *free;
     fill_span(plan, task, cpu, range.first, range.pages, free)?;
@@ -164,9 +165,8 @@ pub fn fill_all<T: TakeRange>(
         → PlanStandsFor space.now.machine plan.now history → OnOk result (ToldEach T.told
         (IsFilling space.now.machine history task cpu free.old) space.now.ranges
         taker.old taker.new) }
-    ensures err { (history : List Command) → StandsFor space.now history
-        → PlanStandsFor space.now.machine plan.now history
-        → IfErr result (MayFail space.now.machine.nodes cpu) }
+    ensures err { FailsForNode space.now plan.now cpu result }
+    ensures lack { IfErr result (λ why. why ≡ Memory → LacksOne T.lacks space.now.ranges) }
     ensures bad_cpu { space.now.machine.nodes ≤ cpu → result ≡ Err (Refused BadCpu) }
 {
     if cpu >= space.machine().nodes() {

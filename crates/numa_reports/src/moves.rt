@@ -1,13 +1,12 @@
 //! Which pages go to another node.
-ghost use Rattle.std.specs.Prelude.{◌≡◌, ◌≤◌, ◌<◌, ◌==◌, ◌&&◌, ◌⊎◌, ℕ, List, length, slice_index};
+ghost use Rattle.std.specs.Prelude.{◌≡◌, ◌≤◌, ◌<◌, ◌==◌, ◌&&◌, ℕ, List, length, slice_index};
 ghost use Rattle.std.specs.Prelude.{Err, IfErr, IfOk, OnOk, nat_lt, if◌then◌else◌};
 ghost use Rattle.numa_compile.specs.Standing.{PlanStandsFor};
 ghost use Rattle.numa_machine.specs.Machine.{Hardware};
-ghost use Rattle.numa_plan.specs.Meaning.{RefusesSpan};
 ghost use Rattle.numa_space.specs.declared.command.Command.{Command};
 ghost use Rattle.numa_space.specs.declared.refusal.PlaceRefusal.TheVariants.{BadCpu};
 ghost use Rattle.numa_reports.specs.declared.fault.ReportFault.TheVariants.{Refused};
-ghost use Rattle.numa_reports.specs.Failing.{MovesMayFail};
+ghost use Rattle.numa_reports.specs.Failing.{MovesMayFail, RefusesEither};
 ghost use Rattle.numa_reports.specs.Moved.{AddsMoves, AreMoves, HasRoomFor};
 ghost use Rattle.numa_reports.specs.Moved.{meant_moves, pairs, planned_moves};
 
@@ -61,9 +60,7 @@ fn add_filled(
     ensures ok { OnOk result (AddsMoves table.old.items table.new.items
         (planned_moves before.now after.now task cpu first (length old.old))) }
     ensures entries { length table.new.items ≡ 65536 }
-    ensures err { IfErr result (λ refusal.
-        RefusesSpan before.now first (length old.old) cpu refusal
-        ⊎ RefusesSpan after.now first (length old.old) cpu refusal) }
+    ensures err { IfErr result (RefusesEither before.now after.now first (length old.old) cpu) }
 {
     before.fill(task, cpu, first, old)?;
     after.fill(task, cpu, first, new)?;
@@ -86,8 +83,7 @@ fn add_block(
     ensures ok { OnOk result (AddsMoves table.old.items table.new.items
         (planned_moves before.now after.now task cpu first pages)) }
     ensures entries { length table.new.items ≡ 65536 }
-    ensures err { IfErr result (λ refusal. RefusesSpan before.now first pages cpu refusal
-        ⊎ RefusesSpan after.now first pages cpu refusal) }
+    ensures err { IfErr result (RefusesEither before.now after.now first pages cpu) }
 {
     let mut old = [0u8; BLOCK];
     let mut new = [0u8; BLOCK];
@@ -120,8 +116,7 @@ fn add_moves(
         → cpu < machine.nodes → OnOk result (AddsMoves table.old.items table.new.items
         (meant_moves machine old new task cpu first pages)) }
     ensures entries { length table.new.items ≡ 65536 }
-    ensures err { IfErr result (λ refusal. RefusesSpan before.now first pages cpu refusal
-        ⊎ RefusesSpan after.now first pages cpu refusal) }
+    ensures err { IfErr result (RefusesEither before.now after.now first pages cpu) }
 {
     // Tells the proof that no run has a page behind the last that can be mapped.
     let _ = before.run_count();

@@ -1,18 +1,19 @@
 //! Where all mapped pages would go.
-ghost use Rattle.std.specs.Prelude.{◌≡◌, ◌≤◌, ◌<◌, ◌^◌, ⊤, List, Option, Err, IfOk, IfErr, OnOk};
+ghost use Rattle.std.specs.Prelude.{◌≡◌, ◌≤◌, ◌<◌, ◌^◌, ⊤, List, Option, Err};
+ghost use Rattle.std.specs.Prelude.{IfOk, IfErr, OnOk, OnErr};
 ghost use Rattle.numa_compile.specs.Spans.{SpanIsRefused};
 ghost use Rattle.numa_compile.specs.Standing.{PlanStandsFor};
 ghost use Rattle.numa_mode.specs.Policy.{PolicyRecord};
 ghost use Rattle.numa_plan.specs.Meaning.{RefusesSpan, planned_count};
-ghost use Rattle.numa_plan.specs.Tally.{Adds, HasRoom};
+ghost use Rattle.numa_plan.specs.Tally.{HasRoom};
 ghost use Rattle.numa_ranges.specs.declared.run.Run.{Run};
 ghost use Rattle.numa_space.specs.Standing.{StandsFor};
 ghost use Rattle.numa_space.specs.declared.command.Command.{Command};
 ghost use Rattle.numa_space.specs.declared.refusal.PlaceRefusal.TheVariants.{BadCpu};
-ghost use Rattle.numa_reports.specs.declared.fault.ReportFault.TheVariants.{Refused};
-ghost use Rattle.numa_reports.specs.Failing.{FailsBy, MayFail};
-ghost use Rattle.numa_reports.specs.Predicted.{AreFirsts, IsPrediction};
-ghost use Rattle.numa_reports.specs.Told.{ToldEach, ToldOne};
+ghost use Rattle.numa_reports.specs.declared.fault.ReportFault.TheVariants.{Memory, Refused};
+ghost use Rattle.numa_reports.specs.Failing.{FailsBy, FailsForNode};
+ghost use Rattle.numa_reports.specs.Predicted.{AddsSpan, AreFirsts, IsPrediction};
+ghost use Rattle.numa_reports.specs.Told.{LacksOne, ToldEach, ToldOne};
 
 use crate::fault::ReportFault;
 use crate::tally::add_span;
@@ -65,11 +66,15 @@ pub fn predict_range(
 
 /// What is told of each range, as it is predicted.
 pub trait TakeRange {
-    ghost use Rattle.numa_reports.specs.Told.{Telling};
+    ghost use Rattle.numa_reports.specs.Told.{Lacking, Telling};
 
     /// That a taker in one state was told of a range, which left it in another; where it doesn't
     /// say, nothing is promised of what it is told.
     ghost told: { Telling Self } = { λ _ _ _ _. ⊤ };
+
+    /// That a taker in one state had no memory for a range; where it doesn't say, that may be at
+    /// any time.
+    ghost lacks: { Lacking Self } = { λ _ _. ⊤ };
 
     /// Takes the policy that serves at a range, and how many of its pages have each node as the
     /// first of their list; ranges of lower addresses come first.
@@ -79,11 +84,14 @@ pub trait TakeRange {
         policy: Option<Record>,
         counts: &[u64; 256],
     ) -> Result<(), AllocError>
-        ensures { OnOk result (told self.old range.now
-            (record { policy = policy; counts = counts.now }) self.new) };
+        ensures tells { OnOk result (told self.old range.now
+            (record { policy = policy; counts = counts.now }) self.new) }
+        ensures lack { OnErr result (lacks self.old range.now) };
 }
 
 impl TakeRange for () {
+    ghost lacks = { λ _ _. ⊥ };
+
     fn take(
         &mut self,
         _range: &Run<RangeRecord>,
@@ -107,13 +115,14 @@ fn predict_next<T: TakeRange>(
     requires known { cpu < space.now.machine.nodes }
     requires room { HasRoom counts.old
         (planned_count plan.now task cpu range.now.first range.now.pages) }
-    ensures counts { OnOk result (Adds counts.old counts.new
-        (planned_count plan.now task cpu range.now.first range.now.pages)) }
+    ensures counts { OnOk result
+        (AddsSpan plan.now task cpu range.now.first range.now.pages counts.old counts.new) }
     ensures told { (history : List Command) → StandsFor space.now history
         → PlanStandsFor space.now.machine plan.now history → OnOk result (ToldOne T.told
         (IsPrediction space.now.machine history task cpu) range.now taker.old taker.new) }
     ensures err { IfErr result
         (FailsBy (RefusesSpan plan.now range.now.first range.now.pages cpu)) }
+    ensures lack { IfErr result (λ why. why ≡ Memory → T.lacks taker.old range.now) }
 {
     let mut more = [0u64; 256];
     add_span(plan, task, cpu, range.first, range.pages, &mut more, counts)?;
@@ -122,8 +131,9 @@ fn predict_next<T: TakeRange>(
 }
 
 /// How many of all mapped pages would go to each node, if the task touched each of them now on a
-/// CPU of node `cpu`; what [`predict_range`] says of each range is told to the taker on the way, once
-/// and in the order of their addresses (`&mut ()` takes nothing). The plan is one of the space.
+/// CPU of node `cpu`; what [`predict_range`] says of each range is told to the taker on the way,
+/// once and in the order of their addresses (`&mut ()` takes nothing, and no memory). The plan is
+/// one of the space.
 ///
 /// # Errors
 /// `Refused(BadCpu)` where the machine has no node `cpu`; `Refused(Unmapped)` only where the plan
@@ -141,9 +151,8 @@ pub fn predict_all<T: TakeRange>(
     ensures told { (history : List Command) → StandsFor space.now history
         → PlanStandsFor space.now.machine plan.now history → OnOk result (ToldEach T.told
         (IsPrediction space.now.machine history task cpu) space.now.ranges taker.old taker.new) }
-    ensures err { (history : List Command) → StandsFor space.now history
-        → PlanStandsFor space.now.machine plan.now history
-        → IfErr result (MayFail space.now.machine.nodes cpu) }
+    ensures err { FailsForNode space.now plan.now cpu result }
+    ensures lack { IfErr result (λ why. why ≡ Memory → LacksOne T.lacks space.now.ranges) }
     ensures bad_cpu { space.now.machine.nodes ≤ cpu → result ≡ Err (Refused BadCpu) }
 {
     if cpu >= space.machine().nodes() {

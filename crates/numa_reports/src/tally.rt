@@ -2,7 +2,7 @@
 ghost use Rattle.std.specs.Prelude.{◌≤◌, length, slice_index, IfErr, OnOk};
 ghost use Rattle.numa_plan.specs.Meaning.{RefusesSpan, planned_count};
 ghost use Rattle.numa_plan.specs.Tally.{Adds, HasRoom};
-ghost use Rattle.numa_reports.specs.Predicted.{places};
+ghost use Rattle.numa_reports.specs.Predicted.{AddsSpan, places};
 
 use numa_plan::Plan;
 use numa_space::PlaceRefusal;
@@ -42,10 +42,10 @@ fn add_filled(
 ) -> Result<(), PlaceRefusal>
     requires room { HasRoom counts.old (planned_count plan.now task cpu first (length nodes.old)) }
     requires room_all { HasRoom all.old (planned_count plan.now task cpu first (length nodes.old)) }
-    ensures counts { OnOk result (Adds counts.old counts.new
-        (planned_count plan.now task cpu first (length nodes.old))) }
-    ensures all { OnOk result (Adds all.old all.new
-        (planned_count plan.now task cpu first (length nodes.old))) }
+    ensures counts { OnOk result
+        (AddsSpan plan.now task cpu first (length nodes.old) counts.old counts.new) }
+    ensures all { OnOk result
+        (AddsSpan plan.now task cpu first (length nodes.old) all.old all.new) }
     ensures err { IfErr result (RefusesSpan plan.now first (length nodes.old) cpu) }
 {
     plan.fill(task, cpu, first, nodes)?;
@@ -67,10 +67,8 @@ fn add_few(
     requires few { pages ≤ 64 }
     requires room { HasRoom counts.old (planned_count plan.now task cpu first pages) }
     requires room_all { HasRoom all.old (planned_count plan.now task cpu first pages) }
-    ensures counts { OnOk result (Adds counts.old counts.new
-        (planned_count plan.now task cpu first pages)) }
-    ensures all { OnOk result (Adds all.old all.new
-        (planned_count plan.now task cpu first pages)) }
+    ensures counts { OnOk result (AddsSpan plan.now task cpu first pages counts.old counts.new) }
+    ensures all { OnOk result (AddsSpan plan.now task cpu first pages all.old all.new) }
     ensures err { IfErr result (RefusesSpan plan.now first pages cpu) }
 {
     let mut nodes = [0u8; FEW];
@@ -89,10 +87,8 @@ pub(crate) fn add_span(
 ) -> Result<(), PlaceRefusal>
     requires room { HasRoom counts.old (planned_count plan.now task cpu first pages) }
     requires room_all { HasRoom all.old (planned_count plan.now task cpu first pages) }
-    ensures counts { OnOk result (Adds counts.old counts.new
-        (planned_count plan.now task cpu first pages)) }
-    ensures all { OnOk result (Adds all.old all.new
-        (planned_count plan.now task cpu first pages)) }
+    ensures counts { OnOk result (AddsSpan plan.now task cpu first pages counts.old counts.new) }
+    ensures all { OnOk result (AddsSpan plan.now task cpu first pages all.old all.new) }
     ensures err { IfErr result (RefusesSpan plan.now first pages cpu) }
 {
     if pages <= FEW as u64 {

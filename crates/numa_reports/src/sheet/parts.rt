@@ -1,16 +1,13 @@
 //! A prediction, part by part, in the format that was asked for.
-ghost use Rattle.std.specs.Prelude.{◌≡◌, ◌≤◌, List, Err, IfErr};
-ghost use Rattle.numa_compile.specs.Standing.{PlanStandsFor};
-ghost use Rattle.numa_space.specs.Standing.{StandsFor};
-ghost use Rattle.numa_space.specs.declared.command.Command.{Command};
+ghost use Rattle.std.specs.Prelude.{◌≡◌, ◌≤◌, Err};
 ghost use Rattle.numa_space.specs.declared.refusal.PlaceRefusal.TheVariants.{BadCpu};
 ghost use Rattle.numa_reports.specs.declared.fault.ReportFault.TheVariants.{Refused};
-ghost use Rattle.numa_reports.specs.Failing.{MayFail};
+ghost use Rattle.numa_reports.specs.Failing.{FailsForNode};
 
 use crate::fault::ReportFault;
 use crate::filling::{FreePages, fill_all, free_of, taken};
 use crate::prediction::{TakeRange, predict_all};
-use crate::sheet::cells::{CELLS, filled_cells, first_cells};
+use crate::sheet::cells::{CELLS, first_cells};
 use crate::sheet::fields::{Placed, PolicyTexts, sum};
 use crate::sheet::{Format, lines, objects, pictures, records};
 use numa_mode::Record;
@@ -138,23 +135,12 @@ fn head(
     }
 }
 
-/// The cells of a picture.
-fn cells_by(
-    alloc: Global,
-    space: &Space,
-    plan: &Plan,
-    task: u32,
-    cpu: u32,
-    free: &[FreePages],
-) -> Result<Vec<u8>, ReportFault>
-    ensures err { (history : List Command) → StandsFor space.now history
-        → PlanStandsFor space.now.machine plan.now history
-        → IfErr result (MayFail space.now.machine.nodes cpu) }
-{
-    if free.is_empty() {
-        return first_cells(alloc, space, plan, task, cpu);
+/// How many free pages each node has; None where no node is named, and they aren't counted.
+fn free_where_named(named: &[FreePages]) -> Option<[u64; 256]> {
+    if named.is_empty() {
+        return None;
     }
-    filled_cells(alloc, space, plan, task, cpu, &mut free_of(free))
+    Some(free_of(named))
 }
 
 /// Before the first range.
@@ -167,13 +153,11 @@ fn begin(
     format: Format,
     free: &[FreePages],
 ) -> Result<Parts, ReportFault>
-    ensures err { (history : List Command) → StandsFor space.now history
-        → PlanStandsFor space.now.machine plan.now history
-        → IfErr result (MayFail space.now.machine.nodes cpu) }
+    ensures err { FailsForNode space.now plan.now cpu result }
 {
     let text = head(alloc, space, plan, task, cpu, format)?;
     let cells = match format {
-        Format::Svg => cells_by(alloc, space, plan, task, cpu, free)?,
+        Format::Svg => first_cells(alloc, space, plan, task, cpu, free_where_named(free))?,
         _ => Vec::new(alloc),
     };
     Ok(Parts {
@@ -203,9 +187,7 @@ pub fn prediction_text(
     cpu: u32,
     format: Format,
 ) -> Result<Vec<u8>, ReportFault>
-    ensures err { (history : List Command) → StandsFor space.now history
-        → PlanStandsFor space.now.machine plan.now history
-        → IfErr result (MayFail space.now.machine.nodes cpu) }
+    ensures err { FailsForNode space.now plan.now cpu result }
     ensures bad_cpu { space.now.machine.nodes ≤ cpu → result ≡ Err (Refused BadCpu) }
 {
     if cpu >= space.machine().nodes() {
@@ -250,9 +232,7 @@ pub fn filling_text(
     format: Format,
     free: &[FreePages],
 ) -> Result<Vec<u8>, ReportFault>
-    ensures err { (history : List Command) → StandsFor space.now history
-        → PlanStandsFor space.now.machine plan.now history
-        → IfErr result (MayFail space.now.machine.nodes cpu) }
+    ensures err { FailsForNode space.now plan.now cpu result }
     ensures bad_cpu { space.now.machine.nodes ≤ cpu → result ≡ Err (Refused BadCpu) }
 {
     if cpu >= space.machine().nodes() {

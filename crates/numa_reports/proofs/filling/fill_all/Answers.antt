@@ -1,10 +1,10 @@
-use Rattle.std.proofs.Common.{◌≡◌, ℕ, ◌<◌, List, arith, ap, subst, ◌∙◌, sym, refl, Option}
+use Rattle.std.proofs.Common.{◌≡◌, ℕ, ◌<◌, List, arith, ap, subst, ◌∙◌, sym, refl, Option, inl, inr}
 use Rattle.std.proofs.lemmas.Result.{err_from_is_err_and}
 use Rattle.numa_machine.specs.Machine.{Hardware}
 use Rattle.numa_mode.specs.Policy.{PolicyRecord}
 use Rattle.numa_ranges.specs.declared.run.Run.{Run}
 use Rattle.numa_reports.specs.Filled.{planned_nodes}
-use Rattle.numa_reports.specs.Told.{IsTaken, ToldOne}
+use Rattle.numa_reports.specs.Told.{IsTaken, LacksOne, ToldOne}
 use Rattle.numa_reports.proofs.Refusing.{left-all, left-end, left-next, range-fails}
 use Rattle.numa_reports.proofs.Taking.{free_runs, free-all}
 use Rattle.numa_reports.proofs.Telling.{FilledEach, filled-all}
@@ -18,6 +18,7 @@ loop-range-init g c =
       left = ap (λ (runs : List (Run (Option PolicyRecord))). free_runs nodes c.args.free.now runs) runs;
       apart = c.range_iter-range-items.ensures.rising;
       rest = left-all c.into_iter-range-iterator.result c.args.space.now.ranges runs c.range_iter-range-items.ensures.rising;
+      lack = λ has. subst (λ (runs : List (Run (Option PolicyRecord))). LacksOne g.T.TakeRange.lacks runs) runs has;
       told = λ history stands end has. subst (λ (runs : List (Run (Option PolicyRecord))). FilledEach g.T.TakeRange.told (IsTaken c.args.space.now.machine history c.args.task) nodes c.args.free.now runs c.args.taker.now end) runs has;
     }
 
@@ -33,6 +34,7 @@ loop-range-preserved g c =
           ∙ c.loop-range.invariant.left;
       apart = c.loop-range.invariant.apart;
       rest = left-next c.loop-range.range-iterator c.args.space.now.ranges c.next.new.self c.in-Some.range c.loop-range.invariant.rest c.in-Some.ensures.steps;
+      lack = λ has. c.loop-range.invariant.lack (subst (λ (runs : List (Run (Option PolicyRecord))). LacksOne g.T.TakeRange.lacks runs) (sym c.in-Some.ensures.steps) (inr has));
       told = λ history stands end has.
           let takes = IsTaken c.args.space.now.machine history c.args.task in
           let both = subst (λ (f : List ℕ). ToldOne g.T.TakeRange.told (takes c.loop-range.free f) c.in-Some.range c.loop-range.taker c.fill_next.new.taker × FilledEach g.T.TakeRange.told takes nodes f c.next.new.self c.fill_next.new.taker end) c.in_ok-fill_next.ensures.free
@@ -60,3 +62,10 @@ pub returns-in_err-fill_next-clause-err : goal.returns-in_err-fill_next-clause-e
 returns-in_err-fill_next-clause-err g c history stands planned =
     let exit = err_from_is_err_and c.from_residual.result c.from_residual.ensures.1 in
     rw (exit.1, exit.2) (range-fails c.args.space.now c.args.plan.now history c.loop-range.range-iterator c.next.new.self c.in-Some.range c.args.cpu c.in_err-fill_next.field-0.0 stands planned c.loop-range.invariant.rest c.in-Some.ensures.steps c.in_err-fill_next.ensures.err)
+
+pub returns-in_err-fill_next-clause-lack : goal.returns-in_err-fill_next-clause-lack
+returns-in_err-fill_next-clause-lack g c =
+    let exit = err_from_is_err_and c.from_residual.result c.from_residual.ensures.1 in
+    rw (exit.1, exit.2) (λ is. c.loop-range.invariant.lack
+    (subst (λ (runs : List (Run (Option PolicyRecord))). LacksOne g.T.TakeRange.lacks runs) (sym c.in-Some.ensures.steps)
+    (inl (c.loop-range.taker, c.in_err-fill_next.ensures.lack is))))

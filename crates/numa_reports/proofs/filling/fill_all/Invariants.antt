@@ -3,7 +3,7 @@ use Rattle.numa_ranges.specs.Runs.{AreApart}
 use Rattle.numa_space.specs.Standing.{StandsFor}
 use Rattle.numa_space.specs.declared.command.Command.{Command}
 use Rattle.numa_reports.specs.Filled.{planned_nodes}
-use Rattle.numa_reports.specs.Told.{IsTaken}
+use Rattle.numa_reports.specs.Told.{IsTaken, LacksOne}
 use Rattle.numa_reports.proofs.Refusing.{AreLeft}
 use Rattle.numa_reports.proofs.Taking.{free_runs}
 use Rattle.numa_reports.proofs.Telling.{FilledEach}
@@ -14,6 +14,7 @@ invariant-loop-range g l = record {
   left : free_runs (planned_nodes l.plan l.task l.cpu) l.free l.range-iterator ≡ free_runs (planned_nodes l.plan l.task l.cpu) l.fn.free l.space.ranges;
   apart : AreApart 0 l.space.ranges;
   rest : AreLeft l.range-iterator l.space.ranges;
+  lack : LacksOne g.T.TakeRange.lacks l.range-iterator → LacksOne g.T.TakeRange.lacks l.space.ranges;
   told : (history : List Command) → StandsFor l.space history → (end : g.row.T.Denot)
       → FilledEach g.T.TakeRange.told (IsTaken l.space.machine history l.task) (planned_nodes l.plan l.task l.cpu) l.free l.range-iterator l.taker end
       → FilledEach g.T.TakeRange.told (IsTaken l.space.machine history l.task) (planned_nodes l.plan l.task l.cpu) l.fn.free l.space.ranges l.fn.taker end;

@@ -1,4 +1,4 @@
-use Rattle.std.proofs.Common.{◌≡◌, ℕ, ◌<◌, List, arith, ap, subst, sym, ◌∙◌, Option, Bool, refl, length}
+use Rattle.std.proofs.Common.{◌≡◌, ℕ, ◌<◌, List, arith, ap, subst, sym, ◌∙◌, Option, Bool, refl, length, inl, inr}
 use Rattle.std.proofs.lemmas.Simd.{get_or-replicate}
 use Rattle.std.proofs.lemmas.Result.{err_from_is_err_and}
 use Rattle.std.proofs.lemmas.List.Sums.{sum_by-cons}
@@ -8,7 +8,7 @@ use Rattle.numa_ranges.specs.Counts.{count_pages}
 use Rattle.numa_ranges.specs.declared.run.Run.{Run}
 use Rattle.numa_plan.specs.Meaning.{is_number, planned_first}
 use Rattle.numa_reports.specs.Predicted.{IsPrediction}
-use Rattle.numa_reports.specs.Told.{ToldEach}
+use Rattle.numa_reports.specs.Told.{LacksOne, ToldEach}
 use Rattle.numa_reports.proofs.Refusing.{left-all, left-next, range-fails}
 use Rattle.numa_reports.proofs.Tiling.{count_runs, runs-most, runs-none, counted-all}
 use Rattle.numa_reports.proofs.prediction.predict_all.Goals as goal
@@ -22,6 +22,7 @@ loop-range-init g c =
           omega (arith, get_or-replicate {A = ℕ} 256 node 0 0 small, ap (λ (runs : List (Run (Option PolicyRecord))). count_runs test runs) runs);
       apart = c.range_iter-range-items.ensures.rising;
       rest = left-all c.into_iter-range-iterator.result c.args.space.now.ranges runs c.range_iter-range-items.ensures.rising;
+      lack = λ has. subst (λ (runs : List (Run (Option PolicyRecord))). LacksOne g.T.TakeRange.lacks runs) runs has;
       long = refl;
       told = λ history stands planned end has. subst (λ (runs : List (Run (Option PolicyRecord))). ToldEach g.T.TakeRange.told (IsPrediction c.args.space.now.machine history c.args.task c.args.cpu) runs c.args.taker.now end) runs has;
     }
@@ -40,6 +41,7 @@ loop-range-preserved g c = record {
       omega (arith, step, c.in_ok-predict_next.ensures.counts node small, c.loop-range.invariant.counts node small, sum_by-cons (λ run. count_pages test run.first run.pages) c.in-Some.range c.next.new.self);
   apart = c.loop-range.invariant.apart;
   rest = left-next c.loop-range.range-iterator c.args.space.now.ranges c.next.new.self c.in-Some.range c.loop-range.invariant.rest c.in-Some.ensures.steps;
+  lack = λ has. c.loop-range.invariant.lack (subst (λ (runs : List (Run (Option PolicyRecord))). LacksOne g.T.TakeRange.lacks runs) (sym c.in-Some.ensures.steps) (inr has));
   long = omega arith;
   told = λ history stands planned end has. c.loop-range.invariant.told history stands planned end
       (subst (λ (runs : List (Run (Option PolicyRecord))). ToldEach g.T.TakeRange.told (IsPrediction c.args.space.now.machine history c.args.task c.args.cpu) runs c.loop-range.taker end) (sym c.in-Some.ensures.steps)
@@ -60,3 +62,10 @@ pub returns-in_err-predict_next-clause-err : goal.returns-in_err-predict_next-cl
 returns-in_err-predict_next-clause-err g c history stands planned =
     let exit = err_from_is_err_and c.from_residual.result c.from_residual.ensures.1 in
     rw (exit.1, exit.2) (range-fails c.args.space.now c.args.plan.now history c.loop-range.range-iterator c.next.new.self c.in-Some.range c.args.cpu c.in_err-predict_next.field-0.0 stands planned c.loop-range.invariant.rest c.in-Some.ensures.steps c.in_err-predict_next.ensures.err)
+
+pub returns-in_err-predict_next-clause-lack : goal.returns-in_err-predict_next-clause-lack
+returns-in_err-predict_next-clause-lack g c =
+    let exit = err_from_is_err_and c.from_residual.result c.from_residual.ensures.1 in
+    rw (exit.1, exit.2) (λ is. c.loop-range.invariant.lack
+    (subst (λ (runs : List (Run (Option PolicyRecord))). LacksOne g.T.TakeRange.lacks runs) (sym c.in-Some.ensures.steps)
+    (inl (c.loop-range.taker, c.in_err-predict_next.ensures.lack is))))

@@ -15,7 +15,7 @@ returns-clause-told g c history stands planned =
         policy = c.policy_at.ensures.meaning history stands;
         counts = λ node small. omega (arith, get_or-replicate {A = ℕ} 256 node 0 0 small, c.in_ok-add_span.ensures.counts node small, counts-meant c.args.space.now.machine c.args.plan.now history planned c.args.task c.args.cpu c.args.range.now.first c.args.range.now.pages node lt);
       },
-      c.in_ok-take.ensures,
+      c.in_ok-take.ensures.tells,
     )
 
 pub returns-in_err-add_span-clause-err : goal.returns-in_err-add_span-clause-err
@@ -27,3 +27,13 @@ pub returns-in_err-take-clause-err : goal.returns-in_err-take-clause-err
 returns-in_err-take-clause-err g c =
     let exit = err_from_is_err_and c.from_residual-in_err-take.result c.from_residual-in_err-take.ensures.1 in
     rw (exit.1, exit.2) tt
+
+pub returns-in_err-add_span-clause-lack : goal.returns-in_err-add_span-clause-lack
+returns-in_err-add_span-clause-lack g c =
+    let exit = err_from_is_err_and c.from_residual.result c.from_residual.ensures.1 in
+    rw (exit.1, exit.2) (λ is. absurd (let odd = is in cc))
+
+pub returns-in_err-take-clause-lack : goal.returns-in_err-take-clause-lack
+returns-in_err-take-clause-lack g c =
+    let exit = err_from_is_err_and c.from_residual-in_err-take.result c.from_residual-in_err-take.ensures.1 in
+    rw (exit.1, exit.2) (λ is. c.in_err-take.ensures.lack)

@@ -1,7 +1,7 @@
-use Rattle.std.proofs.Common.{◌∙◌}
+use Rattle.std.proofs.Common.{◌∙◌, arith}
 use Rattle.std.proofs.lemmas.Result.{err_from_is_err_and}
 use Rattle.numa_reports.specs.declared.fault.ReportFault.TheVariants.{Refused}
-use Rattle.numa_reports.proofs.Refusing.{left-all, left-next, range-fails}
+use Rattle.numa_reports.proofs.Refusing.{left-all, left-end, left-next, range-fails}
 use Rattle.numa_reports.proofs.sheet.cells.first_cells.Goals as goal
 
 pub loop-range-init : goal.loop-range-init
@@ -9,6 +9,9 @@ loop-range-init c = left-all c.into_iter-range-iterator.result c.args.space.now.
 
 pub loop-range-preserved : goal.loop-range-preserved
 loop-range-preserved c = left-next c.loop-range.range-iterator c.args.space.now.ranges c.next.new.self c.in-Some.range c.loop-range.invariant c.in-Some.ensures.steps
+
+pub cells_at-requires : goal.cells_at-requires
+cells_at-requires c = omega (arith, left-end c.loop-range.range-iterator c.args.space.now.ranges c.next.new.self c.in-Some.range c.loop-range.invariant c.in-Some.ensures.steps)
 
 pub returns-in_err-nodes : goal.returns-in_err-nodes
 returns-in_err-nodes c = record {
