@@ -1,3 +1,5 @@
+pub mod Accesses
 pub mod Placing
+pub mod Reading
 pub mod Replaying
 pub mod Tallies

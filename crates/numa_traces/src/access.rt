@@ -1,7 +1,11 @@
 //! The lines of a trace.
+ghost use Rattle.std.specs.Prelude.{◌≡◌};
+ghost use Rattle.numa_script.specs.Lines.{is_silent};
+ghost use Rattle.numa_traces.specs.Accesses.{access_by, access_of, with_task};
+
 use crate::fault::AccessFault;
 use numa_script::number::{page, small};
-use numa_script::parts::words;
+use numa_script::parts::{Parts, words};
 
 /// Accesses of a task to a page, from a CPU of a node, one behind another.
 #[derive(Clone, Copy, Debug, PartialEq, Eq)]
@@ -15,11 +19,67 @@ pub struct Access {
     pub count: u32,
 }
 
-/// The number of accesses that a word says, one where there is none.
-fn read_count(word: Option<&[u8]>) -> Option<u32> {
-    match word {
-        Some(word) => small(word),
-        None => Some(1),
+/// The access by its four numbers.
+///
+/// # Errors
+/// The first that is none.
+fn access_with(
+    task: Option<u32>,
+    page: Option<u64>,
+    cpu: Option<u32>,
+    count: Option<u32>,
+) -> Result<Access, AccessFault>
+    ensures { result ≡ with_task task page cpu count }
+{
+    let Some(task) = task else {
+        return Err(AccessFault::BadTask);
+    };
+    let Some(page) = page else {
+        return Err(AccessFault::BadAddress);
+    };
+    let Some(cpu) = cpu else {
+        return Err(AccessFault::BadCpu);
+    };
+    let Some(count) = count else {
+        return Err(AccessFault::BadCount);
+    };
+    Ok(Access {
+        task,
+        page,
+        cpu,
+        count,
+    })
+}
+
+/// The access of three words or four.
+fn read_words(mut words: Parts<'_>) -> Result<Access, AccessFault>
+    ensures { result ≡ access_by words.entry }
+{
+    let Some(task) = words.next() else {
+        return Err(AccessFault::WordCount);
+    };
+    let Some(address) = words.next() else {
+        return Err(AccessFault::WordCount);
+    };
+    let Some(cpu) = words.next() else {
+        return Err(AccessFault::WordCount);
+    };
+    let Some(count) = words.next() else {
+        return access_with(small(task), page(address), small(cpu), Some(1));
+    };
+    if words.next().is_some() {
+        return Err(AccessFault::WordCount);
+    }
+    access_with(small(task), page(address), small(cpu), small(count))
+}
+
+/// Whether a line is empty, or begins with `#`.
+fn is_silent(line: &[u8]) -> bool
+    ensures { result ≡ is_silent line.now }
+{
+    match line {
+        [] => true,
+        [first, ..] => *first == b'#',
     }
 }
 
@@ -29,34 +89,14 @@ fn read_count(word: Option<&[u8]>) -> Option<u32> {
 ///
 /// # Errors
 /// The first word that isn't what it has to be; `WordCount` before it.
-pub fn read_access(line: &[u8]) -> Result<Option<Access>, AccessFault> {
-    if line.is_empty() || line[0] == b'#' {
+pub fn read_access(line: &[u8]) -> Result<Option<Access>, AccessFault>
+    ensures { result ≡ access_of line.now }
+{
+    if is_silent(line) {
         return Ok(None);
     }
-    let mut parts = words(line);
-    let (Some(task), Some(address), Some(cpu)) = (parts.next(), parts.next(), parts.next()) else {
-        return Err(AccessFault::WordCount);
-    };
-    let count = parts.next();
-    if parts.next().is_some() {
-        return Err(AccessFault::WordCount);
+    match read_words(words(line)) {
+        Ok(access) => Ok(Some(access)),
+        Err(fault) => Err(fault),
     }
-    let Some(task) = small(task) else {
-        return Err(AccessFault::BadTask);
-    };
-    let Some(page) = page(address) else {
-        return Err(AccessFault::BadAddress);
-    };
-    let Some(cpu) = small(cpu) else {
-        return Err(AccessFault::BadCpu);
-    };
-    let Some(count) = read_count(count) else {
-        return Err(AccessFault::BadCount);
-    };
-    Ok(Some(Access {
-        task,
-        page,
-        cpu,
-        count,
-    }))
 }

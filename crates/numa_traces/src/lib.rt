@@ -22,5 +22,4 @@ pub use memory::Memory;
 pub use reading::{Replaying, replay_lines};
 pub use replay::Replay;
 pub use report::{Shape, report_text};
-pub use summary::Summary;
 pub use tallies::{Tallies, Tally, Way};

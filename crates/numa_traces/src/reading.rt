@@ -1,4 +1,8 @@
 //! Traces that are read, line by line.
+ghost use Rattle.std.specs.Prelude.{◌≡◌, None, IfOk, IfErr, IsSome, OnOk};
+ghost use Rattle.numa_traces.specs.Accesses.{access_of};
+ghost use Rattle.numa_traces.specs.Reading.{EndsAtLine, IsBegun, ReplaysLine, TakesLine};
+
 use crate::access::read_access;
 use crate::fault::ReplayFault;
 use crate::replay::Replay;
@@ -19,7 +23,9 @@ pub struct Replaying {
 
 impl Replaying {
     /// Before the first line: no page of the machine is placed. The plan is the machine's.
-    pub fn new(alloc: Global, machine: &Machine, plan: Plan) -> Result<Replaying, AllocError> {
+    pub fn new(alloc: Global, machine: &Machine, plan: Plan) -> Result<Replaying, AllocError>
+        ensures { IfOk result (IsBegun machine.now plan) }
+    {
         let replay = Replay::new(alloc, machine)?;
         Ok(Replaying {
             plan,
@@ -29,17 +35,24 @@ impl Replaying {
     }
 
     /// The replay of the lines so far, or of those before the first fault.
-    pub fn replay(&self) -> &Replay {
+    pub fn replay(&self) -> &Replay
+        ensures { result.now ≡ self.now.replay }
+    {
         &self.replay
     }
 
     /// The first line that can't be replayed, from 1, and why.
-    pub fn fault(&self) -> Option<(u64, ReplayFault)> {
+    pub fn fault(&self) -> Option<(u64, ReplayFault)>
+        ensures { result ≡ self.now.fault }
+    {
         self.fault
     }
 
     /// Takes the access of a line.
-    fn take_access(&mut self, line: &[u8]) -> Result<(), ReplayFault> {
+    fn take_access(&mut self, line: &[u8]) -> Result<(), ReplayFault>
+        ensures ok { OnOk result (ReplaysLine (access_of line.now) self.old self.new) }
+        ensures err { IfErr result (EndsAtLine (access_of line.now) self.old) }
+    {
         match read_access(line) {
             Err(fault) => Err(ReplayFault::Malformed(fault)),
             Ok(None) => Ok(()),
@@ -49,7 +62,11 @@ impl Replaying {
 }
 
 impl TakeLine for Replaying {
-    fn take(&mut self, _name: &str, place: u64, line: &[u8]) -> Result<(), Stop> {
+    fn take(&mut self, _name: &str, place: u64, line: &[u8]) -> Result<(), Stop>
+        ensures over { IsSome self.old.fault → OnOk result (self.new ≡ self.old) }
+        ensures next { self.old.fault ≡ None → OnOk result
+            (TakesLine place (access_of line.now) self.old self.new) }
+    {
         if self.fault.is_some() {
             return Ok(());
         }

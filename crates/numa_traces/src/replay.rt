@@ -1,10 +1,9 @@
 //! A trace that is replayed, access by access.
-ghost use Rattle.std.specs.Prelude.{◌≡◌, ◌∷◌, [], List, IfOk, IfErr, OnOk, Some};
+ghost use Rattle.std.specs.Prelude.{◌≡◌, ◌∷◌, [], List, IfOk, IfErr, OnOk};
 ghost use Rattle.numa_machine.specs.Machine.{Hardware};
-ghost use Rattle.numa_plan.specs.Meaning.{PlanData, place_refusal};
+ghost use Rattle.numa_plan.specs.Meaning.{PlanData};
 ghost use Rattle.numa_traces.specs.Replaying.{EndsReplay, IsReplay};
 ghost use Rattle.numa_traces.specs.declared.access.Access.{Access};
-ghost use Rattle.numa_space.specs.declared.refusal.PlaceRefusal.{PlaceRefusal};
 
 use crate::access::Access;
 use crate::fault::ReplayFault;
@@ -52,16 +51,14 @@ impl Replay {
     /// Takes an access: where its page isn't placed, its first touch places it by the plan.
     ///
     /// # Errors
-    /// `Refused` where the plan has no such node, else where the page isn't mapped; `TooMany` where
-    /// a count would pass 2^64 - 1; `NoMemory` where there was none. The replay has ended then.
+    /// `Refused` where the plan has no such node, else where the page isn't mapped; else `TooMany`
+    /// where a count would pass 2^64 - 1, `NoMemory` where there was none. The replay has ended
+    /// then.
     pub fn take(&mut self, plan: &Plan, access: Access) -> Result<(), ReplayFault>
         ensures ok { (machine : Hardware) (trace : List Access)
             → IsReplay machine plan.now trace self.old
             → OnOk result (IsReplay machine plan.now (access ∷ trace) self.new) }
-        ensures refused { (refusal : PlaceRefusal)
-            → IfErr result (λ fault. fault ≡ ReplayFault.Refused refusal
-            → place_refusal plan.now access.page access.cpu ≡ Some refusal) }
-        ensures read { IfErr result EndsReplay }
+        ensures err { IfErr result (EndsReplay plan.now self.old access) }
     {
         let (task, page, cpu) = (access.task, access.page, access.cpu);
         let list = match plan.choice(task, page, cpu, &mut Steps::new()) {

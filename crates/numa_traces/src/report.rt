@@ -3,7 +3,7 @@ use crate::replay::Replay;
 use crate::summary::Summary;
 use crate::tallies::{Tally, Way};
 use numa_machine::Machine;
-use serde_json::{Value, json};
+use serde_json::{Map, Value, put};
 use std::alloc::{AllocError, Global};
 use std::fmt::Write;
 
@@ -52,45 +52,49 @@ fn push_line(text: &mut String, said: &Summary) -> Result<(), AllocError> {
     Ok(())
 }
 
+/// A count, with its number under this name.
+fn count_value(alloc: Global, name: &str, number: u32, count: u64) -> Result<Value, AllocError> {
+    let mut object = Map::new(alloc);
+    put(&mut object, alloc, name, Value::from(number))?;
+    put(&mut object, alloc, "accesses", Value::from(count))?;
+    Ok(Value::Object(object))
+}
+
 /// Each count that isn't 0, with its number under this name.
 fn counts_value(alloc: Global, name: &str, counts: &[u64; 256]) -> Result<Value, AllocError> {
     let mut items = Vec::new(alloc);
     for number in 0..256 {
         if counts[number] > 0 {
-            let item = if name == "node" {
-                json!(in alloc; {"node": number as u32, "accesses": counts[number]})?
-            } else {
-                json!(in alloc; {"distance": number as u32, "accesses": counts[number]})?
-            };
-            items.push(item)?;
+            items.push(count_value(alloc, name, number as u32, counts[number])?)?;
         }
     }
     Ok(Value::from(items))
 }
 
-/// The fields of an object, as one.
-fn summary_value(alloc: Global, task: Option<u32>, said: &Summary) -> Result<Value, AllocError> {
+/// Adds what a task met, or all, to an object.
+fn put_summary(
+    alloc: Global,
+    object: &mut Map<String, Value>,
+    said: &Summary,
+) -> Result<(), AllocError> {
     let nodes = counts_value(alloc, "node", &said.nodes)?;
     let distances = counts_value(alloc, "distance", &said.distances)?;
-    match task {
-        Some(task) => json!(in alloc; {
-            "task": task,
-            "accesses": said.accesses,
-            "nodes": nodes,
-            "distances": distances,
-            "placed": said.placed,
-            "exhausted": said.exhausted,
-            "unserved": said.unserved
-        }),
-        None => json!(in alloc; {
-            "accesses": said.accesses,
-            "nodes": nodes,
-            "distances": distances,
-            "placed": said.placed,
-            "exhausted": said.exhausted,
-            "unserved": said.unserved
-        }),
+    put(object, alloc, "accesses", Value::from(said.accesses))?;
+    put(object, alloc, "nodes", nodes)?;
+    put(object, alloc, "distances", distances)?;
+    put(object, alloc, "placed", Value::from(said.placed))?;
+    put(object, alloc, "exhausted", Value::from(said.exhausted))?;
+    put(object, alloc, "unserved", Value::from(said.unserved))
+}
+
+/// The object of a task, or of all.
+fn summary_text(alloc: Global, task: Option<u32>, said: &Summary) -> Result<String, AllocError> {
+    let mut object = Map::new(alloc);
+    if let Some(task) = task {
+        put(&mut object, alloc, "task", Value::from(task))?;
     }
+    put_summary(alloc, &mut object, said)?;
+    Value::Object(object).to_string(alloc)
 }
 
 impl Sheet {
@@ -118,8 +122,7 @@ impl Sheet {
                 push_line(&mut self.text, &self.of_task)?;
             }
             Shape::Json => {
-                let value = summary_value(self.alloc, Some(task), &self.of_task)?;
-                let item = value.to_string(self.alloc)?;
+                let item = summary_text(self.alloc, Some(task), &self.of_task)?;
                 self.text
                     .push_str(if self.is_first { "\n" } else { ",\n" })?;
                 self.text.push_str(item.as_str())?;
@@ -157,8 +160,7 @@ impl Sheet {
                 push_line(&mut self.text, &self.of_all)
             }
             Shape::Json => {
-                let value = summary_value(self.alloc, None, &self.of_all)?;
-                let item = value.to_string(self.alloc)?;
+                let item = summary_text(self.alloc, None, &self.of_all)?;
                 self.text.push_str("\n],\"total\":")?;
                 self.text.push_str(item.as_str())?;
                 self.text.push_str("}\n")

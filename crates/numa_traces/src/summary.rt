@@ -3,24 +3,24 @@ use crate::tallies::Tally;
 
 /// The accesses of a task, or of all.
 #[derive(Drop)]
-pub struct Summary {
+pub(crate) struct Summary {
     /// How many accesses there were.
-    pub accesses: u64,
+    pub(crate) accesses: u64,
     /// How many went to a page on each node.
-    pub nodes: [u64; 256],
+    pub(crate) nodes: [u64; 256],
     /// How many went to a page at each distance from the CPU's node.
-    pub distances: [u64; 256],
+    pub(crate) distances: [u64; 256],
     /// How many faults placed a page.
-    pub placed: u64,
+    pub(crate) placed: u64,
     /// How many faults found no frame.
-    pub exhausted: u64,
+    pub(crate) exhausted: u64,
     /// How many accesses those made, which went nowhere.
-    pub unserved: u64,
+    pub(crate) unserved: u64,
 }
 
 impl Summary {
     /// No accesses.
-    pub fn new() -> Summary {
+    pub(crate) fn new() -> Summary {
         Summary {
             accesses: 0,
             nodes: [0; 256],

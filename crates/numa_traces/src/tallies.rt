@@ -72,7 +72,9 @@ impl Tallies {
 
     /// The ways that something went, each with its tally: by task, then by the CPU's node, then by
     /// the page's.
-    pub fn iter(&self) -> Iter<'_, Way, Tally> {
+    pub fn iter(&self) -> Iter<'_, Way, Tally>
+        ensures { result ≡ self.now }
+    {
         self.tallies.iter()
     }
 
