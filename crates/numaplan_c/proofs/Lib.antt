@@ -1,3 +1,3 @@
 pub mod NameLemmas
-mod Keeping
+mod Made
 mod Placing

@@ -6,6 +6,22 @@ use Rattle.numa_space.specs.declared.refusal.Refusal.TheVariants as refusal
 use Rattle.numaplan_c.specs.Codes.{refusal_code}
 use Rattle.numaplan_c.specs.Names.{answer_name, refusal_numbered}
 
+pub numbered-same : (cause : Refusal) → refusal_numbered (refusal_code cause) ≡ Some cause
+numbered-same refusal.CommandsSpent = refl
+numbered-same refusal.Unaligned = refl
+numbered-same refusal.OutOfSpace = refl
+numbered-same refusal.EmptyLength = refl
+numbered-same refusal.BadOffset = refl
+numbered-same refusal.Overlap = refl
+numbered-same refusal.Hole = refl
+numbered-same refusal.NoSuchNode = refl
+numbered-same refusal.BadWeight = refl
+numbered-same refusal.NodesNotAllowed = refl
+numbered-same refusal.NotSupported = refl
+numbered-same refusal.TooManyTasks = refl
+numbered-same refusal.TooManyRanges = refl
+numbered-same refusal.NoMemory = refl
+
 pub name-same : (cause : Refusal) → answer_name (refusal_code cause) ≡ refusal_name cause
 unfolding answer_name
 name-same refusal.CommandsSpent = refl
@@ -22,19 +38,3 @@ name-same refusal.NotSupported = refl
 name-same refusal.TooManyTasks = refl
 name-same refusal.TooManyRanges = refl
 name-same refusal.NoMemory = refl
-
-pub numbered-same : (cause : Refusal) → refusal_numbered (refusal_code cause) ≡ Some cause
-numbered-same refusal.CommandsSpent = refl
-numbered-same refusal.Unaligned = refl
-numbered-same refusal.OutOfSpace = refl
-numbered-same refusal.EmptyLength = refl
-numbered-same refusal.BadOffset = refl
-numbered-same refusal.Overlap = refl
-numbered-same refusal.Hole = refl
-numbered-same refusal.NoSuchNode = refl
-numbered-same refusal.BadWeight = refl
-numbered-same refusal.NodesNotAllowed = refl
-numbered-same refusal.NotSupported = refl
-numbered-same refusal.TooManyTasks = refl
-numbered-same refusal.TooManyRanges = refl
-numbered-same refusal.NoMemory = refl

@@ -1,13 +1,15 @@
 -- What an exported call answers and does, in terms of the calls below it.
-use Rattle.std.specs.Prelude.{◌≡◌, ◌==◌, ◌&&◌, ◌||◌, ℕ, Bool, not, nat_le, nat_lt, List, length}
-use Rattle.std.specs.Prelude.{if◌then◌else◌}
+use Rattle.std.specs.Prelude.{◌≡◌, ◌≢◌, ◌==◌, ◌&&◌, ◌||◌, ℕ, Bool, true, not, nat_le, nat_lt}
+use Rattle.std.specs.Prelude.{if◌then◌else◌, List, length, is_some, MatchResult}
 use Rattle.std.specs.Prelude.{Option, Some, None, Result, Ok, Err}
 use Rattle.numa_mask.specs.declared.list.ListFault.{ListFault}
+use Rattle.numa_space.specs.declared.command.Command.{Command}
 use Rattle.numa_space.specs.declared.event.Event.{Event}
 use Rattle.numa_space.specs.declared.event.CoreReply.{CoreReply}
 use Rattle.numa_space.specs.declared.event.CoreRefusal.{CoreRefusal}
 use Rattle.numa_core.specs.Standing.{CoreState}
 use Rattle.numa_machine.specs.Faults.{machine_fault}
+use Rattle.numa_machine.specs.Machine.{Hardware}
 use Rattle.numa_machine.specs.declared.fault.MachineFault.{MachineFault}
 use Rattle.numa_core.specs.World.{Setup}
 use Rattle.numa_space.specs.Limited.{Bounds}
@@ -24,6 +26,14 @@ abbrev pub Answers : Option CoreState → Event → ℕ → Option CoreState →
 Answers old event code new = (old ≡ None → (code ≡ 1) × (new ≡ None))
     × ((core : CoreState) → old ≡ Some core → (answer : Result CoreReply CoreRefusal)
     × (code ≡ answer_code answer) × Steps old event answer new)
+
+-- the same for a command with a word that is read first: a faulty word is told, by `code_of` its
+-- fault, and changes nothing
+abbrev pub AnswersRead : {A F : Type 0} → Result A F → (F → ℕ) → (A → Command) → Option CoreState
+    → ℕ → Option CoreState → Type 0
+AnswersRead word code_of command old code new = MatchResult word
+    (λ it. Answers old (Event.Accept (command it)) code new)
+    (λ fault. (code ≡ code_of fault) × (new ≡ old))
 
 -- where a page was placed, as C has it: the version and the page, the task and the rank, the frame
 -- and its node; what isn't a placement leaves what stood there
@@ -60,18 +70,19 @@ Tried old event code new before after =
     × (code ≡ answer_code answer) × Steps old event answer new × Places answer before after)
 
 -- the machine of a description, whose list of nodes with memory is a text
+abbrev pub IsMachineOf : Result ℕ ListFault → List ℕ → List ℕ → Hardware → Type 0
+IsMachineOf list frames distances machine = (memory : ℕ) × (list ≡ Ok memory) × (machine ≡ record {
+  nodes = length frames;
+  memory = memory;
+  distances = distances;
+  frames = frames;
+})
+
+-- that machine, these limits and so many workers
 abbrev pub IsSetUp : Result ℕ ListFault → List ℕ → List ℕ → Bounds → ℕ → Setup → Type 0
-IsSetUp (Err fault) frames distances bounds workers setup = ⊥
-IsSetUp (Ok memory) frames distances bounds workers setup = setup ≡ record {
-  machine = record {
-    nodes = length frames;
-    memory = memory;
-    distances = distances;
-    frames = frames;
-  };
-  bounds = bounds;
-  workers = workers;
-}
+IsSetUp list frames distances bounds workers setup =
+    IsMachineOf list frames distances setup.machine × (setup.bounds ≡ bounds)
+    × (setup.workers ≡ workers)
 
 -- the limits as the library has them
 abbrev pub bounds_of : NpLimits → Bounds
@@ -94,14 +105,34 @@ or_fault None (Some fault) = Some (machine_code fault)
 or_fault None None = None
 
 -- the first cause for which a description is refused, out of memory apart: the list, the number of
--- nodes, the limits, the workers, the machine
-abbrev pub opening_cause : Result ℕ ListFault → List ℕ → List ℕ → Bounds → ℕ → Option ℕ
-opening_cause (Err fault) frames distances bounds workers = Some (list_code fault)
-opening_cause (Ok memory) frames distances bounds workers = if nat_lt 256 (length frames)
+-- nodes, what is wrong with `others` that are asked for, the machine
+abbrev pub described_cause : Result ℕ ListFault → List ℕ → List ℕ → Option ℕ → Option ℕ
+described_cause (Err fault) frames distances others = Some (list_code fault)
+described_cause (Ok memory) frames distances others = if nat_lt 256 (length frames)
     then Some 50
-    else or_fault (limits_cause bounds workers)
-    (machine_fault (length frames) memory distances frames)
+    else or_fault others (machine_fault (length frames) memory distances frames)
+
+-- the same with limits and workers
+abbrev pub opening_cause : Result ℕ ListFault → List ℕ → List ℕ → Bounds → ℕ → Option ℕ
+opening_cause list frames distances bounds workers =
+    described_cause list frames distances (limits_cause bounds workers)
 
 -- it is done, or out of memory
 abbrev pub is_done : ℕ → Bool
 is_done code = code == 0 || code == 3
+
+-- a handle that is to be opened keeps something where 0 is answered, and else what it kept
+abbrev pub Opens : {A : Type 0} → Option A → ℕ → Option A → Type 0
+Opens old code new = (code ≡ 0 → is_some new ≡ true) × (code ≢ 0 → new ≡ old)
+
+-- what is answered where a handle is to keep what is made from another one: 2 where it keeps
+-- something already, then 1 where the other one keeps nothing
+abbrev pub AnswersKeeping : {A B : Type 0} → Option A → Option B → ℕ → Type 0
+AnswersKeeping {A} from old code = (is_some old ≡ true → code ≡ 2)
+    × (old ≡ None → from ≡ None → code ≡ 1)
+    × (old ≡ None → (kept : A) → from ≡ Some kept → is_done code ≡ true)
+
+-- a handle is to keep what another one keeps
+abbrev pub Shares : {A : Type 0} → Option A → Option A → ℕ → Option A → Type 0
+Shares from old code new = (code ≡ 0 → (new ≡ from) × (is_some from ≡ true))
+    × (code ≢ 0 → new ≡ old) × AnswersKeeping from old code

@@ -10,7 +10,7 @@
 --     50 to 55   the machine, the limits or the workers are refused
 --     60 to 63   a list of nodes is faulty
 --     70 to 76   a policy word is faulty, says no policy, or no node is allowed
-use Rattle.std.specs.Prelude.{ℕ, Result, Ok, Err}
+use Rattle.std.specs.Prelude.{ℕ, Option, Some, None, Result, Ok, Err}
 use Rattle.numa_mask.specs.declared.list.ListFault.{ListFault}
 use Rattle.numa_mask.specs.declared.list.ListFault.TheVariants as list
 use Rattle.numa_mode.specs.declared.specification.SpecFault.TheVariants as spec
@@ -87,3 +87,13 @@ word_code (word.Policy spec.BothFlags) = 71
 word_code (word.Policy spec.NodesForbidden) = 72
 word_code (word.Policy spec.FlagsForbidden) = 73
 word_code (word.Policy spec.NodesMissing) = 74
+
+-- of a call that is refused for want of memory alone
+abbrev pub memory_code : {E : Type 0} → Result (Unit {0}) E → ℕ
+memory_code (Ok done) = 0
+memory_code (Err refusal) = 3
+
+-- the same where a closed handle gives no answer
+abbrev pub kept_code : {E : Type 0} → Option (Result (Unit {0}) E) → ℕ
+kept_code None = 1
+kept_code (Some answer) = memory_code answer

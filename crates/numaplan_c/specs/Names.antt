@@ -1,79 +1,14 @@
 -- The names of the answers, and their error numbers.
 use Rattle.std.specs.Prelude.{ℕ, ◌-◌, ◌==◌, ◌&&◌, nat_le, nat_lt, List, [], ◌∷◌, codes, slice_get}
-use Rattle.std.specs.Prelude.{Option, Some, None, unwrap_or, if◌then◌else◌}
+use Rattle.std.specs.Prelude.{Option, Some, None, if◌then◌else◌}
+use Rattle.numa_script.specs.Texts.{refusal_name}
 use Rattle.numa_space.specs.Errors.{errno_of}
 use Rattle.numa_space.specs.declared.refusal.Errno.{Errno}
 use Rattle.numa_space.specs.declared.refusal.Errno.TheVariants as errno
 use Rattle.numa_space.specs.declared.refusal.Refusal.{Refusal}
 use Rattle.numa_space.specs.declared.refusal.Refusal.TheVariants as refusal
 
--- ---- names, by tens
-
--- 0 to 6
-abbrev pub call_names : List (List ℕ)
-call_names =
-    codes "Ok" ∷ codes "Closed" ∷ codes "Open" ∷ codes "NoMemory" ∷ codes "NoRoom"
-    ∷ codes "Unknown" ∷ codes "AnswerLost" ∷ []
-
--- 10 to 22
-abbrev pub command_names : List (List ℕ)
-command_names =
-    codes "CommandsSpent" ∷ codes "Unaligned" ∷ codes "OutOfSpace" ∷ codes "EmptyLength"
-    ∷ codes "BadOffset" ∷ codes "Overlap" ∷ codes "Hole" ∷ codes "NoSuchNode"
-    ∷ codes "BadWeight" ∷ codes "NodesNotAllowed" ∷ codes "NotSupported"
-    ∷ codes "TooManyTasks" ∷ codes "TooManyRanges" ∷ []
-
--- 30 to 38
-abbrev pub event_names : List (List ℕ)
-event_names =
-    codes "NoSuchWorker" ∷ codes "Busy" ∷ codes "Idle" ∷ codes "BadTry" ∷ codes "NotOwned"
-    ∷ codes "BadCpu" ∷ codes "Unmapped" ∷ codes "NoRange" ∷ codes "PlacedTwice" ∷ []
-
--- 40 to 42
-abbrev pub frame_names : List (List ℕ)
-frame_names = codes "Still" ∷ codes "Exhausted" ∷ codes "AllTaken" ∷ []
-
--- 50 to 55
-abbrev pub machine_names : List (List ℕ)
-machine_names =
-    codes "BadNodeCount" ∷ codes "NoMemoryNode" ∷ codes "BadDistance" ∷ codes "TooManyFrames"
-    ∷ codes "BadLimits" ∷ codes "BadWorkers" ∷ []
-
--- 60 to 63
-abbrev pub list_names : List (List ℕ)
-list_names =
-    codes "ListEmpty" ∷ codes "ListBadDigit" ∷ codes "ListBackwards" ∷ codes "ListTooHigh" ∷ []
-
--- 70 to 76
-abbrev pub word_names : List (List ℕ)
-word_names =
-    codes "UnknownMode" ∷ codes "BothFlags" ∷ codes "NodesForbidden" ∷ codes "FlagsForbidden"
-    ∷ codes "NodesMissing" ∷ codes "NoPolicy" ∷ codes "NoNodeAllowed" ∷ []
-
-abbrev pub name_at : List (List ℕ) → ℕ → List ℕ
-name_at names place = unwrap_or (slice_get names place) []
-
--- the name of an answer, without a byte where no answer has this number
-unfoldable pub answer_name : ℕ → List ℕ
-answer_name code =
-    if nat_lt code 10 then name_at call_names code
-    else if nat_lt code 30 then name_at command_names (code - 10)
-    else if nat_lt code 40 then name_at event_names (code - 30)
-    else if nat_lt code 50 then name_at frame_names (code - 40)
-    else if nat_lt code 60 then name_at machine_names (code - 50)
-    else if nat_lt code 70 then name_at list_names (code - 60)
-    else name_at word_names (code - 70)
-
--- ---- error numbers
-
--- errno(3), as Linux numbers them on x86-64 and arm64
-abbrev pub errno_number : Errno → ℕ
-errno_number errno.EInval = 22
-errno_number errno.ENoMem = 12
-errno_number errno.EExist = 17
-errno_number errno.EFault = 14
-errno_number errno.ENoSpc = 28
-errno_number errno.EOpNotSupp = 95
+-- ---- refusals of commands
 
 -- the refusals of commands, from 10 on
 abbrev pub refusals : List Refusal
@@ -89,6 +24,65 @@ refusal_numbered code =
     if code == 3 then Some refusal.NoMemory
     else if nat_lt code 10 then None
     else slice_get refusals (code - 10)
+
+-- ---- names
+
+-- a number and its name
+pub record Named : Type 0 where
+  pub number : ℕ
+  pub name : List ℕ
+
+abbrev pub named : ℕ → List ℕ → Named
+named number name = record { number = number; name = name }
+
+-- the answers below 50 that are no refusals of commands; of these the script language has the names
+abbrev pub call_names : List Named
+call_names =
+    named 0 (codes "Ok") ∷ named 1 (codes "Closed") ∷ named 2 (codes "Open")
+    ∷ named 4 (codes "NoRoom") ∷ named 5 (codes "Unknown") ∷ named 6 (codes "AnswerLost")
+    ∷ named 30 (codes "NoSuchWorker") ∷ named 31 (codes "Busy") ∷ named 32 (codes "Idle")
+    ∷ named 33 (codes "BadTry") ∷ named 34 (codes "NotOwned") ∷ named 35 (codes "BadCpu")
+    ∷ named 36 (codes "Unmapped") ∷ named 37 (codes "NoRange") ∷ named 38 (codes "PlacedTwice")
+    ∷ named 40 (codes "Still") ∷ named 41 (codes "Exhausted") ∷ named 42 (codes "AllTaken")
+    ∷ []
+
+-- faults of machines, lists and policy words
+abbrev pub fault_names : List Named
+fault_names =
+    named 50 (codes "BadNodeCount") ∷ named 51 (codes "NoMemoryNode")
+    ∷ named 52 (codes "BadDistance") ∷ named 53 (codes "TooManyFrames")
+    ∷ named 54 (codes "BadLimits") ∷ named 55 (codes "BadWorkers")
+    ∷ named 60 (codes "ListEmpty") ∷ named 61 (codes "ListBadDigit")
+    ∷ named 62 (codes "ListBackwards") ∷ named 63 (codes "ListTooHigh")
+    ∷ named 70 (codes "UnknownMode") ∷ named 71 (codes "BothFlags")
+    ∷ named 72 (codes "NodesForbidden") ∷ named 73 (codes "FlagsForbidden")
+    ∷ named 74 (codes "NodesMissing") ∷ named 75 (codes "NoPolicy")
+    ∷ named 76 (codes "NoNodeAllowed") ∷ []
+
+-- the name of a number, without a byte where it has none
+abbrev pub name_in : List Named → ℕ → List ℕ
+name_in [] code = []
+name_in (row ∷ rest) code = if code == row.number then row.name else name_in rest code
+
+abbrev pub name_or : Option Refusal → List ℕ → List ℕ
+name_or (Some cause) other = refusal_name cause
+name_or None other = other
+
+-- the name of an answer, without a byte where no answer has this number
+unfoldable pub answer_name : ℕ → List ℕ
+answer_name code = name_or (refusal_numbered code)
+    (if nat_lt code 50 then name_in call_names code else name_in fault_names code)
+
+-- ---- error numbers
+
+-- errno(3), as Linux numbers them on x86-64 and arm64
+abbrev pub errno_number : Errno → ℕ
+errno_number errno.EInval = 22
+errno_number errno.ENoMem = 12
+errno_number errno.EExist = 17
+errno_number errno.EFault = 14
+errno_number errno.ENoSpc = 28
+errno_number errno.EOpNotSupp = 95
 
 abbrev pub errno_or : Option Refusal → ℕ → ℕ
 errno_or (Some cause) other = errno_number (errno_of cause)

@@ -1,12 +1,14 @@
 -- What an exported call about a policy word answers: a record, or the number of what is wrong.
-use Rattle.std.specs.Prelude.{ℕ, ◌==◌, List, Result, Ok, Err, if◌then◌else◌}
+use Rattle.std.specs.Prelude.{◌≡◌, ℕ, ◌==◌, List, Result, Ok, Err, if◌then◌else◌}
 use Rattle.numa_mask.specs.Lists.{list_of}
+use Rattle.numa_mask.specs.Words.{number_of}
 use Rattle.numa_mask.specs.declared.list.ListFault.{ListFault}
 use Rattle.numa_mode.specs.Policy.{PolicyRecord, Specification, is_default, is_live}
 use Rattle.numa_mode.specs.Policy.{record_when_set, record_after}
 use Rattle.numa_script.specs.Policies.{policy_of}
 use Rattle.numa_script.specs.declared.policy.WordFault.{WordFault}
 use Rattle.numaplan_c.specs.Codes.{list_code, word_code}
+use Rattle.numaplan_c.specs.declared.nodes.NpNodes.{NpNodes}
 
 -- the record of a policy that is set where these nodes are allowed
 abbrev pub record_of : Specification → ℕ → Result PolicyRecord ℕ
@@ -33,3 +35,8 @@ rebound (Ok r) (Err fault) new = Err (list_code fault)
 rebound (Ok r) (Ok old) (Err fault) = Err (list_code fault)
 rebound (Ok r) (Ok old) (Ok new) =
     if new == 0 then Err 76 else Ok (record_after r old new)
+
+-- its nodes are told, or the number of what is wrong, and then the set is as it was
+abbrev pub TellsNodes : Result PolicyRecord ℕ → ℕ → NpNodes → NpNodes → Type 0
+TellsNodes (Ok r) code old new = (code ≡ 0) × (number_of new.words ≡ r.effective)
+TellsNodes (Err fault) code old new = (code ≡ fault) × (new ≡ old)

@@ -1,20 +1,7 @@
 -- What an exported call on a seat at pools of frames answers and does.
-use Rattle.std.specs.Prelude.{◌≡◌, ℕ, Bool, true, false, List, length, nat_lt, if◌then◌else◌}
-use Rattle.std.specs.Prelude.{Option, Some, None, Result, Ok, Err}
-use Rattle.numa_machine.specs.Faults.{machine_fault}
+use Rattle.std.specs.Prelude.{◌≡◌, ℕ, Bool, true, false, Option, Some, None}
 use Rattle.numa_machine.specs.declared.frame.Frame.{Frame}
-use Rattle.numa_mask.specs.declared.list.ListFault.{ListFault}
 use Rattle.numaplan_c.specs.declared.pools.NpFrame.{NpFrame}
-use Rattle.numaplan_c.specs.Border.{or_fault}
-use Rattle.numaplan_c.specs.Codes.{list_code}
-
--- the first cause for which the description of a machine is refused, out of memory apart: the list,
--- the number of nodes, the machine
-abbrev pub pools_cause : Result ℕ ListFault → List ℕ → List ℕ → Option ℕ
-pools_cause (Err fault) frames distances = Some (list_code fault)
-pools_cause (Ok memory) frames distances = if nat_lt 256 (length frames)
-    then Some 50
-    else or_fault None (machine_fault (length frames) memory distances frames)
 
 -- the number of an answer to a search for a frame, and what it tells: the frame, and the place of
 -- its node in the list

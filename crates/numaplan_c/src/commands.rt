@@ -1,11 +1,10 @@
 //! Commands, and what publishes them.
-ghost use Rattle.std.specs.Prelude.{◌≡◌, MatchResult};
 ghost use Rattle.numa_handle.specs.Steps.{core_in};
 ghost use Rattle.numa_mask.specs.Lists.{list_of};
 ghost use Rattle.numa_script.specs.Policies.{policy_of};
 ghost use Rattle.numa_space.specs.declared.event.Event.{Event};
 ghost use Rattle.numa_space.specs.declared.command.Command.{Command};
-ghost use Rattle.numaplan_c.specs.Border.{Answers};
+ghost use Rattle.numaplan_c.specs.Border.{Answers, AnswersRead};
 ghost use Rattle.numaplan_c.specs.Codes.{word_code, list_code};
 
 use crate::codes::{CLOSED, answer_code, list_code, word_code};
@@ -26,6 +25,13 @@ pub(crate) fn answer(alloc: Global, core: &mut CoreHandle, event: Event) -> u32
     }
 }
 
+/// A command of the kept core, by the number of its answer.
+fn accept(alloc: Global, core: &mut CoreHandle, command: Command) -> u32
+    ensures { Answers (core_in core.old) (Event.Accept command) result (core_in core.new) }
+{
+    answer(alloc, core, Event::Accept(command))
+}
+
 /// Maps a span.
 #[unsafe(no_mangle)]
 pub extern "C" fn np_core_map(
@@ -43,7 +49,7 @@ pub extern "C" fn np_core_map(
         length,
         offset,
     };
-    answer(alloc, core, Event::Accept(command))
+    accept(alloc, core, command)
 }
 
 /// Unmaps the pages of a span.
@@ -57,7 +63,7 @@ pub extern "C" fn np_core_unmap(
     ensures { Answers (core_in core.old) (Event.Accept (Command.Unmap start length)) result
         (core_in core.new) }
 {
-    answer(alloc, core, Event::Accept(Command::Unmap { start, length }))
+    accept(alloc, core, Command::Unmap { start, length })
 }
 
 /// Gives the pages of a span a policy of their own.
@@ -69,10 +75,8 @@ pub extern "C" fn np_core_mbind(
     length: u64,
     policy: &[u8],
 ) -> u32
-    ensures { MatchResult (policy_of policy.now)
-        (λ spec. Answers (core_in core.old) (Event.Accept (Command.Mbind start length spec)) result
-        (core_in core.new))
-        (λ fault. (result ≡ word_code fault) × (core_in core.new ≡ core_in core.old)) }
+    ensures { AnswersRead (policy_of policy.now) word_code (λ spec. Command.Mbind start length spec)
+        (core_in core.old) result (core_in core.new) }
 {
     let spec = match read_policy(policy) {
         Ok(spec) => spec,
@@ -83,7 +87,7 @@ pub extern "C" fn np_core_mbind(
         length,
         spec,
     };
-    answer(alloc, core, Event::Accept(command))
+    accept(alloc, core, command)
 }
 
 /// Gives a task its policy.
@@ -94,16 +98,14 @@ pub extern "C" fn np_core_set_task(
     task: u32,
     policy: &[u8],
 ) -> u32
-    ensures { MatchResult (policy_of policy.now)
-        (λ spec. Answers (core_in core.old) (Event.Accept (Command.SetTask task spec)) result
-        (core_in core.new))
-        (λ fault. (result ≡ word_code fault) × (core_in core.new ≡ core_in core.old)) }
+    ensures { AnswersRead (policy_of policy.now) word_code (λ spec. Command.SetTask task spec)
+        (core_in core.old) result (core_in core.new) }
 {
     let spec = match read_policy(policy) {
         Ok(spec) => spec,
         Err(fault) => return word_code(fault),
     };
-    answer(alloc, core, Event::Accept(Command::SetTask { task, spec }))
+    accept(alloc, core, Command::SetTask { task, spec })
 }
 
 /// Gives the policies of a span's pages a home node.
@@ -123,7 +125,7 @@ pub extern "C" fn np_core_set_home(
         length,
         node,
     };
-    answer(alloc, core, Event::Accept(command))
+    accept(alloc, core, command)
 }
 
 /// Gives a node its weight.
@@ -137,26 +139,20 @@ pub extern "C" fn np_core_set_weight(
     ensures { Answers (core_in core.old) (Event.Accept (Command.SetWeight node weight)) result
         (core_in core.new) }
 {
-    answer(
-        alloc,
-        core,
-        Event::Accept(Command::SetWeight { node, weight }),
-    )
+    accept(alloc, core, Command::SetWeight { node, weight })
 }
 
 /// Changes the nodes on which memory may be placed.
 #[unsafe(no_mangle)]
 pub extern "C" fn np_core_set_mems(alloc: Global, core: &mut CoreHandle, nodes: &[u8]) -> u32
-    ensures { MatchResult (list_of nodes.now)
-        (λ mask. Answers (core_in core.old) (Event.Accept (Command.SetMems mask)) result
-        (core_in core.new))
-        (λ fault. (result ≡ list_code fault) × (core_in core.new ≡ core_in core.old)) }
+    ensures { AnswersRead (list_of nodes.now) list_code (λ mask. Command.SetMems mask)
+        (core_in core.old) result (core_in core.new) }
 {
     let mask = match read_list(nodes) {
         Ok(mask) => mask,
         Err(fault) => return list_code(fault),
     };
-    answer(alloc, core, Event::Accept(Command::SetMems { mask }))
+    accept(alloc, core, Command::SetMems { mask })
 }
 
 /// Publishes all accepted commands.

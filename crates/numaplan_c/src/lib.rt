@@ -6,7 +6,9 @@
 
 mod codes;
 mod commands;
+mod keeping;
 mod listings;
+mod machines;
 mod names;
 mod nodes;
 mod opening;

@@ -4,13 +4,13 @@ ghost use Rattle.std.specs.Prelude.{IfOk, IfErr, IfSome, MatchOption};
 ghost use Rattle.numa_core.specs.Standing.{CoreState, LeadsTo, setup_of};
 ghost use Rattle.numa_handle.specs.Steps.{core_in};
 ghost use Rattle.numa_mask.specs.Lists.{list_of};
-ghost use Rattle.numaplan_c.specs.Border.{IsSetUp, bounds_of, limits_cause, opening_cause};
+ghost use Rattle.numaplan_c.specs.Border.{IsSetUp, Opens, bounds_of, limits_cause, opening_cause};
 
-use crate::codes::{CLOSED, NO_MEMORY, OPEN, list_code, machine_code};
+use crate::codes::{CLOSED, NO_MEMORY, OPEN};
+use crate::keeping::memory_code;
+use crate::machines::machine_of;
 use numa_core::Core;
 use numa_handle::CoreHandle;
-use numa_machine::Machine;
-use numa_mask::read_list;
 use numa_space::Limits;
 use std::alloc::Global;
 
@@ -60,20 +60,10 @@ fn make(
         distances.now (bounds_of limits) workers ≡ None) }
     ensures refused { IfErr result (λ code. code ≢ 0) }
 {
-    let memory = match read_list(memory) {
-        Ok(memory) => memory,
-        Err(fault) => return Err(list_code(fault)),
-    };
-    if frames.len() > 256 {
-        return Err(50);
-    }
-    if let Some(code) = limits_cause(limits, workers) {
-        return Err(code);
-    }
-    let nodes = frames.len() as u32;
-    let machine = match Machine::new(alloc, nodes, memory, distances, frames) {
+    let others = limits_cause(limits, workers);
+    let machine = match machine_of(alloc, memory, frames, distances, others) {
         Ok(machine) => machine,
-        Err(fault) => return Err(machine_code(fault)),
+        Err(code) => return Err(code),
     };
     let Some(limits) = Limits::new(limits.max_ranges, limits.max_tasks, limits.max_commands) else {
         unreachable!()
@@ -95,7 +85,7 @@ pub extern "C" fn np_core_open(
     limits: &NpLimits,
     workers: u32,
 ) -> u32
-    ensures opened { result ≡ 0 → is_some (core_in core.new) ≡ true }
+    ensures opens { Opens (core_in core.old) result (core_in core.new) }
     ensures run { core_in core.old ≡ None → IfSome (core_in core.new) (LeadsTo []) }
     ensures setup { core_in core.old ≡ None → IfSome (core_in core.new) (λ made.
         IsSetUp (list_of memory.now) frames.now distances.now
@@ -103,19 +93,16 @@ pub extern "C" fn np_core_open(
     ensures cause { core_in core.old ≡ None → result ≢ 0 →
         MatchOption (opening_cause (list_of memory.now) frames.now distances.now
         (bounds_of limits.now) workers) (result ≡ 3) (λ first. result ≡ first) }
+    ensures none { result ≡ 0 → opening_cause (list_of memory.now) frames.now distances.now
+        (bounds_of limits.now) workers ≡ None }
     ensures open { is_some (core_in core.old) ≡ true → result ≡ 2 }
-    ensures unchanged { result ≢ 0 → core_in core.new ≡ core_in core.old }
 {
     if core.is_open() {
         return OPEN;
     }
-    let made = match make(alloc, memory, frames, distances, *limits, workers) {
-        Ok(made) => made,
-        Err(code) => return code,
-    };
-    match core.open(alloc, made) {
-        Ok(()) => 0,
-        Err(_) => NO_MEMORY,
+    match make(alloc, memory, frames, distances, *limits, workers) {
+        Ok(made) => memory_code(core.open(alloc, made)),
+        Err(code) => code,
     }
 }
 

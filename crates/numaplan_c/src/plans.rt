@@ -1,9 +1,8 @@
 //! Plans.
 ghost use Rattle.std.specs.Prelude.{◌≡◌, ◌≢◌, Some, None, IfSome, is_some, true, Result, Ok, Err};
 ghost use Rattle.std.specs.Prelude.{ℕ};
-ghost use Rattle.numa_core.specs.Standing.{CoreState};
 ghost use Rattle.numa_plan.specs.Meaning.{PlanData};
-ghost use Rattle.numaplan_c.specs.Border.{is_done};
+ghost use Rattle.numaplan_c.specs.Border.{AnswersKeeping, Opens, Shares, is_done};
 ghost use Rattle.numa_handle.specs.Steps.{core_in, Compiles, Publishes};
 ghost use Rattle.numa_handle.specs.Plans.{plan_in, Chooses, Fills, Counts};
 ghost use Rattle.numa_handle.specs.declared.plan_handle.ChoiceRefusal.{ChoiceRefusal};
@@ -12,6 +11,7 @@ ghost use Rattle.numaplan_c.specs.Codes.{place_code};
 ghost use Rattle.numaplan_c.specs.Questions.{choice_code, fill_code, AreTold};
 
 use crate::codes::{CLOSED, NO_MEMORY, NO_ROOM, OPEN, place_code};
+use crate::keeping::{kept_code, memory_code};
 use numa_handle::{ChoiceRefusal, CoreHandle, PlanHandle};
 use numa_machine::NoMemory;
 use numa_plan::Plan;
@@ -21,20 +21,15 @@ use std::alloc::Global;
 /// Keeps a plan that was made of a core, where there is one.
 fn keep(alloc: Global, made: Option<Result<Plan, NoMemory>>, plan: &mut PlanHandle) -> u32
     requires closed { plan_in plan.old ≡ None }
-    ensures opened { result ≡ 0 → is_some (plan_in plan.new) ≡ true }
+    ensures opens { Opens (plan_in plan.old) result (plan_in plan.new) }
     ensures kept { IfSome (plan_in plan.new) (λ kept. made ≡ Some (Ok kept)) }
-    ensures unchanged { result ≢ 0 → plan_in plan.new ≡ None }
     ensures closed { made ≡ None → result ≡ 1 }
     ensures done { is_some made ≡ true → is_done result ≡ true }
 {
-    let made = match made {
-        None => return CLOSED,
-        Some(Err(_)) => return NO_MEMORY,
-        Some(Ok(made)) => made,
-    };
-    match plan.open(alloc, made) {
-        Ok(()) => 0,
-        Err(_) => NO_MEMORY,
+    match made {
+        None => CLOSED,
+        Some(Err(_)) => NO_MEMORY,
+        Some(Ok(made)) => memory_code(plan.open(alloc, made)),
     }
 }
 
@@ -46,14 +41,10 @@ pub extern "C" fn np_core_compile(
     plan: &mut PlanHandle,
 ) -> u32
     ensures same { core_in core.new ≡ core_in core.old }
-    ensures opened { result ≡ 0 → is_some (plan_in plan.new) ≡ true }
     ensures compiled { plan_in plan.old ≡ None →
         IfSome (plan_in plan.new) (Compiles (core_in core.old)) }
-    ensures unchanged { result ≢ 0 → plan_in plan.new ≡ plan_in plan.old }
-    ensures open { is_some (plan_in plan.old) ≡ true → result ≡ 2 }
-    ensures closed { plan_in plan.old ≡ None → core_in core.old ≡ None → result ≡ 1 }
-    ensures done { plan_in plan.old ≡ None → (kept : CoreState) → core_in core.old ≡ Some kept →
-        is_done result ≡ true }
+    ensures opens { Opens (plan_in plan.old) result (plan_in plan.new) }
+    ensures code { AnswersKeeping (core_in core.old) (plan_in plan.old) result }
 {
     if plan.is_open() {
         return OPEN;
@@ -66,14 +57,10 @@ pub extern "C" fn np_core_compile(
 #[unsafe(no_mangle)]
 pub extern "C" fn np_core_plan(alloc: Global, core: &mut CoreHandle, plan: &mut PlanHandle) -> u32
     ensures same { core_in core.new ≡ core_in core.old }
-    ensures opened { result ≡ 0 → is_some (plan_in plan.new) ≡ true }
     ensures published { plan_in plan.old ≡ None →
         IfSome (plan_in plan.new) (Publishes (core_in core.old)) }
-    ensures unchanged { result ≢ 0 → plan_in plan.new ≡ plan_in plan.old }
-    ensures open { is_some (plan_in plan.old) ≡ true → result ≡ 2 }
-    ensures closed { plan_in plan.old ≡ None → core_in core.old ≡ None → result ≡ 1 }
-    ensures done { plan_in plan.old ≡ None → (kept : CoreState) → core_in core.old ≡ Some kept →
-        is_done result ≡ true }
+    ensures opens { Opens (plan_in plan.old) result (plan_in plan.new) }
+    ensures code { AnswersKeeping (core_in core.old) (plan_in plan.old) result }
 {
     if plan.is_open() {
         return OPEN;
@@ -86,22 +73,12 @@ pub extern "C" fn np_core_plan(alloc: Global, core: &mut CoreHandle, plan: &mut 
 #[unsafe(no_mangle)]
 pub extern "C" fn np_plan_share(alloc: Global, plan: &mut PlanHandle, other: &mut PlanHandle) -> u32
     ensures same { plan_in plan.new ≡ plan_in plan.old }
-    ensures shared { result ≡ 0 → (plan_in other.new ≡ plan_in plan.old)
-        × (is_some (plan_in plan.old) ≡ true) }
-    ensures unchanged { result ≢ 0 → plan_in other.new ≡ plan_in other.old }
-    ensures open { is_some (plan_in other.old) ≡ true → result ≡ 2 }
-    ensures closed { plan_in other.old ≡ None → plan_in plan.old ≡ None → result ≡ 1 }
-    ensures done { plan_in other.old ≡ None → (kept : PlanData) → plan_in plan.old ≡ Some kept →
-        is_done result ≡ true }
+    ensures shared { Shares (plan_in plan.old) (plan_in other.old) result (plan_in other.new) }
 {
     if other.is_open() {
         return OPEN;
     }
-    match plan.share(alloc, other) {
-        None => CLOSED,
-        Some(Ok(())) => 0,
-        Some(Err(_)) => NO_MEMORY,
-    }
+    kept_code(plan.share(alloc, other))
 }
 
 /// Lets go of a plan.

@@ -1,9 +1,8 @@
 //! Policy words: the nodes that they have, and how numa_maps shows them.
-ghost use Rattle.std.specs.Prelude.{◌≡◌, MatchResult, Ok};
+ghost use Rattle.std.specs.Prelude.{◌≡◌, MatchResult};
 ghost use Rattle.numa_mask.specs.Lists.{list_of};
-ghost use Rattle.numa_mask.specs.Words.{number_of};
 ghost use Rattle.numa_mode.specs.Policy.{policy_text};
-ghost use Rattle.numaplan_c.specs.Policies.{record_of, standing, rebound};
+ghost use Rattle.numaplan_c.specs.Policies.{record_of, standing, rebound, TellsNodes};
 ghost use Rattle.numaplan_c.specs.Texts.{IsWritten};
 
 use crate::codes::{NO_NODE_ALLOWED, NO_POLICY, list_code, refusal_code, word_code};
@@ -45,9 +44,13 @@ fn standing(policy: &[u8], allowed: &[u8]) -> Result<Record, u32>
 }
 
 /// The record once the allowed nodes have changed.
-fn rebound(standing: Record, old: &[u8], new: &[u8]) -> Result<Record, u32>
-    ensures { result ≡ rebound (Ok standing) (list_of old.now) (list_of new.now) }
+fn rebound(standing: Result<Record, u32>, old: &[u8], new: &[u8]) -> Result<Record, u32>
+    ensures { result ≡ rebound standing (list_of old.now) (list_of new.now) }
 {
+    let standing = match standing {
+        Ok(standing) => standing,
+        Err(code) => return Err(code),
+    };
     let old = match read_list(old) {
         Ok(old) => old,
         Err(fault) => return Err(list_code(fault)),
@@ -62,20 +65,25 @@ fn rebound(standing: Record, old: &[u8], new: &[u8]) -> Result<Record, u32>
     Ok(standing.rebind(&old, &new))
 }
 
-/// The nodes that a policy has once it is set.
-#[unsafe(no_mangle)]
-pub extern "C" fn np_policy_effective(policy: &[u8], allowed: &[u8], nodes: &mut NpNodes) -> u32
-    ensures { MatchResult (standing policy.now allowed.now)
-        (λ r. (result ≡ 0) × (number_of nodes.new.words ≡ r.effective))
-        (λ code. (result ≡ code) × (nodes.new ≡ nodes.old)) }
+/// Tells the nodes of a record, where there is one.
+fn tell_nodes(found: Result<Record, u32>, nodes: &mut NpNodes) -> u32
+    ensures { TellsNodes found result nodes.old nodes.new }
 {
-    match standing(policy, allowed) {
+    match found {
         Ok(record) => {
             nodes.words = record.effective().words();
             0
         }
         Err(code) => code,
     }
+}
+
+/// The nodes that a policy has once it is set.
+#[unsafe(no_mangle)]
+pub extern "C" fn np_policy_effective(policy: &[u8], allowed: &[u8], nodes: &mut NpNodes) -> u32
+    ensures { TellsNodes (standing policy.now allowed.now) result nodes.old nodes.new }
+{
+    tell_nodes(standing(policy, allowed), nodes)
 }
 
 /// The nodes that a policy has once the allowed nodes have changed.
@@ -86,22 +94,10 @@ pub extern "C" fn np_policy_rebind(
     new: &[u8],
     nodes: &mut NpNodes,
 ) -> u32
-    ensures { MatchResult
-        (rebound (standing policy.now old.now) (list_of old.now) (list_of new.now))
-        (λ r. (result ≡ 0) × (number_of nodes.new.words ≡ r.effective))
-        (λ code. (result ≡ code) × (nodes.new ≡ nodes.old)) }
+    ensures { TellsNodes (rebound (standing policy.now old.now) (list_of old.now) (list_of new.now))
+        result nodes.old nodes.new }
 {
-    let record = match standing(policy, old) {
-        Ok(record) => record,
-        Err(code) => return code,
-    };
-    match rebound(record, old, new) {
-        Ok(record) => {
-            nodes.words = record.effective().words();
-            0
-        }
-        Err(code) => code,
-    }
+    tell_nodes(rebound(standing(policy, old), old, new), nodes)
 }
 
 /// A policy as numa_maps shows it once it is set.

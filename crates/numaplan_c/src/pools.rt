@@ -6,13 +6,14 @@ ghost use Rattle.numa_mask.specs.Lists.{list_of};
 ghost use Rattle.numa_seat.specs.Seated.{Seated, at_first};
 ghost use Rattle.numa_handle.specs.Seats.{seat_in, Takes, Returns, Splits, Stays, Joins};
 ghost use Rattle.numa_handle.specs.Seats.{AreTogether};
-ghost use Rattle.numaplan_c.specs.Border.{is_done};
-ghost use Rattle.numaplan_c.specs.Pools.{pools_cause, found_code, returned_code, Tells};
+ghost use Rattle.numaplan_c.specs.Border.{AnswersKeeping, Opens, described_cause};
+ghost use Rattle.numaplan_c.specs.Pools.{found_code, returned_code, Tells};
 
-use crate::codes::{ALL_TAKEN, CLOSED, NO_MEMORY, NOT_OWNED, OPEN, list_code, machine_code};
+use crate::codes::{ALL_TAKEN, CLOSED, NO_MEMORY, NOT_OWNED, OPEN};
+use crate::keeping::{kept_code, memory_code};
+use crate::machines::machine_of;
 use numa_handle::SeatHandle;
-use numa_machine::{Frame, Machine};
-use numa_mask::read_list;
+use numa_machine::Frame;
 use numa_seat::Seat;
 use std::alloc::Global;
 
@@ -30,23 +31,15 @@ const _: () = prove!(size_of::<NpFrame>() == 4);
 /// with the description.
 fn make(alloc: Global, memory: &[u8], frames: &[u32], distances: &[u8]) -> Result<Seat, u32>
     ensures first { IfOk result (λ seat. seat ≡ at_first frames.now seat.seat.table) }
-    ensures cause { IfErr result (λ code. MatchOption (pools_cause (list_of memory.now) frames.now
-        distances.now) (code ≡ 3) (λ first. code ≡ first)) }
-    ensures none { IfOk result (λ seat. pools_cause (list_of memory.now) frames.now
-        distances.now ≡ None) }
+    ensures cause { IfErr result (λ code. MatchOption (described_cause (list_of memory.now)
+        frames.now distances.now None) (code ≡ 3) (λ first. code ≡ first)) }
+    ensures none { IfOk result (λ seat. described_cause (list_of memory.now) frames.now
+        distances.now None ≡ None) }
     ensures refused { IfErr result (λ code. code ≢ 0) }
 {
-    let memory = match read_list(memory) {
-        Ok(memory) => memory,
-        Err(fault) => return Err(list_code(fault)),
-    };
-    if frames.len() > 256 {
-        return Err(50);
-    }
-    let nodes = frames.len() as u32;
-    let machine = match Machine::new(alloc, nodes, memory, distances, frames) {
+    let machine = match machine_of(alloc, memory, frames, distances, None) {
         Ok(machine) => machine,
-        Err(fault) => return Err(machine_code(fault)),
+        Err(code) => return Err(code),
     };
     match Seat::open(alloc, &machine) {
         Ok(seat) => Ok(seat),
@@ -63,27 +56,22 @@ pub extern "C" fn np_seat_open(
     frames: &[u32],
     distances: &[u8],
 ) -> u32
-    ensures opened { result ≡ 0 → is_some (seat_in seat.new) ≡ true }
+    ensures opens { Opens (seat_in seat.old) result (seat_in seat.new) }
     ensures first { seat_in seat.old ≡ None → IfSome (seat_in seat.new) (λ made.
         made ≡ at_first frames.now made.seat.table) }
     ensures cause { seat_in seat.old ≡ None → result ≢ 0 →
-        MatchOption (pools_cause (list_of memory.now) frames.now distances.now) (result ≡ 3)
-        (λ first. result ≡ first) }
+        MatchOption (described_cause (list_of memory.now) frames.now distances.now None)
+        (result ≡ 3) (λ first. result ≡ first) }
     ensures none { result ≡ 0 →
-        pools_cause (list_of memory.now) frames.now distances.now ≡ None }
+        described_cause (list_of memory.now) frames.now distances.now None ≡ None }
     ensures open { is_some (seat_in seat.old) ≡ true → result ≡ 2 }
-    ensures unchanged { result ≢ 0 → seat_in seat.new ≡ seat_in seat.old }
 {
     if seat.is_open() {
         return OPEN;
     }
-    let made = match make(alloc, memory, frames, distances) {
-        Ok(made) => made,
-        Err(code) => return code,
-    };
-    match seat.open(alloc, made) {
-        Ok(()) => 0,
-        Err(_) => NO_MEMORY,
+    match make(alloc, memory, frames, distances) {
+        Ok(made) => memory_code(seat.open(alloc, made)),
+        Err(code) => code,
     }
 }
 
@@ -98,25 +86,18 @@ pub extern "C" fn np_seat_close(alloc: Global, seat: &mut SeatHandle)
 /// Splits off a seat at the same pools.
 #[unsafe(no_mangle)]
 pub extern "C" fn np_seat_split(alloc: Global, seat: &mut SeatHandle, other: &mut SeatHandle) -> u32
+    ensures code { AnswersKeeping (seat_in seat.old) (seat_in other.old) result }
     ensures split { result ≡ 0 → Splits (seat_in seat.old) (seat_in seat.new) (seat_in other.new)
         × (is_some (seat_in seat.old) ≡ true) }
     ensures unchanged { result ≢ 0 → Stays (seat_in seat.old) (seat_in seat.new)
         × (seat_in other.new ≡ seat_in other.old) }
-    ensures open { is_some (seat_in other.old) ≡ true →
-        (result ≡ 2) × (seat_in seat.new ≡ seat_in seat.old) }
-    ensures closed { seat_in other.old ≡ None → seat_in seat.old ≡ None →
-        (result ≡ 1) × (seat_in seat.new ≡ None) }
-    ensures done { seat_in other.old ≡ None → (kept : Seated) → seat_in seat.old ≡ Some kept →
-        is_done result ≡ true }
+    ensures open { is_some (seat_in other.old) ≡ true → seat_in seat.new ≡ seat_in seat.old }
+    ensures closed { seat_in seat.old ≡ None → seat_in seat.new ≡ None }
 {
     if other.is_open() {
         return OPEN;
     }
-    match seat.split(alloc, other) {
-        None => CLOSED,
-        Some(Ok(())) => 0,
-        Some(Err(_)) => NO_MEMORY,
-    }
+    kept_code(seat.split(alloc, other))
 }
 
 /// Takes a frame of the first node of a list that has one.

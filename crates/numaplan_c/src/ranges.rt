@@ -8,11 +8,12 @@ ghost use Rattle.numa_maps.specs.Listing.{AreRangesOf};
 ghost use Rattle.numa_ranges.specs.Runs.{end_of};
 ghost use Rattle.numa_space.specs.Standing.{StandsFor};
 ghost use Rattle.numa_space.specs.declared.command.Command.{Command};
-ghost use Rattle.numaplan_c.specs.Border.{is_done};
+ghost use Rattle.numaplan_c.specs.Border.{Shares};
 ghost use Rattle.numaplan_c.specs.Ranges.{TellsRange, own_word, range_span};
 ghost use Rattle.numaplan_c.specs.Texts.{IsWritten};
 
-use crate::codes::{CLOSED, NO_MEMORY, NO_RANGE, OPEN};
+use crate::codes::{CLOSED, NO_RANGE, OPEN};
+use crate::keeping::kept_code;
 use crate::texts::write;
 use numa_handle::CoreHandle;
 use numa_mode::Record;
@@ -23,22 +24,12 @@ use std::alloc::Global;
 #[unsafe(no_mangle)]
 pub extern "C" fn np_core_copy(alloc: Global, core: &mut CoreHandle, copy: &mut CoreHandle) -> u32
     ensures same { core_in core.new ≡ core_in core.old }
-    ensures copied { result ≡ 0 → (core_in copy.new ≡ core_in core.old)
-        × (is_some (core_in core.old) ≡ true) }
-    ensures unchanged { result ≢ 0 → core_in copy.new ≡ core_in copy.old }
-    ensures open { is_some (core_in copy.old) ≡ true → result ≡ 2 }
-    ensures closed { core_in copy.old ≡ None → core_in core.old ≡ None → result ≡ 1 }
-    ensures done { core_in copy.old ≡ None → (kept : CoreState) → core_in core.old ≡ Some kept →
-        is_done result ≡ true }
+    ensures copied { Shares (core_in core.old) (core_in copy.old) result (core_in copy.new) }
 {
     if copy.is_open() {
         return OPEN;
     }
-    match core.copy(alloc, copy) {
-        None => CLOSED,
-        Some(Ok(())) => 0,
-        Some(Err(_)) => NO_MEMORY,
-    }
+    kept_code(core.copy(alloc, copy))
 }
 
 /// How many ranges of pages there are.

@@ -4,11 +4,12 @@ ghost use Rattle.std.specs.Prelude.{is_some, IfSome};
 ghost use Rattle.numa_handle.specs.Dialogs.{dialog_in, IsFresh, ServesKept};
 ghost use Rattle.numa_handle.specs.declared.dialog.Dialog.{Dialog};
 ghost use Rattle.numa_handle.specs.declared.dialog.LineRefusal.{LineRefusal};
-ghost use Rattle.numaplan_c.specs.Border.{is_done};
+ghost use Rattle.numaplan_c.specs.Border.{Opens, is_done};
 ghost use Rattle.numaplan_c.specs.Scripts.{AreAnswers, line_code, length_told};
 ghost use Rattle.numaplan_c.specs.Texts.{IsWritten};
 
 use crate::codes::{ANSWER_LOST, CLOSED, NO_MEMORY, OPEN};
+use crate::keeping::memory_code;
 use crate::texts::{copy_code, length_copied, write};
 use line_server::Watched;
 use numa_handle::{LineRefusal, ScriptHandle};
@@ -48,19 +49,15 @@ pub extern "C" fn np_script_run(
 /// Opens a script before its first line.
 #[unsafe(no_mangle)]
 pub extern "C" fn np_script_open(alloc: Global, script: &mut ScriptHandle) -> u32
-    ensures opened { result ≡ 0 → is_some (dialog_in script.new) ≡ true }
+    ensures opens { Opens (dialog_in script.old) result (dialog_in script.new) }
     ensures fresh { dialog_in script.old ≡ None → IfSome (dialog_in script.new) IsFresh }
-    ensures unchanged { result ≢ 0 → dialog_in script.new ≡ dialog_in script.old }
     ensures open { is_some (dialog_in script.old) ≡ true → result ≡ 2 }
     ensures done { dialog_in script.old ≡ None → is_done result ≡ true }
 {
     if script.is_open() {
         return OPEN;
     }
-    match script.open(alloc) {
-        Ok(()) => 0,
-        Err(_) => NO_MEMORY,
-    }
+    memory_code(script.open(alloc))
 }
 
 /// Frees a script.

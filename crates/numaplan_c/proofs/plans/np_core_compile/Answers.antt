@@ -1,7 +1,7 @@
 use Rattle.std.proofs.Common.{◌≡◌, None}
 use Rattle.numa_handle.specs.Plans.{plan_in}
 use Rattle.numa_handle.specs.Steps.{core_in, Compiles}
-use Rattle.numaplan_c.proofs.Keeping.{kept-made}
+use Rattle.numaplan_c.proofs.Made.{kept-made}
 use Rattle.numaplan_c.proofs.plans.np_core_compile.Goals as goal
 
 pub returns-clause-compiled : goal.returns-clause-compiled
