@@ -1,5 +1,6 @@
 //! Whether two plans answer alike: each task's lists round the runs, the counts of each run, and
 //! how many runs and rules there are.
+use crate::same::same;
 use numa_plan::{Plan, Steps};
 use numa_space::PlaceRefusal;
 use std::process::Abort;
@@ -16,8 +17,12 @@ fn list_of(plan: &Plan, task: u32, page: u64, cpu: u32) -> Result<&[u8], PlaceRe
 fn expect_lists(rt: &impl Abort, found: &Plan, wanted: &Plan, task: u32, page: u64) {
     for cpu in 0..257u32 {
         let list = list_of(wanted, task, page, cpu);
-        let same = list_of(found, task, page, cpu) == list;
-        assert!(rt; same, "task {task}, page {page}, node {cpu}");
+        let place = (task, page, cpu);
+        same(
+            rt,
+            &(place, list_of(found, task, page, cpu)),
+            &(place, list),
+        );
         if list == Err(PlaceRefusal::BadCpu) {
             return;
         }
@@ -39,8 +44,13 @@ fn counts_of(plan: &Plan, task: u32, first: u64, pages: u64) -> Result<[u64; 256
 /// The counts of a span are alike.
 fn expect_counts(rt: &impl Abort, found: &Plan, wanted: &Plan, first: u64, pages: u64) {
     for task in TASKS {
-        let same = counts_of(found, task, first, pages) == counts_of(wanted, task, first, pages);
-        assert!(rt; same, "task {task}, {pages} pages from {first}");
+        let counts = counts_of(found, task, first, pages);
+        let place = (task, first, pages);
+        same(
+            rt,
+            &(place, counts),
+            &(place, counts_of(wanted, task, first, pages)),
+        );
     }
 }
 
@@ -61,11 +71,14 @@ fn expect_run(rt: &impl Abort, found: &Plan, wanted: &Plan, first: u64, pages: u
     expect_counts(rt, found, wanted, first, pages);
 }
 
+/// The version, and how many runs and rules there are.
+fn sizes_of(plan: &Plan) -> (u64, usize, usize) {
+    (plan.version(), plan.run_count(), plan.rule_count())
+}
+
 /// The plans answer alike, with as many runs and rules.
 pub fn expect_alike(rt: &impl Abort, found: &Plan, wanted: &Plan) {
-    assert!(rt; found.version() == wanted.version(), "the version");
-    assert!(rt; found.run_count() == wanted.run_count(), "the runs");
-    assert!(rt; found.rule_count() == wanted.rule_count(), "the rules");
+    same(rt, &sizes_of(found), &sizes_of(wanted));
     for place in 0..wanted.run_count() {
         let Some(run) = wanted.run_at(place) else {
             return;

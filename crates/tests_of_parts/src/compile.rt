@@ -37,6 +37,7 @@ fn spans_of_many_lengths_are_counted(rt: HostRuntime) {
     ] {
         expect_counts(&rt, &plan, first, pages, want);
     }
+    drop(plan);
 }
 
 /// A byte 9 for each of so many pages.
@@ -80,6 +81,7 @@ fn spans_of_many_lengths_are_filled(rt: HostRuntime) {
     ] {
         expect_length(&rt, rt.alloc(), &plan, (first, pages), ones);
     }
+    drop(plan);
 }
 
 fn expect_too_many(rt: &impl Abort, plan: &Plan) {
@@ -92,6 +94,7 @@ fn expect_too_many(rt: &impl Abort, plan: &Plan) {
 fn a_page_too_many_is_refused(rt: HostRuntime) {
     let plan = two_spans(&rt, rt.alloc());
     expect_too_many(&rt, &plan);
+    drop(plan);
 }
 
 #[test]
@@ -113,4 +116,5 @@ fn refused_commands_are_passed_over(rt: HostRuntime) {
     for (line, question) in questions.iter().enumerate() {
         ask_plan(&rt, &plan, question, line);
     }
+    drop(plan);
 }

@@ -3,12 +3,12 @@
 
 ghost use Rattle.std.specs.Prelude.{◌<◌, ◌^◌};
 
+use crate::same::same;
 use numa_examples::set_of;
 use numa_lanes::{Cycle, count_all, count_block, count_in, count_node, fill_cycle, fill_one};
 use numa_mask::NodeMask;
-use std::alloc::{AllocError, Global};
+use std::alloc::Global;
 use std::process::Abort;
-use std::test::Fail;
 
 /// How many lengths there are.
 const LENGTHS: usize = 262;
@@ -32,12 +32,12 @@ fn length_at(place: usize) -> usize {
     }
 }
 
-fn placed(alloc: Global, mix: [u8; 8]) -> Result<Vec<u8>, AllocError> {
+fn placed(rt: &impl Abort, alloc: Global, mix: [u8; 8]) -> Vec<u8> {
     let mut span = Vec::new(alloc);
     for page in 0..LONGEST {
-        span.push(mix[page % 8])?;
+        span.push(mix[page % 8]).expect(rt, "memory");
     }
-    Ok(span)
+    span
 }
 
 fn tallied(span: &[u8]) -> [u64; 256] {
@@ -49,71 +49,88 @@ fn tallied(span: &[u8]) -> [u64; 256] {
     counts
 }
 
+/// The counts of each node are these.
+fn expect_each(rt: &impl Abort, span: &[u8], want: &[u64; 256]) {
+    let length = span.len();
+    let mut counts = [7u64; 256];
+    count_all(span, &mut counts);
+    for number in 0..=255u8 {
+        let count = want[usize::from(number)];
+        let found = (counts[usize::from(number)], count_node(span, number));
+        same(
+            rt,
+            &(length, number, found),
+            &(length, number, (count, count)),
+        );
+    }
+}
+
+/// How many pages are on the nodes at the ends of words.
+fn count_of_borders(counts: &[u64; 256]) -> u64 {
+    let mut sum = 0u64;
+    for number in BORDERS {
+        sum = sum.wrapping_add(counts[usize::from(number)]);
+    }
+    sum
+}
+
 fn expect_counts(rt: &impl Abort, span: &[u8], all: &NodeMask, borders: &NodeMask) {
     let length = span.len();
     let want = tallied(span);
-    let mut counts = [7u64; 256];
-    count_all(span, &mut counts);
-    let mut at_borders = 0u64;
-    for number in 0..=255u8 {
-        let place = usize::from(number);
-        assert!(rt;
-            counts[place] == want[place],
-            "count_all of {number}, {length} pages"
-        );
-        assert!(rt;
-            count_node(span, number) == want[place],
-            "count_node of {number}, {length} pages"
-        );
-        if BORDERS.contains(&number) {
-            at_borders = at_borders.wrapping_add(want[place]);
-        }
-    }
-    assert!(rt;
-        count_in(span, all) == length as u64,
-        "every node, {length} pages"
-    );
-    assert!(rt;
-        count_in(span, borders) == at_borders,
-        "nodes at ends of words, {length} pages"
+    expect_each(rt, span, &want);
+    let found = (length, count_in(span, all), count_in(span, borders));
+    same(
+        rt,
+        &found,
+        &(length, length as u64, count_of_borders(&want)),
     );
 }
 
+/// The counts of the first pages of a span.
+fn expect_part(rt: &impl Abort, span: &[u8], length: usize, all: &NodeMask, borders: &NodeMask) {
+    let part = span.get(..length).expect(rt, "a long span");
+    expect_counts(rt, part, all, borders);
+}
+
 #[test]
-fn counts_every_length(rt: HostRuntime) -> Result<(), Fail> {
+fn counts_every_length(rt: HostRuntime) {
     let all = set_of(&std::array::from_fn::<u8, 256, _>(|number| number as u8));
     let borders = set_of(&BORDERS);
     for mix in MIXES {
-        let span = placed(rt.alloc(), mix)?;
+        let span = placed(&rt, rt.alloc(), mix);
         for place in 0..LENGTHS {
-            let part = span.get(..length_at(place)).ok_or("a short span")?;
-            expect_counts(&rt, part, &all, &borders);
+            expect_part(&rt, &span, length_at(place), &all, &borders);
         }
+        drop(span);
     }
-    Ok(())
 }
 
-#[test]
-fn counts_a_full_block(rt: HostRuntime) -> Result<(), Fail> {
-    let span = placed(rt.alloc(), [9; 8])?;
-    let block = span.get(..8_160).ok_or("a short span")?;
+fn expect_block(rt: &impl Abort, span: &[u8]) {
+    let block = span.get(..8_160).expect(rt, "a long span");
     assert!(rt; block.len() == 8_160);
-    assert!(rt; count_block(block, 255, 9) == 8_160);
-    assert!(rt; count_block(block, 255, 8) == 0);
-    Ok(())
+    let found = (count_block(block, 255, 9), count_block(block, 255, 8));
+    same(rt, &found, &(8_160, 0));
 }
 
 #[test]
-fn fills_every_length(rt: HostRuntime) -> Result<(), Fail> {
-    let mut out = placed(rt.alloc(), MIXES[0])?;
+fn counts_a_full_block(rt: HostRuntime) {
+    let span = placed(&rt, rt.alloc(), [9; 8]);
+    expect_block(&rt, &span);
+}
+
+fn expect_filled(rt: &impl Abort, node: u8, out: &mut [u8]) {
+    fill_one(node, out);
+    let filled = out.iter().all(|entry| *entry == node);
+    same(rt, &(out.len(), node, filled), &(out.len(), node, true));
+}
+
+#[test]
+fn fills_every_length(rt: HostRuntime) {
+    let mut out = placed(&rt, rt.alloc(), MIXES[0]);
     for place in 0..LENGTHS {
         let length = length_at(place).min(out.len());
-        let node = (place % 256) as u8;
-        let part = &mut out[..length];
-        fill_one(node, part);
-        assert!(rt; part.iter().all(|entry| *entry == node), "{length} pages");
+        expect_filled(&rt, (place % 256) as u8, &mut out[..length]);
     }
-    Ok(())
 }
 
 fn expect_turns(rt: &impl Abort, cycle: &Cycle, entries: &[u8; 7], start: u64, out: &mut [u8])
@@ -123,27 +140,30 @@ fn expect_turns(rt: &impl Abort, cycle: &Cycle, entries: &[u8; 7], start: u64, o
     let length = out.len();
     let mut turn = (start % 7) as usize;
     for entry in out.iter() {
-        assert!(rt; *entry == entries[turn % 7], "{length} pages from {start}");
+        same(
+            rt,
+            &(length, start, *entry),
+            &(length, start, entries[turn % 7]),
+        );
         turn = (turn % 7 + 1) % 7;
     }
 }
 
+/// The nodes in turn from each of them on, at indexes from 0 and below the last that there is.
+fn expect_starts(rt: &impl Abort, cycle: &Cycle, entries: &[u8; 7], out: &mut [u8]) {
+    for step in 0..7u64 {
+        expect_turns(rt, cycle, entries, step, out);
+        expect_turns(rt, cycle, entries, 68_719_476_729 + step, out);
+    }
+}
+
 #[test]
-fn takes_turns_at_every_length_and_start(rt: HostRuntime) -> Result<(), Fail> {
+fn takes_turns_at_every_length_and_start(rt: HostRuntime) {
     let entries = [200, 1, 17, 0, 255, 64, 3];
-    let cycle = Cycle::new(rt.alloc(), &entries)?;
-    let mut out = placed(rt.alloc(), MIXES[0])?;
+    let cycle = Cycle::new(rt.alloc(), &entries).expect(&rt, "memory");
+    let mut out = placed(&rt, rt.alloc(), MIXES[0]);
     for place in 0..LENGTHS {
         let length = length_at(place).min(out.len());
-        let part = &mut out[..length];
-        for step in 0..14u64 {
-            let start = if step < 7 {
-                step
-            } else {
-                68_719_476_722 + step
-            };
-            expect_turns(&rt, &cycle, &entries, start, part);
-        }
+        expect_starts(&rt, &cycle, &entries, &mut out[..length]);
     }
-    Ok(())
 }

@@ -1,33 +1,42 @@
 //! Orders, faults and turns that were made by hand.
+use crate::same::same;
 use numa_examples::{flat_distances, set_of};
 use numa_machine::{Machine, MachineFault, WeightFault, Weights};
 use std::alloc::Global;
 use std::process::Abort;
-use std::test::Fail;
 
 /// A description: nodes, nodes with memory, distances and frames.
 type Row<'a> = (u32, &'a [u8], &'a [u8], &'a [u32]);
 
+/// The machine of a description.
+fn machine_of(alloc: Global, row: &Row) -> Result<Machine, MachineFault> {
+    let (nodes, memory, distances, frames) = *row;
+    Machine::new(alloc, nodes, set_of(memory), distances, frames)
+}
+
 /// Each of these descriptions has this fault, or none.
 fn expect_faults(rt: &impl Abort, alloc: Global, rows: &[Row], want: Option<MachineFault>) {
-    for (nodes, memory, distances, frames) in rows {
-        let found = Machine::new(alloc, *nodes, set_of(memory), distances, frames).err();
-        assert_eq!(rt;
-            found,
-            want,
-            "{nodes} nodes, memory {memory:?}, {distances:?}, {frames:?}"
-        );
+    for row in rows {
+        let found = machine_of(alloc, row).err();
+        same(rt, &(*row, found), &(*row, want));
     }
 }
 
 /// Compares the order of a node with a list that was made by hand.
 fn expect_order(rt: &impl Abort, machine: &Machine, node: u32, order: &[u8]) {
     assert!(rt; node < machine.nodes());
-    assert_eq!(rt; machine.order(node), order, "from {node}");
+    same(rt, &(node, machine.order(node)), &(node, order));
+}
+
+/// The orders of three nodes.
+fn expect_orders(rt: &impl Abort, machine: &Machine, orders: &[&[u8]; 3]) {
+    expect_order(rt, machine, 0, orders[0]);
+    expect_order(rt, machine, 1, orders[1]);
+    expect_order(rt, machine, 2, orders[2]);
 }
 
 #[test]
-fn orders_by_hand(rt: HostRuntime) -> Result<(), Fail> {
+fn orders_by_hand(rt: HostRuntime) {
     let cases: [([u8; 9], &[u8], [&[u8]; 3]); 4] = [
         (
             [10, 20, 255, 20, 10, 20, 255, 20, 10],
@@ -51,54 +60,69 @@ fn orders_by_hand(rt: HostRuntime) -> Result<(), Fail> {
         ),
     ];
     for (distances, memory, orders) in &cases {
-        let machine = Machine::new(rt.alloc(), 3, set_of(memory), distances, &[0, 0, 0])?;
-        expect_order(&rt, &machine, 0, orders[0]);
-        expect_order(&rt, &machine, 1, orders[1]);
-        expect_order(&rt, &machine, 2, orders[2]);
+        let row: Row = (3, *memory, distances, &[0, 0, 0]);
+        let machine = machine_of(rt.alloc(), &row).expect(&rt, "a machine");
+        expect_orders(&rt, &machine, orders);
+        drop(machine);
     }
-    Ok(())
+}
+
+/// The nodes of 256, this one first.
+fn flat_order(rt: &impl Abort, alloc: Global, node: u8) -> Vec<u8> {
+    let mut order = vec![in alloc; node].expect(rt, "memory");
+    for other in 0..=255u8 {
+        if other != node {
+            order.push(other).expect(rt, "memory");
+        }
+    }
+    order
+}
+
+/// A machine of 256 nodes that are 20 apart.
+fn large_machine(rt: &impl Abort, alloc: Global) -> Machine {
+    let all = flat_order(rt, alloc, 0);
+    let table = flat_distances(alloc, 256).expect(rt, "memory");
+    machine_of(alloc, &(256, &all, &table, &[1; 256])).expect(rt, "a machine")
 }
 
 #[test]
-fn flat_machine_of_256_nodes(rt: HostRuntime) -> Result<(), Fail> {
-    let mut all = Vec::new(rt.alloc());
+fn flat_machine_of_256_nodes(rt: HostRuntime) {
+    let machine = large_machine(&rt, rt.alloc());
     for node in 0..=255u8 {
-        all.push(node)?;
-    }
-    let machine = Machine::new(
-        rt.alloc(),
-        256,
-        set_of(&all),
-        &flat_distances(rt.alloc(), 256)?,
-        &[1; 256],
-    )?;
-    for node in 0..=255u8 {
-        let mut order = vec![in rt.alloc(); node]?;
-        for other in 0..=255u8 {
-            if other != node {
-                order.push(other)?;
-            }
-        }
+        let order = flat_order(&rt, rt.alloc(), node);
         expect_order(&rt, &machine, u32::from(node), &order);
     }
-    Ok(())
+}
+
+fn expect_distance(rt: &impl Abort, machine: &Machine, from: u32, to: u32, far: u8) {
+    assert!(rt; from < machine.nodes());
+    assert!(rt; to < machine.nodes());
+    same(
+        rt,
+        &(from, to, machine.distance(from, to)),
+        &(from, to, far),
+    );
+}
+
+/// What a machine of three nodes was made of.
+fn expect_three(rt: &impl Abort, machine: &Machine) {
+    let found = (machine.nodes(), machine.memory());
+    same(rt, &found, &(3, set_of(&[0, 2])));
+    for (node, frames) in [(0, 8), (1, 0), (2, 4096), (3, 0), (u32::MAX, 0)] {
+        same(rt, &(node, machine.frames(node)), &(node, frames));
+    }
+    for (from, to, far) in [(0, 0, 10), (0, 2, 255), (1, 0, 21), (2, 0, 254), (2, 1, 23)] {
+        expect_distance(rt, machine, from, to, far);
+    }
 }
 
 #[test]
-fn reads_what_was_handed_in(rt: HostRuntime) -> Result<(), Fail> {
+fn reads_what_was_handed_in(rt: HostRuntime) {
     let distances = [10, 20, 255, 21, 10, 22, 254, 23, 10];
-    let machine = Machine::new(rt.alloc(), 3, set_of(&[0, 2]), &distances, &[8, 0, 4096])?;
-    assert_eq!(rt; machine.nodes(), 3);
-    assert_eq!(rt; machine.memory(), set_of(&[0, 2]));
-    for (node, frames) in [(0, 8), (1, 0), (2, 4096), (3, 0), (u32::MAX, 0)] {
-        assert_eq!(rt; machine.frames(node), frames, "at {node}");
-    }
-    for (from, to, far) in [(0, 0, 10), (0, 2, 255), (1, 0, 21), (2, 0, 254), (2, 1, 23)] {
-        assert!(rt; from < machine.nodes());
-        assert!(rt; to < machine.nodes());
-        assert_eq!(rt; machine.distance(from, to), far, "from {from} to {to}");
-    }
-    Ok(())
+    let row: Row = (3, &[0, 2], &distances, &[8, 0, 4096]);
+    let machine = machine_of(rt.alloc(), &row).expect(&rt, "a machine");
+    expect_three(&rt, &machine);
+    drop(machine);
 }
 
 /// The distances of two nodes that are 20 apart.
@@ -150,21 +174,24 @@ fn faults_of_the_distances(rt: HostRuntime) {
 }
 
 #[test]
-fn faults_of_the_frames(rt: HostRuntime) -> Result<(), Fail> {
+fn faults_of_the_frames(rt: HostRuntime) {
     let rows: [Row; 3] = [
         (2, &[0, 1], &TWO, &[4097, 0]),
         (2, &[0], &TWO, &[0, 1]),
         (1, &[0], &[10], &[u32::MAX]),
     ];
-    let want = Some(MachineFault::TooManyFrames);
-    expect_faults(&rt, rt.alloc(), &rows, want);
+    expect_faults(&rt, rt.alloc(), &rows, Some(MachineFault::TooManyFrames));
+}
+
+#[test]
+fn no_more_frames_than_sixteen_nodes_have(rt: HostRuntime) {
     let memory = [0, 1, 2, 3, 4, 5, 6, 7, 8, 9, 10, 11, 12, 13, 14, 15, 16];
-    let table = flat_distances(rt.alloc(), 17)?;
+    let table = flat_distances(rt.alloc(), 17).expect(&rt, "memory");
     let mut frames = [4096; 17];
+    let want = Some(MachineFault::TooManyFrames);
     expect_faults(&rt, rt.alloc(), &[(17, &memory, &table, &frames)], want);
     frames[16] = 0;
     expect_faults(&rt, rt.alloc(), &[(17, &memory, &table, &frames)], None);
-    Ok(())
 }
 
 #[test]
@@ -180,37 +207,40 @@ fn weights_are_set_and_read(rt: HostRuntime) {
         (0, 255, Ok(())),
     ];
     for (node, weight, expected) in cases {
-        assert_eq!(rt;
-            weights.set(node, weight),
-            expected,
-            "weight {weight} of {node}"
-        );
+        let answer = weights.set(node, weight);
+        same(&rt, &(node, weight, answer), &(node, weight, expected));
     }
     for (node, weight) in [(0, 255), (1, 2), (2, 1), (255, 1)] {
-        assert_eq!(rt; weights.get(node), weight, "of {node}");
+        same(&rt, &(node, weights.get(node)), &(node, weight));
     }
-    assert_eq!(rt; Weights::new(1000).set(255, 7), Ok(()));
-    assert_eq!(rt;
-        Weights::new(1000).set(256, 7),
-        Err(WeightFault::NoSuchNode)
-    );
 }
 
 #[test]
-fn turns_by_hand(rt: HostRuntime) -> Result<(), Fail> {
+fn weights_of_more_nodes_than_a_machine_has(rt: HostRuntime) {
+    let found = (
+        Weights::new(1000).set(255, 7),
+        Weights::new(1000).set(256, 7),
+    );
+    same(&rt, &found, &(Ok(()), Err(WeightFault::NoSuchNode)));
+}
+
+fn expect_turns(rt: &impl Abort, alloc: Global, weights: &Weights, set: &[u8], turns: &[u8]) {
+    let found = weights.cycle_of(alloc, &set_of(set)).expect(rt, "memory");
+    same(rt, &(set, found.as_slice()), &(set, turns));
+}
+
+#[test]
+fn turns_by_hand(rt: HostRuntime) {
     let mut weights = Weights::new(256);
-    assert_eq!(rt; weights.set(0, 5), Ok(()));
-    assert_eq!(rt; weights.set(1, 2), Ok(()));
-    assert_eq!(rt; weights.set(255, 3), Ok(()));
+    let answers = [weights.set(0, 5), weights.set(1, 2), weights.set(255, 3)];
+    same(&rt, &answers, &[Ok(()); 3]);
     let cases: [(&[u8], &[u8]); 4] = [
         (&[], &[]),
         (&[0, 1], &[0, 0, 0, 0, 0, 1, 1]),
         (&[1, 7, 64], &[1, 1, 7, 64]),
         (&[255, 1], &[1, 1, 255, 255, 255]),
     ];
-    for (set, turns) in &cases {
-        let found = weights.cycle_of(rt.alloc(), &set_of(set))?;
-        assert_eq!(rt; found.as_slice(), *turns, "of {set:?}");
+    for (set, turns) in cases {
+        expect_turns(&rt, rt.alloc(), &weights, set, turns);
     }
-    Ok(())
 }

@@ -1,5 +1,6 @@
 //! Values from the kernel's comments on bitmap_fold, bitmap_onto and bitmap_remap, and texts from
 //! the format of lists.
+use crate::same::same;
 use numa_examples::set_of;
 use numa_mask::{ListFault, NodeMask, list_text, read_list};
 use std::process::Abort;
@@ -8,11 +9,21 @@ fn list(rt: &impl Abort, text: &str) -> NodeMask {
     read_list(text.as_bytes()).expect(rt, "a list")
 }
 
+/// The set of a list, or of no nodes where the text is empty.
+fn nodes_of(rt: &impl Abort, members: &str) -> NodeMask {
+    if members.is_empty() {
+        NodeMask::empty()
+    } else {
+        list(rt, members)
+    }
+}
+
 #[test]
 fn kernel_onto(rt: HostRuntime) {
     let odd = set_of(&[1, 3, 5, 7, 9, 11]);
     let relative = set_of(&[30, 31, 32, 33, 34, 35, 36, 37, 38, 39]);
-    assert_eq!(rt; odd.onto(&relative), set_of(&[31, 33, 35, 37, 39]));
+    let placed = odd.onto(&relative);
+    same(&rt, &placed, &set_of(&[31, 33, 35, 37, 39]));
 }
 
 #[test]
@@ -33,11 +44,11 @@ fn kernel_fold_and_onto(rt: HostRuntime) {
     ];
     for (original, folded, placed) in rows {
         let small = list(&rt, original).fold(10);
-        assert_eq!(rt; small, list(&rt, folded), "{original} folded");
-        assert_eq!(rt;
-            small.onto(&relative),
-            list(&rt, placed),
-            "{original} placed"
+        let found = (original, small, small.onto(&relative));
+        same(
+            &rt,
+            &found,
+            &(original, list(&rt, folded), list(&rt, placed)),
         );
     }
 }
@@ -46,10 +57,14 @@ fn kernel_fold_and_onto(rt: HostRuntime) {
 fn kernel_remap(rt: HostRuntime) {
     let old = set_of(&[4, 5, 6, 7]);
     let new = set_of(&[12, 13, 14, 15]);
+    let two = set_of(&[200, 255]);
     let moved = set_of(&[1, 5, 7]).remap(&old, &new);
-    assert_eq!(rt; moved, set_of(&[1, 13, 15]));
-    assert_eq!(rt; old.remap(&old, &set_of(&[200, 255])), set_of(&[200, 255]));
-    assert_eq!(rt; old.remap(&old, &NodeMask::empty()), old);
+    let found = (
+        moved,
+        old.remap(&old, &two),
+        old.remap(&old, &NodeMask::empty()),
+    );
+    same(&rt, &found, &(set_of(&[1, 13, 15]), two, old));
 }
 
 #[test]
@@ -64,16 +79,19 @@ fn texts(rt: HostRuntime) {
         ("63-64,127-128,254", "63-64,127-128,254"),
     ];
     for (members, text) in rows {
-        let nodes = if members.is_empty() {
-            NodeMask::empty()
-        } else {
-            list(&rt, members)
-        };
-        assert_eq!(rt; list_text(&nodes).as_str(), text);
+        let nodes = nodes_of(&rt, members);
+        same(&rt, &list_text(&nodes).as_str(), &text);
     }
-    assert_eq!(rt; list(&rt, "5,0,2-3"), set_of(&[0, 2, 3, 5]));
-    assert_eq!(rt; list(&rt, "0000"), set_of(&[0]));
-    assert_eq!(rt; list(&rt, "0-255").weight(), 256);
+}
+
+#[test]
+fn lists(rt: HostRuntime) {
+    let found = (
+        list(&rt, "5,0,2-3"),
+        list(&rt, "0000"),
+        list(&rt, "0-255").weight(),
+    );
+    same(&rt, &found, &(set_of(&[0, 2, 3, 5]), set_of(&[0]), 256));
 }
 
 #[test]
@@ -97,6 +115,10 @@ fn faults(rt: HostRuntime) {
         ("0,9999,", ListFault::NodeTooHigh),
     ];
     for (text, fault) in rows {
-        assert_eq!(rt; read_list(text.as_bytes()), Err(fault), "at {text:?}");
+        same(
+            &rt,
+            &(text, read_list(text.as_bytes())),
+            &(text, Err(fault)),
+        );
     }
 }

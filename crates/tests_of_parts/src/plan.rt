@@ -41,6 +41,7 @@ fn a_refused_span_leaves_its_place_alone(rt: HostRuntime) {
     ] {
         expect_refused(&rt, &plan, first, cpu, want);
     }
+    drop(plan);
 }
 
 /// What both calls answer for no pages.
@@ -55,6 +56,7 @@ fn spans_without_pages(rt: HostRuntime) {
     let plan = ten_pages(&rt, rt.alloc());
     expect_none(&rt, &plan, 4, 16, Some(PlaceRefusal::BadCpu));
     expect_none(&rt, &plan, 0, u64::MAX, None);
+    drop(plan);
 }
 
 /// All pages, each of which has its own number as its index. Task 7 takes turns by weights 3, 2, 1
@@ -77,12 +79,8 @@ const TURNS: [u8; 8] = [0, 0, 0, 1, 1, 2, 3, 3];
 fn expect_turns(rt: &impl Abort, first: u64, nodes: &[u8]) {
     let mut turn = (first % 8) as usize;
     for node in nodes {
-        assert_eq!(rt;
-            *node,
-            TURNS[turn % 8],
-            "{} pages from {first}",
-            nodes.len()
-        );
+        let wanted = (first, nodes.len(), TURNS[turn % 8]);
+        same(rt, &(first, nodes.len(), *node), &wanted);
         turn = (turn % 8 + 1) % 8;
     }
 }
@@ -93,8 +91,8 @@ fn expect_length(rt: &impl Abort, plan: &Plan, length: usize)
     let mut room = [9u8; 257];
     let out = &mut room[..length];
     let first = 34_359_738_068 + length as u64 % 8;
-    let filled = plan.fill(7, 2, first, out).is_ok();
-    assert!(rt; filled, "{length} pages");
+    let filled = plan.fill(7, 2, first, out);
+    same(rt, &(length, filled), &(length, Ok(())));
     expect_turns(rt, first, out);
 }
 
@@ -104,6 +102,7 @@ fn every_length_takes_its_turns(rt: HostRuntime) {
     for length in 0..258usize {
         expect_length(&rt, &plan, length);
     }
+    drop(plan);
 }
 
 fn expect_all(rt: &impl Abort, plan: &Plan) {
@@ -124,6 +123,7 @@ fn expect_all(rt: &impl Abort, plan: &Plan) {
 fn all_pages_are_counted_at_once(rt: HostRuntime) {
     let plan = all_pages(&rt, rt.alloc());
     expect_all(&rt, &plan);
+    drop(plan);
 }
 
 fn expect_window(rt: &impl Abort, plan: &Plan, first: u64, end: u64, want: (usize, usize)) {
@@ -145,6 +145,7 @@ fn a_window_holds_the_runs_that_touch_the_span(rt: HostRuntime) {
     ] {
         expect_window(&rt, &plan, first, end, want);
     }
+    drop(plan);
 }
 
 /// A rule of a plan is found by its policy.
@@ -164,6 +165,7 @@ fn expect_numbers(rt: &impl Abort, plan: &mut Plan) {
 fn expect_copied(rt: &impl Abort, alloc: Global, plan: &Plan) {
     let mut copy = plan.copy(alloc).expect(rt, "a copy");
     expect_numbers(rt, &mut copy);
+    drop(copy);
 }
 
 #[test]
@@ -172,6 +174,7 @@ fn a_policy_finds_its_rule(rt: HostRuntime) {
     expect_copied(&rt, rt.alloc(), &plan);
     expect_numbers(&rt, &mut plan);
     expect_copied(&rt, rt.alloc(), &plan);
+    drop(plan);
 }
 
 #[test]

@@ -16,12 +16,34 @@ fn expect_planned(rt: &impl Abort, alloc: Global, planned: &mut PlannedSpace) {
     let fresh = compile(alloc, planned.space()).expect(rt, "a plan");
     planned.prepare(alloc).expect(rt, "memory");
     expect_alike(rt, planned.plan().expect(rt, "a plan"), &fresh);
+    drop(fresh);
 }
 
 /// Carries out a command, or refuses it.
 fn plan_one(rt: &impl Abort, alloc: Global, planned: &mut PlannedSpace, command: &Command) {
     let _ = planned.apply(alloc, command);
     expect_planned(rt, alloc, planned);
+}
+
+/// Carries out the commands of an example.
+fn plan_steps(rt: &impl Abort, alloc: Global, planned: &mut PlannedSpace, steps: &[Step]) {
+    expect_planned(rt, alloc, planned);
+    for step in steps {
+        if let Does(asked) = step {
+            let command = command_of(asked).expect(rt, "a command");
+            plan_one(rt, alloc, planned, &command);
+        }
+    }
+}
+
+/// Carries out random commands.
+fn plan_dice(rt: &impl Abort, alloc: Global, planned: &mut PlannedSpace, dice: &mut Dice) {
+    expect_planned(rt, alloc, planned);
+    for _ in 0..COMMANDS {
+        if let Some(command) = dice.command() {
+            plan_one(rt, alloc, planned, &command);
+        }
+    }
 }
 
 /// Plays an example on a space of this machine.
@@ -34,27 +56,17 @@ pub fn plan_along(
 ) {
     let machine = machine.copy(alloc).expect(rt, "a machine");
     let mut planned = PlannedSpace::new(alloc, machine, limits);
-    expect_planned(rt, alloc, &mut planned);
-    for step in steps {
-        if let Does(asked) = step {
-            let command = command_of(asked).expect(rt, "a command");
-            plan_one(rt, alloc, &mut planned, &command);
-        }
-    }
+    plan_steps(rt, alloc, &mut planned, steps);
+    drop(planned);
 }
 
-/// Plays a random history, and then a copy of the space against it.
+/// Plays a random history.
 fn plan_seed(rt: &impl Abort, alloc: Global, seed: u64) {
     let machine = rough_machine(alloc).expect(rt, "a machine");
     let limits = rough_limits().expect(rt, "limits");
     let mut planned = PlannedSpace::new(alloc, machine, limits);
-    let mut dice = Dice::new(seed);
-    expect_planned(rt, alloc, &mut planned);
-    for _ in 0..COMMANDS {
-        if let Some(command) = dice.command() {
-            plan_one(rt, alloc, &mut planned, &command);
-        }
-    }
+    plan_dice(rt, alloc, &mut planned, &mut Dice::new(seed));
+    drop(planned);
 }
 
 #[test]

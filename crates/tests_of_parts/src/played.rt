@@ -151,6 +151,7 @@ fn ask(rt: &impl Abort, alloc: Global, space: &Space, step: &Step, line: usize) 
     ask_space(rt, space, step, line);
     let plan = compile(alloc, space).expect(rt, "a plan");
     ask_plan(rt, &plan, step, line);
+    drop(plan);
 }
 
 /// Plays an example on a space.
@@ -170,6 +171,7 @@ pub fn play_new(rt: &impl Abort, alloc: Global, machine: Machine, limits: Limits
     plan_along(rt, alloc, &machine, limits, steps);
     let mut space = Space::new(alloc, machine, limits);
     play(rt, alloc, &mut space, steps);
+    drop(space);
 }
 
 /// Plays an example on a machine of so many nodes, 20 apart, all with memory.

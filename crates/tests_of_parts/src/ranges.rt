@@ -2,6 +2,7 @@
 //! with each allocation refused in turn, these see every growth that a call can want.
 ghost use Rattle.std.specs.Prelude.{◌<◌, ◌≤◌, ◌+◌, ◌^◌};
 
+use crate::same::same;
 use numa_ranges::{RangeFault, RangeMap};
 use std::process::Abort;
 
@@ -38,6 +39,16 @@ enum Step<'a> {
 
 use Call::{Halve, HalveAll, Map, Set, Unmap};
 use Step::{At, Does, Hole};
+
+/// Maps ten pages.
+const TEN_PAGES: Step<'static> = Does(Map(16, 10, 0, 1), Ok(()), &[(16, 10, 0, 1)]);
+
+/// Sets three of them apart.
+const THREE_APART: Step<'static> = Does(
+    Set(19, 3, 2),
+    Ok(()),
+    &[(16, 3, 0, 1), (19, 3, 3, 2), (22, 4, 6, 1)],
+);
 
 /// The span has pages, and ends with the last page at most.
 fn expect_span(rt: &impl Abort, first: u64, pages: u64)
@@ -87,10 +98,10 @@ fn call_on(rt: &impl Abort, map: &mut RangeMap<u8>, call: Call) -> Result<(), Ra
 }
 
 fn expect_ranges(rt: &impl Abort, map: &RangeMap<u8>, want: &[Row], line: usize) {
-    assert_eq!(rt; map.len(), want.len(), "line {line}");
+    same(rt, &(line, map.len()), &(line, want.len()));
     for (range, row) in map.iter().zip(want) {
         let found = (range.first, range.pages, range.index, range.value);
-        assert_eq!(rt; found, *row, "line {line}");
+        same(rt, &(line, found), &(line, *row));
     }
 }
 
@@ -110,6 +121,12 @@ fn call_again(
     call_on(rt, map, call)
 }
 
+/// Whether the span has a page that isn't mapped.
+fn hole_in(rt: &impl Abort, map: &RangeMap<u8>, first: u64, pages: u64) -> bool {
+    expect_span(rt, first, pages);
+    map.has_hole(first, pages)
+}
+
 /// Plays an example on a new map of so many ranges at most.
 fn play(rt: &impl Abort, mut map: RangeMap<u8>, steps: &[Step]) {
     let mut before: &[Row] = &[];
@@ -117,14 +134,17 @@ fn play(rt: &impl Abort, mut map: RangeMap<u8>, steps: &[Step]) {
         match step {
             Does(call, want, ranges) => {
                 let answer = call_again(rt, &mut map, *call, before, line);
-                assert_eq!(rt; answer, *want, "line {line}");
+                same(rt, &(line, answer), &(line, *want));
                 expect_ranges(rt, &map, ranges, line);
                 before = ranges;
             }
-            At(page, want) => assert_eq!(rt; map.at(*page), *want, "line {line}"),
+            At(page, want) => same(rt, &(line, map.at(*page)), &(line, *want)),
             Hole(first, pages, want) => {
-                expect_span(rt, *first, *pages);
-                assert_eq!(rt; map.has_hole(*first, *pages), *want, "line {line}");
+                same(
+                    rt,
+                    &(line, hole_in(rt, &map, *first, *pages)),
+                    &(line, *want),
+                );
             }
         }
     }
@@ -133,12 +153,8 @@ fn play(rt: &impl Abort, mut map: RangeMap<u8>, steps: &[Step]) {
 #[test]
 fn a_span_splits_its_range_and_joins_back(rt: HostRuntime) {
     let steps = [
-        Does(Map(16, 10, 0, 1), Ok(()), &[(16, 10, 0, 1)]),
-        Does(
-            Set(19, 3, 2),
-            Ok(()),
-            &[(16, 3, 0, 1), (19, 3, 3, 2), (22, 4, 6, 1)],
-        ),
+        TEN_PAGES,
+        THREE_APART,
         At(15, None),
         At(18, Some((2, 1))),
         At(19, Some((3, 2))),
@@ -276,12 +292,8 @@ fn the_last_page_is_a_page(rt: HostRuntime) {
 fn growths_of_every_call(rt: HostRuntime) {
     let cut: [Row; 3] = [(16, 2, 0, 1), (20, 2, 4, 2), (22, 4, 6, 1)];
     let steps = [
-        Does(Map(16, 10, 0, 1), Ok(()), &[(16, 10, 0, 1)]),
-        Does(
-            Set(19, 3, 2),
-            Ok(()),
-            &[(16, 3, 0, 1), (19, 3, 3, 2), (22, 4, 6, 1)],
-        ),
+        TEN_PAGES,
+        THREE_APART,
         Does(Unmap(18, 2), Ok(()), &cut),
         Does(
             Halve(20, 4),

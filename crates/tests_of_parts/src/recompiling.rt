@@ -18,12 +18,14 @@ use std::process::Abort;
 pub fn expect_compiled(rt: &impl Abort, alloc: Global, plan: &Plan, space: &Space) {
     let fresh = compile(alloc, space).expect(rt, "a plan");
     expect_alike(rt, plan, &fresh);
+    drop(fresh);
 }
 
 /// So does a copy of the plan.
 fn expect_copied(rt: &impl Abort, alloc: Global, plan: &Plan, space: &Space) {
     let copy = plan.copy(alloc).expect(rt, "a copy");
     expect_compiled(rt, alloc, &copy, space);
+    drop(copy);
 }
 
 /// Edits a plan by the last command of its space.
@@ -41,6 +43,7 @@ fn edit_copy(rt: &impl Abort, alloc: Global, plan: &Plan, space: &Space, command
     let mut copy = plan.copy(alloc).expect(rt, "a copy");
     edit(rt, alloc, &mut copy, space, command);
     expect_compiled(rt, alloc, &copy, space);
+    drop(copy);
 }
 
 /// Edits first a copy, which leaves the plan as it was, and then the plan.
@@ -94,7 +97,9 @@ fn follow_one(
     ensures { Follows space.new plan.new }
 {
     let before = space.copy(alloc).expect(rt, "a copy");
-    follow_from(rt, alloc, &before, space, plan, command)
+    let accepted = follow_from(rt, alloc, &before, space, plan, command);
+    drop(before);
+    accepted
 }
 
 /// Carries out the commands of an example, each of which the plan follows.
@@ -114,6 +119,8 @@ pub fn follow(rt: &impl Abort, alloc: Global, space: &Space, steps: &[Step]) {
     let mut space = space.copy(alloc).expect(rt, "a copy");
     let mut plan = compile(alloc, &space).expect(rt, "a plan");
     follow_steps(rt, alloc, &mut space, &mut plan, steps);
+    drop(plan);
+    drop(space);
 }
 
 /// Has the plan follow random commands; how many of them were accepted.
@@ -140,7 +147,10 @@ fn follow_dice(
 fn follow_seed(rt: &impl Abort, alloc: Global, seed: u64) -> u32 {
     let mut space = rough_space(alloc).expect(rt, "a space");
     let mut plan = compile(alloc, &space).expect(rt, "a plan");
-    follow_dice(rt, alloc, &mut space, &mut plan, &mut Dice::new(seed))
+    let accepted = follow_dice(rt, alloc, &mut space, &mut plan, &mut Dice::new(seed));
+    drop(plan);
+    drop(space);
+    accepted
 }
 
 #[test]

@@ -5,8 +5,9 @@ ghost use Rattle.std.specs.Prelude.{◌≡◌, length};
 use crate::played::Step::{Does, List, Ranges, Version};
 use crate::played::{Step, ask_plan, ask_space, play};
 use crate::same::same;
+use numa_compile::compile;
 use numa_examples::Asked::{Map, Mbind, Task};
-use numa_examples::{flat_machine, flat_space, set_of};
+use numa_examples::{flat_machine, flat_space, made, set_of};
 use numa_lanes::{Cycle, fill_cycle};
 use numa_machine::{Frame, Machine, Weights};
 use numa_plan::Plan;
@@ -51,21 +52,12 @@ fn ask_space_all(rt: &impl Abort, space: &Space) {
     }
 }
 
-/// Copies a space with marks round it, and again where memory was refused.
-fn copied_space(rt: &impl Abort, alloc: Global, space: &Space) -> Space {
-    mark(rt, alloc);
-    let first = space.copy(alloc).ok();
-    mark(rt, alloc);
-    ask_space_all(rt, space);
-    match first {
-        Some(copy) => copy,
-        None => space.copy(alloc).expect(rt, "a copy"),
-    }
-}
-
+/// Copies a space; both answer as before.
 fn expect_copied_space(rt: &impl Abort, alloc: Global, space: &Space) {
-    let mut copy = copied_space(rt, alloc, space);
+    let mut copy = made(alloc, &|| space.copy(alloc).ok()).expect(rt, "a copy");
+    ask_space_all(rt, space);
     play(rt, alloc, &mut copy, &QUESTIONS);
+    drop(copy);
 }
 
 #[test]
@@ -73,6 +65,7 @@ fn copy_of_a_space(rt: HostRuntime) {
     let mut space = three_pages(&rt, rt.alloc());
     expect_copied_space(&rt, rt.alloc(), &space);
     play(&rt, rt.alloc(), &mut space, &QUESTIONS);
+    drop(space);
 }
 
 /// The same questions put to a plan.
@@ -82,51 +75,36 @@ fn ask_all(rt: &impl Abort, plan: &Plan) {
     }
 }
 
-/// Copies a plan with marks round it, and again where memory was refused.
-fn copied(rt: &impl Abort, alloc: Global, plan: &Plan) -> Plan {
-    mark(rt, alloc);
-    let first = plan.copy(alloc).ok();
-    mark(rt, alloc);
-    ask_all(rt, plan);
-    match first {
-        Some(copy) => copy,
-        None => plan.copy(alloc).expect(rt, "a copy"),
-    }
-}
-
+/// Copies a plan; both answer as before.
 fn expect_copied(rt: &impl Abort, alloc: Global, plan: &Plan) {
-    let copy = copied(rt, alloc, plan);
+    let copy = made(alloc, &|| plan.copy(alloc).ok()).expect(rt, "a copy");
+    ask_all(rt, plan);
     ask_all(rt, &copy);
+    drop(copy);
 }
 
 #[test]
 fn copy_of_a_plan(rt: HostRuntime) {
     let space = three_pages(&rt, rt.alloc());
-    let plan = numa_compile::compile(rt.alloc(), &space).expect(&rt, "a plan");
+    let plan = compile(rt.alloc(), &space).expect(&rt, "a plan");
     expect_copied(&rt, rt.alloc(), &plan);
+    drop(plan);
+    drop(space);
 }
 
-/// Compiles with marks round it, and again where memory was refused.
-fn compiled(rt: &impl Abort, alloc: Global, space: &Space) -> Plan {
-    mark(rt, alloc);
-    let first = numa_compile::compile(alloc, space).ok();
-    mark(rt, alloc);
-    ask_space_all(rt, space);
-    match first {
-        Some(plan) => plan,
-        None => numa_compile::compile(alloc, space).expect(rt, "a plan"),
-    }
-}
-
+/// Compiles a space, which answers as before and as its plan.
 fn expect_compiled(rt: &impl Abort, alloc: Global, space: &Space) {
-    let plan = compiled(rt, alloc, space);
+    let plan = made(alloc, &|| compile(alloc, space).ok()).expect(rt, "a plan");
+    ask_space_all(rt, space);
     ask_all(rt, &plan);
+    drop(plan);
 }
 
 #[test]
 fn compiling(rt: HostRuntime) {
     let space = three_pages(&rt, rt.alloc());
     expect_compiled(&rt, rt.alloc(), &space);
+    drop(space);
 }
 
 /// A machine of two nodes with memory, 15 and 20 apart, with two frames and one.
@@ -134,17 +112,16 @@ fn two_nodes(alloc: Global) -> Option<Machine> {
     Machine::new(alloc, 2, set_of(&[0, 1]), &[10, 15, 20, 10], &[2, 1]).ok()
 }
 
+fn expect_two_nodes(rt: &impl Abort, machine: &Machine) {
+    let found = (machine.nodes(), machine.memory());
+    same(rt, &found, &(2, set_of(&[0, 1])));
+}
+
 #[test]
 fn machines(rt: HostRuntime) {
-    mark(&rt, rt.alloc());
-    let first = two_nodes(rt.alloc());
-    mark(&rt, rt.alloc());
-    let machine = match first {
-        Some(machine) => machine,
-        None => two_nodes(rt.alloc()).expect(&rt, "a machine"),
-    };
-    assert_eq!(rt; machine.nodes(), 2);
-    assert_eq!(rt; machine.memory(), set_of(&[0, 1]));
+    let machine = made(rt.alloc(), &|| two_nodes(rt.alloc())).expect(&rt, "a machine");
+    expect_two_nodes(&rt, &machine);
+    drop(machine);
 }
 
 /// The nodes by weights 3 and 2, and what seven pages get from the second turn on.
@@ -161,11 +138,8 @@ fn turns(alloc: Global) -> Option<[u8; 7]> {
 
 #[test]
 fn cycles(rt: HostRuntime) {
-    mark(&rt, rt.alloc());
-    let first = turns(rt.alloc());
-    mark(&rt, rt.alloc());
-    let found = first.or(turns(rt.alloc()));
-    assert_eq!(rt; found, Some([0, 0, 1, 1, 0, 0, 0]));
+    let found = made(rt.alloc(), &|| turns(rt.alloc())).expect(&rt, "turns");
+    same(&rt, &found, &[0, 0, 1, 1, 0, 0, 0]);
 }
 
 /// Pools of a machine with one frame on each of two nodes.
@@ -182,19 +156,21 @@ fn open(rt: &impl Abort, alloc: Global) -> (Pools, PoolSeat)
     }
 }
 
+/// Takes from node 1 until it has no frame, and closes the pools.
+fn expect_one_frame(rt: &impl Abort, pools: Pools, mut seat: PoolSeat)
+    requires { seat.table ≡ pools.table }
+{
+    let found = (pools.take(&mut seat, 1), pools.take(&mut seat, 1));
+    same(rt, &found, &(Some(Frame { node: 1, number: 0 }), None));
+    let closed = pools.close(seat);
+    let found = (closed.taken[0], closed.taken[1], closed.alone);
+    same(rt, &found, &(0, 1, true));
+}
+
 #[test]
 fn opened_pools(rt: HostRuntime) {
-    let (pools, mut seat) = open(&rt, rt.alloc());
-    assert_eq!(rt;
-        pools.take(&mut seat, 1),
-        Some(Frame { node: 1, number: 0 })
-    );
-    assert_eq!(rt; pools.take(&mut seat, 1), None);
-    let closed = pools.close(seat);
-    assert_eq!(rt;
-        (closed.taken[0], closed.taken[1], closed.alone),
-        (0, 1, true)
-    );
+    let (pools, seat) = open(&rt, rt.alloc());
+    expect_one_frame(&rt, pools, seat);
 }
 
 /// Parts a seat, with marks round it, and again where memory was refused.
@@ -212,24 +188,33 @@ fn split(rt: &impl Abort, alloc: Global, pools: &Pools, seat: &mut PoolSeat) -> 
     }
 }
 
+/// Parts a seat that holds the frame of node 0: the other takes that of node 1.
+fn expect_parted(rt: &impl Abort, alloc: Global, pools: &Pools, seat: &mut PoolSeat)
+    requires { seat.old.table ≡ pools.now.table }
+{
+    let first = Frame { node: 0, number: 0 };
+    same(rt, &pools.take(seat, 0), &Some(first));
+    let mut other = split(rt, alloc, pools, seat);
+    let found = (
+        pools.take(&mut other, 0),
+        pools.take(&mut other, 1),
+        seat.holds(&first),
+    );
+    let wanted = (None, Some(Frame { node: 1, number: 0 }), true);
+    same(rt, &found, &wanted);
+}
+
 #[test]
 fn seats_that_part(rt: HostRuntime) {
     let machine = flat_machine(rt.alloc(), &[1, 1]).expect(&rt, "a machine");
     let (pools, mut seat) = Pools::open(rt.alloc(), &machine).expect(&rt, "memory");
-    assert!(rt; pools.take(&mut seat, 0).is_some());
-    let mut other = split(&rt, rt.alloc(), &pools, &mut seat);
-    assert_eq!(rt; pools.take(&mut other, 0), None);
-    assert_eq!(rt;
-        pools.take(&mut other, 1),
-        Some(Frame { node: 1, number: 0 })
-    );
-    assert!(rt; seat.holds(&Frame { node: 0, number: 0 }));
+    expect_parted(&rt, rt.alloc(), &pools, &mut seat);
 }
 
 /// The rows are those from 0 to 599.
 fn expect_counted(rt: &impl Abort, rows: &Rows<u32, Shared<u32>>) {
-    assert_eq!(rt; rows.len(), 600);
-    assert!(rt; rows.iter().copied().eq(0..600u32));
+    let equal = rows.iter().copied().eq(0..600u32);
+    same(rt, &(rows.len(), equal), &(600, true));
 }
 
 /// The rows from 0 to 599, in chunks that a copy shares.
@@ -244,15 +229,11 @@ fn counted(rt: &impl Abort, alloc: Global) -> Rows<u32, Shared<u32>> {
 #[test]
 fn copy_of_rows(rt: HostRuntime) {
     let rows = counted(&rt, rt.alloc());
-    mark(&rt, rt.alloc());
-    let first = rows.copy().ok();
-    mark(&rt, rt.alloc());
+    let copy = made(rt.alloc(), &|| rows.copy().ok()).expect(&rt, "a copy");
     expect_counted(&rt, &rows);
-    let copy = match first {
-        Some(copy) => copy,
-        None => rows.copy().expect(&rt, "a copy"),
-    };
     expect_counted(&rt, &copy);
+    drop(copy);
+    drop(rows);
 }
 
 /// Puts three rows in the place of two, with marks round it, and again where memory was refused.
@@ -292,20 +273,25 @@ fn expect_put_in(rt: &impl Abort, rows: &Rows<u32, Shared<u32>>) {
 /// Pages 16 to 25 with the values 4, the first of which has the index 0.
 fn ten_pages(rt: &impl Abort, alloc: Global) -> RangeMap<u8> {
     let mut map = RangeMap::new(alloc, 8);
-    assert_eq!(rt; map.map_span(16, 10, 0, 4), Ok(()));
+    same(rt, &map.map_span(16, 10, 0, 4), &Ok(()));
     map
+}
+
+/// Sets pages apart between two marks, and once more where memory was refused.
+fn set_apart(rt: &impl Abort, alloc: Global, map: &mut RangeMap<u8>) {
+    mark(rt, alloc);
+    let first = map.set_span(19, 3, 2);
+    mark(rt, alloc);
+    if first == Err(RangeFault::NoMemory) {
+        same(rt, &(map.len(), map.at(20)), &(1, Some((4, 4))));
+        same(rt, &map.set_span(19, 3, 2), &Ok(()));
+    }
 }
 
 #[test]
 fn parted_ranges(rt: HostRuntime) {
     let mut map = ten_pages(&rt, rt.alloc());
-    mark(&rt, rt.alloc());
-    let first = map.set_span(19, 3, 2);
-    mark(&rt, rt.alloc());
-    if first == Err(RangeFault::NoMemory) {
-        assert_eq!(rt; (map.len(), map.at(20)), (1, Some((4, 4))));
-        assert_eq!(rt; map.set_span(19, 3, 2), Ok(()));
-    }
+    set_apart(&rt, rt.alloc(), &mut map);
     let found = (map.len(), map.at(18), map.at(20), map.at(22));
-    assert_eq!(rt; found, (3, Some((2, 4)), Some((4, 2)), Some((6, 4))));
+    same(&rt, &found, &(3, Some((2, 4)), Some((4, 2)), Some((6, 4))));
 }

@@ -2,7 +2,7 @@
 //! as it was, and the same edit with memory gives what compiling anew does.
 ghost use Rattle.std.specs.Prelude.{◌≡◌};
 ghost use Rattle.std.specs.Bool.{OnFalse};
-ghost use Rattle.numa_compile.specs.Follows.{IsBehind};
+ghost use Rattle.numa_compile.specs.Follows.{Follows, IsBehind};
 
 use crate::played::Step::Does;
 use crate::played::play;
@@ -66,14 +66,31 @@ fn edit_twice(
     expect_compiled(rt, alloc, plan, space);
 }
 
+/// Carries out a command on a space that is as `before`, and has its plan follow.
+fn edit_after(
+    rt: &impl Abort,
+    alloc: Global,
+    before: &Space,
+    space: &mut Space,
+    plan: &mut Plan,
+    command: &Command,
+)
+    requires { Follows space.old plan.old }
+{
+    space.apply(command).expect(rt, "no refusal");
+    edit_twice(rt, alloc, before, space, plan, command);
+}
+
 /// Edits the plan of those policies by a command.
 fn edit_by(rt: &impl Abort, alloc: Global, asked: &Asked) {
     let command = command_of(asked).expect(rt, "a command");
     let before = policies(rt, alloc);
     let mut space = before.copy(alloc).expect(rt, "a copy");
     let mut plan = compile(alloc, &space).expect(rt, "a plan");
-    space.apply(&command).expect(rt, "no refusal");
-    edit_twice(rt, alloc, &before, &space, &mut plan, &command);
+    edit_after(rt, alloc, &before, &mut space, &mut plan, &command);
+    drop(plan);
+    drop(space);
+    drop(before);
 }
 
 #[test]

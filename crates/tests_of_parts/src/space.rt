@@ -339,6 +339,7 @@ fn a_list_of_commands(rt: HostRuntime) {
         space.weights().get(1),
     );
     same(&rt, &found, &(5, 2, set_of(&[1]), 3));
+    drop(space);
 }
 
 /// The effective set of a policy.
@@ -362,6 +363,7 @@ fn expect_told(rt: &impl Abort, space: &Space) {
 fn tasks_and_policies(rt: HostRuntime) {
     let space = told_space(&rt, rt.alloc());
     expect_told(&rt, &space);
+    drop(space);
 }
 
 fn expect_ranges(rt: &impl Abort, space: &Space) {
@@ -378,6 +380,7 @@ fn ranges_one_by_one(rt: HostRuntime) {
     let space = told_space(&rt, rt.alloc());
     same(&rt, &space.ranges(), &3);
     expect_ranges(&rt, &space);
+    drop(space);
 }
 
 #[test]
@@ -412,6 +415,8 @@ fn a_copy_and_its_original_go_different_ways(rt: HostRuntime) {
     ];
     play(&rt, rt.alloc(), &mut copy, &there);
     play_again(&rt, rt.alloc(), &mut space);
+    drop(copy);
+    drop(space);
 }
 
 /// What the original still answers once its copy has changed.

@@ -2,6 +2,7 @@
 //! set_mempolicy(2): 1 is PREFERRED, 2 BIND, 5 PREFERRED_MANY.
 ghost use Rattle.std.specs.Prelude.{◌≤◌};
 
+use crate::same::same;
 use numa_core::{Core, CoreRefusal, CoreReply, Event, Frame, Request};
 use numa_examples::Asked::{Map, Task};
 use numa_examples::{Asked, command_of, flat_machine, limits};
@@ -75,7 +76,7 @@ fn reply(rt: &impl Abort, core: &mut Core, call: Call) -> Result<CoreReply, Core
 fn play(rt: &impl Abort, core: &mut Core, steps: &[(Call, Answer)]) {
     for (line, (call, want)) in steps.iter().enumerate() {
         let answer = answer_of(reply(rt, core, *call));
-        assert_eq!(rt; answer, *want, "line {line}");
+        same(rt, &(line, answer), &(line, *want));
     }
 }
 
@@ -108,8 +109,8 @@ fn versions(rt: HostRuntime) {
         (Try(0, 1, 0), Won(2, 1, 0, 0)),
     ];
     play(&rt, &mut core, &steps);
-    assert_eq!(&rt; core.published(), 2);
-    assert_eq!(&rt; core.space().version(), 2);
+    same(&rt, &(core.published(), core.space().version()), &(2, 2));
+    drop(core);
 }
 
 #[test]
@@ -133,6 +134,7 @@ fn touches(rt: HostRuntime) {
         (Touch(2, 2, 19, 2), Refused(CoreRefusal::NoSuchWorker)),
     ];
     play(&rt, &mut core, &steps);
+    drop(core);
 }
 
 /// A core whose first worker owns a frame, and whose second looks for one with that frame met.
@@ -185,8 +187,9 @@ fn a_copy_and_its_original_go_different_ways(rt: HostRuntime) {
         (Touch(0, 1, 32, 0), Refused(CoreRefusal::Unmapped(1))),
     ];
     play(&rt, &mut core, &here);
-    assert_eq!(&rt; copy.published(), 2);
-    assert_eq!(&rt; core.published(), 1);
+    same(&rt, &(copy.published(), core.published()), &(2, 1));
+    drop(copy);
+    drop(core);
 }
 
 #[test]
@@ -209,6 +212,7 @@ fn exhausted(rt: HostRuntime) {
         (Look(0, 0), Exhausted(3)),
     ];
     play(&rt, &mut core, &steps);
+    drop(core);
 }
 
 #[test]
@@ -231,6 +235,7 @@ fn one_frame_two_workers(rt: HostRuntime) {
         (Begin(4, 1, 16, 0), Refused(CoreRefusal::NoSuchWorker)),
     ];
     play(&rt, &mut core, &steps);
+    drop(core);
 }
 
 #[test]
@@ -250,6 +255,7 @@ fn word_borders(rt: HostRuntime) {
         (Try(1, 0, 63), Won(1, 0, 63, 0)),
     ];
     play(&rt, &mut core, &steps);
+    drop(core);
 }
 
 #[test]
@@ -265,6 +271,7 @@ fn nodes_without_frames(rt: HostRuntime) {
         (Give(0, 1, 0), Given),
     ];
     play(&rt, &mut core, &steps);
+    drop(core);
 }
 
 fn begin_all(rt: &impl Abort, core: &mut Core) {
@@ -318,6 +325,7 @@ fn sixteen_workers(rt: HostRuntime) {
         (Give(15, 1, 7), Given),
     ];
     play(&rt, &mut core, &ends);
+    drop(core);
 }
 
 #[test]
@@ -340,6 +348,7 @@ fn as_many_frames_as_a_machine_has(rt: HostRuntime) {
         (Give(1, 15, 0), Refused(CoreRefusal::NotOwned)),
     ];
     play(&rt, &mut core, &steps);
+    drop(core);
 }
 
 /// Worker 0 wins each frame of node 15, the last node.
@@ -379,4 +388,5 @@ fn the_last_of_all_frames(rt: HostRuntime) {
         (Try(1, 15, 4_095), Won(2, 15, 4_095, 0)),
     ];
     play(&rt, &mut core, &ends);
+    drop(core);
 }

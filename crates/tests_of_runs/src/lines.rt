@@ -1,10 +1,10 @@
 //! What each line of a script says, by the rules of the script language, and the texts of faults.
+use crate::same::same;
 use numa_examples::set_of;
 use numa_script::line::parse;
-use numa_script::{Line, RunFault};
+use numa_script::{Line, MachineLine, RunFault};
 use std::alloc::{AllocError, Global};
 use std::process::Abort;
-use std::test::Fail;
 
 // What a line says, by its kind, and by its fault or its numbers.
 fn shown(alloc: Global, line: &[u8]) -> Result<String, AllocError> {
@@ -29,6 +29,18 @@ fn shown(alloc: Global, line: &[u8]) -> Result<String, AllocError> {
         Line::Maps(task) => format!(in alloc; "maps {task}"),
         Line::Work(work) => format!(in alloc; "{work:?}"),
     }
+}
+
+/// A line says this.
+fn expect_shown(rt: &impl Abort, alloc: Global, line: &[u8], want: &str) {
+    let got = shown(alloc, line).expect(rt, "memory");
+    same(rt, &(line, got.as_str()), &(line, want));
+}
+
+/// This is a part of what a line says.
+fn expect_within(rt: &impl Abort, alloc: Global, line: &str, want: &str) {
+    let got = shown(alloc, line.as_bytes()).expect(rt, "memory");
+    assert!(rt; got.as_str().contains(want), "{line}: {got}");
 }
 
 /// Lines that set up a machine, and lines that say nothing.
@@ -107,7 +119,7 @@ const EMPTY_WORDS: [(&str, &str); 12] = [
 ];
 
 #[test]
-fn policies(rt: HostRuntime) -> Result<(), Fail> {
+fn policies(rt: HostRuntime) {
     let rows: [(&str, &str); 17] = [
         ("task 1 default", "mode: Default, flag: Plain"),
         (
@@ -131,10 +143,8 @@ fn policies(rt: HostRuntime) -> Result<(), Fail> {
         ("task 1 local\r", "Policy(UnknownMode)"),
     ];
     for (line, want) in rows {
-        let got = shown(rt.alloc(), line.as_bytes())?;
-        assert!(rt; got.as_str().contains(want), "{line}: {got}");
+        expect_within(&rt, rt.alloc(), line, want);
     }
-    Ok(())
 }
 
 // A machine line of so many bytes.
@@ -149,20 +159,20 @@ fn long_line(alloc: Global, bytes: usize) -> Result<Vec<u8>, AllocError> {
 }
 
 #[test]
-fn long_lines(rt: HostRuntime) -> Result<(), Fail> {
+fn long_lines(rt: HostRuntime) {
     for (bytes, want) in [(4096, "machine 1"), (4098, "bad words")] {
-        let line = long_line(rt.alloc(), bytes)?;
-        assert_eq!(rt; line.len(), bytes);
-        let got = shown(rt.alloc(), line.as_slice())?;
-        assert_eq!(rt; got.as_str(), want, "{bytes}");
+        let line = long_line(rt.alloc(), bytes).expect(&rt, "memory");
+        same(&rt, &line.len(), &bytes);
+        expect_shown(&rt, rt.alloc(), &line, want);
     }
-    let mut comment = vec![in rt.alloc(); b'#'; 5000]?;
-    let got = shown(rt.alloc(), comment.as_slice())?;
-    assert_eq!(rt; got.as_str(), "silent");
-    comment.insert(0, b' ')?;
-    let got = shown(rt.alloc(), comment.as_slice())?;
-    assert_eq!(rt; got.as_str(), "bad words");
-    Ok(())
+}
+
+#[test]
+fn long_comments(rt: HostRuntime) {
+    let mut comment = vec![in rt.alloc(); b'#'; 5000].expect(&rt, "memory");
+    expect_shown(&rt, rt.alloc(), &comment, "silent");
+    comment.insert(0, b' ').expect(&rt, "memory");
+    expect_shown(&rt, rt.alloc(), &comment, "bad words");
 }
 
 /// Lines that ask.
@@ -242,60 +252,63 @@ const FRAMES: [(&str, &str); 13] = [
 ];
 
 /// Each line of a table says what stands beside it.
-fn say(rt: &impl Abort, alloc: Global, rows: &[(&str, &str)]) -> Result<(), Fail> {
+fn say(rt: &impl Abort, alloc: Global, rows: &[(&str, &str)]) {
     for (line, want) in rows {
-        let got = shown(alloc, line.as_bytes())?;
-        assert_eq!(rt; got.as_str(), *want, "{line}");
+        expect_shown(rt, alloc, line.as_bytes(), want);
     }
-    Ok(())
 }
 
 #[test]
-fn lines(rt: HostRuntime) -> Result<(), Fail> {
-    say(&rt, rt.alloc(), &SETTINGS)?;
-    say(&rt, rt.alloc(), &COMMANDS)?;
-    say(&rt, rt.alloc(), &EMPTY_WORDS)?;
-    say(&rt, rt.alloc(), &QUESTIONS)?;
-    say(&rt, rt.alloc(), &WORK)?;
-    say(&rt, rt.alloc(), &FRAMES)
+fn lines(rt: HostRuntime) {
+    say(&rt, rt.alloc(), &SETTINGS);
+    say(&rt, rt.alloc(), &COMMANDS);
+    say(&rt, rt.alloc(), &EMPTY_WORDS);
+    say(&rt, rt.alloc(), &QUESTIONS);
+    say(&rt, rt.alloc(), &WORK);
+    say(&rt, rt.alloc(), &FRAMES);
+}
+
+/// The frames and the distances of a machine of two nodes, the first of which has memory.
+fn expect_machine(
+    rt: &impl Abort,
+    alloc: Global,
+    machine: &MachineLine,
+    frames: &[u32],
+    distances: &[u8],
+) {
+    let memory = set_of(&[0]);
+    let got = machine.frames.for_nodes(alloc, 2, &memory);
+    same(rt, &got.expect(rt, "memory").as_slice(), &frames);
+    let got = machine.distances.for_nodes(alloc, 2);
+    same(rt, &got.expect(rt, "memory").as_slice(), &distances);
 }
 
 #[test]
-fn machines(rt: HostRuntime) -> Result<(), Fail> {
+fn machines(rt: HostRuntime) {
     let rows: [(&str, &[u32], &[u8]); 4] = [
         ("machine 2 0-1 8 flat", &[8, 0], &[10, 20, 20, 10]),
         ("machine 2 0-1 8,9 10;20,30;10", &[8, 9], &[10, 20, 30, 10]),
         ("machine 2 0-1 1,2,3 255", &[1, 2, 3], &[255]),
         ("machine 1 0 0000000007 10", &[7, 0], &[10]),
     ];
-    let memory = set_of(&[0]);
     for (line, frames, distances) in rows {
         match parse(line.as_bytes()) {
             Line::Machine(machine) => {
-                let got = machine.frames.for_nodes(rt.alloc(), 2, &memory)?;
-                assert_eq!(rt; got.as_slice(), frames, "{line}");
-                let got = machine.distances.for_nodes(rt.alloc(), 2)?;
-                assert_eq!(rt; got.as_slice(), distances, "{line}");
+                expect_machine(&rt, rt.alloc(), &machine, frames, distances);
             }
             _ => assert!(rt; false, "{line}"),
         }
     }
-    Ok(())
+}
+
+fn expect_fault(rt: &impl Abort, alloc: Global, fault: RunFault, want: &str) {
+    let got = fault.to_string(alloc).expect(rt, "memory");
+    same(rt, &got.as_str(), &want);
 }
 
 #[test]
-fn fault_texts(rt: HostRuntime) -> Result<(), Fail> {
-    assert_eq!(rt;
-        RunFault::Read.to_string(rt.alloc())?.as_str(),
-        "read fault"
-    );
-    assert_eq!(rt;
-        RunFault::Write.to_string(rt.alloc())?.as_str(),
-        "write fault"
-    );
-    assert_eq!(rt;
-        RunFault::Memory.to_string(rt.alloc())?.as_str(),
-        "out of memory"
-    );
-    Ok(())
+fn fault_texts(rt: HostRuntime) {
+    expect_fault(&rt, rt.alloc(), RunFault::Read, "read fault");
+    expect_fault(&rt, rt.alloc(), RunFault::Write, "write fault");
+    expect_fault(&rt, rt.alloc(), RunFault::Memory, "out of memory");
 }

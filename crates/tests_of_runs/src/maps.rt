@@ -1,4 +1,5 @@
 //! Worked listings, in the form of numa_maps (numa(7)).
+use crate::same::same;
 use numa_examples::Asked::{Map, Mbind, Task};
 use numa_examples::{Asked, command_of, flat_space};
 use numa_machine::Frame;
@@ -12,7 +13,7 @@ pub fn space_after(rt: &impl Abort, alloc: Global, asked: &[Asked]) -> Space {
     let mut space = flat_space(alloc, 4).expect(rt, "a space");
     for one in asked {
         let command = command_of(one).expect(rt, "a command");
-        assert_eq!(rt; space.apply(&command), Ok(()));
+        same(rt, &space.apply(&command), &Ok(()));
     }
     space
 }
@@ -45,9 +46,9 @@ fn expect_listing(
     want: &str,
 ) {
     let mut output = Watched::new(Vec::new(alloc));
-    assert_eq!(rt; write_maps(space, task, resident, &mut output), Ok(()));
-    assert_eq!(rt; output.inner.as_slice(), want.as_bytes());
-    assert!(rt; !output.failed());
+    let answer = write_maps(space, task, resident, &mut output);
+    let found = (answer, output.inner.as_slice(), output.failed());
+    same(rt, &found, &(Ok(()), want.as_bytes(), false));
 }
 
 #[test]
@@ -58,11 +59,13 @@ fn placed_pages(rt: HostRuntime) {
     let bare = "00010000 interleave:0-3\n00013000 bind:2\n00016000 interleave:0-3\n";
     expect_listing(&rt, alloc, &space, 1, &resident, bare);
     for (page, node) in [(0x10u64, 0u8), (0x11, 1), (0x14, 2), (0x1a, 3)] {
-        assert_eq!(rt; resident.record(placement(page, node, 0)), Ok(()));
+        same(&rt, &resident.record(placement(page, node, 0)), &Ok(()));
     }
     let placed = "00010000 interleave:0-3 anon=2 N0=1 N1=1 kernelpagesize_kB=4\n\
                   00013000 bind:2 anon=1 N2=1 kernelpagesize_kB=4\n00016000 interleave:0-3\n";
     expect_listing(&rt, alloc, &space, 1, &resident, placed);
+    drop(resident);
+    drop(space);
 }
 
 #[test]
@@ -87,19 +90,36 @@ fn policy_texts(rt: HostRuntime) {
     for (task, want) in rows {
         expect_listing(&rt, alloc, &space, task, &resident, want);
     }
-    expect_listing(&rt, alloc, &space_after(&rt, alloc, &[]), 1, &resident, "");
+    drop(space);
+    let bare = space_after(&rt, alloc, &[]);
+    expect_listing(&rt, alloc, &bare, 1, &resident, "");
+    drop(bare);
+    drop(resident);
+}
+
+/// Whether this placement is kept, of its page.
+fn keeps(resident: &Resident, wanted: &Placement) -> bool {
+    match resident.at(wanted.page) {
+        Some(found) => *found == *wanted,
+        None => false,
+    }
+}
+
+/// Keeps a placement of page 7, another one once it was removed, and none of page 8.
+fn keep_and_remove(rt: &impl Abort, resident: &mut Resident) {
+    same(rt, &resident.record(placement(7, 1, 5)), &Ok(()));
+    let second = resident.record(placement(7, 0, 9));
+    same(rt, &second, &Err(RecordRefusal::Taken(placement(7, 0, 9))));
+    let first = keeps(resident, &placement(7, 1, 5));
+    same(rt, &(first, resident.at(8).is_none()), &(true, true));
+    let removed = (resident.remove(8), resident.remove(7));
+    same(rt, &removed, &(None, Some(placement(7, 1, 5))));
+    same(rt, &resident.at(7).is_none(), &true);
+    same(rt, &resident.record(placement(7, 0, 9)), &Ok(()));
 }
 
 #[test]
 fn placements_are_kept_by_page(rt: HostRuntime) {
     let mut resident = Resident::new(rt.alloc());
-    assert_eq!(rt; resident.record(placement(7, 1, 5)), Ok(()));
-    let second = resident.record(placement(7, 0, 9));
-    assert_eq!(rt; second, Err(RecordRefusal::Taken(placement(7, 0, 9))));
-    assert_eq!(rt; resident.at(7), Some(&placement(7, 1, 5)));
-    assert_eq!(rt; resident.at(8), None);
-    assert_eq!(rt; resident.remove(8), None);
-    assert_eq!(rt; resident.remove(7), Some(placement(7, 1, 5)));
-    assert_eq!(rt; resident.at(7), None);
-    assert_eq!(rt; resident.record(placement(7, 0, 9)), Ok(()));
+    keep_and_remove(&rt, &mut resident);
 }

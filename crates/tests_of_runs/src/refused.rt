@@ -2,27 +2,18 @@
 //! and the same call with memory does what it does without a refusal.
 use crate::events::{begun_core, go_on};
 use numa_core::{Core, Event};
-use numa_examples::{flat_machine, limits};
+use numa_examples::{flat_machine, limits, made};
 use std::alloc::Global;
-use std::process::Abort;
-
-/// Where the growths begin that may be refused, and where they end.
-fn mark(rt: &impl Abort, alloc: Global) {
-    assert!(rt; numa_examples::mark(alloc));
-}
 
 #[test]
 fn copy_of_a_core(rt: HostRuntime) {
     let mut core = begun_core(&rt, rt.alloc());
-    mark(&rt, rt.alloc());
-    let first = core.copy().ok();
-    mark(&rt, rt.alloc());
-    let mut copy = match first {
-        Some(copy) => copy,
-        None => core.copy().expect(&rt, "a copy"),
-    };
+    let copy = made(rt.alloc(), &|| core.copy().ok());
+    let mut copy = copy.expect(&rt, "a copy");
     go_on(&rt, &mut core);
     go_on(&rt, &mut copy);
+    drop(copy);
+    drop(core);
 }
 
 /// A core of a machine of two nodes with a frame each.
@@ -38,12 +29,7 @@ fn publishes_nothing(mut core: Core) -> bool {
 
 #[test]
 fn new_cores(rt: HostRuntime) {
-    mark(&rt, rt.alloc());
-    let first = new_core(rt.alloc());
-    mark(&rt, rt.alloc());
-    let core = match first {
-        Some(core) => core,
-        None => new_core(rt.alloc()).expect(&rt, "a core"),
-    };
+    let core = made(rt.alloc(), &|| new_core(rt.alloc()));
+    let core = core.expect(&rt, "a core");
     assert!(&rt; publishes_nothing(core));
 }

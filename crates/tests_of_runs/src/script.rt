@@ -1,5 +1,6 @@
 //! Scripts and their answers, by the rules of the script language. The program `rows` has more of
 //! them.
+use crate::same::same;
 use numa_run::run;
 use numa_script::Watched;
 use std::alloc::Global;
@@ -8,10 +9,10 @@ use std::process::Abort;
 fn expect_answers(rt: &impl Abort, alloc: Global, script: &str, want: &str) {
     let mut input = Watched::new(script.as_bytes());
     let mut output = Watched::new(Vec::new(alloc));
-    assert_eq!(rt; run(alloc, &mut input, &mut output), Ok(()));
-    assert_eq!(rt; output.inner.as_slice(), want.as_bytes());
-    assert!(rt; !input.failed());
-    assert!(rt; !output.failed());
+    let answer = run(alloc, &mut input, &mut output);
+    let failed = (input.failed(), output.failed());
+    let found = (answer, output.inner.as_slice(), failed);
+    same(rt, &found, &(Ok(()), want.as_bytes(), (false, false)));
 }
 
 /// Limits and machines before and after a machine is ready; nothing else before.

@@ -1,5 +1,6 @@
 //! Readers and writers that fail, and when a script is read and answered.
 use crate::maps::{THREE_RANGES, space_after};
+use crate::same::same;
 use numa_examples::{Narrow, Trickle};
 use numa_maps::{CallFailed, Resident, WriteFault, write_maps};
 use numa_run::run;
@@ -10,7 +11,6 @@ use std::cell::Cell;
 use std::io;
 use std::io::{Read, Write};
 use std::process::Abort;
-use std::test::Fail;
 
 const FIRST_RUN: &str = "machine 2 0-1 8 flat\nmap 0x10000 0x2000 0\nmbind 0x10000 0x1000 bind:1\n\
                          place 1 0x10000 0\nplace 1 0x11000 0\n";
@@ -28,18 +28,22 @@ fn answers_within(alloc: Global, bytes: usize) -> Result<Vec<u8>, AllocError> {
     Ok(said)
 }
 
+/// Reads so many bytes of the first script.
+fn run_from(rt: &impl Abort, alloc: Global, bytes: usize) {
+    let mut input = Watched::new(Trickle::new(FIRST_RUN.as_bytes(), bytes));
+    let mut output = Watched::new(Vec::new(alloc));
+    let result = run(alloc, &mut input, &mut output);
+    let want = answers_within(alloc, bytes).expect(rt, "memory");
+    let found = (bytes, result, input.failed(), output.inner.as_slice());
+    let wanted = (bytes, Err(RunFault::Read), true, want.as_slice());
+    same(rt, &found, &wanted);
+}
+
 #[test]
-fn failing_reads(rt: HostRuntime) -> Result<(), Fail> {
+fn failing_reads(rt: HostRuntime) {
     for bytes in 0..FIRST_RUN.len() + 1 {
-        let mut input = Watched::new(Trickle::new(FIRST_RUN.as_bytes(), bytes));
-        let mut output = Watched::new(Vec::new(rt.alloc()));
-        let result = run(rt.alloc(), &mut input, &mut output);
-        assert_eq!(rt; result, Err(RunFault::Read), "{bytes}");
-        assert!(rt; input.failed());
-        let want = answers_within(rt.alloc(), bytes)?;
-        assert_eq!(rt; output.inner.as_slice(), want.as_slice(), "{bytes}");
+        run_from(&rt, rt.alloc(), bytes);
     }
-    Ok(())
 }
 
 /// Runs the first script with a writer that has room for so many bytes.
@@ -47,19 +51,18 @@ fn run_into(rt: &impl Abort, alloc: Global, room: usize, fails: bool, whole: &[u
     let mut input = Watched::new(FIRST_RUN.as_bytes());
     let mut output = Watched::new(Narrow::new(alloc, room, fails));
     let result = run(alloc, &mut input, &mut output);
-    assert_eq!(rt; result, Err(RunFault::Write), "{room}");
-    assert!(rt; output.failed());
-    assert_eq!(rt; Some(output.inner.taken()), whole.get(..room), "{room}");
+    let found = (room, result, output.failed(), Some(output.inner.taken()));
+    let wanted = (room, Err(RunFault::Write), true, whole.get(..room));
+    same(rt, &found, &wanted);
 }
 
 #[test]
-fn failing_writes(rt: HostRuntime) -> Result<(), Fail> {
-    let whole = answers_within(rt.alloc(), FIRST_RUN.len())?;
+fn failing_writes(rt: HostRuntime) {
+    let whole = answers_within(rt.alloc(), FIRST_RUN.len()).expect(&rt, "memory");
     for room in 0..whole.len() {
         run_into(&rt, rt.alloc(), room, false, &whole);
         run_into(&rt, rt.alloc(), room, true, &whole);
     }
-    Ok(())
 }
 
 /// Lists the ranges into a writer that has room for so many bytes.
@@ -67,9 +70,9 @@ fn list_into(rt: &impl Abort, alloc: Global, space: &Space, room: usize, fails: 
     let whole: &[u8] = b"00010000 interleave:0-3\n00013000 bind:2\n00016000 interleave:0-3\n";
     let mut output = Watched::new(Narrow::new(alloc, room, fails));
     let result = write_maps(space, 1, &Resident::new(alloc), &mut output);
-    assert_eq!(rt; result, Err(WriteFault), "{room}");
-    assert!(rt; output.failed());
-    assert_eq!(rt; Some(output.inner.taken()), whole.get(..room), "{room}");
+    let found = (room, result, output.failed(), Some(output.inner.taken()));
+    let wanted = (room, Err(WriteFault), true, whole.get(..room));
+    same(rt, &found, &wanted);
 }
 
 #[test]
@@ -79,20 +82,26 @@ fn failing_listings(rt: HostRuntime) {
         list_into(&rt, rt.alloc(), &space, room, false);
         list_into(&rt, rt.alloc(), &space, room, true);
     }
+    drop(space);
+}
+
+/// What so many reads of up to four bytes answer, and whether one has failed.
+fn read_thrice<R: Read>(input: &mut Watched<R>) -> ([Result<usize, CallFailed>; 3], [u8; 4], bool) {
+    let mut buffer = [0u8; 4];
+    let first = input.read(&mut buffer);
+    let bytes = buffer;
+    let answers = [first, input.read(&mut buffer), input.read(&mut buffer)];
+    (answers, bytes, input.failed())
 }
 
 #[test]
 fn reads_are_watched(rt: HostRuntime) {
-    let mut buffer = [0u8; 4];
     let mut input = Watched::new(b"abcdef".as_slice());
-    assert_eq!(rt; input.read(&mut buffer), Ok(4));
-    assert_eq!(rt; buffer, *b"abcd");
-    assert_eq!(rt; input.read(&mut buffer), Ok(2));
-    assert_eq!(rt; input.read(&mut buffer), Ok(0));
-    assert!(rt; !input.failed());
+    let found = read_thrice(&mut input);
+    same(&rt, &found, &([Ok(4), Ok(2), Ok(0)], *b"abcd", false));
     let mut broken = Watched::new(Trickle::new(b"abcdef", 0));
-    assert_eq!(rt; broken.read(&mut buffer), Err(CallFailed));
-    assert!(rt; broken.failed());
+    let found = read_thrice(&mut broken);
+    same(&rt, &found, &([Err(CallFailed); 3], [0; 4], true));
 }
 
 /// Counts the bytes that it takes.
@@ -127,22 +136,24 @@ impl Read for Noting<'_> {
     }
 }
 
+/// A reader of two lines, one byte a call.
+fn two_lines(alloc: Global, taken: &Cell<usize>) -> Noting<'_> {
+    Noting {
+        source: Trickle::new(b"x\ny\n", usize::MAX),
+        taken,
+        before: Vec::new(alloc),
+    }
+}
+
 #[test]
 fn answers_come_before_the_next_read(rt: HostRuntime) {
     let taken = Cell::new(0usize);
-    let mut input = Watched::new(Noting {
-        source: Trickle::new(b"x\ny\n", usize::MAX),
-        taken: &taken,
-        before: Vec::new(rt.alloc()),
-    });
+    let mut input = Watched::new(two_lines(rt.alloc(), &taken));
     let mut output = Watched::new(Counting { taken: &taken });
     let result = run(rt.alloc(), &mut input, &mut output);
-    assert_eq!(rt; result, Ok(()));
     // Each answer is "bad words" and the end of its line.
-    assert_eq!(rt;
-        input.inner.before.as_slice(),
-        [0, 0, 10, 10, 20].as_slice()
-    );
+    let wanted = (Ok(()), [0, 0, 10, 10, 20].as_slice());
+    same(&rt, &(result, input.inner.before.as_slice()), &wanted);
 }
 
 /// Fails at its first write, and takes all bytes after that.
@@ -172,21 +183,15 @@ impl Write for FailsOnce<'_> {
 fn nothing_follows_a_failed_write(rt: HostRuntime) {
     let writes = Cell::new(0usize);
     let taken = Cell::new(0usize);
-    let mut input = Watched::new(Noting {
-        source: Trickle::new(b"x\ny\n", usize::MAX),
-        taken: &taken,
-        before: Vec::new(rt.alloc()),
-    });
+    let mut input = Watched::new(two_lines(rt.alloc(), &taken));
     let mut output = Watched::new(FailsOnce {
         writes: &writes,
         taken: &taken,
     });
     let result = run(rt.alloc(), &mut input, &mut output);
-    assert_eq!(rt; result, Err(RunFault::Write));
     // The first line ends with the second byte, and its answer can't be written.
-    assert_eq!(rt; input.inner.before.len(), 2);
-    assert_eq!(rt; writes.get(), 1);
-    assert_eq!(rt; taken.get(), 0);
+    let found = (result, input.inner.before.len(), writes.get(), taken.get());
+    same(&rt, &found, &(Err(RunFault::Write), 2, 1, 0));
 }
 
 #[test]
@@ -197,11 +202,10 @@ fn earlier_faults_are_forgotten(rt: HostRuntime) {
         writes: &writes,
         taken: &taken,
     });
-    assert_eq!(rt; output.put(b"lost"), Err(CallFailed));
+    same(&rt, &output.put(b"lost"), &Err(CallFailed));
     let mut input = Watched::new(b"x\n".as_slice());
     let result = run(rt.alloc(), &mut input, &mut output);
-    assert_eq!(rt; result, Ok(()));
-    assert!(rt; !output.failed());
     // "bad words" and the end of its line.
-    assert_eq!(rt; taken.get(), 10);
+    let found = (result, output.failed(), taken.get());
+    same(&rt, &found, &(Ok(()), false, 10));
 }
