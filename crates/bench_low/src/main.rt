@@ -1,6 +1,6 @@
-//! How long the calls of the lower crates take: sets of nodes, lanes, machines, ranges. Without
-//! arguments it prints checksums of what they answer, the same in each run. With `measure` it
-//! prints ratios, each beside its baseline in the same run, of all parts or of the one that is
+//! How long the calls of the lower crates take: sets of nodes, lanes, machines, rows, ranges.
+//! Without arguments it prints checksums of what they answer, the same in each run. With `measure`
+//! it prints ratios, each beside its baseline in the same run, of all parts or of the one that is
 //! named: `measure ranges`.
 #![tactic(auto)]
 
@@ -8,6 +8,7 @@ mod lanes;
 mod machine;
 mod mask;
 mod ranges;
+mod rows;
 
 use numa_examples::wanted::{Wanted, read_wanted};
 use std::io;
@@ -21,6 +22,8 @@ fn checksums<R: Print + AllocGlobal>(rt: &R) -> io::Result<()> {
     lanes::checksums(rt, rt.alloc())?;
     println!(rt; "== machine")?;
     machine::checksums(rt)?;
+    println!(rt; "== rows")?;
+    rows::checksums(rt, rt.alloc())?;
     println!(rt; "== ranges")?;
     ranges::checksums(rt, rt.alloc())
 }
@@ -36,6 +39,9 @@ fn measure<R: Print + Clock + AllocGlobal>(rt: &R, part: &str) -> io::Result<()>
     if part == "machine" || part.is_empty() {
         machine::measure(rt)?;
     }
+    if part == "rows" || part.is_empty() {
+        rows::measure(rt, rt.alloc())?;
+    }
     if part == "ranges" || part.is_empty() {
         ranges::measure(rt, rt.alloc())?;
     }
@@ -43,7 +49,7 @@ fn measure<R: Print + Clock + AllocGlobal>(rt: &R, part: &str) -> io::Result<()>
 }
 
 fn main(rt: HostRuntime) -> io::Result<()> {
-    match read_wanted(&rt, "bench_low [measure [mask|lanes|machine|ranges]]")? {
+    match read_wanted(&rt, "bench_low [measure [mask|lanes|machine|rows|ranges]]")? {
         Wanted::Checksums => checksums(&rt),
         Wanted::Ratios(part) => measure(&rt, part.as_str()),
         Wanted::Nothing => Ok(()),

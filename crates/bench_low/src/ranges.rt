@@ -2,29 +2,19 @@
 //!
 //! A figure of `measure` is a ratio: the best time of a call over the best time, in the same run,
 //! of the least that any sorted vector needs for it. Times alone say little about another machine.
-ghost use Rattle.std.specs.Prelude.{◌<◌, ◌^◌};
-
+use numa_examples::many::{RANGES, ROUND, Row, mixed, page_of, places_in, rows_of};
 use numa_examples::times::{best_of, print_ratio};
 use numa_ranges::RangeMap;
-use std::alloc::{AllocError, Global};
+use std::alloc::Global;
 use std::hint::black_box;
 use std::io;
 use std::rt::Clock;
-
-/// How many ranges stand.
-const RANGES: u64 = 65_536;
 
 /// How many ranges may stand.
 const MAX_RANGES: u32 = 131_072;
 
 /// The page in the middle of the middle range.
 const MIDDLE: u64 = 131_073;
-
-/// How many pages a round looks up.
-const ROUND: u64 = 100_000;
-
-/// A row of the plain vectors, as large as a range with a value of 8 bytes.
-type Row = [u64; 4];
 
 /// A map of `RANGES` ranges of 3 pages, each with a hole of one page behind it.
 fn spread(alloc: Global) -> RangeMap<u64> {
@@ -35,24 +25,14 @@ fn spread(alloc: Global) -> RangeMap<u64> {
     map
 }
 
-/// The same ranges as rows of a plain vector.
-fn rows_of(alloc: Global) -> Result<Vec<Row>, AllocError> {
-    let mut rows = Vec::new(alloc);
-    for i in 0..RANGES {
-        rows.push([4 * i, 3, 4 * i, 1])?;
-    }
-    Ok(rows)
-}
-
 /// A number that nearly any other list of ranges would change.
 fn checksum(map: &RangeMap<u64>) -> u64 {
     let mut sum = 0u64;
     for range in map.iter() {
-        for word in [range.first, range.pages, range.index, range.value] {
-            sum = sum
-                .wrapping_mul(6_364_136_223_846_793_005)
-                .wrapping_add(word);
-        }
+        sum = mixed(sum, range.first);
+        sum = mixed(sum, range.pages);
+        sum = mixed(sum, range.index);
+        sum = mixed(sum, range.value);
     }
     sum
 }
@@ -78,13 +58,6 @@ fn print_checksums(rt: &impl Print, map: &mut RangeMap<u64>) -> io::Result<()> {
     tell(rt, "and mapped again", map)?;
     map.update_all(|value| *value / 2);
     tell(rt, "all made equal", map)
-}
-
-/// The page that look-up `i` of a round asks for: the pages jump over the whole map.
-fn page_of(i: u64) -> u64
-    requires { i < 2 ^ 20 }
-{
-    i * 40_503 % (4 * RANGES)
 }
 
 /// The best time of a split of the middle range and the join that undoes it.
@@ -120,16 +93,6 @@ fn found(map: &RangeMap<u64>) -> u64 {
     sum
 }
 
-/// The sum of the places that a round of std's partition point finds among rows as large.
-fn places_by_rows(rows: &[Row]) -> u64 {
-    let mut sum = 0u64;
-    for i in 0..ROUND {
-        let page = black_box(page_of(i));
-        sum = sum.wrapping_add(rows.partition_point(|row| row[0] <= page) as u64);
-    }
-    sum
-}
-
 fn measure_calls<R: Clock + Print>(
     rt: &R,
     map: &mut RangeMap<u64>,
@@ -144,7 +107,7 @@ fn measure_calls<R: Clock + Print>(
         moves,
     )?;
     let (looks, found) = best_of(rt, 40, || found(map))?;
-    let (points, counted) = best_of(rt, 40, || places_by_rows(rows))?;
+    let (points, counted) = best_of(rt, 40, || places_in(rows))?;
     print_ratio(rt, "at over partition_point", looks, points)?;
     println!(rt; "sums {found} {counted}")
 }
@@ -158,6 +121,6 @@ pub fn checksums(rt: &impl Print, alloc: Global) -> io::Result<()> {
 /// Prints how long the calls take beside the least that a sorted vector needs.
 pub fn measure<R: Print + Clock>(rt: &R, alloc: Global) -> io::Result<()> {
     let mut map = spread(alloc);
-    let mut rows = rows_of(alloc)?;
+    let mut rows = rows_of(alloc, 1)?;
     measure_calls(rt, &mut map, &mut rows)
 }

@@ -59,12 +59,13 @@ fn kernel(work: Work, node: u8, span: &[u8], out: &mut [u8], tools: &mut Tools) 
 }
 
 #[inline(never)]
-fn tally(span: &[u8], counts: &mut [u64; 256]) {
-    *counts = [0; 256];
+fn tallied(span: &[u8]) -> [u64; 256] {
+    let mut counts = [0u64; 256];
     for entry in span {
         let place = usize::from(*entry);
         counts[place] = counts[place].wrapping_add(1);
     }
+    counts
 }
 
 fn contains(set: &NodeMask, number: u8) -> bool {
@@ -84,7 +85,7 @@ fn plain(work: Work, node: u8, span: &[u8], out: &mut [u8], tools: &mut Tools) -
             }
         }
         Work::CountNode => return span.iter().filter(|entry| **entry == node).count() as u64,
-        Work::CountAll => tally(span, &mut tools.counts),
+        Work::CountAll => tools.counts = tallied(span),
         Work::CountIn => {
             let set = &tools.set;
             return span.iter().filter(|entry| contains(set, **entry)).count() as u64;

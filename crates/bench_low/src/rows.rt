@@ -1,0 +1,75 @@
+//! Long lists of rows in chunks: the sum of the places that look-ups find, and with the argument
+//! `measure` how long they take beside those in one plain vector of the same rows.
+use numa_examples::many::{POLICIES, ROUND, Row, page_of, places_in, rows_of};
+use numa_examples::times::{best_of, print_ratio};
+use numa_rows::{Keep, Owned, Rows, Shared};
+use std::alloc::{AllocError, Global};
+use std::hint::black_box;
+use std::io;
+use std::rt::Clock;
+
+/// The rows in chunks.
+fn chunked<K: Keep<Row>>(alloc: Global, plain: &[Row]) -> Result<Rows<Row, K>, AllocError> {
+    let mut rows = Rows::new(alloc);
+    for row in plain {
+        rows.push(*row)?;
+    }
+    Ok(rows)
+}
+
+/// The sum of the places that a round finds.
+fn places<K: Keep<Row>>(rows: &Rows<Row, K>) -> u64 {
+    let mut sum = 0u64;
+    for i in 0..ROUND {
+        let page = black_box(page_of(i));
+        let place = rows.partition_point(&mut |row: &Row| row[0] <= page);
+        sum = sum.wrapping_add(place as u64);
+    }
+    sum
+}
+
+/// The sum that a round finds in owned chunks.
+fn places_in_owned(alloc: Global, plain: &[Row]) -> Result<u64, AllocError> {
+    let rows: Rows<Row, Owned<Row>> = chunked(alloc, plain)?;
+    Ok(places(&rows))
+}
+
+/// The sum that a round finds in chunks that copies share.
+fn places_in_shared(alloc: Global, plain: &[Row]) -> Result<u64, AllocError> {
+    let rows: Rows<Row, Shared<Row>> = chunked(alloc, plain)?;
+    Ok(places(&rows))
+}
+
+/// Prints the sums of the places that are found.
+pub fn checksums(rt: &impl Print, alloc: Global) -> io::Result<()> {
+    let plain = rows_of(alloc, POLICIES)?;
+    let owned = places_in_owned(alloc, &plain)?;
+    let shared = places_in_shared(alloc, &plain)?;
+    let wanted = places_in(&plain);
+    println!(rt; "places in owned chunks {owned}, in shared ones {shared}, in one vector {wanted}")
+}
+
+/// Prints the ratio of look-ups in chunks to those in one vector, which takes so long.
+fn measure_chunks<R: Print + Clock, K: Keep<Row>>(
+    rt: &R,
+    what: &str,
+    rows: &Rows<Row, K>,
+    baseline: u64,
+) -> io::Result<()> {
+    let (spent, sum) = best_of(rt, 40, || places(rows))?;
+    print_ratio(rt, what, spent, baseline)?;
+    println!(rt; "sum {sum}")
+}
+
+/// Prints how long look-ups take.
+pub fn measure<R: Print + Clock>(rt: &R, alloc: Global) -> io::Result<()> {
+    let plain = rows_of(alloc, POLICIES)?;
+    let (baseline, sum) = best_of(rt, 40, || places_in(&plain))?;
+    println!(rt; "sum {sum}")?;
+    let shared: Rows<Row, Shared<Row>> = chunked(alloc, &plain)?;
+    let what = "partition_point of shared chunks over that of a vector of the same rows";
+    measure_chunks(rt, what, &shared, baseline)?;
+    let owned: Rows<Row, Owned<Row>> = chunked(alloc, &plain)?;
+    let what = "partition_point of owned chunks over that of a vector of the same rows";
+    measure_chunks(rt, what, &owned, baseline)
+}
