@@ -151,8 +151,6 @@ _SIGNATURES = {
                     POINTER(c_size_t)],
     "script_run": [_TEXT, c_size_t, POINTER(c_uint8), c_size_t, POINTER(c_size_t)],
     "script_open": [_HANDLE],
-    "script_line": [_HANDLE, _TEXT, c_size_t, POINTER(c_size_t)],
-    "script_answer": [_HANDLE, c_char_p, c_size_t, POINTER(c_size_t)],
     "answer_errno": [_U32, POINTER(_U32)],
 }
 
@@ -175,6 +173,14 @@ def _load():
 
 
 _LIBRARY = _load()
+
+
+def _untyped(name):
+    """A function of the library that takes values of ctypes as they are. With types that are looked
+    at in each call, a call takes twice as long."""
+    function = _LIBRARY["np_" + name]
+    function.restype = c_uint32
+    return function
 
 
 def _call(name, *arguments):
@@ -493,27 +499,28 @@ class Script(_Owner):
 
     def __init__(self):
         super().__init__()
-        # (kept from line to line: making them anew takes as long as the two calls)
-        self._at, self._length = ctypes.pointer(self._handle), c_size_t()
-        self._told = ctypes.pointer(self._length)
-        self._serve, self._copy = _LIBRARY.np_script_line, _LIBRARY.np_script_answer
+        # (kept from line to line, since making them anew takes longer than the two calls)
+        self._at, self._length = byref(self._handle), c_size_t()
+        self._told = byref(self._length)
+        self._serve, self._copy = _untyped("script_line"), _untyped("script_answer")
         self._make_room(4096)
         _call("script_open", self._at)
 
     def _make_room(self, size):
         """A room for answers of so many bytes."""
         self._room, self._size = ctypes.create_string_buffer(size), size
+        self._answer = self._at, byref(self._room), c_size_t(size), self._told
 
     def line(self, text: str) -> str:
         """Serves a line, and gives its answer, with its line feed; "" for a comment."""
         data = text.encode()
-        code = self._serve(self._at, data, len(data), self._told)
+        code = self._serve(self._at, data, c_size_t(len(data)), self._told)
         if code:
             raise CAUSES[code](NAMES[code])
         needed = self._length.value
         if needed > self._size:
             self._make_room(needed)
-        code = self._copy(self._at, self._room, self._size, self._told)
+        code = self._copy(*self._answer)
         if code:
             raise CAUSES[code](NAMES[code])
         return self._room[:needed].decode("utf-8", "surrogateescape")
