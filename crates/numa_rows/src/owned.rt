@@ -49,13 +49,12 @@ impl<T: Copy + Drop> Keep<T> for Owned<T> {
     fn copy(&self, alloc: Global) -> Result<Owned<T>, AllocError>
         ensures { IfOk result (λ chunk. chunk ≡ self.now) }
     {
-        let mut rows = Vec::with_capacity(alloc, MOST_OWNED)?;
-        rows.extend_from_slice(&self.rows)?;
-        Ok(Owned { rows })
+        Owned::keep(alloc, &self.rows)
     }
 
     fn push(&mut self, _alloc: Global, row: T) -> Result<(), AllocError> {
-        self.rows.push(row)?;
+        self.rows.reserve(1)?;
+        self.rows.push_reserved(row);
         Ok(())
     }
 

@@ -1,5 +1,5 @@
 //! A part of a list, for searches of one's own.
-ghost use Rattle.std.specs.Prelude.{◌≡◌, ◌+◌, ◌-◌, ◌<◌, ◌^◌, [], length, slice_index_or};
+ghost use Rattle.std.specs.Prelude.{◌≡◌, ◌+◌, ◌-◌, ◌<◌, ◌^◌, List, length, slice_index_or};
 ghost use Rattle.std.specs.Bool.{OnTrue};
 ghost use Rattle.numa_rows.specs.Parts.{flat, HasRank, IsTable};
 ghost use Rattle.numa_rows.specs.Searches.{IsChunkOf, HasRow, PartData};
@@ -29,8 +29,7 @@ impl<'a, T> Part<'a, T> {
     /// No rows.
     #[inline]
     pub(crate) fn empty() -> Part<'a, T>
-        ensures start { result.start ≡ 0 }
-        ensures rows { result.rows ≡ [] }
+        ensures { (list : List T) → IsChunkOf list result }
     {
         Part {
             chunk: 0,

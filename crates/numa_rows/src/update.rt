@@ -1,11 +1,12 @@
 //! Changes of owned rows, which take no memory.
-ghost use Rattle.std.specs.Prelude.{◌≡◌, ◌+◌, map, slice_set, take};
+ghost use Rattle.std.specs.Prelude.{◌≡◌, ◌+◌, ◌<◌, map, slice_set, take};
 ghost use Rattle.numa_rows.specs.Changes.{Makes};
 ghost use Rattle.numa_rows.specs.Parts.{HasRank, IsTable, flat};
 
 use crate::chunk::Chunk;
 use crate::owned::Owned;
-use crate::table::Place;
+use crate::starts::guess_at;
+use crate::table::{Place, place_of};
 
 /// Gives each row what `f` makes of it.
 pub(crate) fn update_rows<T: Copy + Drop, F: Fn(&T) -> T>(
@@ -25,26 +26,47 @@ pub(crate) fn update_rows<T: Copy + Drop, F: Fn(&T) -> T>(
     }
 }
 
-/// Puts a row in the place of another, which a chunk has.
+/// Puts a row in the place of that of a rank.
 pub(crate) fn put_row<T: Copy + Drop>(
     chunks: &mut Vec<Chunk<T, Owned<T>>>,
-    _starts: &[u32],
-    _len: usize,
-    place: Place,
+    starts: &[u32],
+    len: usize,
     rank: usize,
     row: T,
 )
-    requires table { IsTable 256 chunks.old.items _starts.now _len }
-    requires has { HasRank chunks.old.items place.chunk place.start rank }
+    requires table { IsTable 256 chunks.old.items starts.now len }
+    requires rank { rank < len }
     ensures row { flat chunks.new.items ≡ slice_set (flat chunks.old.items) rank row }
-    ensures table { IsTable 256 chunks.new.items _starts.now _len }
+    ensures table { IsTable 256 chunks.new.items starts.now len }
 {
-    let chunk = &mut chunks[place.chunk];
-    chunk.put(rank - place.start, row);
+    let place = place_of(chunks, starts, len, rank, guess_at(starts, rank));
+    chunks[place.chunk].put(rank - place.start, row);
+}
+
+/// Keeps the first so many rows.
+pub(crate) fn cut_to<T: Copy + Drop>(
+    chunks: &mut Vec<Chunk<T, Owned<T>>>,
+    starts: &mut Vec<u32>,
+    len: usize,
+    left: usize,
+)
+    requires table { IsTable 256 chunks.old.items starts.old.items len }
+    requires less { left < len }
+    ensures rows { flat chunks.new.items ≡ take left (flat chunks.old.items) }
+    ensures table { IsTable 256 chunks.new.items starts.new.items left }
+{
+    if left == 0 {
+        chunks.clear();
+        starts.clear();
+        return;
+    }
+    let rank = left - 1;
+    let place = place_of(chunks, starts, len, rank, guess_at(starts, rank));
+    cut_behind(chunks, starts, len, place, rank);
 }
 
 /// Takes out the rows behind one, which a chunk has.
-pub(crate) fn cut_behind<T: Copy + Drop>(
+fn cut_behind<T: Copy + Drop>(
     chunks: &mut Vec<Chunk<T, Owned<T>>>,
     starts: &mut Vec<u32>,
     _len: usize,

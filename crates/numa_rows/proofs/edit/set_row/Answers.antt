@@ -1,11 +1,16 @@
 -- One row of one chunk is another.
-use Rattle.std.proofs.Common.{refl}
+use Rattle.std.proofs.Common.{◌≡◌, ◌-◌, List, set, subst, refl}
+use Rattle.numa_rows.specs.Parts.{HasRank}
+use Rattle.std.proofs.lemmas.Result.{on_ok_weaker}
 use Rattle.numa_rows.proofs.Ranked.{set-one, set-table}
 use Rattle.numa_rows.proofs.edit.set_row.Goals as goal
 
 pub returns-clause-ok : goal.returns-clause-ok
 returns-clause-ok g c =
-    let chunk = c.index_mut-chunk.result.now in (
-      set-one c.args.chunks.now.items _ chunk c.set.new.self c.args.row c.args.place.chunk c.args.place.start c.args.rank c.requires.has c.index_mut-chunk.ensures.value refl c.in_ok-set.ensures.ok,
-      set-table 256 c.args.chunks.now.items _ c.args._starts.now c.args._len chunk c.set.new.self c.args.row c.args.place.chunk c.args.place.start c.args.rank c.requires.table c.requires.has c.index_mut-chunk.ensures.value refl c.in_ok-set.ensures.ok,
-    )
+    let chunk = c.index_mut.result.now in
+    let place = c.place_of-place.result in
+    let has = subst (λ (l : List (List g.row.T.Denot)). HasRank l place.chunk place.start c.args.rank) c.deref.ensures.value c.place_of-place.ensures in
+    on_ok_weaker c.set.result (λ (so : c.set.new.self ≡ set chunk (c.args.rank - place.start) c.args.row). (
+      set-one c.args.chunks.now.items _ chunk c.set.new.self c.args.row place.chunk place.start c.args.rank has c.index_mut.ensures.value refl so,
+      set-table 256 c.args.chunks.now.items _ c.args.starts.now c.args.len chunk c.set.new.self c.args.row place.chunk place.start c.args.rank c.requires.table has c.index_mut.ensures.value refl so,
+    )) c.set.ensures.ok

@@ -1,10 +1,12 @@
 use Rattle.std.proofs.Common.{◌≡◌, ◌++◌, ◌≤◌, ◌-◌, length}
+use Rattle.std.specs.Prelude.{vec_capacity}
 use Rattle.numa_rows.proofs.iter.next_rows.Given as goal
 
 abbrev pub invariant-loop-rest : goal.invariant-loop-rest
 invariant-loop-rest g l = record {
   whole : l.rows.items ++ l.rest ≡ l.initial.rest;
   few : length l.rows.items ≤ l.count;
+  room : l.count ≤ vec_capacity l.rows;
 }
 
 abbrev pub decreases-loop-rest : goal.decreases-loop-rest

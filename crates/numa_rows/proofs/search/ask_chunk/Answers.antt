@@ -11,6 +11,15 @@ overflow_sub-starts g c = omega (arith, (some-part 256 c.args.chunks.now c.args.
 pub bounds-starts-near : goal.bounds-starts-near
 bounds-starts-near g c = omega (arith, (some-part 256 c.args.chunks.now c.args.starts.now c.args.len 0 c.requires.table c.requires.some).0)
 
+pub returns-then-not-has-clause-narrowed : goal.returns-then-not-has-clause-narrowed
+returns-then-not-has-clause-narrowed g c p gives parted = at-start p (flat c.args.chunks.now) c.args.len c.requires.table.count
+
+pub ask-left-requires-clause-within : goal.ask-left-requires-clause-within
+ask-left-requires-clause-within g c = omega (arith, c.requires.table.count)
+
+pub ask-left-requires-2-clause-within : goal.ask-left-requires-2-clause-within
+ask-left-requires-2-clause-within g c = omega (arith, c.requires.table.count, c.ask-left.ensures.within)
+
 pub returns-then-left-rank-clause-narrowed : goal.returns-then-left-rank-clause-narrowed
 returns-then-left-rank-clause-narrowed g c p gives parted =
     c.ask_firsts.ensures.narrowed p gives parted (c.ask-left.ensures.narrowed p gives parted (at-start p (flat c.args.chunks.now) c.args.len c.requires.table.count))
