@@ -4,6 +4,12 @@ use Rattle.numa_rows.specs.Parts.{flat}
 use Rattle.numa_rows.specs.Searches.{IsNarrowed}
 use Rattle.numa_rows.proofs.search.ask_rows.Goals as goal
 
+pub ask-left-requires-clause-within : goal.ask-left-requires-clause-within
+ask-left-requires-clause-within g c = omega (arith, c.loop-left.invariant.within, c.requires.table.count)
+
+pub ask-left-requires-clause-small : goal.ask-left-requires-clause-small
+ask-left-requires-clause-small g c = omega (arith, c.loop-left.invariant.within, c.requires.table.small)
+
 pub loop-left-preserved : goal.loop-left-preserved
 loop-left-preserved g c = record {
   within = omega (arith, c.ask-left.ensures.within, c.loop-left.invariant.within);

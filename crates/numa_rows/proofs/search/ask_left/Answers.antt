@@ -1,0 +1,18 @@
+-- What is left lies within the list.
+use Rattle.std.proofs.Common.{arith}
+use Rattle.numa_rows.proofs.search.ask_left.Goals as goal
+
+pub ask-requires-clause-within : goal.ask-requires-clause-within
+ask-requires-clause-within g c = omega (arith, c.requires.within, c.requires.table.count)
+
+pub ask-requires-clause-small : goal.ask-requires-clause-small
+ask-requires-clause-small g c = omega (arith, c.requires.within, c.requires.table.small)
+
+pub returns-then-not-has-clause-narrowed : goal.returns-then-not-has-clause-narrowed
+returns-then-not-has-clause-narrowed g c p gives parted so = so
+
+pub returns-clause-within : goal.returns-clause-within
+returns-clause-within g c = omega (arith, c.requires.within, c.ask.ensures.within)
+
+pub returns-clause-narrowed : goal.returns-clause-narrowed
+returns-clause-narrowed g c p gives parted so = c.ask.ensures.narrowed p gives parted so
