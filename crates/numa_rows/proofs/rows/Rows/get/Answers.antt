@@ -1,0 +1,11 @@
+-- The list is that of the chunks.
+use Rattle.std.proofs.Common.{◌∙◌, get_or, ap}
+use Rattle.numa_rows.specs.Parts.{flat}
+use Rattle.numa_rows.proofs.Windows.{table-same}
+use Rattle.numa_rows.proofs.rows.Rows.get.Goals as goal
+
+pub row_at-requires-clause-table : goal.row_at-requires-clause-table
+row_at-requires-clause-table g c = table-same 256 c.self.inside.chunks.items c.deref-2.result.now c.self.inside.starts.items c.deref-3.result.now c.self.inside.len c.deref-2.ensures.value c.deref-3.ensures.value c.self.invariant
+
+pub returns : goal.returns
+returns g c d = c.row_at.ensures d ∙ ap (λ l. get_or l c.args.rank d) (ap flat c.deref-2.ensures.value ∙ c.self.view_is)

@@ -1,0 +1,6 @@
+-- The list is that of the chunks.
+use Rattle.numa_rows.proofs.Windows.{table-same}
+use Rattle.numa_rows.proofs.rows.Rows.part_with.Goals as goal
+
+pub part_of-requires-clause-table : goal.part_of-requires-clause-table
+part_of-requires-clause-table g c = table-same 256 c.self.inside.chunks.items c.deref.result.now c.self.inside.starts.items c.deref-2.result.now c.self.inside.len c.deref.ensures.value c.deref-2.ensures.value c.self.invariant
