@@ -1,5 +1,5 @@
 -- The list is that of the chunks.
-use Rattle.std.proofs.Common.{◌∙◌, get_or, ap}
+use Rattle.std.proofs.Common.{◌∙◌, get_or, ap, length, arith}
 use Rattle.numa_rows.specs.Parts.{flat}
 use Rattle.numa_rows.proofs.Windows.{table-same}
 use Rattle.numa_rows.proofs.rows.Rows.get.Goals as goal
@@ -9,3 +9,6 @@ row_at-requires-clause-table g c = table-same 256 c.self.inside.chunks.items c.d
 
 pub returns : goal.returns
 returns g c d = c.row_at.ensures d ∙ ap (λ l. get_or l c.args.rank d) (ap flat c.deref-2.ensures.value ∙ c.self.view_is)
+
+pub row_at-requires-clause-rank : goal.row_at-requires-clause-rank
+row_at-requires-clause-rank g c = omega (arith, c.requires, ap length c.self.view_is, c.self.invariant.count)
