@@ -1,7 +1,8 @@
 -- One row of one chunk is another.
 use Rattle.std.proofs.Common.{◌≡◌, ◌-◌, List, set, subst, refl}
 use Rattle.numa_rows.specs.Parts.{HasRank}
-use Rattle.std.proofs.lemmas.Result.{on_ok_weaker}
+use Rattle.std.proofs.lemmas.Result.{on_ok_weaker, on_err_weaker}
+use Rattle.numa_rows.proofs.Windows.{part-back}
 use Rattle.numa_rows.proofs.Ranked.{set-one, set-table}
 use Rattle.numa_rows.proofs.edit.set_row.Goals as goal
 
@@ -14,3 +15,8 @@ returns-clause-ok g c =
       set-one c.args.chunks.now.items _ chunk c.set.new.self c.args.row place.chunk place.start c.args.rank has c.index_mut.ensures.value refl so,
       set-table 256 c.args.chunks.now.items _ c.args.starts.now c.args.len chunk c.set.new.self c.args.row place.chunk place.start c.args.rank c.requires.table has c.index_mut.ensures.value refl so,
     )) c.set.ensures.ok
+
+pub returns-clause-unchanged : goal.returns-clause-unchanged
+returns-clause-unchanged g c =
+    let chunk = c.index_mut.result.now in
+    on_err_weaker c.set.result (λ (so : c.set.new.self ≡ chunk). part-back 256 c.args.chunks.now.items _ c.args.starts.now c.args.len c.place_of-place.result.chunk chunk c.set.new.self c.index_mut.ensures.value refl so c.requires.table) c.set.ensures.unchanged
