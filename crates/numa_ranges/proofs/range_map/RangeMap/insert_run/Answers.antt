@@ -78,3 +78,20 @@ returns-clause-ok g c =
     let put = placed-put g.T.PartialEq.eq g.met.T.Exact.exact g.met.T.Eq.laws.refl now c.self.inside.runs c.self.inside.runs c.self.inside.runs c.put.new.runs c.add_all-2.new.pieces run c.args.place c.saturating_sub-from.result c.min-to.result c.self.inside.max_ranges runs refl refl from to room gathered c.in_ok-put.ensures.ok in
     let all = stands-joined g.T.PartialEq.eq g.met.T.Exact.exact g.met.T.Eq.laws.refl now (inserted c.args.place run now) c.put.new.runs (with_span run.first run.pages run.index run.value (page_at now)) c.self.inside.max_ranges apart says put.0 put.1 in
     record { shows = all.page; accepted = rw (← (ap (λ v. v.max_ranges) c.self.view_is)) all.accepted }
+
+pub add_all-requires-clause-room : goal.add_all-requires-clause-room
+add_all-requires-clause-room g c = omega (arith, c.new-pieces.ensures.count)
+
+pub add-requires-clause-room : goal.add-requires-clause-room
+add-requires-clause-room g c = omega (arith, c.new-pieces.ensures.count, c.add_all.ensures.count)
+
+pub add_all-requires-2-clause-room : goal.add_all-requires-2-clause-room
+add_all-requires-2-clause-room g c = omega (arith, c.new-pieces.ensures.count, c.add_all.ensures.count, c.add.ensures.count)
+
+pub put-requires-clause-window : goal.put-requires-clause-window
+put-requires-clause-window g c =
+    let within : c.args.place ≤ length c.self.inside.runs = omega (arith, c.requires.room.within, ap (λ v. length v.runs) c.self.view_is) in
+    (omega arith, omega arith)
+
+pub put-requires-clause-room : goal.put-requires-clause-room
+put-requires-clause-room g c = omega (arith, c.new-pieces.ensures.count, c.add_all.ensures.count, c.add.ensures.count, c.add_all-2.ensures.count)
