@@ -1,3 +1,4 @@
 pub mod Marking
 pub mod Marks
 pub mod Examples
+pub mod InTurn

@@ -1,4 +1,7 @@
 //! Texts from readers, by pieces and by lines.
+ghost use Rattle.std.specs.Prelude.{◌≡◌};
+ghost use Rattle.numa_files.specs.declared.reading.Stop.TheVariants as stop;
+
 use std::alloc::{AllocError, AllocFailed, Global};
 use std::io::Read;
 
@@ -20,13 +23,17 @@ pub enum Stop {
 }
 
 impl From<AllocError> for Stop {
-    fn from(_error: AllocError) -> Stop {
+    fn from(_error: AllocError) -> Stop
+        ensures { result ≡ stop.Memory }
+    {
         Stop::Memory
     }
 }
 
 impl<T: Drop> From<AllocFailed<T>> for Stop {
-    fn from(_failed: AllocFailed<T>) -> Stop {
+    fn from(_failed: AllocFailed<T>) -> Stop
+        ensures { result ≡ stop.Memory }
+    {
         Stop::Memory
     }
 }
