@@ -1,6 +1,7 @@
 -- The last mark of a text, as it is met from the end.
 use Rattle.std.proofs.Common.{◌≡◌, ℕ, ◌+◌, Bool, true, false, List, [], ◌∷◌, Option, Some, None, length, codes, ap, arith, refl, sym, take, drop, get_or, suc, zero, subst, ◌-◌, ◌∙◌, ◌≤◌, ◌<◌}
 use Rattle.std.proofs.lemmas.List.{take_all, length-take, length-take-le, at_drop_more, at_drop_all, take_rest}
+use Rattle.std.proofs.lemmas.Bool.{ne_eqb}
 use Rattle.numa_files.specs.Worked.{begins_with, further, or_here, last_mark}
 
 none_here : (here : Bool) (m : Option ℕ) → here ≡ false → m ≡ None
@@ -64,25 +65,40 @@ before_one : (text : List ℕ) (place : ℕ) → 0 < place
 before_one text place some empty =
     subst (λ k. last_mark (drop k text) ≡ None) (omega (arith, some)) empty
 
+no_space : (b : ℕ) (rest : List ℕ) → (b ≡ 32 → ⊥)
+    → begins_with (codes " => ") (b ∷ rest) ≡ false
+no_space b rest other = rw (ne_eqb 32 b (λ is. other (sym is))) refl
+
+-- a byte that is no space begins none
+pub not_a_space : (text : List ℕ) (place : ℕ) → place < length text
+    → (get_or text place 0 ≡ 32 → ⊥) → false ≡ begins_with (codes " => ") (drop place text)
+not_a_space text place within other =
+    sym (at_drop_more (begins_with (codes " => ")) text place 0 within
+    ∙ no_space (get_or text place 0) (drop (place + 1) text) other)
+
+-- what begins in the rest of a text
+pub as_dropped : (text : List ℕ) (place : ℕ)
+    → begins_with (codes " => ") (take (length text - place) (drop place text))
+    ≡ begins_with (codes " => ") (drop place text)
+as_dropped text place = ap (begins_with (codes " => ")) (take_rest text place)
+
 -- a mark begins at the place before one behind which none does
 pub mark_here : (text : List ℕ) (place : ℕ) → 0 < place → place ≤ length text
     → last_mark (drop place text) ≡ None
-    → begins_with (codes " => ") (take (length text - (place - 1)) (drop (place - 1) text)) ≡ true
+    → begins_with (codes " => ") (drop (place - 1) text) ≡ true
     → Some (place - 1) ≡ last_mark text
 mark_here text place some within empty starts =
-    let here = ap (begins_with (codes " => ")) (take_rest text (place - 1)) in
-    let one = one_from text (place - 1) (omega (arith, some, within)) (sym here ∙ starts)
+    let one = one_from text (place - 1) (omega (arith, some, within)) starts
     (before_one text place some empty) in
     sym (from_front (place - 1) text 0 one ∙ ap Some (omega arith))
 
 -- none does
 pub none_here_either : (text : List ℕ) (place : ℕ) → 0 < place → place ≤ length text
     → last_mark (drop place text) ≡ None
-    → begins_with (codes " => ") (take (length text - (place - 1)) (drop (place - 1) text)) ≡ false
+    → begins_with (codes " => ") (drop (place - 1) text) ≡ false
     → last_mark (drop (place - 1) text) ≡ None
 none_here_either text place some within empty lacks =
-    let here = ap (begins_with (codes " => ")) (take_rest text (place - 1)) in
-    not_from text (place - 1) (omega (arith, some, within)) (sym here ∙ lacks)
+    not_from text (place - 1) (omega (arith, some, within)) lacks
     (before_one text place some empty)
 
 pub all_taken : (line : List ℕ) → length line ≤ 4101 → line ≡ take 4101 line

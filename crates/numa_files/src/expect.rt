@@ -221,8 +221,10 @@ impl<A: Respond, W: Write> Expect<A, W> {
         let at = self.next.saturating_add(self.matched);
         if self.reading == Reading::Same {
             if self.answer.get(at) == Some(&b'\n') {
+                // The wanted line is the answer's, so that it ends where that does.
                 self.counts.same = self.counts.same.saturating_add(1);
-                self.go_on();
+                self.next = at.saturating_add(1);
+                self.matched = 0;
                 return Ok(());
             }
             self.tell_wanted()?;
@@ -281,6 +283,15 @@ impl<A: Respond, W: Write> Expect<A, W> {
         head.clear();
         self.head = head;
         taken
+    }
+
+    /// Takes the rest of the line at hand. A line that lies whole in its piece, and shows there what
+    /// it holds, isn't copied.
+    fn take_rest(&mut self, rest: &[u8]) -> Result<(), Stop> {
+        if self.reading == Reading::Head && self.head.is_empty() && rest.len() <= HEAD {
+            return self.take_head(rest);
+        }
+        self.feed(rest)
     }
 
     /// Ends the line at hand.
@@ -349,7 +360,7 @@ impl<A: Respond, W: Write> TakeText for Expect<A, W> {
     fn take(&mut self, piece: &[u8]) -> Result<(), Stop> {
         let mut rest = piece;
         while let Some(end) = memchr(b'\n', rest) {
-            self.feed(&rest[..end])?;
+            self.take_rest(&rest[..end])?;
             self.end_line()?;
             rest = &rest[end + 1..];
         }

@@ -8,8 +8,8 @@
 //!
 //! A script line ends at the last ` => ` that begins behind at most 4,097 bytes, so that a script
 //! line may hold one itself. No answer does.
-ghost use Rattle.std.specs.Prelude.{◌≡◌, ◌+◌, ◌≤◌, length, take, IfSome};
-ghost use Rattle.numa_files.specs.Worked.{last_mark, form_of, IsWithin};
+ghost use Rattle.std.specs.Prelude.{◌≡◌, ◌+◌, ◌≤◌, ◌<◌, true, codes, drop, length, take, IfSome};
+ghost use Rattle.numa_files.specs.Worked.{begins_with, last_mark, form_of, IsWithin};
 
 /// How many bytes of a line are looked at: those that show that a script line is too long, and
 /// ` => `.
@@ -29,6 +29,18 @@ pub enum LineForm {
     Answer,
 }
 
+/// Whether ` => ` begins there. Few bytes are spaces, so that most are passed over by one look.
+fn begins_mark(text: &[u8], place: usize) -> bool
+    requires { place < length text.now }
+    ensures value { result ≡ begins_with (codes " => ") (drop place text.now) }
+    ensures within { result ≡ true → place + 4 ≤ length text.now }
+{
+    if text[place] != b' ' {
+        return false;
+    }
+    text[place..].starts_with(MARK)
+}
+
 /// Where the last ` => ` of a text begins, sought from the end: answers are short.
 fn last_mark(text: &[u8]) -> Option<usize>
     ensures value { result ≡ last_mark text.now }
@@ -37,7 +49,7 @@ fn last_mark(text: &[u8]) -> Option<usize>
     let mut place = text.len();
     while place > 0 {
         place -= 1;
-        if text[place..].starts_with(MARK) {
+        if begins_mark(text, place) {
             return Some(place);
         }
     }
