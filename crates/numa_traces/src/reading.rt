@@ -1,7 +1,9 @@
 //! Traces that are read, line by line.
 ghost use Rattle.std.specs.Prelude.{◌≡◌, None, IfOk, IfErr, IsSome, OnOk};
+ghost use Rattle.numa_files.specs.declared.reading.Stop.TheVariants as stop;
 ghost use Rattle.numa_traces.specs.Accesses.{access_of};
 ghost use Rattle.numa_traces.specs.Reading.{EndsAtLine, IsBegun, ReplaysLine, TakesLine};
+ghost use Rattle.numa_traces.specs.declared.fault.ReplayFault.TheVariants as fault;
 
 use crate::access::read_access;
 use crate::fault::ReplayFault;
@@ -66,6 +68,8 @@ impl TakeLine for Replaying {
         ensures over { IsSome self.old.fault → OnOk result (self.new ≡ self.old) }
         ensures next { self.old.fault ≡ None → OnOk result
             (TakesLine place (access_of line.now) self.old self.new) }
+        ensures stop { IfErr result (λ why. (why ≡ stop.Memory)
+            × EndsAtLine (access_of line.now) self.old fault.NoMemory) }
     {
         if self.fault.is_some() {
             return Ok(());
