@@ -1,6 +1,6 @@
 -- Why reports are refused.
 use Rattle.std.proofs.Common.{◌≡◌, ℕ, zero, suc, ◌+◌, ◌-◌, ◌<◌, ◌≤◌, ◌^◌, ◌&&◌, Bool, true, false, ◌||◌, Option, Some, None, is_some, List, [], ◌∷◌, length, get_or, map, refl, sym, ap, subst, ◌∙◌, ◌⊎◌, arith, inl, inr}
-use Rattle.std.specs.Prelude.{nat_le, if◌then◌else◌}
+use Rattle.std.specs.Prelude.{nat_le, option_and_then, if◌then◌else◌}
 use Rattle.std.proofs.lemmas.Bool.{cases_lt, le-leb, lt-leb}
 use Rattle.numa_machine.specs.Machine.{Hardware}
 use Rattle.numa_mode.specs.Policy.{PolicyRecord}
@@ -79,9 +79,10 @@ pub record AreLeft (left all : List (Run (Option PolicyRecord))) : Type 0 where
   pub from : ℕ
   pub apart : AreApart from left
   pub pages : (page : ℕ) → is_some (page_at left page) ≡ true → is_some (page_at all page) ≡ true
+  pub same : (page : ℕ) → from ≤ page → page_at left page ≡ page_at all page
 
 pub left-all : (left all : List (Run (Option PolicyRecord))) → left ≡ all → AreApart 0 all → AreLeft left all
-left-all left all same apart = subst (λ l. AreLeft l all) (sym same) (record { from = 0; apart = apart; pages = λ page there. there })
+left-all left all same apart = subst (λ l. AreLeft l all) (sym same) (record { from = 0; apart = apart; pages = λ page there. there; same = λ page low. refl })
 
 pub left-next : (left all rest : List (Run (Option PolicyRecord))) (range : Run (Option PolicyRecord)) → AreLeft left all → left ≡ range ∷ rest → AreLeft rest all
 left-next left all rest range has is =
@@ -90,6 +91,9 @@ left-next left all rest range has is =
       from = end_of range;
       apart = own.apart.3;
       pages = λ page there. own.pages page (go page there (in_pages range.first range.pages page));
+      same = λ page low.
+          let over : page_at (range ∷ rest) page ≡ page_at rest page = rw (in_pages-above range.first range.pages page low) refl in
+          sym over ∙ own.same page (omega (arith, low, own.apart.0));
     }
   where
     go : (page : ℕ) → is_some (page_at rest page) ≡ true → (b : Bool) → is_some {T = ℕ × Option PolicyRecord} (if b then Some (range.index + (page - range.first), range.value) else page_at rest page) ≡ true
@@ -100,6 +104,13 @@ pub left-end : (left all rest : List (Run (Option PolicyRecord))) (range : Run (
 left-end left all rest range has is =
     let own : AreLeft (range ∷ rest) all = subst (λ l. AreLeft l all) is has in
     apart-top (end_of range) rest own.apart.3
+
+-- the next range's value is what the ranges say of its first page
+pub left-value : (left all rest : List (Run (Option PolicyRecord))) (range : Run (Option PolicyRecord)) → AreLeft left all → left ≡ range ∷ rest → option_and_then (λ at. at.1) (page_at all range.first) ≡ range.value
+left-value left all rest range has is =
+    let own : AreLeft (range ∷ rest) all = subst (λ l. AreLeft l all) is has in
+    let here : page_at (range ∷ rest) range.first ≡ Some (range.index + (range.first - range.first), range.value) = rw (in_pages-true range.first range.pages range.first (omega arith) (omega (arith, own.apart.1))) refl in
+    ap (λ (o : Option (ℕ × Option PolicyRecord)). option_and_then (λ at. at.1) o) (sym (own.same range.first own.apart.0) ∙ here)
 
 -- each page of the next range is one of a range
 pub left-page : (left all rest : List (Run (Option PolicyRecord))) (range : Run (Option PolicyRecord)) (page : ℕ) → AreLeft left all → left ≡ range ∷ rest → range.first ≤ page → page < end_of range → is_some (page_at all page) ≡ true

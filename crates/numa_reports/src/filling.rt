@@ -1,8 +1,9 @@
 //! Where all mapped pages would go, on nodes that have so many free pages each.
 ghost use Rattle.std.specs.Prelude.{◌≡◌, ◌+◌, ◌-◌, ◌<◌, ◌≤◌, ◌^◌, ℕ, List, Err, IfErr, OnOk};
-ghost use Rattle.std.specs.Prelude.{length, replicate, slice_index};
+ghost use Rattle.std.specs.Prelude.{length, option_and_then, replicate, slice_index};
 ghost use Rattle.numa_compile.specs.Standing.{PlanStandsFor};
 ghost use Rattle.numa_plan.specs.Meaning.{RefusesSpan};
+ghost use Rattle.numa_ranges.specs.Runs.{page_at};
 ghost use Rattle.numa_space.specs.Standing.{StandsFor};
 ghost use Rattle.numa_space.specs.declared.command.Command.{Command};
 ghost use Rattle.numa_space.specs.declared.refusal.PlaceRefusal.TheVariants.{BadCpu};
@@ -13,7 +14,7 @@ ghost use Rattle.numa_reports.specs.Filled.{nodes_of, planned_nodes, with_named}
 ghost use Rattle.numa_reports.specs.Told.{IsFilling, IsTaken, LacksOne, ToldEach, ToldOne};
 
 use crate::fault::ReportFault;
-use crate::prediction::TakeRange;
+use crate::prediction::{TakeRange, policy_of};
 use numa_plan::{Plan, Steps};
 use numa_space::{PlaceRefusal, RangeRecord, Run, Space};
 
@@ -124,7 +125,9 @@ fn fill_next<T: TakeRange>(
     free: &mut [u64; 256],
     taker: &mut T,
 ) -> Result<(), ReportFault>
-    requires { range.now.first + range.now.pages < 2 ^ 64 }
+    requires own { option_and_then (λ at. at.1) (page_at space.now.ranges range.now.first)
+        ≡ range.now.value }
+    requires small { range.now.first + range.now.pages < 2 ^ 64 }
     ensures free { OnOk result (free.new
         ≡ free_behind (planned_nodes plan.now task cpu) free.old range.now.first range.now.pages) }
     ensures told { (history : List Command) → StandsFor space.now history → OnOk result
@@ -137,7 +140,7 @@ fn fill_next<T: TakeRange>(
     let before = *free;
     fill_span(plan, task, cpu, range.first, range.pages, free)?;
     let counts = taken(&before, free);
-    taker.take(range, space.policy_at(task, range.first), &counts)?;
+    taker.take(range, policy_of(space, task, range), &counts)?;
     Ok(())
 }
 

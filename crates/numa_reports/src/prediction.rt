@@ -1,12 +1,14 @@
 //! Where all mapped pages would go.
 ghost use Rattle.std.specs.Prelude.{◌≡◌, ◌≤◌, ◌<◌, ◌^◌, ⊤, List, Option, Err};
-ghost use Rattle.std.specs.Prelude.{IfOk, IfErr, OnOk, OnErr};
+ghost use Rattle.std.specs.Prelude.{IfOk, IfErr, OnOk, OnErr, option_and_then};
 ghost use Rattle.numa_compile.specs.Spans.{SpanIsRefused};
 ghost use Rattle.numa_compile.specs.Standing.{PlanStandsFor};
 ghost use Rattle.numa_mode.specs.Policy.{PolicyRecord};
 ghost use Rattle.numa_plan.specs.Meaning.{RefusesSpan, planned_count};
 ghost use Rattle.numa_plan.specs.Tally.{HasRoom};
+ghost use Rattle.numa_ranges.specs.Runs.{page_at};
 ghost use Rattle.numa_ranges.specs.declared.run.Run.{Run};
+ghost use Rattle.numa_space.specs.Pages.{resolved_policy};
 ghost use Rattle.numa_space.specs.Standing.{StandsFor};
 ghost use Rattle.numa_space.specs.declared.command.Command.{Command};
 ghost use Rattle.numa_space.specs.declared.refusal.PlaceRefusal.TheVariants.{BadCpu};
@@ -102,6 +104,20 @@ impl TakeRange for () {
     }
 }
 
+/// The policy that serves a task in a range of the space: the range's own is at hand, so that only
+/// where it isn't live one is sought.
+pub(crate) fn policy_of(space: &Space, task: u32, range: &Run<RangeRecord>) -> Option<Record>
+    requires { option_and_then (λ at. at.1) (page_at space.now.ranges range.now.first)
+        ≡ range.now.value }
+    ensures { (history : List Command) → StandsFor space.now history
+        → result ≡ resolved_policy space.now.machine history task range.now.first }
+{
+    match range.value.policy() {
+        Some(policy) if policy.is_live() => Some(policy),
+        _ => space.policy_at(task, range.first),
+    }
+}
+
 /// Adds the pages of a range to the counts of all, and tells the taker of it.
 fn predict_next<T: TakeRange>(
     space: &Space,
@@ -112,6 +128,8 @@ fn predict_next<T: TakeRange>(
     counts: &mut [u64; 256],
     taker: &mut T,
 ) -> Result<(), ReportFault>
+    requires own { option_and_then (λ at. at.1) (page_at space.now.ranges range.now.first)
+        ≡ range.now.value }
     requires known { cpu < space.now.machine.nodes }
     requires room { HasRoom counts.old
         (planned_count plan.now task cpu range.now.first range.now.pages) }
@@ -126,7 +144,7 @@ fn predict_next<T: TakeRange>(
 {
     let mut more = [0u64; 256];
     add_span(plan, task, cpu, range.first, range.pages, &mut more, counts)?;
-    taker.take(range, space.policy_at(task, range.first), &more)?;
+    taker.take(range, policy_of(space, task, range), &more)?;
     Ok(())
 }
 

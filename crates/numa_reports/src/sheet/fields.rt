@@ -1,4 +1,5 @@
 //! The fields of a prediction.
+ghost use Rattle.std.specs.Prelude.{◌<◌};
 
 use numa_mode::Record;
 use numa_space::{RangeRecord, Run};
@@ -53,14 +54,35 @@ impl Placed<'_> {
     }
 }
 
+/// How many guesses at places of texts there are.
+const GUESSES: usize = 64;
+
+/// 2^64 over the golden ratio: a product with it has bits of every factor in its middle.
+const SPREAD: u64 = 0x9E37_79B9_7F4A_7C15;
+
+/// Which guess is a policy's: policies of different modes or nodes mostly have different ones.
+fn guess_of(policy: &Record) -> usize
+    ensures { result < 64 }
+{
+    let [a, b, c, d] = policy.effective().words();
+    let nodes = a ^ b.rotate_left(16) ^ c.rotate_left(32) ^ d.rotate_left(48);
+    let spec = policy.spec();
+    let word = u64::from(spec.mode().word(spec.flags()));
+    let mixed = (nodes ^ word.rotate_left(40)).wrapping_mul(SPREAD);
+    (mixed >> 32) as usize % GUESSES
+}
+
 /// The texts of policies; each is made once, since making one takes longer than all else that is
 /// said of a range.
 #[derive(Drop)]
 pub(crate) struct PolicyTexts {
     alloc: Global,
     texts: Vec<String>,
-    // The place of each policy's text.
+    // The policies that have the texts, and the place of each.
+    policies: Vec<Record>,
     places: HashMap<Record, usize>,
+    // Where policies were found last: looked at before it is believed, which spares a hash.
+    guesses: [usize; GUESSES],
 }
 
 impl PolicyTexts {
@@ -69,7 +91,9 @@ impl PolicyTexts {
         PolicyTexts {
             alloc,
             texts: Vec::new(alloc),
+            policies: Vec::new(alloc),
             places: HashMap::new(alloc),
+            guesses: [0; GUESSES],
         }
     }
 
@@ -78,6 +102,7 @@ impl PolicyTexts {
         let text = String::from_str(self.alloc, policy.policy_text().as_str())?;
         let place = self.texts.len();
         self.texts.push(text)?;
+        self.policies.push(policy)?;
         match self.places.insert(policy, place) {
             Ok(_) => Ok(place),
             Err(_) => Err(AllocError),
@@ -85,11 +110,31 @@ impl PolicyTexts {
     }
 
     /// The place of a policy's text, which is made where there is none yet.
-    fn place(&mut self, policy: Record) -> Result<usize, AllocError> {
+    fn find(&mut self, policy: Record) -> Result<usize, AllocError> {
         match self.places.get(&policy).copied() {
             Some(place) => Ok(place),
             None => self.add(policy),
         }
+    }
+
+    /// Whether a policy's text stands at a place.
+    fn is_at(&self, place: usize, policy: &Record) -> bool {
+        match self.policies.get(place) {
+            Some(other) => *other == *policy,
+            None => false,
+        }
+    }
+
+    /// The place of a policy's text, by a guess where that is right.
+    fn place(&mut self, policy: Record) -> Result<usize, AllocError> {
+        let guess = guess_of(&policy);
+        let place = self.guesses[guess];
+        if self.is_at(place, &policy) {
+            return Ok(place);
+        }
+        let place = self.find(policy)?;
+        self.guesses[guess] = place;
+        Ok(place)
     }
 
     /// The policy as numa_maps shows it; `default` where there is none.

@@ -5,7 +5,7 @@ use Rattle.numa_mode.specs.Policy.{PolicyRecord}
 use Rattle.numa_ranges.specs.declared.run.Run.{Run}
 use Rattle.numa_reports.specs.Filled.{planned_nodes}
 use Rattle.numa_reports.specs.Told.{IsTaken, LacksOne, ToldOne}
-use Rattle.numa_reports.proofs.Refusing.{left-all, left-end, left-next, range-fails}
+use Rattle.numa_reports.proofs.Refusing.{left-all, left-end, left-next, left-value, range-fails}
 use Rattle.numa_reports.proofs.Taking.{free_runs, free-all}
 use Rattle.numa_reports.proofs.Telling.{FilledEach, filled-all}
 use Rattle.numa_reports.proofs.filling.fill_all.Goals as goal
@@ -22,8 +22,11 @@ loop-range-init g c =
       told = λ history stands end has. subst (λ (runs : List (Run (Option PolicyRecord))). FilledEach g.T.TakeRange.told (IsTaken c.args.space.now.machine history c.args.task) nodes c.args.free.now runs c.args.taker.now end) runs has;
     }
 
-pub fill_next-requires : goal.fill_next-requires
-fill_next-requires g c = omega (arith, left-end c.loop-range.range-iterator c.args.space.now.ranges c.next.new.self c.in-Some.range c.loop-range.invariant.rest c.in-Some.ensures.steps)
+pub fill_next-requires-clause-own : goal.fill_next-requires-clause-own
+fill_next-requires-clause-own g c = left-value c.loop-range.range-iterator c.args.space.now.ranges c.next.new.self c.in-Some.range c.loop-range.invariant.rest c.in-Some.ensures.steps
+
+pub fill_next-requires-clause-small : goal.fill_next-requires-clause-small
+fill_next-requires-clause-small g c = omega (arith, left-end c.loop-range.range-iterator c.args.space.now.ranges c.next.new.self c.in-Some.range c.loop-range.invariant.rest c.in-Some.ensures.steps)
 
 pub loop-range-preserved : goal.loop-range-preserved
 loop-range-preserved g c =

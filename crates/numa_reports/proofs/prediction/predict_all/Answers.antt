@@ -9,7 +9,7 @@ use Rattle.numa_ranges.specs.declared.run.Run.{Run}
 use Rattle.numa_plan.specs.Meaning.{is_number, planned_first}
 use Rattle.numa_reports.specs.Predicted.{IsPrediction}
 use Rattle.numa_reports.specs.Told.{LacksOne, ToldEach}
-use Rattle.numa_reports.proofs.Refusing.{left-all, left-next, range-fails}
+use Rattle.numa_reports.proofs.Refusing.{left-all, left-next, left-value, range-fails}
 use Rattle.numa_reports.proofs.Tiling.{count_runs, runs-most, runs-none, counted-all}
 use Rattle.numa_reports.proofs.prediction.predict_all.Goals as goal
 
@@ -32,6 +32,9 @@ predict_next-requires-clause-room g c node small =
     let test : ℕ → Bool = λ page. is_number node (planned_first c.args.plan.now c.args.task page c.args.cpu) in
     let step = ap (λ (runs : List (Run (Option PolicyRecord))). count_runs test runs) c.in-Some.ensures.steps in
     omega (arith, step, c.loop-range.invariant.counts node small, runs-most test 0 c.args.space.now.ranges c.loop-range.invariant.apart, sum_by-cons (λ run. count_pages test run.first run.pages) c.in-Some.range c.next.new.self)
+
+pub predict_next-requires-clause-own : goal.predict_next-requires-clause-own
+predict_next-requires-clause-own g c = left-value c.loop-range.range-iterator c.args.space.now.ranges c.next.new.self c.in-Some.range c.loop-range.invariant.rest c.in-Some.ensures.steps
 
 pub loop-range-preserved : goal.loop-range-preserved
 loop-range-preserved g c = record {
