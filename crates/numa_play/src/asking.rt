@@ -86,7 +86,9 @@ fn prediction(
     let Ok(plan) = compile(alloc, space) else {
         return Err(Halt::Stopped(Stop::Memory));
     };
-    match text_of(alloc, space, &plan, asked, format, free) {
+    let text = text_of(alloc, space, &plan, asked, format, free);
+    drop(plan);
+    match text {
         Ok(text) => Ok(text),
         Err(fault) => Err(halt_of(fault, space.machine().nodes())),
     }
@@ -123,7 +125,9 @@ pub fn predict<R: Read + Drop, W: Write, T: Write + Drop>(
     told: T,
 ) -> Result<(), Halt> {
     let mut findings = play(alloc, texts, told)?;
-    write_prediction(alloc, &mut findings, asked, format, free, output)
+    let written = write_prediction(alloc, &mut findings, asked, format, free, output);
+    drop(findings);
+    written
 }
 
 /// Plays the added lines, and ends what is told.
@@ -143,9 +147,11 @@ fn difference(
     script: &Script,
     asked: Asked,
 ) -> Result<Vec<u8>, Halt> {
-    let after = outlook_in(alloc, script)?;
     let nodes = space_of(script)?.machine().nodes();
-    match difference_text(alloc, before, &after, nodes, asked.task, asked.cpu) {
+    let after = outlook_in(alloc, script)?;
+    let text = difference_text(alloc, before, &after, nodes, asked.task, asked.cpu);
+    drop(after);
+    match text {
         Ok(text) => Ok(text),
         Err(fault) => Err(halt_of(fault, nodes)),
     }
@@ -163,6 +169,18 @@ fn outlook_before<T: Write>(alloc: Global, findings: &mut Findings<T>) -> Result
     }
 }
 
+/// Plays the lines, and tells which pages go elsewhere by them than before, as a text.
+fn difference_from<T: Write>(
+    alloc: Global,
+    before: &Outlook,
+    findings: &mut Findings<T>,
+    lines: &[String],
+    asked: Asked,
+) -> Result<Vec<u8>, Halt> {
+    play_lines(findings, lines)?;
+    difference(alloc, before, findings.script(), asked)
+}
+
 /// Plays the lines, and tells which pages go elsewhere by them, as a text.
 fn difference_by<T: Write>(
     alloc: Global,
@@ -171,8 +189,9 @@ fn difference_by<T: Write>(
     asked: Asked,
 ) -> Result<Vec<u8>, Halt> {
     let before = outlook_before(alloc, findings)?;
-    play_lines(findings, lines)?;
-    difference(alloc, &before, findings.script(), asked)
+    let text = difference_from(alloc, &before, findings, lines, asked);
+    drop(before);
+    text
 }
 
 /// Plays the lines, and writes which pages go elsewhere by them.
@@ -203,5 +222,7 @@ pub fn diff<R: Read + Drop, W: Write, T: Write + Drop>(
     told: T,
 ) -> Result<(), Halt> {
     let mut findings = play(alloc, texts, told)?;
-    write_difference(alloc, &mut findings, lines, asked, output)
+    let written = write_difference(alloc, &mut findings, lines, asked, output);
+    drop(findings);
+    written
 }

@@ -54,5 +54,7 @@ pub fn explain<R: Read + Drop, W: Write, T: Write + Drop>(
     told: T,
 ) -> Result<(), Halt> {
     let mut findings = play(alloc, texts, told)?;
-    write_reasons(alloc, &mut findings, asked, page, output)
+    let written = write_reasons(alloc, &mut findings, asked, page, output);
+    drop(findings);
+    written
 }

@@ -60,5 +60,7 @@ pub fn check<R: Read + Drop, W: Write + Drop>(
     output: W,
 ) -> Result<bool, Stop> {
     let mut findings = play(alloc, texts, output)?;
-    find_nothing(&mut findings)
+    let is_fine = find_nothing(&mut findings);
+    drop(findings);
+    is_fine
 }

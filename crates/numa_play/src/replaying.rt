@@ -51,7 +51,11 @@ fn replayed<S: Read + Drop>(
         Err(halt) => return Err(halt),
     };
     match replay_lines(alloc, trace, replaying) {
-        Ok(replaying) => met(alloc, script, &replaying, format),
+        Ok(replaying) => {
+            let text = met(alloc, script, &replaying, format);
+            drop(replaying);
+            text
+        }
         Err(why) => Err(Halt::Stopped(why)),
     }
 }
@@ -99,5 +103,7 @@ pub fn replay<R: Read + Drop, S: Read + Drop, W: Write, T: Write + Drop>(
         Ok(findings) => findings,
         Err(why) => return Err(Halt::Stopped(why)),
     };
-    write_replay(alloc, findings.script(), trace, format, output)
+    let written = write_replay(alloc, findings.script(), trace, format, output);
+    drop(findings);
+    written
 }
