@@ -60,26 +60,19 @@ fn replayed<S: Read + Drop>(
     }
 }
 
-/// Plays the texts as one script, and tells what is wrong with their lines.
-fn played<R: Read + Drop, T: Write + Drop>(
+/// Ends what is told, replays a trace in the space that the played script has led to, and writes
+/// what it met.
+fn write_replay<S: Read + Drop, W: Write, T: Write>(
     alloc: Global,
-    texts: Vec<(String, R)>,
-    told: T,
-) -> Result<Findings<T>, Stop> {
-    let mut findings = play(alloc, texts, told)?;
-    findings.end()?;
-    Ok(findings)
-}
-
-/// Replays a trace in the space that a script has led to, and writes what it met.
-fn write_replay<S: Read + Drop, W: Write>(
-    alloc: Global,
-    script: &Script,
+    findings: &mut Findings<T>,
     trace: Vec<(String, S)>,
     format: Shape,
     output: &mut W,
 ) -> Result<(), Halt> {
-    let text = replayed(alloc, script, trace, format)?;
+    if let Err(why) = findings.end() {
+        return Err(Halt::Stopped(why));
+    }
+    let text = replayed(alloc, findings.script(), trace, format)?;
     write(text.as_str().as_bytes(), output)
 }
 
@@ -99,11 +92,8 @@ pub fn replay<R: Read + Drop, S: Read + Drop, W: Write, T: Write + Drop>(
     output: &mut W,
     told: T,
 ) -> Result<(), Halt> {
-    let findings = match played(alloc, texts, told) {
-        Ok(findings) => findings,
-        Err(why) => return Err(Halt::Stopped(why)),
-    };
-    let written = write_replay(alloc, findings.script(), trace, format, output);
+    let mut findings = play(alloc, texts, told)?;
+    let written = write_replay(alloc, &mut findings, trace, format, output);
     drop(findings);
     written
 }
