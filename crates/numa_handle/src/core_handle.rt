@@ -97,9 +97,7 @@ impl CoreHandle {
         ensures ok { OnOk result (core_in self.new ≡ Some core) }
         ensures err { OnErr result (core_in self.new ≡ None) }
     {
-        let kept = Box::new(alloc, Kept::Core(core))?;
-        self.handle.put(kept);
-        Ok(())
+        self.handle.keep(alloc, Kept::Core(core))
     }
 
     /// Frees the core, where it keeps one.

@@ -39,8 +39,7 @@ fn copy_kept(kept: &Kept, alloc: Global) -> Result<Box<Kept>, AllocError>
     let Ok(other) = core_kept(kept).copy() else {
         return Err(AllocError);
     };
-    let other = Box::new(alloc, Kept::Core(other))?;
-    Ok(other)
+    Kept::Core(other).on_heap(alloc).ok_or(AllocError)
 }
 
 /// The published plan of a kept core once more.

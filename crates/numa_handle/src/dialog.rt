@@ -4,6 +4,7 @@ ghost use Rattle.numa_run.specs.Answers.{State, answer_to, after_bytes};
 ghost use Rattle.numa_run.specs.Scripts.{ScriptStandsFor};
 ghost use Rattle.numa_handle.specs.Dialogs.{IsFresh, Serves, Copies};
 
+use crate::room::copy_bytes;
 use line_server::{Serve, Watched};
 use numa_run::Script;
 use std::alloc::Global;
@@ -85,11 +86,6 @@ impl Dialog {
     pub(crate) fn copy(&self, room: &mut [u8]) -> Result<usize, usize>
         ensures { Copies self.now.answer.items result room.old room.new }
     {
-        let length = self.answer.len();
-        if length > room.len() {
-            return Err(length);
-        }
-        room[..length].copy_from_slice(&self.answer);
-        Ok(length)
+        copy_bytes(&self.answer, room)
     }
 }

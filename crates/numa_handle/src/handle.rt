@@ -1,11 +1,11 @@
 //! A handle of any kind.
 ghost use Rattle.std.specs.Prelude.{◌≡◌, Some, None, MatchOption, is_some};
-ghost use Rattle.std.specs.Prelude.{Ok, Err, MatchResult};
+ghost use Rattle.std.specs.Prelude.{Ok, Err, MatchResult, OnOk, OnErr};
 
 use crate::held::Held;
 use crate::kept::Kept;
 use crate::place::Place;
-use std::alloc::Global;
+use std::alloc::{AllocError, Global};
 use std::mem::replace;
 
 /// A value on the heap that a C caller keeps, or none: a handle whose bytes are all 0 is closed.
@@ -88,6 +88,15 @@ impl Handle {
             }
             Err(fault) => Err(fault),
         }
+    }
+
+    /// Keeps this, where it is closed and there is memory for it; else it is dropped.
+    pub(crate) fn keep(&mut self, alloc: Global, kept: Kept) -> Result<(), AllocError>
+        requires closed { self.old.held.kept ≡ None }
+        ensures ok { OnOk result (self.new.held.kept ≡ Some kept) }
+        ensures err { OnErr result (self.new ≡ self.old) }
+    {
+        self.put_made(kept.on_heap(alloc).ok_or(AllocError))
     }
 }
 

@@ -1,4 +1,6 @@
 //! What a handle may keep.
+ghost use Rattle.std.specs.Prelude.{◌≡◌, IfSome};
+
 use crate::dialog::Dialog;
 use numa_core::Core;
 use numa_plan::Plan;
@@ -17,4 +19,13 @@ pub enum Kept {
     Seat(Seat),
     /// A script, with the answer to its last line.
     Script(Dialog),
+}
+
+impl Kept {
+    /// The same on the heap, where there is memory for it; else it is dropped.
+    pub(crate) fn on_heap(self, alloc: Global) -> Option<Box<Kept>>
+        ensures { IfSome result (λ kept. kept.value ≡ self) }
+    {
+        Box::new(alloc, self).ok()
+    }
 }

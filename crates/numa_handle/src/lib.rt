@@ -12,6 +12,7 @@ mod held;
 mod kept;
 mod place;
 mod plan_handle;
+mod room;
 mod script_handle;
 mod seat_handle;
 
@@ -21,3 +22,4 @@ pub use handles::{CoreHandle, PlanHandle, ScriptHandle, SeatHandle};
 pub use held::Held;
 pub use kept::Kept;
 pub use plan_handle::ChoiceRefusal;
+pub use room::copy_bytes;

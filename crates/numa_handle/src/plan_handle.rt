@@ -8,6 +8,7 @@ ghost use Rattle.numa_handle.specs.Plans.{plan_in, IsListOf, Chooses, Fills, Cou
 
 use crate::handles::PlanHandle;
 use crate::kept::Kept;
+use crate::room::copy_bytes;
 use numa_plan::{Plan, Steps};
 use numa_space::PlaceRefusal;
 use std::alloc::{AllocError, Global};
@@ -40,12 +41,10 @@ fn choose_kept(
         Ok(list) => list,
         Err(refusal) => return Err(ChoiceRefusal::Place(refusal)),
     };
-    let count = list.len();
-    if count > nodes.len() {
-        return Err(ChoiceRefusal::TooShort(count));
+    match copy_bytes(list, nodes) {
+        Ok(count) => Ok(count),
+        Err(count) => Err(ChoiceRefusal::TooShort(count)),
     }
-    nodes[..count].copy_from_slice(list);
-    Ok(count)
 }
 
 /// Fills the first nodes of a span from a kept plan.
@@ -106,8 +105,7 @@ fn share_kept(kept: &Kept, alloc: Global) -> Result<Box<Kept>, AllocError>
     let Ok(other) = Arc::try_clone(plan) else {
         return Err(AllocError);
     };
-    let other = Box::new(alloc, Kept::Plan(other))?;
-    Ok(other)
+    Kept::Plan(other).on_heap(alloc).ok_or(AllocError)
 }
 
 impl PlanHandle {
@@ -127,12 +125,10 @@ impl PlanHandle {
         ensures ok { OnOk result (plan_in self.new ≡ Some plan) }
         ensures err { OnErr result (plan_in self.new ≡ None) }
     {
-        let Ok(plan) = Arc::new(alloc, plan) else {
+        let Some(plan) = Arc::new(alloc, plan).ok() else {
             return Err(AllocError);
         };
-        let kept = Box::new(alloc, Kept::Plan(plan))?;
-        self.handle.put(kept);
-        Ok(())
+        self.handle.keep(alloc, Kept::Plan(plan))
     }
 
     /// Lets go of the plan, where it keeps one, and frees it where no other handle keeps it.

@@ -50,9 +50,7 @@ impl ScriptHandle {
         ensures kept { is_some (dialog_in self.new) ≡ is_ok result }
         ensures fresh { IfSome (dialog_in self.new) IsFresh }
     {
-        let kept = Box::new(alloc, Kept::Script(Dialog::new(alloc)))?;
-        self.handle.put(kept);
-        Ok(())
+        self.handle.keep(alloc, Kept::Script(Dialog::new(alloc)))
     }
 
     /// Frees the script, where it keeps one.

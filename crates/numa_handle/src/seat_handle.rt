@@ -51,10 +51,7 @@ fn split_kept(kept: &mut Kept, alloc: Global) -> Result<Box<Kept>, NoMemory>
     let Ok(made) = made else {
         return Err(NoMemory);
     };
-    match Box::new(alloc, Kept::Seat(made)) {
-        Ok(other) => Ok(other),
-        Err(_) => Err(NoMemory),
-    }
+    Kept::Seat(made).on_heap(alloc).ok_or(NoMemory)
 }
 
 /// A kept seat gets what another held.
@@ -92,9 +89,7 @@ impl SeatHandle {
         ensures ok { OnOk result (seat_in self.new ≡ Some seat) }
         ensures err { OnErr result (seat_in self.new ≡ None) }
     {
-        let kept = Box::new(alloc, Kept::Seat(seat))?;
-        self.handle.put(kept);
-        Ok(())
+        self.handle.keep(alloc, Kept::Seat(seat))
     }
 
     /// Drops the seat, where it keeps one. Frames that the seat holds stay taken; the pools are
