@@ -133,8 +133,7 @@ fn rewrite_homes(
     survey(space);
     let mut runs = Vec::new(alloc);
     gather_homes(alloc, plan, space, window, &mut runs, added, steps)?;
-    put_runs(plan, space, window, &runs, steps)?;
-    Ok(())
+    put_runs(plan, space, window, &runs, steps)
 }
 
 /// Gives each range that begins in the span the rule of its policy. Writes at most two runs more

@@ -1,10 +1,10 @@
 //! Recompiling for a span that is mapped.
-ghost use Rattle.std.specs.Prelude.{◌≡◌, ◌+◌, ◌≤◌, ℕ, length, OnOk, OnErr};
+ghost use Rattle.std.specs.Prelude.{◌≡◌, ◌+◌, ◌-◌, ◌≤◌, ℕ, length, None, OnOk, OnErr};
 ghost use Rattle.std.specs.Bool.{OnTrue, OnFalse};
 ghost use Rattle.numa_space.specs.declared.command.Command.{Command};
 ghost use Rattle.numa_compile.specs.Follows.{Follows, IsBehind};
 ghost use Rattle.numa_compile.specs.Recompiling.{WritesBoth, met_by};
-ghost use Rattle.numa_compile.specs.Windows.{BeginsBeside, BeginsInside};
+ghost use Rattle.numa_compile.specs.Windows.{BeginsBeside, BeginsInside, IsOpen, NumbersInside};
 ghost use Rattle.numa_compile.specs.declared.recompiler.window.Window.{Window};
 
 use crate::compiler::survey;
@@ -29,6 +29,25 @@ fn begins_beside(space: &Space, window: &Window) -> bool
     range.first <= window.first && range.pages <= window.first - range.first
 }
 
+/// The window of a span that is mapped, without a first range that wasn't joined to it. It has two
+/// ranges at most.
+fn mapped_window(plan: &Plan, space: &Space, start: u64, bytes: u64) -> Window
+    requires behind { (offset : ℕ) × IsBehind space.now (Command.Map start bytes offset) plan.now }
+    ensures open { IsOpen space.now plan.now result }
+    ensures inside { NumbersInside space.now plan.now result None }
+    ensures few { result.to_now - result.from ≤ 2 }
+{
+    survey(space);
+    let window = find_window(plan, space, start, bytes);
+    if begins_beside(space, &window) {
+        return Window {
+            from: window.from + 1,
+            ..window
+        };
+    }
+    window
+}
+
 /// Puts a run in for the span, joined to those beside it as its range is. Writes at most two runs,
 /// and no rule.
 ///
@@ -48,18 +67,6 @@ pub(crate) fn recompile_map(
     ensures few { WritesBoth (met_by start bytes plan.old + 2) 0 steps.old steps.new }
     ensures others { plan.new.tasks ≡ plan.old.tasks }
 {
-    survey(space);
-    let window = find_window(plan, space, start, bytes);
-    if begins_beside(space, &window) {
-        let rest = Window {
-            first: window.first,
-            end: window.end,
-            from: window.from + 1,
-            to: window.to,
-            to_now: window.to_now,
-            near: window.near,
-        };
-        return rewrite_window(alloc, plan, space, &rest, None, steps);
-    }
+    let window = mapped_window(plan, space, start, bytes);
     rewrite_window(alloc, plan, space, &window, None, steps)
 }

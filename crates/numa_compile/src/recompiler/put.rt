@@ -1,11 +1,11 @@
 //! Runs that are put into a plan, and the rules that go with those before.
-ghost use Rattle.std.specs.Prelude.{◌≡◌, ◌≢◌, ◌≤◌, ◌+◌, length, All, IsSome, OnOk, OnErr};
-ghost use Rattle.std.specs.Option.{ForSome};
-ghost use Rattle.std.specs.List.{splice};
-ghost use Rattle.numa_plan.specs.Counted.{more_runs};
-ghost use Rattle.numa_plan.specs.Slots.{rule_in};
+ghost use Rattle.std.specs.Prelude.{◌≡◌, ◌-◌, OnOk, OnErr};
+ghost use Rattle.std.specs.List.{slice_range};
+ghost use Rattle.numa_plan.specs.Slots.{policy_in};
+ghost use Rattle.numa_compile.specs.Copies.{AreCopies};
 ghost use Rattle.numa_compile.specs.Follows.{Follows};
-ghost use Rattle.numa_compile.specs.Recompiling.{KeepsNamed};
+ghost use Rattle.numa_compile.specs.Recompiling.{KeepsNamed, WritesBoth};
+ghost use Rattle.numa_compile.specs.Windows.{IsOpen};
 ghost use Rattle.numa_compile.specs.declared.recompiler.window.Window.{Window};
 
 use crate::compiler::survey;
@@ -24,8 +24,8 @@ fn drop_all(plan: &mut Plan, runs: &[Run<Option<u32>>])
     }
 }
 
-/// Puts runs in the place of the window's, with which the plan follows the space, and drops the
-/// rules that nothing uses any more.
+/// Puts copies of the window's ranges in the place of its runs, with which the plan follows the
+/// space, and drops the rules that nothing uses any more. Writes no rule.
 ///
 /// # Errors
 /// `NoMemory` where there is none for the runs; the plan is as it was.
@@ -36,18 +36,13 @@ pub(crate) fn put_runs(
     runs: &[Run<Option<u32>>],
     steps: &mut Steps,
 ) -> Result<(), NoMemory>
-    requires rises { window.now.from ≤ window.now.to }
-    requires within { window.now.to ≤ length plan.old.runs }
-    requires named { All (λ run. ForSome run.value (λ number.
-        IsSome (rule_in plan.old.slots number))) runs.now }
-    requires follows { Follows space.now (record plan.old {
-      version = space.now.version;
-      runs = splice plan.old.runs window.now.from window.now.to runs.now;
-    }) }
+    requires of { IsOpen space.now plan.old window.now }
+    requires copies { AreCopies (policy_in plan.old.slots)
+        (slice_range space.now.ranges window.now.from window.now.to_now) runs.now }
     ensures follows { OnOk result (Follows space.now plan.new) }
     ensures tasks { plan.new.tasks ≡ plan.old.tasks }
-    ensures written { OnOk result (steps.new ≡ more_runs (length runs.now) steps.old) }
-    ensures unchanged { OnErr result ((plan.new ≡ plan.old) × (steps.new ≡ steps.old)) }
+    ensures few { WritesBoth (window.now.to_now - window.now.from) 0 steps.old steps.new }
+    ensures unchanged { OnErr result (plan.new ≡ plan.old) }
 {
     survey(space);
     let gone = plan.replace_runs(window.from, window.to, runs, window.near, steps)?;

@@ -36,6 +36,5 @@ pub(crate) fn rewrite_window(
     survey(space);
     let mut runs = Vec::with_capacity(alloc, window.to_now.saturating_sub(window.from))?;
     gather_runs(plan, space, window, given, &mut runs)?;
-    put_runs(plan, space, window, &runs, steps)?;
-    Ok(())
+    put_runs(plan, space, window, &runs, steps)
 }
