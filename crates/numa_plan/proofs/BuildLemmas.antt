@@ -8,7 +8,7 @@ use Rattle.std.specs.Map.{keys_of, lookup, remove_entry}
 use Rattle.std.proofs.lemmas.List.Sums.{sum_by-append, sum_by-cons}
 use Rattle.std.proofs.lemmas.Map.Entries.{sum_by-insert_entry, sum_by-remove_entry}
 use Rattle.std.specs.List.Sorted.{IsStrictlySortedBy}
-use Rattle.std.specs.Option.{option_map}
+use Rattle.std.specs.Option.{option_map, ForSome}
 use Rattle.numa_ranges.specs.Runs.{page_at, in_pages}
 use Rattle.numa_ranges.specs.declared.run.Run.{Run}
 use Rattle.numa_plan.specs.Rows.{Kept, RuleData, HasRows, row_of}
@@ -69,13 +69,16 @@ keeps nodes runs runs' slots slots' low tasks tasks' local plan same long counts
 
 -- ---- how many runs and tasks name a number
 
+pub uses_in-one : (slots : List Slot) (named : Option ℕ) (k : ℕ) → ForSome named (λ number. IsSome (rule_in slots number)) → uses_in (used slots named) k ≡ uses_in slots k + cond (is_number k named) 1 0
+uses_in-one slots None k there = omega arith
+uses_in-one slots (Some number) k there = uses_in-used slots number k (there number refl)
+
+pub uses_in-one_less : (slots : List Slot) (named : Option ℕ) (k : ℕ) → uses_in (unused slots named) k ≡ uses_in slots k - cond (is_number k named) 1 0
+uses_in-one_less slots None k = omega arith
+uses_in-one_less slots (Some number) k = uses_in-unused slots number k
+
 count-push : {X : Type 0} (p : X → Bool) (xs : List X) (x : X) → count_by p (xs ++ x ∷ []) ≡ count_by p xs + cond (p x) 1 0
 count-push p xs x = omega (arith, sum_by-append (λ x. cond {A = ℕ} (p x) 1 0) xs (x ∷ []))
-
-uses-run : (runs : List (Run (Option ℕ))) (tasks : List (ℕ × ℕ)) (run : Run (Option ℕ)) (number k : ℕ) → run.value ≡ Some number → uses_of (runs ++ run ∷ []) tasks k ≡ uses_of runs tasks k + cond (number == k) 1 0
-uses-run runs tasks run number k is =
-    let own : is_number k run.value ≡ (number == k) = ap (is_number k) is in
-    omega (arith, count-push (λ r. is_number k r.value) runs run ∙ ap (λ b. count_by (λ r. is_number k r.value) runs + cond b 1 0) own)
 
 uses-give : (runs : List (Run (Option ℕ))) (tasks : List (ℕ × ℕ)) (task number k : ℕ) (had : Option ℕ) → IsStrictlySortedBy nat_cmp (keys_of tasks) → had ≡ number_of tasks task
     → uses_of runs (insert_entry nat_cmp tasks task number) k + unwrap_or (option_map (λ n. cond {A = ℕ} (n == k) 1 0) had) 0 ≡ uses_of runs tasks k + cond (number == k) 1 0
@@ -99,32 +102,30 @@ task-uses runs tasks task number is =
 
 -- ---- the calls
 
-pub keeps_with_run : (nodes : ℕ) (runs : List (Run (Option ℕ))) (slots : List Slot) (low : ℕ) (tasks : List (ℕ × ℕ)) (local : RuleData) (run : Run (Option ℕ)) (number : ℕ) → IsPlan nodes runs slots low tasks local → run.value ≡ Some number → IsSome (rule_in slots number)
-    → IsPlan nodes (runs ++ run ∷ []) (used slots (Some number)) low tasks local
-keeps_with_run nodes runs slots low tasks local run number plan is some =
-    keeps nodes runs (runs ++ run ∷ []) slots (used slots (Some number)) low tasks tasks local plan (rule_in-used slots (Some number)) (length-used slots (Some number)) (λ k.
-    omega (arith, uses_in-used slots number k some, plan.counted k, uses-run runs tasks run number k is))
+pub keeps_with_run : (nodes : ℕ) (runs : List (Run (Option ℕ))) (slots : List Slot) (low : ℕ) (tasks : List (ℕ × ℕ)) (local : RuleData) (run : Run (Option ℕ)) → IsPlan nodes runs slots low tasks local → ForSome run.value (λ number. IsSome (rule_in slots number))
+    → IsPlan nodes (runs ++ run ∷ []) (used slots run.value) low tasks local
+keeps_with_run nodes runs slots low tasks local run plan named =
+    keeps nodes runs (runs ++ run ∷ []) slots (used slots run.value) low tasks tasks local plan (rule_in-used slots run.value) (length-used slots run.value) (λ k.
+    omega (arith, uses_in-one slots run.value k named, plan.counted k, count-push (λ (r : Run (Option ℕ)). is_number k r.value) runs run))
 
--- a task gets a rule where it had none
-pub keeps_given : (nodes : ℕ) (runs : List (Run (Option ℕ))) (slots : List Slot) (low : ℕ) (tasks : List (ℕ × ℕ)) (local : RuleData) (task number : ℕ) → IsPlan nodes runs slots low tasks local → IsStrictlySortedBy nat_cmp (keys_of tasks) → None ≡ number_of tasks task → IsSome (rule_in slots number)
-    → IsPlan nodes runs (used slots (Some number)) low (insert_entry nat_cmp tasks task number) local
-keeps_given nodes runs slots low tasks local task number plan sorted is some =
+-- a task gets a rule, in place of the one that it had
+pub keeps_given : (nodes : ℕ) (runs : List (Run (Option ℕ))) (slots : List Slot) (low : ℕ) (tasks : List (ℕ × ℕ)) (local : RuleData) (task number : ℕ) (had : Option ℕ) → IsPlan nodes runs slots low tasks local → IsStrictlySortedBy nat_cmp (keys_of tasks) → had ≡ number_of tasks task → IsSome (rule_in slots number)
+    → IsPlan nodes runs (unused (used slots (Some number)) had) low (insert_entry nat_cmp tasks task number) local
+keeps_given nodes runs slots low tasks local task number None plan sorted is some =
     keeps nodes runs runs slots (used slots (Some number)) low tasks (insert_entry nat_cmp tasks task number) local plan (rule_in-used slots (Some number)) (length-used slots (Some number)) (λ k.
     omega (arith, uses_in-used slots number k some, plan.counted k, uses-give runs tasks task number k None sorted is))
-
--- a task gets a rule in place of another
-pub keeps_changed : (nodes : ℕ) (runs : List (Run (Option ℕ))) (slots : List Slot) (low : ℕ) (tasks : List (ℕ × ℕ)) (local : RuleData) (task number had : ℕ) → IsPlan nodes runs slots low tasks local → IsStrictlySortedBy nat_cmp (keys_of tasks) → Some had ≡ number_of tasks task → IsSome (rule_in slots number)
-    → IsPlan nodes runs (unused (used slots (Some number)) (Some had)) low (insert_entry nat_cmp tasks task number) local
-keeps_changed nodes runs slots low tasks local task number had plan sorted is some =
+keeps_given nodes runs slots low tasks local task number (Some had) plan sorted is some =
     keeps nodes runs runs slots (unused (used slots (Some number)) (Some had)) low tasks (insert_entry nat_cmp tasks task number) local plan
     (λ k. rule_in-unused (used slots (Some number)) (Some had) k ∙ rule_in-used slots (Some number) k)
     (length-unused (used slots (Some number)) (Some had) ∙ length-used slots (Some number))
     (λ k. omega (arith, uses_in-unused (used slots (Some number)) had k, uses_in-used slots number k some, plan.counted k, uses-give runs tasks task number k (Some had) sorted is))
 
--- a task's rule is taken away
-pub keeps_taken : (nodes : ℕ) (runs : List (Run (Option ℕ))) (slots : List Slot) (low : ℕ) (tasks : List (ℕ × ℕ)) (local : RuleData) (task had : ℕ) → IsPlan nodes runs slots low tasks local → Some had ≡ number_of tasks task
-    → IsPlan nodes runs (unused slots (Some had)) low (remove_entry (is_at (nat_cmp task)) tasks) local
-keeps_taken nodes runs slots low tasks local task had plan is =
+-- a task's rule is taken away, if it had one
+pub keeps_taken : (nodes : ℕ) (runs : List (Run (Option ℕ))) (slots : List Slot) (low : ℕ) (tasks : List (ℕ × ℕ)) (local : RuleData) (task : ℕ) (had : Option ℕ) → IsPlan nodes runs slots low tasks local → had ≡ number_of tasks task
+    → IsPlan nodes runs (unused slots had) low (remove_entry (is_at (nat_cmp task)) tasks) local
+keeps_taken nodes runs slots low tasks local task None plan is =
+    keeps nodes runs runs slots slots low tasks (remove_entry (is_at (nat_cmp task)) tasks) local plan (λ k. refl) refl (λ k. omega (arith, plan.counted k, uses-take runs tasks task k None is))
+keeps_taken nodes runs slots low tasks local task (Some had) plan is =
     keeps nodes runs runs slots (unused slots (Some had)) low tasks (remove_entry (is_at (nat_cmp task)) tasks) local plan (rule_in-unused slots (Some had)) (length-unused slots (Some had)) (λ k.
     omega (arith, uses_in-unused slots had k, plan.counted k, uses-take runs tasks task k (Some had) is))
 

@@ -16,7 +16,7 @@ use Rattle.numa_plan.specs.Sound.{IsPlan}
 use Rattle.numa_plan.specs.declared.slots.Slot.{Slot}
 use Rattle.numa_plan.specs.declared.slots.Slot.TheVariants.{Free, Taken}
 use Rattle.numa_plan.proofs.SlotLemmas.{same_or_not, change-same, rule_of-kept, kept_in-used, kept_in-unused, rule_in-used, length-used, length-unused, uses_in-used, uses_in-unused}
-use Rattle.numa_plan.proofs.BuildLemmas.{keeps, lists-kept}
+use Rattle.numa_plan.proofs.BuildLemmas.{keeps, lists-kept, uses_in-one, uses_in-one_less}
 
 -- ---- uses by many runs
 
@@ -29,14 +29,6 @@ AreThere slots runs = All (λ (run : Run (Option ℕ)). ForSome run.value (λ nu
 
 pub names-cons : (k : ℕ) (run : Run (Option ℕ)) (runs : List (Run (Option ℕ))) → names k (run ∷ runs) ≡ cond (is_number k run.value) 1 0 + names k runs
 names-cons k run runs = sum_by-cons (λ (r : Run (Option ℕ)). cond {A = ℕ} (is_number k r.value) 1 0) run runs
-
-pub uses_in-one : (slots : List Slot) (named : Option ℕ) (k : ℕ) → ForSome named (λ number. IsSome (rule_in slots number)) → uses_in (used slots named) k ≡ uses_in slots k + cond (is_number k named) 1 0
-uses_in-one slots None k there = omega arith
-uses_in-one slots (Some number) k there = uses_in-used slots number k (there number refl)
-
-pub uses_in-one_less : (slots : List Slot) (named : Option ℕ) (k : ℕ) → uses_in (unused slots named) k ≡ uses_in slots k - cond (is_number k named) 1 0
-uses_in-one_less slots None k = omega arith
-uses_in-one_less slots (Some number) k = uses_in-unused slots number k
 
 kept_in-all_used : (slots : List Slot) (runs : List (Run (Option ℕ))) (k : ℕ) → kept_in (all_used slots runs) k ≡ kept_in slots k
 kept_in-all_used slots [] k = refl

@@ -52,16 +52,24 @@ pub(crate) struct Beside {
 /// How far a page lies behind the first page of a run; none where it lies before it. Nothing else
 /// reads a run's first page.
 #[inline]
-fn behind_first(run: &Run<Option<u32>>, page: u64, steps: &mut Steps) -> Option<u64>
-    ensures counted { steps.new ≡ one_comparison steps.old }
-    ensures far { MatchOption result (page < run.now.first) (λ far. run.now.first + far ≡ page) }
+fn behind_first(run: &Run<Option<u32>>, page: u64) -> Option<u64>
+    ensures { MatchOption result (page < run.now.first) (λ far. run.now.first + far ≡ page) }
 {
-    steps.compared();
     if page < run.first {
         None
     } else {
         Some(page - run.first)
     }
+}
+
+/// The same, by a search that counts its comparisons.
+#[inline]
+fn compared(run: &Run<Option<u32>>, page: u64, steps: &mut Steps) -> Option<u64>
+    ensures counted { steps.new ≡ one_comparison steps.old }
+    ensures far { MatchOption result (page < run.now.first) (λ far. run.now.first + far ≡ page) }
+{
+    steps.compared();
+    behind_first(run, page)
 }
 
 /// What a run says of the page that lies so far behind its first page; none where the run is
@@ -104,7 +112,7 @@ fn split_rows(
         let middle = low + (high - low) / 2;
         part = items.part_with(part, middle, below / 2 + above / 2);
         let run = items.row_in(&part, middle);
-        match behind_first(run, page, steps) {
+        match compared(run, page, steps) {
             Some(distance) => {
                 far = distance;
                 low = middle + 1;
@@ -119,13 +127,25 @@ fn split_rows(
     (low, far, below)
 }
 
+/// A place from which on a window is looked for, some places before a guess at its first.
+fn start_before(guess: usize, runs: usize) -> usize
+    ensures { result ≤ runs }
+{
+    guess.min(runs).saturating_sub(BEFORE)
+}
+
+/// A guess at the chunk of a place, as if all chunks had as many runs.
+fn chunk_of(place: usize, chunks: usize, runs: usize) -> usize {
+    place.saturating_mul(chunks) / runs.max(1)
+}
+
 /// Whether a run begins behind a page.
 #[inline]
 fn begins_behind(run: &Run<Option<u32>>, page: u64) -> bool
     ensures behind { result ≡ true → page < run.now.first }
     ensures begun { result ≡ false → run.now.first ≤ page }
 {
-    behind_first(run, page, &mut Steps::new()).is_none()
+    behind_first(run, page).is_none()
 }
 
 /// The place behind a run that ends before a page; for another the place from before.
@@ -135,7 +155,7 @@ fn behind_ended(run: &Run<Option<u32>>, page: u64, from: usize, place: usize) ->
     ensures ended { end_of run.now < page → result ≡ place }
     ensures reaches { page ≤ end_of run.now → result ≡ from }
 {
-    match behind_first(run, page, &mut Steps::new()) {
+    match behind_first(run, page) {
         Some(far) if run.pages < far => place,
         _ => from,
     }
@@ -324,7 +344,7 @@ impl Runs {
             return None;
         }
         let run = self.items.get_near(place, &mut seen.chunk);
-        let far = behind_first(run, page, &mut Steps::new())?;
+        let far = behind_first(run, page)?;
         let found = found_in(run, far)?;
         seen.place = place + 1;
         Some(found)
@@ -389,9 +409,9 @@ impl Runs {
     pub(crate) fn window_near(&self, first: u64, end: u64, guess: usize) -> Beside
         ensures { first ≤ end → IsWindow self.now first end result.from result.to }
     {
-        let place = guess.min(self.items.len());
-        let start = place.saturating_sub(BEFORE);
-        let chunk = self.chunk_of(start);
+        let runs = self.items.len();
+        let start = start_before(guess, runs);
+        let chunk = chunk_of(start, self.items.chunk_count(), runs);
         if let Some(found) = window_from(&self.items, first, end, start, chunk) {
             return found;
         }
@@ -401,12 +421,6 @@ impl Runs {
             to,
             near: chunk,
         }
-    }
-
-    /// A guess at the chunk of a place, as if all chunks had as many runs.
-    fn chunk_of(&self, place: usize) -> usize {
-        let chunks = self.items.chunk_count();
-        place.saturating_mul(chunks) / self.items.len().max(1)
     }
 
     /// What the runs say of a page, which the run at a place, that stands in a chunk or near it, is

@@ -94,7 +94,7 @@ pub(crate) fn use_rule(slots: &mut Vec<Slot>, number: u32)
 }
 
 /// Counts one use of a rule less.
-pub(crate) fn leave_rule(slots: &mut Vec<Slot>, number: u32)
+fn leave_rule(slots: &mut Vec<Slot>, number: u32)
     requires { 0 < uses_in slots.old.items number }
     ensures { slots.new.items ≡ unused slots.old.items (Some number) }
 {
@@ -105,7 +105,7 @@ pub(crate) fn leave_rule(slots: &mut Vec<Slot>, number: u32)
 }
 
 /// Counts one more use of a rule, if one is named.
-fn use_named(slots: &mut Vec<Slot>, named: Option<u32>)
+pub(crate) fn use_named(slots: &mut Vec<Slot>, named: Option<u32>)
     requires there { ForSome named (λ number. IsSome (rule_in slots.old.items number)) }
     requires few { ForSome named (λ number. uses_in slots.old.items number < 2 ^ 32 - 1) }
     ensures { slots.new.items ≡ used slots.old.items named }
@@ -116,7 +116,7 @@ fn use_named(slots: &mut Vec<Slot>, named: Option<u32>)
 }
 
 /// Counts one use of a rule less, if one is named.
-fn leave_named(slots: &mut Vec<Slot>, named: Option<u32>)
+pub(crate) fn leave_named(slots: &mut Vec<Slot>, named: Option<u32>)
     requires { ForSome named (λ number. 0 < uses_in slots.old.items number) }
     ensures { slots.new.items ≡ unused slots.old.items named }
 {

@@ -14,7 +14,7 @@ use crate::plan::Plan;
 use crate::rule::Rule;
 use crate::runs::Runs;
 use crate::shared_rule::SharedRule;
-use crate::slots::{leave_rule, lowest_free, put_rule, use_rule};
+use crate::slots::{leave_named, lowest_free, put_rule, use_named, use_rule};
 use crate::steps::Steps;
 use numa_machine::NoMemory;
 use numa_mode::Record;
@@ -98,9 +98,7 @@ impl Plan {
     {
         let named = run.value;
         self.runs.push(run, steps)?;
-        if let Some(number) = named {
-            use_rule(&mut self.slots, number);
-        }
+        use_named(&mut self.slots, named);
         Ok(())
     }
 
@@ -147,9 +145,7 @@ impl Plan {
         }
         let had = self.tasks.insert(task, number)?;
         use_rule(&mut self.slots, number);
-        if let Some(had) = had {
-            leave_rule(&mut self.slots, had);
-        }
+        leave_named(&mut self.slots, had);
         Ok(())
     }
 
@@ -161,9 +157,8 @@ impl Plan {
             → number_of self.new.tasks other ≡ number_of self.old.tasks other }
         ensures sized { length self.new.tasks ≤ length self.old.tasks + 1 }
     {
-        if let Some(had) = self.tasks.remove(&task) {
-            leave_rule(&mut self.slots, had);
-        }
+        let had = self.tasks.remove(&task);
+        leave_named(&mut self.slots, had);
     }
 
     /// Sets the version.

@@ -1,8 +1,9 @@
-use Rattle.std.proofs.Common.{List, length, ap, ◌∙◌, arith}
+use Rattle.std.proofs.Common.{◌≡◌, ℕ, Some, List, length, ap, sym, ◌∙◌, arith}
 use Rattle.numa_plan.specs.Meaning.{PlanData, planned_list}
+use Rattle.numa_plan.specs.Slots.{kept_in, put_slot}
 use Rattle.numa_plan.specs.declared.slots.Slot.{Slot}
 use Rattle.numa_plan.specs.declared.slots.Slot.TheVariants.{Taken}
-use Rattle.numa_plan.proofs.SlotLemmas.{put-sized}
+use Rattle.numa_plan.proofs.SlotLemmas.{kept_in-put, kept_in-put_other, put-sized}
 use Rattle.numa_plan.proofs.BuildLemmas.{keeps_with_rule, lists-with_rule}
 use Rattle.numa_plan.proofs.plan.Plan.add_rule.Goals as goal
 
@@ -22,3 +23,17 @@ returns-clause-lists c task page cpu =
     ap (λ (slots : List Slot). planned_list (record plan { slots = slots }) task page cpu) c.in_ok-put_rule.ensures.ok
     ∙ lists-with_rule plan c.self.inside.lowest_free c.lowest_free-place.result c.in_ok-shared.shared c.self.invariant c.lowest_free-place.ensures task page cpu
     ∙ ap (λ (p : PlanData). planned_list p task page cpu) c.self.view_is
+
+pub returns-clause-here : goal.returns-clause-here
+returns-clause-here c =
+    let slots = c.self.inside.slots.items in
+    let place = c.lowest_free-place.result in
+    ap (λ (slots : List Slot). kept_in slots c.in-Ok.number) c.in_ok-put_rule.ensures.ok
+    ∙ ap (λ (n : ℕ). kept_in (put_slot slots place (Taken 0 c.in_ok-shared.shared)) n) c.in-Ok.ensures.1
+    ∙ kept_in-put slots place c.in_ok-shared.shared c.lowest_free-place.ensures.within ∙ ap Some c.in_ok-shared.ensures
+
+pub returns-clause-others : goal.returns-clause-others
+returns-clause-others c other ne =
+    ap (λ (slots : List Slot). kept_in slots other) c.in_ok-put_rule.ensures.ok
+    ∙ kept_in-put_other c.self.inside.slots.items c.lowest_free-place.result other c.in_ok-shared.shared c.lowest_free-place.ensures.within (λ (is : other ≡ c.lowest_free-place.result). ne (is ∙ sym c.in-Ok.ensures.1))
+    ∙ ap (λ (p : PlanData). kept_in p.slots other) c.self.view_is

@@ -16,5 +16,5 @@ returns c =
     let run = c.get_near-run.result.now in
     let is : (d : Run (Option ℕ)) → run ≡ get_or c.args.self.now place d = λ d. c.get_near-run.ensures d ∙ ap (λ runs. get_or runs place d) c.self.view_is in
     beside_found c.args.self.now c.args.page place c.in_ok-far.far c.in_ok-found.found c.len.ensures.apart (omega (arith, c.len.ensures.count))
-    (λ d. subst (λ (r : Run (Option ℕ)). r.first + c.in_ok-far.far ≡ c.args.page) (is d) c.in_ok-far.ensures.far)
+    (λ d. subst (λ (r : Run (Option ℕ)). r.first + c.in_ok-far.far ≡ c.args.page) (is d) c.in_ok-far.ensures)
     (λ d. subst (λ (r : Run (Option ℕ)). IsPartOf r c.in_ok-far.far c.in_ok-found.found) (is d) c.in_ok-found.ensures)
