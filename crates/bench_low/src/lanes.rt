@@ -15,6 +15,21 @@ use std::rt::Clock;
 /// The sizes of the spans: 4 KiB, 1 MiB and 64 MiB.
 const SIZES: [usize; 3] = [4_096, 1_048_576, 67_108_864];
 
+/// Measures this over a span of each size, of nodes that lie by this mix.
+fn measure_sizes<R: Print + Clock>(
+    rt: &R,
+    work: Work,
+    mix: &str,
+    span: &[u8],
+    out: &mut [u8],
+    tools: &mut Tools,
+) -> io::Result<()> {
+    for size in SIZES {
+        time_beside(rt, work, mix, size, span, out, tools)?;
+    }
+    Ok(())
+}
+
 /// Measures the fills and the count of one node over a span of each size.
 fn measure_spans<R: Print + Clock>(
     rt: &R,
@@ -23,10 +38,8 @@ fn measure_spans<R: Print + Clock>(
     tools: &mut Tools,
 ) -> io::Result<()> {
     mixes::place(mixes::CYCLE, span);
-    for size in SIZES {
-        time_beside(rt, Work::FillOne, "seven in turn", size, span, out, tools)?;
-        time_beside(rt, Work::FillCycle, "seven in turn", size, span, out, tools)?;
-        time_beside(rt, Work::CountNode, "seven in turn", size, span, out, tools)?;
+    for work in [Work::FillOne, Work::FillCycle, Work::CountNode] {
+        measure_sizes(rt, work, "seven in turn", span, out, tools)?;
     }
     Ok(())
 }
@@ -47,9 +60,24 @@ fn measure_mixes<R: Print + Clock>(
     Ok(())
 }
 
-/// Measures the count in sets of 4, 64 and 256 nodes over a span of each size, of seven nodes in
-/// turn and of all at random.
+/// Measures the count in sets of 4, 64 and 256 nodes over a span of each size.
 fn measure_sets<R: Print + Clock>(
+    rt: &R,
+    mix: &str,
+    span: &[u8],
+    out: &mut [u8],
+    tools: &mut Tools,
+) -> io::Result<()> {
+    for count in [4, 64, 256] {
+        tools.set = first_nodes(count);
+        println!(rt; "a set of {count} nodes:")?;
+        measure_sizes(rt, Work::CountIn, mix, span, out, tools)?;
+    }
+    Ok(())
+}
+
+/// The same of seven nodes in turn and of all at random.
+fn measure_both_sets<R: Print + Clock>(
     rt: &R,
     span: &mut [u8],
     out: &mut [u8],
@@ -60,38 +88,48 @@ fn measure_sets<R: Print + Clock>(
         (mixes::RANDOM, "all at random"),
     ] {
         mixes::place(mix, span);
-        for count in [4, 64, 256] {
-            tools.set = first_nodes(count);
-            println!(rt; "a set of {count} nodes:")?;
-            for size in SIZES {
-                time_beside(rt, Work::CountIn, name, size, span, out, tools)?;
-            }
-        }
+        measure_sets(rt, name, span, out, tools)?;
     }
     Ok(())
 }
 
+/// Measures all, and prints the sum of the answers.
+fn measure_all<R: Print + Clock>(
+    rt: &R,
+    span: &mut [u8],
+    out: &mut [u8],
+    tools: &mut Tools,
+) -> io::Result<()> {
+    measure_spans(rt, span, out, tools)?;
+    measure_mixes(rt, span, out, tools)?;
+    measure_both_sets(rt, span, out, tools)?;
+    let answers = tools.answers;
+    println!(rt; "sum of answers {answers}")
+}
+
+/// As many pages as the largest span has.
+fn pages_of(alloc: Global) -> io::Result<Vec<u8>> {
+    Ok(vec![in alloc; 0u8; 67_108_864]?)
+}
+
 /// Prints checksums of what the kernels answer.
-pub fn checksums<R: Print + AllocGlobal>(rt: &R, alloc: Global) -> io::Result<()> {
+pub fn checksums(rt: &impl Print, alloc: Global) -> io::Result<()> {
+    let mut span = vec![in alloc; 0u8; 20_000]?;
     let cycle = cycle_of_seven(alloc)?;
-    checks::print(rt, &cycle)
+    checks::print(rt, &cycle, &mut span)
 }
 
 /// Prints how long each kernel takes beside a plain form of the same work.
 pub fn measure<R: Print + Clock>(rt: &R, alloc: Global) -> io::Result<()> {
+    let mut span = pages_of(alloc)?;
+    let mut out = pages_of(alloc)?;
     let mut tools = Tools {
         cycle: cycle_of_seven(alloc)?,
         set: first_nodes(4),
         counts: [0; 256],
         answers: 0,
     };
-    let mut span = vec![in alloc; 0u8; 67_108_864]?;
-    let mut out = vec![in alloc; 0u8; 67_108_864]?;
-    measure_spans(rt, &mut span, &mut out, &mut tools)?;
-    measure_mixes(rt, &mut span, &mut out, &mut tools)?;
-    measure_sets(rt, &mut span, &mut out, &mut tools)?;
-    let answers = tools.answers;
-    println!(rt; "sum of answers {answers}")
+    measure_all(rt, &mut span, &mut out, &mut tools)
 }
 
 /// A cycle of seven nodes.

@@ -14,36 +14,62 @@ use numa_examples::wanted::{Wanted, read_wanted};
 use std::io;
 use std::rt::Clock;
 
+/// What is measured together.
+#[derive(Clone, Copy)]
+enum Part {
+    Mask,
+    Lanes,
+    Machine,
+    Rows,
+    Ranges,
+}
+
+/// The parts with their names.
+const PARTS: [(Part, &str); 5] = [
+    (Part::Mask, "mask"),
+    (Part::Lanes, "lanes"),
+    (Part::Machine, "machine"),
+    (Part::Rows, "rows"),
+    (Part::Ranges, "ranges"),
+];
+
+/// Prints the checksums of a part.
+fn checksums_of<R: Print + AllocGlobal>(rt: &R, part: Part) -> io::Result<()> {
+    match part {
+        Part::Mask => mask::checksums(rt),
+        Part::Lanes => lanes::checksums(rt, rt.alloc()),
+        Part::Machine => machine::checksums(rt),
+        Part::Rows => rows::checksums(rt, rt.alloc()),
+        Part::Ranges => ranges::checksums(rt, rt.alloc()),
+    }
+}
+
 /// Prints the checksums of each part.
 fn checksums<R: Print + AllocGlobal>(rt: &R) -> io::Result<()> {
-    println!(rt; "== mask")?;
-    mask::checksums(rt)?;
-    println!(rt; "== lanes")?;
-    lanes::checksums(rt, rt.alloc())?;
-    println!(rt; "== machine")?;
-    machine::checksums(rt)?;
-    println!(rt; "== rows")?;
-    rows::checksums(rt, rt.alloc())?;
-    println!(rt; "== ranges")?;
-    ranges::checksums(rt, rt.alloc())
+    for (part, name) in PARTS {
+        println!(rt; "== {name}")?;
+        checksums_of(rt, part)?;
+    }
+    Ok(())
+}
+
+/// Prints the ratios of a part.
+fn measure_part<R: Print + Clock + AllocGlobal>(rt: &R, part: Part) -> io::Result<()> {
+    match part {
+        Part::Mask => mask::measure(rt),
+        Part::Lanes => lanes::measure(rt, rt.alloc()),
+        Part::Machine => machine::measure(rt),
+        Part::Rows => rows::measure(rt, rt.alloc()),
+        Part::Ranges => ranges::measure(rt, rt.alloc()),
+    }
 }
 
 /// Prints the ratios of the part that is named, or of all.
-fn measure<R: Print + Clock + AllocGlobal>(rt: &R, part: &str) -> io::Result<()> {
-    if part == "mask" || part.is_empty() {
-        mask::measure(rt)?;
-    }
-    if part == "lanes" || part.is_empty() {
-        lanes::measure(rt, rt.alloc())?;
-    }
-    if part == "machine" || part.is_empty() {
-        machine::measure(rt)?;
-    }
-    if part == "rows" || part.is_empty() {
-        rows::measure(rt, rt.alloc())?;
-    }
-    if part == "ranges" || part.is_empty() {
-        ranges::measure(rt, rt.alloc())?;
+fn measure<R: Print + Clock + AllocGlobal>(rt: &R, wanted: &str) -> io::Result<()> {
+    for (part, name) in PARTS {
+        if wanted.is_empty() || wanted == name {
+            measure_part(rt, part)?;
+        }
     }
     Ok(())
 }

@@ -39,57 +39,45 @@ fn copied(set: &NodeMask) -> NodeMask {
     copy
 }
 
-/// The best time of a round of plain copies, in nanoseconds.
-fn time_copies<R: Clock>(rt: &R, full: &NodeMask) -> io::Result<u64> {
-    let (best, _) = best_of(rt, ROUNDS, || {
-        let mut set = *full;
-        for _ in 0..CALLS {
-            set = black_box(copied(&set));
-        }
-        u64::from(set.weight())
-    })?;
-    Ok(best)
+/// A call on a full set.
+#[derive(Clone, Copy)]
+enum Call {
+    /// The baseline.
+    Copied,
+    /// `remap` from the full set to this one.
+    Remap(NodeMask),
+    /// `onto` this set.
+    Onto(NodeMask),
+    /// `fold` by 10.
+    Fold,
 }
 
-/// The same of `remap` from one set to another.
-fn time_remaps<R: Clock>(
-    rt: &R,
-    full: &NodeMask,
-    old: &NodeMask,
-    new: &NodeMask,
-) -> io::Result<u64> {
-    let (best, _) = best_of(rt, ROUNDS, || {
-        for _ in 0..CALLS {
-            let _ = black_box(black_box(full).remap(old, new));
-        }
-        0
-    })?;
-    Ok(best)
+/// What the call gives.
+fn result_of(call: &Call, full: &NodeMask) -> NodeMask {
+    match call {
+        Call::Copied => copied(full),
+        Call::Remap(new) => full.remap(full, new),
+        Call::Onto(other) => full.onto(other),
+        Call::Fold => full.fold(10),
+    }
 }
 
-/// The same of `onto` another set.
-fn time_ontos<R: Clock>(rt: &R, full: &NodeMask, other: &NodeMask) -> io::Result<u64> {
-    let (best, _) = best_of(rt, ROUNDS, || {
-        for _ in 0..CALLS {
-            let _ = black_box(black_box(full).onto(other));
-        }
-        0
-    })?;
-    Ok(best)
+/// How many nodes a round of calls gives, so that none is left out.
+fn nodes_given(call: &Call, full: &NodeMask) -> u64 {
+    let mut sum = 0u64;
+    for _ in 0..CALLS {
+        let given = black_box(result_of(call, black_box(full)));
+        sum = sum.wrapping_add(u64::from(given.weight()));
+    }
+    sum
 }
 
-/// The same of `fold` by 10.
-fn time_folds<R: Clock>(rt: &R, full: &NodeMask) -> io::Result<u64> {
-    let (best, _) = best_of(rt, ROUNDS, || {
-        for _ in 0..CALLS {
-            let _ = black_box(black_box(full).fold(10));
-        }
-        0
-    })?;
-    Ok(best)
+/// The best time of a round of calls, in nanoseconds, and how many nodes all rounds gave.
+fn time<R: Clock>(rt: &R, call: &Call, full: &NodeMask) -> io::Result<(u64, u64)> {
+    best_of(rt, ROUNDS, || nodes_given(call, full))
 }
 
-/// A time as so many tenths of the baseline.
+/// Prints a time as so many tenths of the baseline.
 fn print_ratio(rt: &impl Print, name: &str, spent: u64, baseline: u64) -> io::Result<()> {
     let tenths = spent.saturating_mul(10) / baseline.max(1);
     let whole = tenths / 10;
@@ -97,28 +85,35 @@ fn print_ratio(rt: &impl Print, name: &str, spent: u64, baseline: u64) -> io::Re
     println!(rt; "{name}: {whole}.{rest} of a copy by iter and insert")
 }
 
+/// Prints the ratio of each call, and how many nodes all gave.
+fn print_ratios<R: Print + Clock>(rt: &R, full: &NodeMask, baseline: u64) -> io::Result<()> {
+    let even = stepped(2, 0);
+    let mut nodes = 0u64;
+    for (name, call) in [
+        ("remap full to full", Call::Remap(*full)),
+        ("remap full to even", Call::Remap(even)),
+        ("onto full", Call::Onto(*full)),
+        ("onto even", Call::Onto(even)),
+        ("fold by 10", Call::Fold),
+    ] {
+        let (spent, given) = time(rt, &call, full)?;
+        nodes = nodes.wrapping_add(given);
+        print_ratio(rt, name, spent, baseline)?;
+    }
+    println!(rt; "nodes {nodes}")
+}
+
 /// Prints ratios.
 pub fn measure<R: Print + Clock>(rt: &R) -> io::Result<()> {
     let full = stepped(1, 0);
-    let baseline = time_copies(rt, &full)?;
+    let (baseline, nodes) = time(rt, &Call::Copied, &full)?;
     let each = baseline / u64::from(CALLS);
-    println!(rt; "copy: {each} ns for 256 nodes")?;
-    let even = stepped(2, 0);
-    print_ratio(
-        rt,
-        "remap full to full",
-        time_remaps(rt, &full, &full, &full)?,
-        baseline,
-    )?;
-    print_ratio(
-        rt,
-        "remap full to even",
-        time_remaps(rt, &full, &full, &even)?,
-        baseline,
-    )?;
-    print_ratio(rt, "onto full", time_ontos(rt, &full, &full)?, baseline)?;
-    print_ratio(rt, "onto even", time_ontos(rt, &full, &even)?, baseline)?;
-    print_ratio(rt, "fold by 10", time_folds(rt, &full)?, baseline)
+    println!(rt; "copy: {each} ns for 256 nodes, {nodes} nodes in all")?;
+    print_ratios(rt, &full, baseline)
+}
+
+fn print_list(rt: &impl Print, name: &str, set: &NodeMask) -> io::Result<()> {
+    println!(rt; "{name} {}", list_text(set).as_str())
 }
 
 /// Prints the texts of sets.
@@ -126,16 +121,15 @@ pub fn checksums(rt: &impl Print) -> io::Result<()> {
     let full = stepped(1, 0);
     let even = stepped(2, 0);
     let third = stepped(3, 1);
-    println!(rt; "copy {}", list_text(&copied(&full)).as_str())?;
-    println!(rt;
-        "remap full {}",
-        list_text(&full.remap(&full, &full)).as_str()
-    )?;
-    println!(rt;
-        "remap third {}",
-        list_text(&third.remap(&even, &third)).as_str()
-    )?;
-    println!(rt; "onto full {}", list_text(&full.onto(&full)).as_str())?;
-    println!(rt; "onto even {}", list_text(&third.onto(&even)).as_str())?;
-    println!(rt; "fold {}", list_text(&third.fold(10)).as_str())
+    for (name, set) in [
+        ("copy", copied(&full)),
+        ("remap full", full.remap(&full, &full)),
+        ("remap third", third.remap(&even, &third)),
+        ("onto full", full.onto(&full)),
+        ("onto even", third.onto(&even)),
+        ("fold", third.fold(10)),
+    ] {
+        print_list(rt, name, &set)?;
+    }
+    Ok(())
 }

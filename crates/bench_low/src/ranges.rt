@@ -43,21 +43,58 @@ fn tell(rt: &impl Print, what: &str, map: &RangeMap<u64>) -> io::Result<()> {
     println!(rt; "{what}: {ranges} ranges, checksum {sum}")
 }
 
-/// Runs each call once on the large map and prints what it left.
+/// A call on the large map.
+#[derive(Clone, Copy)]
+enum Call {
+    Nothing,
+    /// The middle page gets this value.
+    Set(u64),
+    /// The values of a span are halved.
+    Halve,
+    Unmap,
+    Map,
+    /// All values are halved.
+    HalveAll,
+}
+
+/// The calls in turn, and what they leave.
+const CALLS: [(Call, &str); 7] = [
+    (Call::Nothing, "spread"),
+    (Call::Set(2), "one page set apart"),
+    (Call::Set(1), "and joined back"),
+    (Call::Halve, "a span updated"),
+    (Call::Unmap, "a span unmapped"),
+    (Call::Map, "and mapped again"),
+    (Call::HalveAll, "all made equal"),
+];
+
+/// Makes the call.
+fn run(map: &mut RangeMap<u64>, call: Call) {
+    match call {
+        Call::Nothing => {}
+        Call::Set(value) => {
+            let _ = map.set_span(MIDDLE, 1, value);
+        }
+        Call::Halve => {
+            let _ = map.update_span(100_000, 60_000, |value| *value / 2);
+        }
+        Call::Unmap => {
+            let _ = map.unmap_span(50_001, 100_001);
+        }
+        Call::Map => {
+            let _ = map.map_span(50_001, 100_001, 50_001, 1);
+        }
+        Call::HalveAll => map.update_all(|value| *value / 2),
+    }
+}
+
+/// Makes each call on the large map and prints what it left.
 fn print_checksums(rt: &impl Print, map: &mut RangeMap<u64>) -> io::Result<()> {
-    tell(rt, "spread", map)?;
-    let _ = map.set_span(MIDDLE, 1, 2);
-    tell(rt, "one page set apart", map)?;
-    let _ = map.set_span(MIDDLE, 1, 1);
-    tell(rt, "and joined back", map)?;
-    let _ = map.update_span(100_000, 60_000, |value| *value / 2);
-    tell(rt, "a span updated", map)?;
-    let _ = map.unmap_span(50_001, 100_001);
-    tell(rt, "a span unmapped", map)?;
-    let _ = map.map_span(50_001, 100_001, 50_001, 1);
-    tell(rt, "and mapped again", map)?;
-    map.update_all(|value| *value / 2);
-    tell(rt, "all made equal", map)
+    for (call, what) in CALLS {
+        run(map, call);
+        tell(rt, what, map)?;
+    }
+    Ok(())
 }
 
 /// The best time of a split of the middle range and the join that undoes it.
@@ -93,7 +130,8 @@ fn found(map: &RangeMap<u64>) -> u64 {
     sum
 }
 
-fn measure_calls<R: Clock + Print>(
+/// Prints the ratio of edits.
+fn measure_edits<R: Clock + Print>(
     rt: &R,
     map: &mut RangeMap<u64>,
     rows: &mut Vec<Row>,
@@ -105,11 +143,25 @@ fn measure_calls<R: Clock + Print>(
         "set_span of a middle page, split and joined back, over two moves of half the vector",
         edits,
         moves,
-    )?;
+    )
+}
+
+/// Prints the ratio of look-ups.
+fn measure_looks<R: Clock + Print>(rt: &R, map: &RangeMap<u64>, rows: &[Row]) -> io::Result<()> {
     let (looks, found) = best_of(rt, 40, || found(map))?;
     let (points, counted) = best_of(rt, 40, || places_in(rows))?;
     print_ratio(rt, "at over partition_point", looks, points)?;
     println!(rt; "sums {found} {counted}")
+}
+
+/// Prints all ratios.
+fn measure_calls<R: Clock + Print>(
+    rt: &R,
+    map: &mut RangeMap<u64>,
+    rows: &mut Vec<Row>,
+) -> io::Result<()> {
+    measure_edits(rt, map, rows)?;
+    measure_looks(rt, map, rows)
 }
 
 /// Prints checksums of what the calls leave.
@@ -120,7 +172,7 @@ pub fn checksums(rt: &impl Print, alloc: Global) -> io::Result<()> {
 
 /// Prints how long the calls take beside the least that a sorted vector needs.
 pub fn measure<R: Print + Clock>(rt: &R, alloc: Global) -> io::Result<()> {
-    let mut map = spread(alloc);
     let mut rows = rows_of(alloc, 1)?;
+    let mut map = spread(alloc);
     measure_calls(rt, &mut map, &mut rows)
 }

@@ -28,23 +28,19 @@ fn places<K: Keep<Row>>(rows: &Rows<Row, K>) -> u64 {
     sum
 }
 
-/// The sum that a round finds in owned chunks.
-fn places_in_owned(alloc: Global, plain: &[Row]) -> Result<u64, AllocError> {
-    let rows: Rows<Row, Owned<Row>> = chunked(alloc, plain)?;
-    Ok(places(&rows))
-}
-
-/// The sum that a round finds in chunks that copies share.
-fn places_in_shared(alloc: Global, plain: &[Row]) -> Result<u64, AllocError> {
-    let rows: Rows<Row, Shared<Row>> = chunked(alloc, plain)?;
-    Ok(places(&rows))
+/// The sum that a round finds in such chunks.
+fn places_in_chunks<K: Keep<Row>>(alloc: Global, plain: &[Row]) -> Result<u64, AllocError> {
+    let rows: Rows<Row, K> = chunked(alloc, plain)?;
+    let sum = places(&rows);
+    drop(rows);
+    Ok(sum)
 }
 
 /// Prints the sums of the places that are found.
 pub fn checksums(rt: &impl Print, alloc: Global) -> io::Result<()> {
     let plain = rows_of(alloc, POLICIES)?;
-    let owned = places_in_owned(alloc, &plain)?;
-    let shared = places_in_shared(alloc, &plain)?;
+    let owned = places_in_chunks::<Owned<Row>>(alloc, &plain)?;
+    let shared = places_in_chunks::<Shared<Row>>(alloc, &plain)?;
     let wanted = places_in(&plain);
     println!(rt; "places in owned chunks {owned}, in shared ones {shared}, in one vector {wanted}")
 }
@@ -61,15 +57,32 @@ fn measure_chunks<R: Print + Clock, K: Keep<Row>>(
     println!(rt; "sum {sum}")
 }
 
+/// The same of such chunks.
+fn measure_kind<R: Print + Clock, K: Keep<Row>>(
+    rt: &R,
+    alloc: Global,
+    what: &str,
+    plain: &[Row],
+    baseline: u64,
+) -> io::Result<()> {
+    let rows: Rows<Row, K> = chunked(alloc, plain)?;
+    let done = measure_chunks(rt, what, &rows, baseline);
+    drop(rows);
+    done
+}
+
+/// Prints the ratios of both kinds of chunks.
+fn measure_kinds<R: Print + Clock>(rt: &R, alloc: Global, plain: &[Row]) -> io::Result<()> {
+    let (baseline, sum) = best_of(rt, 40, || places_in(plain))?;
+    println!(rt; "sum {sum}")?;
+    let what = "partition_point of shared chunks over that of a vector of the same rows";
+    measure_kind::<R, Shared<Row>>(rt, alloc, what, plain, baseline)?;
+    let what = "partition_point of owned chunks over that of a vector of the same rows";
+    measure_kind::<R, Owned<Row>>(rt, alloc, what, plain, baseline)
+}
+
 /// Prints how long look-ups take.
 pub fn measure<R: Print + Clock>(rt: &R, alloc: Global) -> io::Result<()> {
     let plain = rows_of(alloc, POLICIES)?;
-    let (baseline, sum) = best_of(rt, 40, || places_in(&plain))?;
-    println!(rt; "sum {sum}")?;
-    let shared: Rows<Row, Shared<Row>> = chunked(alloc, &plain)?;
-    let what = "partition_point of shared chunks over that of a vector of the same rows";
-    measure_chunks(rt, what, &shared, baseline)?;
-    let owned: Rows<Row, Owned<Row>> = chunked(alloc, &plain)?;
-    let what = "partition_point of owned chunks over that of a vector of the same rows";
-    measure_chunks(rt, what, &owned, baseline)
+    measure_kinds(rt, alloc, &plain)
 }

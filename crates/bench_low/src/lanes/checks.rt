@@ -1,8 +1,9 @@
 //! Checksums of what the kernels answer.
 
 use crate::lanes::mixes;
+use numa_examples::set_of;
 use numa_lanes::{Cycle, count_all, count_in, count_node, fill_cycle, fill_one};
-use numa_mask::{NodeId, NodeMask};
+use numa_mask::NodeMask;
 use std::io;
 
 /// The lengths of the spans.
@@ -27,15 +28,7 @@ fn checksum_of_counts(counts: &[u64; 256]) -> u32 {
 }
 
 /// The nodes at both ends of the words of a set, and 7.
-fn border_nodes() -> NodeMask {
-    let mut set = NodeMask::empty();
-    for number in [0, 7, 63, 64, 127, 128, 191, 192, 255] {
-        if let Some(node) = NodeId::new(number) {
-            set.insert(node);
-        }
-    }
-    set
-}
+const BORDERS: [u8; 9] = [0, 7, 63, 64, 127, 128, 191, 192, 255];
 
 fn print_fills<R: Print>(rt: &R, cycle: &Cycle, out: &mut [u8]) -> io::Result<()> {
     let pages = out.len();
@@ -56,22 +49,38 @@ fn print_counts<R: Print>(rt: &R, mix: &str, span: &[u8], set: &NodeMask) -> io:
     println!(rt; "{pages} pages, {mix}: count_node {one}, count_in {within}, count_all {all}")
 }
 
-/// Prints a line for the fills of each length, and for the counts of each length and mix.
-pub fn print<R: Print + AllocGlobal>(rt: &R, cycle: &Cycle) -> io::Result<()> {
-    let mut span = vec![in rt.alloc(); 0u8; 20_000]?;
-    let set = border_nodes();
+/// The same for each length.
+fn print_all_fills<R: Print>(rt: &R, cycle: &Cycle, span: &mut [u8]) -> io::Result<()> {
     for pages in LENGTHS {
-        if pages <= span.len() {
-            print_fills(rt, cycle, &mut span[..pages])?;
-        }
-    }
-    for (mix, name) in mixes::ALL {
-        mixes::place(mix, &mut span);
-        for pages in LENGTHS {
-            if pages <= span.len() {
-                print_counts(rt, name, &span[..pages], &set)?;
-            }
+        if let Some(out) = span.get_mut(..pages) {
+            print_fills(rt, cycle, out)?;
         }
     }
     Ok(())
+}
+
+/// The same for each length.
+fn print_all_counts<R: Print>(rt: &R, mix: &str, span: &[u8], set: &NodeMask) -> io::Result<()> {
+    for pages in LENGTHS {
+        if let Some(part) = span.get(..pages) {
+            print_counts(rt, mix, part, set)?;
+        }
+    }
+    Ok(())
+}
+
+/// The same for each mix.
+fn print_mixes<R: Print>(rt: &R, span: &mut [u8]) -> io::Result<()> {
+    let set = set_of(&BORDERS);
+    for (mix, name) in mixes::ALL {
+        mixes::place(mix, span);
+        print_all_counts(rt, name, span, &set)?;
+    }
+    Ok(())
+}
+
+/// Prints a line for the fills of each length, and for the counts of each length and mix.
+pub fn print<R: Print>(rt: &R, cycle: &Cycle, span: &mut [u8]) -> io::Result<()> {
+    print_all_fills(rt, cycle, span)?;
+    print_mixes(rt, span)
 }

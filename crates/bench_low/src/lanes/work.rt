@@ -119,6 +119,39 @@ fn time<R: Clock>(
     Ok(nanos(start.elapsed(rt)?))
 }
 
+/// The best times of so many turns of a kernel and of its plain form.
+fn best_times<R: Clock>(
+    rt: &R,
+    work: Work,
+    turns: u64,
+    span: &[u8],
+    out: &mut [u8],
+    tools: &mut Tools,
+) -> io::Result<(u64, u64)> {
+    let mut ours = u64::MAX;
+    let mut theirs = u64::MAX;
+    for round in 0..ROUNDS {
+        ours = ours.min(time(rt, work, false, round, turns, span, out, tools)?);
+        theirs = theirs.min(time(rt, work, true, round, turns, span, out, tools)?);
+    }
+    Ok((ours, theirs))
+}
+
+/// Prints the ratio of those times over so many pages.
+fn print_times(
+    rt: &impl Print,
+    work: Work,
+    mix: &str,
+    size: usize,
+    turns: u64,
+    (ours, theirs): (u64, u64),
+) -> io::Result<()> {
+    let (kernel, plain) = names(work);
+    let percent = ours.wrapping_mul(100) / theirs.max(1);
+    let picoseconds = u128::from(ours) * 1_000 / (u128::from(turns) * size as u128).max(1);
+    println!(rt; "{kernel} {mix} {size}: {percent} % of {plain}, {picoseconds} ps a page")
+}
+
 /// Prints the time of a kernel over the first `size` pages of a span as a ratio to that of its
 /// plain form.
 pub fn time_beside<R: Print + Clock>(
@@ -130,20 +163,10 @@ pub fn time_beside<R: Print + Clock>(
     out: &mut [u8],
     tools: &mut Tools,
 ) -> io::Result<()> {
-    if size == 0 || size > span.len() || size > out.len() {
+    let turns = (STRETCH / size.max(1)).max(1) as u64;
+    let (Some(span), Some(out)) = (span.get(..size), out.get_mut(..size)) else {
         return Ok(());
-    }
-    let span = &span[..size];
-    let out = &mut out[..size];
-    let turns = (STRETCH / size).max(1) as u64;
-    let mut ours = u64::MAX;
-    let mut theirs = u64::MAX;
-    for round in 0..ROUNDS {
-        ours = ours.min(time(rt, work, false, round, turns, span, out, tools)?);
-        theirs = theirs.min(time(rt, work, true, round, turns, span, out, tools)?);
-    }
-    let (kernel, plain) = names(work);
-    let percent = ours.wrapping_mul(100) / theirs.max(1);
-    let picoseconds = (u128::from(ours) * 1_000 / (u128::from(turns) * size as u128).max(1)) as u64;
-    println!(rt; "{kernel} {mix} {size}: {percent} % of {plain}, {picoseconds} ps a page")
+    };
+    let times = best_times(rt, work, turns, span, out, tools)?;
+    print_times(rt, work, mix, size, turns, times)
 }
