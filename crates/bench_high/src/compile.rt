@@ -9,26 +9,49 @@ mod edits;
 mod spaces;
 mod times;
 
+use numa_examples::many::RANGES;
 use std::alloc::Global;
 use std::io;
 use std::rt::Clock;
 
 /// Prints checksums of the plan of a large space.
 pub fn checksums(rt: &impl Print, alloc: Global) -> io::Result<()> {
-    match spaces::spread(alloc, spaces::RANGES) {
-        Some(space) => checks::print(rt, alloc, space.space()),
+    match spaces::spread(alloc, RANGES) {
+        Some(space) => {
+            let done = checks::print(rt, alloc, space.space());
+            drop(space);
+            done
+        }
+        None => println!(rt; "no memory"),
+    }
+}
+
+/// Prints how long `compile` takes.
+fn measure_compile<R: Print + Clock>(rt: &R, alloc: Global) -> io::Result<()> {
+    match spaces::spread(alloc, RANGES) {
+        Some(space) => {
+            let done = times::print(rt, alloc, space.space());
+            drop(space);
+            done
+        }
+        None => println!(rt; "no memory"),
+    }
+}
+
+/// Prints how long a plan's edits and its copy take.
+fn measure_edits<R: Print + Clock>(rt: &R, alloc: Global) -> io::Result<()> {
+    match spaces::spread(alloc, RANGES - 2) {
+        Some(mut space) => {
+            let done = edits::print(rt, alloc, &mut space);
+            drop(space);
+            done
+        }
         None => println!(rt; "no memory"),
     }
 }
 
 /// Prints how long `compile` takes, and then how long a plan's edits and its copy take.
 pub fn measure<R: Print + Clock>(rt: &R, alloc: Global) -> io::Result<()> {
-    match spaces::spread(alloc, spaces::RANGES) {
-        Some(space) => times::print(rt, alloc, space.space()),
-        None => println!(rt; "no memory"),
-    }?;
-    match spaces::spread(alloc, spaces::RANGES - 2) {
-        Some(mut space) => edits::print(rt, alloc, &mut space),
-        None => println!(rt; "no memory"),
-    }
+    measure_compile(rt, alloc)?;
+    measure_edits(rt, alloc)
 }

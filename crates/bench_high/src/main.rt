@@ -8,51 +8,71 @@ mod compile;
 mod maps;
 mod plan;
 mod space;
-mod spaces;
-mod times;
 
+use numa_examples::wanted::{Wanted, read_wanted};
+use std::io;
 use std::rt::Clock;
-use std::{env, io};
+
+/// What is measured together.
+#[derive(Clone, Copy)]
+enum Part {
+    Space,
+    Plan,
+    Compile,
+    Maps,
+}
+
+/// The parts with their names.
+const PARTS: [(Part, &str); 4] = [
+    (Part::Space, "space"),
+    (Part::Plan, "plan"),
+    (Part::Compile, "compile"),
+    (Part::Maps, "maps"),
+];
+
+/// Prints the checksums of a part.
+fn checksums_of<R: Print + AllocGlobal>(rt: &R, part: Part) -> io::Result<()> {
+    match part {
+        Part::Space => space::checksums(rt, rt.alloc()),
+        Part::Plan => plan::checksums(rt, rt.alloc()),
+        Part::Compile => compile::checksums(rt, rt.alloc()),
+        Part::Maps => maps::checksums(rt, rt.alloc()),
+    }
+}
 
 /// Prints the checksums of each part.
 fn checksums<R: Print + AllocGlobal>(rt: &R) -> io::Result<()> {
-    println!(rt; "== space")?;
-    space::checksums(rt, rt.alloc())?;
-    println!(rt; "== plan")?;
-    plan::checksums(rt, rt.alloc())?;
-    println!(rt; "== compile")?;
-    compile::checksums(rt, rt.alloc())?;
-    println!(rt; "== maps")?;
-    maps::checksums(rt, rt.alloc())
+    for (part, name) in PARTS {
+        println!(rt; "== {name}")?;
+        checksums_of(rt, part)?;
+    }
+    Ok(())
+}
+
+/// Prints the ratios of a part.
+fn measure_part<R: Print + Clock + AllocGlobal>(rt: &R, part: Part) -> io::Result<()> {
+    match part {
+        Part::Space => space::measure(rt, rt.alloc()),
+        Part::Plan => plan::measure(rt, rt.alloc()),
+        Part::Compile => compile::measure(rt, rt.alloc()),
+        Part::Maps => maps::measure(rt, rt.alloc()),
+    }
 }
 
 /// Prints the ratios of the part that is named, or of all.
-fn measure<R: Print + Clock + AllocGlobal>(rt: &R, part: &str) -> io::Result<()> {
-    if part == "space" || part.is_empty() {
-        space::measure(rt, rt.alloc())?;
-    }
-    if part == "plan" || part.is_empty() {
-        plan::measure(rt, rt.alloc())?;
-    }
-    if part == "compile" || part.is_empty() {
-        compile::measure(rt, rt.alloc())?;
-    }
-    if part == "maps" || part.is_empty() {
-        maps::measure(rt, rt.alloc())?;
+fn measure<R: Print + Clock + AllocGlobal>(rt: &R, wanted: &str) -> io::Result<()> {
+    for (part, name) in PARTS {
+        if wanted.is_empty() || wanted == name {
+            measure_part(rt, part)?;
+        }
     }
     Ok(())
 }
 
 fn main(rt: HostRuntime) -> io::Result<()> {
-    let mut words = env::args(&rt)?.skip(1);
-    let Some(word) = words.next() else {
-        return checksums(&rt);
-    };
-    if word.as_str() != "measure" {
-        return println!(rt; "usage: bench_high [measure [space|plan|compile|maps]]");
-    }
-    match words.next() {
-        Some(part) => measure(&rt, part.as_str()),
-        None => measure(&rt, ""),
+    match read_wanted(&rt, "bench_high [measure [space|plan|compile|maps]]")? {
+        Wanted::Checksums => checksums(&rt),
+        Wanted::Ratios(part) => measure(&rt, part.as_str()),
+        Wanted::Nothing => Ok(()),
     }
 }

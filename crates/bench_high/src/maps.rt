@@ -3,18 +3,16 @@
 //!
 //! A figure of `measure` is a ratio of best times in the same run. Times alone say little about
 //! another machine.
-use crate::times::{nanos, print_ratio};
-use numa_machine::{Frame, Machine};
+use numa_examples::many::{eight_nodes, spec_of_bits};
+use numa_examples::times::{best_of, print_ratio};
+use numa_machine::Frame;
 use numa_maps::{Resident, Watched, write_maps};
-use numa_mask::{NodeId, NodeMask};
-use numa_mode::PolicySpec;
 use numa_space::{Command, Limits, Placement, Space};
 use std::alloc::Global;
 use std::collections::BTreeMap;
 use std::io;
 use std::io::Write;
 use std::rt::Clock;
-use std::time::Instant;
 
 /// How many bytes a page has.
 const PAGE: u64 = 4_096;
@@ -40,25 +38,11 @@ impl Write for Sum {
     }
 }
 
-fn all_nodes() -> NodeMask {
-    let mut set = NodeMask::empty();
-    for number in 0..8 {
-        if let Some(node) = NodeId::new(number) {
-            set.insert(node);
-        }
-    }
-    set
-}
-
 /// An empty space on a machine of 8 nodes, 20 apart. Task 1 interleaves over all nodes.
 fn empty_space(alloc: Global) -> Option<Space> {
-    let mut distances = [20u8; 64];
-    for node in 0..8 {
-        distances[node * 9] = 10;
-    }
-    let machine = Machine::new(alloc, 8, all_nodes(), &distances, &[64; 8]).ok()?;
-    let mut space = Space::new(alloc, machine, Limits::new(65_536, 8, 1_000_000)?);
-    let spec = PolicySpec::from_raw(3, all_nodes()).ok()?;
+    let limits = Limits::new(65_536, 8, 1_000_000)?;
+    let mut space = Space::new(alloc, eight_nodes(alloc)?, limits);
+    let spec = spec_of_bits(3, 255)?;
     let _ = space.apply(&Command::SetTask { task: 1, spec });
     Some(space)
 }
@@ -113,80 +97,144 @@ fn list(space: &Space, resident: &Resident) -> (u64, u64) {
     (output.inner.bytes, output.inner.sum)
 }
 
-/// The best time of a listing, and a number that all of its rounds have part in.
-fn time_listing<R: Clock>(rt: &R, space: &Space, resident: &Resident) -> io::Result<(u64, u64)> {
-    let mut best = u64::MAX;
-    let mut seen = 0u64;
-    for _ in 0..20 {
-        let start = Instant::now(rt)?;
-        let (bytes, sum) = list(space, resident);
-        best = best.min(nanos(start.elapsed(rt)?));
-        seen = seen.wrapping_add(bytes ^ sum);
-    }
-    Ok((best, seen))
+/// A number that all that is written has part in.
+fn listed(space: &Space, resident: &Resident) -> u64 {
+    let (bytes, sum) = list(space, resident);
+    bytes ^ sum
 }
 
-/// The best time of going over a plain map of so many pages.
-fn time_walk<R: Clock>(rt: &R, alloc: Global, entries: u64) -> io::Result<(u64, u64)> {
+/// A plain map of so many pages.
+fn map_of(alloc: Global, entries: u64) -> BTreeMap<u64, u64> {
     let mut map = BTreeMap::new(alloc);
     for page in 0..entries {
         let _ = map.insert(page, page);
     }
-    let mut best = u64::MAX;
-    let mut seen = 0u64;
-    for _ in 0..20 {
-        let start = Instant::now(rt)?;
-        for value in map.values() {
-            seen = seen.wrapping_add(*value);
-        }
-        best = best.min(nanos(start.elapsed(rt)?));
-    }
-    Ok((best, seen))
+    map
 }
 
-/// The best time of a listing of a space of so many ranges and pages each, with so many placements
-/// on every `step`th page.
-fn time_case<R: Clock>(
-    rt: &R,
-    alloc: Global,
+/// The sum of a map's values.
+fn sum_of(map: &BTreeMap<u64, u64>) -> u64 {
+    let mut sum = 0u64;
+    for value in map.values() {
+        sum = sum.wrapping_add(*value);
+    }
+    sum
+}
+
+/// What is listed: so many ranges of so many pages each, and so many placements on every `step`th
+/// page.
+#[derive(Clone, Copy)]
+struct Case {
     ranges: u64,
     pages: u64,
     placements: u64,
     step: u64,
-) -> io::Result<u64> {
-    let Some(space) = space_of(alloc, ranges, pages) else {
-        return Ok(0);
-    };
-    let resident = resident_of(alloc, placements, step);
-    let (time, seen) = time_listing(rt, &space, &resident)?;
+}
+
+/// The best time of a listing.
+fn time_listing<R: Clock>(rt: &R, space: &Space, resident: &Resident) -> io::Result<u64> {
+    let (time, seen) = best_of(rt, 20, || listed(space, resident))?;
     Ok(time.wrapping_add(seen % 2))
 }
 
-fn measure_pages<R: Clock + Print>(rt: &R, alloc: Global) -> io::Result<()> {
-    let narrow = time_case(rt, alloc, 1, 20_000, 20_000, 1)?;
-    let wide = time_case(rt, alloc, 1, 20_000_000_000, 20_000, 1_000_000)?;
-    print_ratio(
-        rt,
-        "20,000 placements in a range of a million times the pages",
-        wide,
-        narrow,
-    )?;
+/// The best time of a listing of this, 0 where there is no memory.
+fn time_case<R: Clock>(rt: &R, alloc: Global, case: Case) -> io::Result<u64> {
+    match space_of(alloc, case.ranges, case.pages) {
+        Some(space) => {
+            let resident = resident_of(alloc, case.placements, case.step);
+            let time = time_listing(rt, &space, &resident);
+            drop(resident);
+            drop(space);
+            time
+        }
+        None => Ok(0),
+    }
+}
+
+/// Prints the ratio of the times of two listings; the time of the second.
+fn compare<R: Clock + Print>(
+    rt: &R,
+    alloc: Global,
+    what: &str,
+    case: Case,
+    baseline: Case,
+) -> io::Result<u64> {
+    let plain = time_case(rt, alloc, baseline)?;
+    let time = time_case(rt, alloc, case)?;
+    print_ratio(rt, what, time, plain)?;
+    Ok(plain)
+}
+
+/// The best time of a walk over a plain map of so many pages, and what it sums up.
+fn time_walk<R: Clock>(rt: &R, alloc: Global, entries: u64) -> io::Result<(u64, u64)> {
+    let map = map_of(alloc, entries);
+    best_of(rt, 20, || sum_of(&map))
+}
+
+/// Prints the ratio of so long a listing to a walk over a plain map.
+fn compare_walk<R: Clock + Print>(rt: &R, alloc: Global, listing: u64) -> io::Result<()> {
     let (walk, seen) = time_walk(rt, alloc, 20_000)?;
     print_ratio(
         rt,
         "20,000 placements over a walk over a plain map",
-        narrow,
+        listing,
         walk,
     )?;
     println!(rt; "seen {seen}")
 }
 
-fn measure_ranges<R: Clock + Print>(rt: &R, alloc: Global) -> io::Result<()> {
-    let some = time_case(rt, alloc, 2_000, 1, 0, 1)?;
-    let many = time_case(rt, alloc, 20_000, 1, 0, 1)?;
-    print_ratio(rt, "ten times the ranges, no placement", many, some)?;
-    let placed = time_case(rt, alloc, 20_000, 1, 20_000, 2)?;
-    print_ratio(rt, "a placement in each range over none", placed, many)
+/// A range of which each page has a placement.
+const NARROW: Case = Case {
+    ranges: 1,
+    pages: 20_000,
+    placements: 20_000,
+    step: 1,
+};
+
+/// One of a million times the pages, with as many placements.
+const WIDE: Case = Case {
+    ranges: 1,
+    pages: 20_000_000_000,
+    placements: 20_000,
+    step: 1_000_000,
+};
+
+/// Ranges without placements, ten times as many, and those with a placement in each.
+const SOME: Case = Case {
+    ranges: 2_000,
+    pages: 1,
+    placements: 0,
+    step: 1,
+};
+
+const MANY: Case = Case {
+    ranges: 20_000,
+    pages: 1,
+    placements: 0,
+    step: 1,
+};
+
+const PLACED: Case = Case {
+    ranges: 20_000,
+    pages: 1,
+    placements: 20_000,
+    step: 2,
+};
+
+/// Prints how long the listing and the keeping of placements take.
+pub fn measure<R: Print + Clock>(rt: &R, alloc: Global) -> io::Result<()> {
+    let what = "20,000 placements in a range of a million times the pages";
+    let narrow = compare(rt, alloc, what, WIDE, NARROW)?;
+    compare_walk(rt, alloc, narrow)?;
+    compare(rt, alloc, "ten times the ranges, no placement", MANY, SOME)?;
+    compare(
+        rt,
+        alloc,
+        "a placement in each range over none",
+        PLACED,
+        MANY,
+    )?;
+    Ok(())
 }
 
 fn tell(rt: &impl Print, what: &str, space: &Space, resident: &Resident) -> io::Result<()> {
@@ -194,36 +242,44 @@ fn tell(rt: &impl Print, what: &str, space: &Space, resident: &Resident) -> io::
     println!(rt; "{what}: {bytes} bytes, checksum {sum}")
 }
 
-/// Prints the bytes and checksums of listings.
-pub fn checksums(rt: &impl Print, alloc: Global) -> io::Result<()> {
-    let (Some(one), Some(many)) = (
-        space_of(alloc, 1, 20_000_000_000),
-        space_of(alloc, 20_000, 3),
-    ) else {
-        return println!(rt; "no space");
-    };
-    tell(
-        rt,
-        "20,000 ranges, no placement",
-        &many,
-        &resident_of(alloc, 0, 1),
-    )?;
-    tell(
-        rt,
-        "20,000 ranges, 40,000 placements",
-        &many,
-        &resident_of(alloc, 40_000, 2),
-    )?;
-    tell(
-        rt,
-        "one range, 20,000 placements",
-        &one,
-        &resident_of(alloc, 20_000, 1_000_000),
-    )
+/// Prints the bytes and the checksum of a listing.
+fn tell_case(rt: &impl Print, alloc: Global, what: &str, case: Case) -> io::Result<()> {
+    match space_of(alloc, case.ranges, case.pages) {
+        Some(space) => {
+            let resident = resident_of(alloc, case.placements, case.step);
+            let done = tell(rt, what, &space, &resident);
+            drop(resident);
+            drop(space);
+            done
+        }
+        None => println!(rt; "no space"),
+    }
 }
 
-/// Prints how long the listing and the keeping of placements take.
-pub fn measure<R: Print + Clock>(rt: &R, alloc: Global) -> io::Result<()> {
-    measure_pages(rt, alloc)?;
-    measure_ranges(rt, alloc)
+/// Ranges of three pages without placements.
+const BARE: Case = Case {
+    ranges: 20_000,
+    pages: 3,
+    placements: 0,
+    step: 1,
+};
+
+/// The same with two placements in each.
+const FULL: Case = Case {
+    ranges: 20_000,
+    pages: 3,
+    placements: 40_000,
+    step: 2,
+};
+
+/// Prints the bytes and checksums of listings.
+pub fn checksums(rt: &impl Print, alloc: Global) -> io::Result<()> {
+    for (what, case) in [
+        ("20,000 ranges, no placement", BARE),
+        ("20,000 ranges, 40,000 placements", FULL),
+        ("one range, 20,000 placements", WIDE),
+    ] {
+        tell_case(rt, alloc, what, case)?;
+    }
+    Ok(())
 }

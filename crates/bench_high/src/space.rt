@@ -3,9 +3,9 @@
 //! A figure of `measure` is a ratio: the best time of a command over the best time, in the same
 //! run, of moving a plain vector whose rows are as large as a range. Times alone say little about
 //! another machine.
-use crate::times::{nanos, print_ratio};
-use numa_machine::Machine;
-use numa_mask::{NodeId, NodeMask};
+use numa_examples::many::{bind, bind_page, eight_nodes, map, mixed, spec_of_bits};
+use numa_examples::nodes_of;
+use numa_examples::times::{nanos, print_ratio};
 use numa_mode::PolicySpec;
 use numa_space::{Command, Limits, RangeRecord, Run, Space};
 use std::alloc::{AllocError, Global};
@@ -27,71 +27,40 @@ const RANGE_WORDS: usize = RANGE_BYTES / 8;
 /// A row of the plain vector, as large as a range.
 type Row = [u64; RANGE_WORDS];
 
-/// The address of the middle page of the middle range.
-const MIDDLE: u64 = 32_500 * 16_384 + 4_096;
+/// The middle range, of which the middle page is set apart.
+const MIDDLE: u64 = 32_500;
 
-/// The set of the nodes from `first` up to node 7.
-fn nodes_from(first: u8) -> NodeMask {
-    let mut set = NodeMask::empty();
-    for number in first..8 {
-        if let Some(node) = NodeId::new(number) {
-            set.insert(node);
-        }
-    }
-    set
+/// The bits of the nodes from 4 up to 7.
+const UPPER: u8 = 240;
+
+/// The policies of all ranges, and of the middle page.
+type Specs = (PolicySpec, PolicySpec);
+
+/// Interleaving over all nodes, and bind for the last two.
+fn specs() -> Option<Specs> {
+    Some((spec_of_bits(3, 255)?, spec_of_bits(2, 192)?))
 }
 
-/// A policy of this mode word for the nodes from `first` up to node 7, if there is such a policy.
-fn spec_of(word: u32, first: u8) -> Option<PolicySpec> {
-    PolicySpec::from_raw(word, nodes_from(first)).ok()
-}
-
-/// An empty space on a machine of 8 nodes, 20 apart.
-fn empty_space(alloc: Global) -> Option<Space> {
-    let mut distances = [20u8; 64];
-    for node in 0..8 {
-        distances[node * 9] = 10;
-    }
-    let machine = Machine::new(alloc, 8, nodes_from(0), &distances, &[64; 8]).ok()?;
-    let limits = Limits::new(65_536, 8, 1_000_000)?;
-    Some(Space::new(alloc, machine, limits))
-}
-
-/// Gives the page at an address a policy of its own.
-fn bind_page(space: &mut Space, start: u64, spec: PolicySpec) {
-    let _ = space.apply(&Command::Mbind {
-        start,
-        length: 4_096,
-        spec,
-    });
-}
-
-/// Allows the nodes from `first` up to node 7.
-fn allow_from(space: &mut Space, first: u8) {
-    let _ = space.apply(&Command::SetMems {
-        mask: nodes_from(first),
-    });
-}
-
-/// Maps a range of 3 pages with a hole of one page behind it, and gives it a policy.
-fn add_range(space: &mut Space, start: u64, offset: u64, spec: PolicySpec) {
-    let length = 12_288;
-    let _ = space.apply(&Command::Map {
-        start,
-        length,
-        offset,
-    });
-    let _ = space.apply(&Command::Mbind {
-        start,
-        length,
-        spec,
-    });
-}
-
-/// Adds all ranges.
+/// Maps all ranges and gives each the policy.
 fn spread(space: &mut Space, spec: PolicySpec) {
-    for i in 0..RANGES {
-        add_range(space, i * 16_384, 4 * i, spec);
+    for number in 0..RANGES {
+        let _ = space.apply(&map(number));
+        let _ = space.apply(&bind(number, spec));
+    }
+}
+
+/// A space of all ranges on a machine of 8 nodes.
+fn space_of(alloc: Global, spec: PolicySpec) -> Option<Space> {
+    let limits = Limits::new(65_536, 8, 1_000_000)?;
+    let mut space = Space::new(alloc, eight_nodes(alloc)?, limits);
+    spread(&mut space, spec);
+    Some(space)
+}
+
+/// The command that allows the nodes of these bits.
+fn allowing(bits: u8) -> Command {
+    Command::SetMems {
+        mask: nodes_of(bits),
     }
 }
 
@@ -111,11 +80,10 @@ fn word_of(value: &RangeRecord) -> u64 {
 fn checksum(space: &Space) -> u64 {
     let mut sum = 0u64;
     for range in space.range_iter() {
-        for word in [range.first, range.pages, range.index, word_of(&range.value)] {
-            sum = sum
-                .wrapping_mul(6_364_136_223_846_793_005)
-                .wrapping_add(word);
-        }
+        sum = mixed(sum, range.first);
+        sum = mixed(sum, range.pages);
+        sum = mixed(sum, range.index);
+        sum = mixed(sum, word_of(&range.value));
     }
     sum
 }
@@ -127,48 +95,51 @@ fn tell(rt: &impl Print, what: &str, space: &Space) -> io::Result<()> {
     println!(rt; "{what}: version {version}, {ranges} ranges, checksum {sum}")
 }
 
+/// Commands that set the middle page apart, join it back, take the nodes below 4 away and give them
+/// back, and what they leave.
+fn changes(specs: Specs) -> [(Command, &'static str); 4] {
+    [
+        (bind_page(MIDDLE, specs.1), "one page set apart"),
+        (bind_page(MIDDLE, specs.0), "and joined back"),
+        (allowing(UPPER), "four nodes taken away"),
+        (allowing(255), "and given back"),
+    ]
+}
+
 /// Prints what a page's policy and changes of the allowed nodes leave.
-fn print_checksums(
-    rt: &impl Print,
-    space: &mut Space,
-    spec: PolicySpec,
-    other: PolicySpec,
-) -> io::Result<()> {
+fn print_checksums(rt: &impl Print, space: &mut Space, specs: Specs) -> io::Result<()> {
     tell(rt, "spread", space)?;
-    bind_page(space, MIDDLE, other);
-    tell(rt, "one page set apart", space)?;
-    bind_page(space, MIDDLE, spec);
-    tell(rt, "and joined back", space)?;
-    allow_from(space, 4);
-    tell(rt, "four nodes taken away", space)?;
-    allow_from(space, 0);
-    tell(rt, "and given back", space)
+    for (command, what) in changes(specs) {
+        let _ = space.apply(&command);
+        tell(rt, what, space)?;
+    }
+    Ok(())
+}
+
+/// The time of a command.
+fn time_command<R: Clock>(rt: &R, space: &mut Space, command: &Command) -> io::Result<u64> {
+    let start = Instant::now(rt)?;
+    let _ = black_box(space.apply(command));
+    Ok(nanos(start.elapsed(rt)?))
 }
 
 /// The best time of a split of the middle range, each undone before the next.
-fn time_splits<R: Clock>(
-    rt: &R,
-    space: &mut Space,
-    spec: PolicySpec,
-    other: PolicySpec,
-) -> io::Result<u64> {
+fn time_splits<R: Clock>(rt: &R, space: &mut Space, specs: Specs) -> io::Result<u64> {
+    let (split, join) = (bind_page(MIDDLE, specs.1), bind_page(MIDDLE, specs.0));
     let mut best = u64::MAX;
     for _ in 0..100 {
-        let start = Instant::now(rt)?;
-        bind_page(black_box(&mut *space), MIDDLE, other);
-        best = best.min(nanos(start.elapsed(rt)?));
-        bind_page(space, MIDDLE, spec);
+        best = best.min(time_command(rt, space, &split)?);
+        let _ = space.apply(&join);
     }
     Ok(best)
 }
 
 /// The best time of a change of the allowed nodes.
 fn time_changes<R: Clock>(rt: &R, space: &mut Space) -> io::Result<u64> {
+    let turns = [allowing(255), allowing(UPPER)];
     let mut best = u64::MAX;
-    for round in 0..20u8 {
-        let start = Instant::now(rt)?;
-        allow_from(black_box(&mut *space), round % 2 * 4);
-        best = best.min(nanos(start.elapsed(rt)?));
+    for round in 0..20usize {
+        best = best.min(time_command(rt, space, &turns[round % 2])?);
     }
     Ok(best)
 }
@@ -183,31 +154,35 @@ fn rows_of(alloc: Global) -> Result<Vec<Row>, AllocError> {
     Ok(rows)
 }
 
-/// The best time of moving half of the rows one place up, each undone before the next.
+/// The time of moving half of the rows one place up, which is undone.
+fn time_move<R: Clock>(rt: &R, rows: &mut Vec<Row>) -> io::Result<u64> {
+    let middle = rows.len() / 2;
+    let start = Instant::now(rt)?;
+    let moved = black_box(rows.insert(middle, [0; RANGE_WORDS])).is_ok();
+    let spent = start.elapsed(rt);
+    if moved {
+        black_box(rows.remove(middle));
+    }
+    Ok(nanos(spent?))
+}
+
+/// The best of such times.
 fn time_moves<R: Clock>(rt: &R, rows: &mut Vec<Row>) -> io::Result<u64> {
     let mut best = u64::MAX;
     for _ in 0..100 {
-        let middle = rows.len() / 2;
-        let start = Instant::now(rt)?;
-        let moved = black_box(rows.insert(middle, [0; RANGE_WORDS])).is_ok();
-        best = best.min(nanos(start.elapsed(rt)?));
-        if moved {
-            black_box(rows.remove(middle));
-        }
+        best = best.min(time_move(rt, rows)?);
     }
     Ok(best)
 }
 
-fn measure_commands<R: Clock + Print>(
+/// Prints the ratios to moves of half the vector.
+fn print_ratios<R: Clock + Print>(
     rt: &R,
     space: &mut Space,
-    rows: &mut Vec<Row>,
-    spec: PolicySpec,
-    other: PolicySpec,
+    specs: Specs,
+    moves: u64,
 ) -> io::Result<()> {
-    println!(rt; "a range takes {RANGE_BYTES} bytes")?;
-    let splits = time_splits(rt, space, spec, other)?;
-    let moves = time_moves(rt, rows)?;
+    let splits = time_splits(rt, space, specs)?;
     print_ratio(
         rt,
         "Mbind of a middle page over a move of half the vector",
@@ -215,31 +190,53 @@ fn measure_commands<R: Clock + Print>(
         moves,
     )?;
     let changes = time_changes(rt, space)?;
-    print_ratio(rt, "SetMems over a move of half the vector", changes, moves)?;
+    print_ratio(rt, "SetMems over a move of half the vector", changes, moves)
+}
+
+fn measure_commands<R: Clock + Print>(
+    rt: &R,
+    space: &mut Space,
+    specs: Specs,
+    moves: u64,
+) -> io::Result<()> {
+    print_ratios(rt, space, specs, moves)?;
     tell(rt, "left", space)
+}
+
+/// A space of all ranges, and the policies.
+fn setting(alloc: Global) -> Option<(Space, Specs)> {
+    let specs = specs()?;
+    Some((space_of(alloc, specs.0)?, specs))
 }
 
 /// Prints checksums of what commands leave.
 pub fn checksums(rt: &impl Print, alloc: Global) -> io::Result<()> {
-    let Some(mut space) = empty_space(alloc) else {
-        return println!(rt; "no space");
-    };
-    let (Some(spec), Some(other)) = (spec_of(3, 0), spec_of(2, 6)) else {
-        return println!(rt; "no policy");
-    };
-    spread(&mut space, spec);
-    print_checksums(rt, &mut space, spec, other)
+    match setting(alloc) {
+        Some((mut space, specs)) => {
+            let done = print_checksums(rt, &mut space, specs);
+            drop(space);
+            done
+        }
+        None => println!(rt; "no space"),
+    }
+}
+
+/// The best time of a move of half of as many rows.
+fn time_baseline<R: Clock>(rt: &R, alloc: Global) -> io::Result<u64> {
+    let mut rows = rows_of(alloc)?;
+    time_moves(rt, &mut rows)
 }
 
 /// Prints how long commands take.
 pub fn measure<R: Print + Clock>(rt: &R, alloc: Global) -> io::Result<()> {
-    let Some(mut space) = empty_space(alloc) else {
-        return println!(rt; "no space");
-    };
-    let (Some(spec), Some(other)) = (spec_of(3, 0), spec_of(2, 6)) else {
-        return println!(rt; "no policy");
-    };
-    spread(&mut space, spec);
-    let mut rows = rows_of(alloc)?;
-    measure_commands(rt, &mut space, &mut rows, spec, other)
+    println!(rt; "a range takes {RANGE_BYTES} bytes")?;
+    let moves = time_baseline(rt, alloc)?;
+    match setting(alloc) {
+        Some((mut space, specs)) => {
+            let done = measure_commands(rt, &mut space, specs, moves);
+            drop(space);
+            done
+        }
+        None => println!(rt; "no space"),
+    }
 }

@@ -1,15 +1,10 @@
 //! Checksums of what the plan answers.
 use numa_compile::compile;
+use numa_examples::many::mixed;
 use numa_plan::{Plan, Steps};
 use numa_space::Space;
 use std::alloc::Global;
 use std::io;
-
-/// The sum so far with one number more, which nearly any other list of numbers would change.
-fn mixed(sum: u64, number: u64) -> u64 {
-    sum.wrapping_mul(6_364_136_223_846_793_005)
-        .wrapping_add(number)
-}
 
 /// What `choice` answers for every page of the ranges and holes.
 fn choices(plan: &Plan, task: u32, cpu: u32) -> u64 {
@@ -40,7 +35,11 @@ fn print_plan(rt: &impl Print, plan: &Plan) -> io::Result<()> {
 /// Prints the checksums of the plan of the space.
 pub fn print(rt: &impl Print, alloc: Global, space: &Space) -> io::Result<()> {
     match compile(alloc, space) {
-        Ok(plan) => print_plan(rt, &plan),
+        Ok(plan) => {
+            let done = print_plan(rt, &plan);
+            drop(plan);
+            done
+        }
         Err(_) => println!(rt; "no memory"),
     }
 }

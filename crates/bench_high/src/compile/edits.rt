@@ -1,16 +1,14 @@
 //! How long a command takes that edits the plan of a space in place, and a copy of the plan.
-use crate::compile::spaces::{RANGES, policy};
 use crate::compile::times::time_compile;
-use crate::spaces::{bind_page, spec_of};
-use crate::times::{nanos, print_ratio};
 use numa_compile::PlannedSpace;
+use numa_examples::many::{RANGES, bind_page, policy, spec_of_bits};
+use numa_examples::times::{best_of, print_ratio};
 use numa_plan::Plan;
 use numa_space::Command;
 use std::alloc::Global;
 use std::hint::black_box;
 use std::io;
 use std::rt::Clock;
-use std::time::Instant;
 
 /// How many commands a round has.
 const ROUND: u64 = 200;
@@ -31,8 +29,8 @@ fn common() -> Option<Turns> {
 fn own() -> Option<Turns> {
     let middle = RANGES / 2;
     Some([
-        bind_page(middle, spec_of(3, 7)?),
-        bind_page(middle, spec_of(5, 7)?),
+        bind_page(middle, spec_of_bits(3, 7)?),
+        bind_page(middle, spec_of_bits(5, 7)?),
     ])
 }
 
@@ -54,15 +52,7 @@ fn time_edits<R: Clock>(
     space: &mut PlannedSpace,
     turns: &Turns,
 ) -> io::Result<(u64, u64)> {
-    let mut best = u64::MAX;
-    let mut sum = 0u64;
-    for _ in 0..40 {
-        let start = Instant::now(rt)?;
-        let accepted = edit(alloc, black_box(&mut *space), turns);
-        best = best.min(nanos(start.elapsed(rt)?));
-        sum = sum.wrapping_add(accepted);
-    }
-    Ok((best, sum))
+    best_of(rt, 40, || edit(alloc, black_box(&mut *space), turns))
 }
 
 /// Puts a copy of the space's plan in the place of the one before; how many runs it has.
@@ -89,44 +79,22 @@ fn publish_each(
     sum
 }
 
-/// The same of such rounds.
-fn time_publish<R: Clock>(
+/// Prints the ratio of a compile to a copy of its plan alone.
+fn print_copies<R: Clock + Print>(
     rt: &R,
     alloc: Global,
     space: &mut PlannedSpace,
-    published: &mut Option<Plan>,
-    turns: &Turns,
-) -> io::Result<(u64, u64)> {
-    let mut best = u64::MAX;
-    let mut sum = 0u64;
-    for _ in 0..40 {
-        let start = Instant::now(rt)?;
-        let runs = publish_each(alloc, black_box(&mut *space), published, turns);
-        best = best.min(nanos(start.elapsed(rt)?));
-        sum = sum.wrapping_add(runs);
-    }
-    Ok((best, sum))
+    compiled: u64,
+) -> io::Result<()> {
+    let mut published = None;
+    let (spent, runs) = best_of(rt, 400, || {
+        publish(alloc, black_box(&mut *space), &mut published)
+    })?;
+    print_ratio(rt, "compile over a copy of its plan", compiled, spent)?;
+    println!(rt; "runs {runs}")
 }
 
-/// The same of copies of a plan alone, each put in the place of the one before.
-fn time_copies<R: Clock>(
-    rt: &R,
-    alloc: Global,
-    space: &mut PlannedSpace,
-    published: &mut Option<Plan>,
-) -> io::Result<(u64, u64)> {
-    let mut best = u64::MAX;
-    let mut sum = 0u64;
-    for _ in 0..400 {
-        let start = Instant::now(rt)?;
-        let runs = publish(alloc, black_box(&mut *space), published);
-        best = best.min(nanos(start.elapsed(rt)?));
-        sum = sum.wrapping_add(runs);
-    }
-    Ok((best, sum))
-}
-
-/// Prints the ratios of publications to a compile.
+/// Prints the ratio of a compile to a command and a copy of the plan.
 fn print_published<R: Clock + Print>(
     rt: &R,
     alloc: Global,
@@ -135,51 +103,74 @@ fn print_published<R: Clock + Print>(
     compiled: u64,
 ) -> io::Result<()> {
     let mut published = None;
-    let (copied, copies) = time_copies(rt, alloc, space, &mut published)?;
-    print_ratio(rt, "compile over a copy of its plan", compiled, copied)?;
-    let (spent, runs) = time_publish(rt, alloc, space, &mut published, turns)?;
-    let each = spent / ROUND;
+    let (spent, runs) = best_of(rt, 40, || {
+        publish_each(alloc, black_box(&mut *space), &mut published, turns)
+    })?;
     print_ratio(
         rt,
         "compile over an mbind and a copy of its plan",
         compiled,
-        each,
+        spent / ROUND,
     )?;
-    println!(rt; "sums {copies} {runs}")
+    println!(rt; "runs {runs}")
 }
 
-/// Prints the ratios of a compile to commands that edit its plan.
+/// Prints the ratio of a compile to such commands, which edit its plan.
+fn print_edit<R: Clock + Print>(
+    rt: &R,
+    alloc: Global,
+    space: &mut PlannedSpace,
+    turns: &Turns,
+    what: &str,
+    compiled: u64,
+) -> io::Result<()> {
+    let (spent, accepted) = time_edits(rt, alloc, space, turns)?;
+    print_ratio(rt, what, compiled, spent / ROUND)?;
+    println!(rt; "accepted {accepted}")
+}
+
+/// Prints the ratios of a compile to commands of both kinds.
 fn print_edits<R: Clock + Print>(
     rt: &R,
     alloc: Global,
     space: &mut PlannedSpace,
-    common: &Turns,
-    own: &Turns,
+    kinds: &[(Turns, &str); 2],
+    compiled: u64,
 ) -> io::Result<()> {
-    let (compiled, plans) = time_compile(rt, alloc, space.space())?;
-    let (few, accepted) = time_edits(rt, alloc, space, common)?;
-    print_ratio(
-        rt,
-        "compile over an mbind that edits it",
-        compiled,
-        few / ROUND,
-    )?;
-    let (many, others) = time_edits(rt, alloc, space, own)?;
-    print_ratio(
-        rt,
-        "compile over an mbind with a rule of its own",
-        compiled,
-        many / ROUND,
-    )?;
-    println!(rt; "sums {plans} {accepted} {others}")?;
-    print_published(rt, alloc, space, common, compiled)
+    for (turns, what) in kinds {
+        print_edit(rt, alloc, space, turns, what, compiled)?;
+    }
+    Ok(())
+}
+
+/// Both kinds of commands.
+fn kinds() -> Option<[(Turns, &'static str); 2]> {
+    Some([
+        (common()?, "compile over an mbind that edits it"),
+        (own()?, "compile over an mbind with a rule of its own"),
+    ])
+}
+
+/// Prints the ratios of a compile to edits of its plan and to copies.
+fn print_ratios<R: Clock + Print>(
+    rt: &R,
+    alloc: Global,
+    space: &mut PlannedSpace,
+    kinds: &[(Turns, &str); 2],
+    compiled: u64,
+) -> io::Result<()> {
+    print_edits(rt, alloc, space, kinds, compiled)?;
+    print_copies(rt, alloc, space, compiled)?;
+    print_published(rt, alloc, space, &kinds[0].0, compiled)
 }
 
 /// Prints all ratios.
 pub fn print<R: Clock + Print>(rt: &R, alloc: Global, space: &mut PlannedSpace) -> io::Result<()> {
-    let (Some(common), Some(own)) = (common(), own()) else {
-        return println!(rt; "no policy");
-    };
     let _ = space.prepare(alloc);
-    print_edits(rt, alloc, space, &common, &own)
+    let (compiled, runs) = time_compile(rt, alloc, space.space())?;
+    println!(rt; "runs {runs}")?;
+    match kinds() {
+        Some(kinds) => print_ratios(rt, alloc, space, &kinds, compiled),
+        None => println!(rt; "no policy"),
+    }
 }

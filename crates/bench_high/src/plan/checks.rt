@@ -1,14 +1,7 @@
 //! Checksums of what the plans answer.
-ghost use Rattle.std.specs.Prelude.{◌<◌, ◌^◌};
-
+use numa_examples::many::mixed;
 use numa_plan::{Plan, Steps};
 use std::io;
-
-/// The sum so far with one number more, which nearly any other list of numbers would change.
-fn mixed(sum: u64, number: u64) -> u64 {
-    sum.wrapping_mul(6_364_136_223_846_793_005)
-        .wrapping_add(number)
-}
 
 /// What `choice` answers for every page of the runs and holes.
 fn choices(plan: &Plan) -> u64 {
@@ -45,22 +38,31 @@ fn counts(plan: &Plan, task: u32, first: u64, pages: u64) -> u64 {
     }
 }
 
-/// Prints the checksums of the plan of many runs.
-pub fn print_spread(rt: &impl Print, spread: &Plan) -> io::Result<()> {
+fn print_choices(rt: &impl Print, spread: &Plan) -> io::Result<()> {
     let runs = spread.run_count();
     let sum = choices(spread);
-    println!(rt; "choice of each page, {runs} runs: {sum}")?;
+    println!(rt; "choice of each page, {runs} runs: {sum}")
+}
+
+/// Prints the checksums of the plan of many runs.
+pub fn print_spread(rt: &impl Print, spread: &Plan) -> io::Result<()> {
+    print_choices(rt, spread)?;
     let hole = counts(spread, 1, 0, 4);
     let run = counts(spread, 1, 4, 3);
     println!(rt; "counts of a span with a hole {hole}, of a run {run}")
+}
+
+/// Prints two checksums of a call.
+fn print_both(rt: &impl Print, call: &str, turns: u64, own: u64) -> io::Result<()> {
+    println!(rt; "{call} in turn {turns}, of the local node {own}")
 }
 
 /// Prints those of the plan of one run.
 pub fn print_whole(rt: &impl Print, whole: &Plan) -> io::Result<()> {
     let turns = fills(whole, 1, 1_000_003);
     let own = fills(whole, 2, 1_000_003);
-    println!(rt; "fill in turn {turns}, of the local node {own}")?;
+    print_both(rt, "fill", turns, own)?;
     let turns = counts(whole, 1, 5, 17_179_869_184);
     let own = counts(whole, 2, 5, 17_179_869_184);
-    println!(rt; "counts in turn {turns}, of the local node {own}")
+    print_both(rt, "counts", turns, own)
 }

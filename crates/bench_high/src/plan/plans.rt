@@ -1,13 +1,10 @@
 //! The plans that are asked.
-use crate::spaces::{bind, limits, machine, map, spec_of};
 use numa_compile::{compile, compile_commands};
+use numa_examples::many::{RANGES, bind, eight_nodes, map, spec_of_bits};
 use numa_mode::PolicySpec;
 use numa_plan::Plan;
-use numa_space::{Command, Space};
+use numa_space::{Command, Limits, Space};
 use std::alloc::Global;
-
-/// How many runs stand in the large plan.
-pub const RUNS: u64 = 65_536;
 
 /// Weights 3, 2, 1 and 2 of four nodes.
 pub const WEIGHED: [u8; 8] = [0, 0, 0, 1, 1, 2, 3, 3];
@@ -19,9 +16,14 @@ const WEIGHTS: [Command; 3] = [
     Command::SetWeight { node: 3, weight: 2 },
 ];
 
+/// Limits that no plan reaches.
+fn limits() -> Option<Limits> {
+    Limits::new(65_536, 8, 1_000_000)
+}
+
 /// Maps the ranges, each with this policy.
 fn add_ranges(space: &mut Space, spec: PolicySpec) {
-    for number in 0..RUNS {
+    for number in 0..RANGES {
         let _ = space.apply(&map(number));
         let _ = space.apply(&bind(number, spec));
     }
@@ -29,18 +31,20 @@ fn add_ranges(space: &mut Space, spec: PolicySpec) {
 
 /// The space of the large plan.
 fn spread_space(alloc: Global) -> Option<Space> {
-    let spec = spec_of(6, 15)?;
-    let mut space = Space::new(alloc, machine(alloc)?, limits()?);
+    let spec = spec_of_bits(6, 15)?;
+    let mut space = Space::new(alloc, eight_nodes(alloc)?, limits()?);
     let _ = space.apply_all(&WEIGHTS);
     add_ranges(&mut space, spec);
     Some(space)
 }
 
-/// A plan of `RUNS` runs of 3 pages, each with a hole of one page behind it, of which page p has
+/// A plan of `RANGES` runs of 3 pages, each with a hole of one page behind it, of which page p has
 /// the index p. Four nodes take turns on them, by their weights.
 pub fn spread(alloc: Global) -> Option<Plan> {
     let space = spread_space(alloc)?;
-    compile(alloc, &space).ok()
+    let plan = compile(alloc, &space).ok();
+    drop(space);
+    plan
 }
 
 /// A plan of one run of all 2^35 pages, of which page p has the index p. Task 1 has four nodes in
@@ -57,8 +61,8 @@ pub fn whole(alloc: Global) -> Option<Plan> {
         },
         Command::SetTask {
             task: 1,
-            spec: spec_of(6, 15)?,
+            spec: spec_of_bits(6, 15)?,
         },
     ];
-    compile_commands(alloc, machine(alloc)?, limits()?, &commands).ok()
+    compile_commands(alloc, eight_nodes(alloc)?, limits()?, &commands).ok()
 }

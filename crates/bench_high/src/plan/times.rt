@@ -1,8 +1,7 @@
 //! How long the answers of a plan take.
-ghost use Rattle.std.specs.Prelude.{◌<◌, ◌^◌};
-
-use crate::plan::plans::{RUNS, WEIGHED};
-use crate::times::{nanos, print_ratio};
+use crate::plan::plans::WEIGHED;
+use numa_examples::many::{RANGES, ROUND, Row, page_of, places_in, rows_of};
+use numa_examples::times::{best_of, nanos, print_ratio};
 use numa_lanes::{Cycle, fill_cycle, fill_one};
 use numa_plan::{Plan, Steps};
 use std::alloc::{AllocError, Global};
@@ -11,84 +10,83 @@ use std::io;
 use std::rt::Clock;
 use std::time::Instant;
 
-/// How many pages a round looks up.
-const ROUND: u64 = 100_000;
-
 /// How many pages are filled: 1 MiB of nodes.
 const FILLED: usize = 1_048_576;
 
-/// A row of a plain vector, as large as a run.
-type Row = [u64; 4];
-
-/// The page that look-up `i` of a round asks for: the pages jump over all runs.
-fn page_of(i: u64) -> u64
-    requires { i < 2 ^ 20 }
-{
-    i * 40_503 % (4 * RUNS)
-}
-
-/// The best time of a round of `choice`, and the sum of what all rounds found, so that no round is
-/// left out.
-fn time_choice<R: Clock>(rt: &R, plan: &Plan) -> io::Result<(u64, u64)> {
-    let mut best = u64::MAX;
+/// The sum of how long the lists are that a round of `choice` finds.
+fn lists_of(plan: &Plan) -> u64 {
     let mut sum = 0u64;
-    for _ in 0..40 {
-        let start = Instant::now(rt)?;
-        for i in 0..ROUND {
-            let page = black_box(page_of(i));
-            if let Ok(row) = plan.choice(1, page, 2, &mut Steps::new()) {
-                sum = sum.wrapping_add(row.len() as u64);
-            }
+    for i in 0..ROUND {
+        let page = black_box(page_of(i));
+        if let Ok(row) = plan.choice(1, page, 2, &mut Steps::new()) {
+            sum = sum.wrapping_add(row.len() as u64);
         }
-        best = best.min(nanos(start.elapsed(rt)?));
     }
-    Ok((best, sum))
+    sum
 }
 
-/// The same of std's partition point over rows as large as a run.
-fn time_rows<R: Clock>(rt: &R, rows: &[Row]) -> io::Result<(u64, u64)> {
-    let mut best = u64::MAX;
+/// The sum of the places that a round of std's partition point finds among first pages alone.
+fn places_of(firsts: &[u64]) -> u64 {
     let mut sum = 0u64;
-    for _ in 0..40 {
-        let start = Instant::now(rt)?;
-        for i in 0..ROUND {
-            let page = black_box(page_of(i));
-            let place = rows.partition_point(|row| row[0] <= page);
-            sum = sum.wrapping_add(place as u64);
-        }
-        best = best.min(nanos(start.elapsed(rt)?));
+    for i in 0..ROUND {
+        let page = black_box(page_of(i));
+        let place = firsts.partition_point(|first| *first <= page);
+        sum = sum.wrapping_add(place as u64);
     }
-    Ok((best, sum))
+    sum
 }
 
-/// The same over the first pages alone.
-fn time_firsts<R: Clock>(rt: &R, firsts: &[u64]) -> io::Result<(u64, u64)> {
-    let mut best = u64::MAX;
-    let mut sum = 0u64;
-    for _ in 0..40 {
-        let start = Instant::now(rt)?;
-        for i in 0..ROUND {
-            let page = black_box(page_of(i));
-            let place = firsts.partition_point(|first| *first <= page);
-            sum = sum.wrapping_add(place as u64);
-        }
-        best = best.min(nanos(start.elapsed(rt)?));
+/// The first pages of the runs.
+fn firsts_of(alloc: Global) -> Result<Vec<u64>, AllocError> {
+    let mut firsts = Vec::new(alloc);
+    for place in 0..RANGES {
+        firsts.push(4 * place)?;
     }
-    Ok((best, sum))
+    Ok(firsts)
 }
 
-/// The best time of a fill of `FILLED` pages for a task.
+/// Prints the ratios of so long a round of `choice` to rounds in plain vectors.
+fn print_points<R: Clock + Print>(
+    rt: &R,
+    rows: &[Row],
+    firsts: &[u64],
+    choices: u64,
+) -> io::Result<()> {
+    let (points, row_sum) = best_of(rt, 40, || places_in(rows))?;
+    print_ratio(
+        rt,
+        "choice over partition_point of rows as large as runs",
+        choices,
+        points,
+    )?;
+    let (bare, first_sum) = best_of(rt, 40, || places_of(firsts))?;
+    print_ratio(
+        rt,
+        "choice over partition_point of first pages alone",
+        choices,
+        bare,
+    )?;
+    println!(rt; "sums {row_sum} {first_sum}")
+}
+
+/// Prints the ratios of `choice`.
+pub fn print_choice<R: Clock + Print>(rt: &R, alloc: Global, spread: &Plan) -> io::Result<()> {
+    let (choices, sum) = best_of(rt, 40, || lists_of(spread))?;
+    println!(rt; "sum {sum}")?;
+    let rows = rows_of(alloc, 1)?;
+    let firsts = firsts_of(alloc)?;
+    print_points(rt, &rows, &firsts, choices)
+}
+
+/// The best time of a fill of a span for a task.
 fn time_fill<R: Clock>(rt: &R, plan: &Plan, task: u32, out: &mut [u8]) -> io::Result<u64> {
-    let mut best = u64::MAX;
-    for _ in 0..200 {
-        let start = Instant::now(rt)?;
-        let _ = black_box(plan.fill(task, 2, black_box(4_099), out));
-        best = best.min(nanos(start.elapsed(rt)?));
-    }
+    let (best, _) = best_of(rt, 200, || {
+        u64::from(black_box(plan.fill(task, 2, black_box(4_099), out)).is_ok())
+    })?;
     Ok(best)
 }
 
-/// The best time of the bare kernel for one node.
+/// The best time of the bare kernel for one node. Behind a closure it isn't made a memset.
 fn time_fill_one<R: Clock>(rt: &R, out: &mut [u8]) -> io::Result<u64> {
     let mut best = u64::MAX;
     for _ in 0..200 {
@@ -112,75 +110,33 @@ fn time_fill_cycle<R: Clock>(rt: &R, cycle: &Cycle, out: &mut [u8]) -> io::Resul
 
 /// The best time of counts of so many pages for a task.
 fn time_counts<R: Clock>(rt: &R, plan: &Plan, task: u32, pages: u64) -> io::Result<u64> {
-    let mut best = u64::MAX;
-    for _ in 0..1_000 {
-        let start = Instant::now(rt)?;
-        let _ = black_box(plan.counts(task, 2, black_box(4_099), pages));
-        best = best.min(nanos(start.elapsed(rt)?));
-    }
+    let (best, _) = best_of(rt, 1_000, || {
+        u64::from(black_box(plan.counts(task, 2, black_box(4_099), pages)).is_ok())
+    })?;
     Ok(best)
 }
 
-/// The first pages of the runs, each as the first word of a row.
-fn rows_of(alloc: Global) -> Result<Vec<Row>, AllocError> {
-    let mut rows = Vec::new(alloc);
-    for place in 0..RUNS {
-        rows.push([4 * place, 3, 4 * place, 1])?;
+/// Prints the ratios of `fill`.
+fn print_fills<R: Clock + Print>(
+    rt: &R,
+    whole: &Plan,
+    cycle: &Cycle,
+    out: &mut [u8],
+) -> io::Result<()> {
+    let one = time_fill_one(rt, out)?;
+    let bare = time_fill_cycle(rt, cycle, out)?;
+    for (task, what, kernel) in [
+        (2, "fill of 1 MiB of pages on one node over the kernel", one),
+        (1, "fill of 1 MiB of pages in turn over the kernel", bare),
+    ] {
+        let spent = time_fill(rt, whole, task, out)?;
+        print_ratio(rt, what, spent, kernel)?;
     }
-    Ok(rows)
+    Ok(())
 }
 
-/// The first pages of the runs.
-fn firsts_of(alloc: Global) -> Result<Vec<u64>, AllocError> {
-    let mut firsts = Vec::new(alloc);
-    for place in 0..RUNS {
-        firsts.push(4 * place)?;
-    }
-    Ok(firsts)
-}
-
-/// Prints the ratios of `choice`.
-pub fn print_choice<R: Clock + Print>(rt: &R, alloc: Global, spread: &Plan) -> io::Result<()> {
-    let rows = rows_of(alloc)?;
-    let firsts = firsts_of(alloc)?;
-    let (choices, sum) = time_choice(rt, spread)?;
-    let (points, row_sum) = time_rows(rt, &rows)?;
-    let (bare, first_sum) = time_firsts(rt, &firsts)?;
-    print_ratio(
-        rt,
-        "choice over partition_point of rows as large as runs",
-        choices,
-        points,
-    )?;
-    print_ratio(
-        rt,
-        "choice over partition_point of the first pages alone",
-        choices,
-        bare,
-    )?;
-    println!(rt; "sums {sum} {row_sum} {first_sum}")
-}
-
-/// Prints the ratios of `fill` and `counts`.
-pub fn print_spans<R: Clock + Print>(rt: &R, alloc: Global, whole: &Plan) -> io::Result<()> {
-    let mut out = vec![in alloc; 0u8; FILLED]?;
-    let cycle = Cycle::new(alloc, &WEIGHED)?;
-    let own = time_fill(rt, whole, 2, &mut out)?;
-    let one = time_fill_one(rt, &mut out)?;
-    print_ratio(
-        rt,
-        "fill of 1 MiB of pages on one node over the kernel",
-        own,
-        one,
-    )?;
-    let turns = time_fill(rt, whole, 1, &mut out)?;
-    let bare = time_fill_cycle(rt, &cycle, &mut out)?;
-    print_ratio(
-        rt,
-        "fill of 1 MiB of pages in turn over the kernel",
-        turns,
-        bare,
-    )?;
+/// Prints the ratio of `counts`.
+fn print_counts<R: Clock + Print>(rt: &R, whole: &Plan) -> io::Result<()> {
     let many = time_counts(rt, whole, 1, 17_179_869_184)?;
     let few = time_counts(rt, whole, 1, 8)?;
     print_ratio(
@@ -189,4 +145,12 @@ pub fn print_spans<R: Clock + Print>(rt: &R, alloc: Global, whole: &Plan) -> io:
         many,
         few,
     )
+}
+
+/// Prints the ratios of `fill` and `counts`.
+pub fn print_spans<R: Clock + Print>(rt: &R, alloc: Global, whole: &Plan) -> io::Result<()> {
+    print_counts(rt, whole)?;
+    let mut out = vec![in alloc; 0u8; FILLED]?;
+    let cycle = Cycle::new(alloc, &WEIGHED)?;
+    print_fills(rt, whole, &cycle, &mut out)
 }
