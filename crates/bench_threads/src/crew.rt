@@ -2,7 +2,7 @@
 mod serve;
 
 use crate::crew::serve::{by_crew, by_one};
-use crate::setting::{ON_NODE_0, desk_of, request_of};
+use crate::setting::{ON_NODE_0, desk_of, on_desk, request_of};
 use crate::times::{ROUNDS, Times, lacking};
 use numa_publish::Desk;
 use numa_space::Request;
@@ -99,12 +99,7 @@ fn measure_all<R: Print + Clock + Threads + Sync>(
 
 /// Prints the ratios.
 pub fn measure<R: Print + Clock + Threads + Wait + Sync>(rt: &R, alloc: Global) -> io::Result<()> {
-    let Some(mut desk) = desk_of(rt, alloc) else {
-        return lacking(rt);
-    };
-    let done = measure_all(rt, alloc, &mut desk);
-    desk.end(rt);
-    done
+    on_desk(rt, desk_of(rt, alloc), |desk| measure_all(rt, alloc, desk))
 }
 
 /// Prints how many of so many requests a crew of four places.
@@ -137,10 +132,5 @@ pub fn checksums<R: Print + Clock + Threads + Wait + Sync>(
     rt: &R,
     alloc: Global,
 ) -> io::Result<()> {
-    let Some(mut desk) = desk_of(rt, alloc) else {
-        return lacking(rt);
-    };
-    let done = print_crews(rt, alloc, &mut desk);
-    desk.end(rt);
-    done
+    on_desk(rt, desk_of(rt, alloc), |desk| print_crews(rt, alloc, desk))
 }

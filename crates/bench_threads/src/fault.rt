@@ -5,7 +5,7 @@ mod spans;
 
 use crate::placing::Placing;
 use crate::seated::Seated;
-use crate::setting::desk_of;
+use crate::setting::{desk_of, on_desk};
 use crate::times::lacking;
 use crate::workers::Workers;
 use numa_publish::Desk;
@@ -15,17 +15,57 @@ use std::rt::Clock;
 use std::sync::Wait;
 use std::thread::Threads;
 
+/// Measures faults beside their parts.
+fn measure_parts<R: Print + Clock>(
+    rt: &R,
+    desk: &mut Desk,
+    placing: &mut Placing,
+    seated: &mut Seated,
+) -> io::Result<()> {
+    match desk.reader() {
+        Ok(reader) => alone::measure(rt, placing, seated, reader),
+        Err(_) => lacking(rt),
+    }
+}
+
+/// The same, beside takes of other pools.
+fn measure_beside<R: Print + Clock>(
+    rt: &R,
+    alloc: Global,
+    desk: &mut Desk,
+    placing: &mut Placing,
+) -> io::Result<()> {
+    match Seated::open(alloc) {
+        Some(mut seated) => {
+            let done = measure_parts(rt, desk, placing, &mut seated);
+            drop(seated);
+            done
+        }
+        None => lacking(rt),
+    }
+}
+
+/// Measures spans, and faults beside their parts.
+fn measure_placing<R: Print + Clock>(
+    rt: &R,
+    alloc: Global,
+    desk: &mut Desk,
+    placing: &mut Placing,
+) -> io::Result<()> {
+    spans::measure(rt, alloc, placing)?;
+    measure_beside(rt, alloc, desk, placing)
+}
+
 /// Measures one worker.
 fn measure_alone<R: Print + Clock>(rt: &R, alloc: Global, desk: &mut Desk) -> io::Result<()> {
-    let (Some(mut placing), Some(mut seated)) = (Placing::open(alloc, desk), Seated::open(alloc))
-    else {
-        return lacking(rt);
-    };
-    let Ok(reader) = desk.reader() else {
-        return lacking(rt);
-    };
-    spans::measure(rt, alloc, &mut placing)?;
-    alone::measure(rt, &mut placing, &mut seated, reader)
+    match Placing::open(alloc, desk) {
+        Some(mut placing) => {
+            let done = measure_placing(rt, alloc, desk, &mut placing);
+            drop(placing);
+            done
+        }
+        None => lacking(rt),
+    }
 }
 
 /// Measures one worker and several.
@@ -41,12 +81,14 @@ fn measure_all<R: Print + Clock + Threads + Sync>(
 
 /// Prints the ratios.
 pub fn measure<R: Print + Clock + Threads + Wait + Sync>(rt: &R, alloc: Global) -> io::Result<()> {
-    let Some(mut desk) = desk_of(rt, alloc) else {
-        return lacking(rt);
-    };
-    let done = measure_all(rt, alloc, &mut desk);
-    desk.end(rt);
-    done
+    on_desk(rt, desk_of(rt, alloc), |desk| measure_all(rt, alloc, desk))
+}
+
+/// Prints what these workers place in threads.
+fn print_faults<R: Print + Threads + Sync>(rt: &R, workers: &mut Workers) -> io::Result<()> {
+    let apart = workers.faults(rt, true, 10_000);
+    let together = workers.faults(rt, false, 10_000);
+    println!(rt; "placed by four threads, apart {apart}, on one node {together}")
 }
 
 /// Prints what four workers in threads place.
@@ -55,20 +97,17 @@ fn print_placed<R: Print + Threads + Sync>(
     alloc: Global,
     desk: &mut Desk,
 ) -> io::Result<()> {
-    let Some(mut workers) = Workers::open(alloc, desk, 4) else {
-        return lacking(rt);
-    };
-    let apart = workers.faults(rt, true, 10_000);
-    let together = workers.faults(rt, false, 10_000);
-    println!(rt; "placed by four threads, apart {apart}, on one node {together}")
+    match Workers::open(alloc, desk, 4) {
+        Some(mut workers) => {
+            let done = print_faults(rt, &mut workers);
+            drop(workers);
+            done
+        }
+        None => lacking(rt),
+    }
 }
 
 /// Prints checksums.
 pub fn checksums<R: Print + Threads + Wait + Sync>(rt: &R, alloc: Global) -> io::Result<()> {
-    let Some(mut desk) = desk_of(rt, alloc) else {
-        return lacking(rt);
-    };
-    let done = print_placed(rt, alloc, &mut desk);
-    desk.end(rt);
-    done
+    on_desk(rt, desk_of(rt, alloc), |desk| print_placed(rt, alloc, desk))
 }

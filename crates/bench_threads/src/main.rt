@@ -14,53 +14,85 @@ mod setting;
 mod times;
 mod workers;
 
+use numa_examples::wanted::{Wanted, read_wanted};
+use std::alloc::Global;
+use std::io;
 use std::rt::Clock;
 use std::sync::Wait;
 use std::thread::Threads;
-use std::{env, io};
+
+/// What is measured together.
+#[derive(Clone, Copy)]
+enum Part {
+    Publish,
+    Fault,
+    Crew,
+    Pool,
+}
+
+/// The parts with their names.
+const PARTS: [(Part, &str); 4] = [
+    (Part::Publish, "publish"),
+    (Part::Fault, "fault"),
+    (Part::Crew, "crew"),
+    (Part::Pool, "pool"),
+];
+
+/// Prints the checksums of a part.
+fn checksums_of<R: Print + Clock + Threads + Wait + Sync>(
+    rt: &R,
+    alloc: Global,
+    part: Part,
+) -> io::Result<()> {
+    match part {
+        Part::Publish => publish::checksums(rt, alloc),
+        Part::Fault => fault::checksums(rt, alloc),
+        Part::Crew => crew::checksums(rt, alloc),
+        Part::Pool => pool::checksums(rt, alloc),
+    }
+}
 
 /// Prints the checksums of each part.
-fn checksums<R: Print + Clock + AllocGlobal + Threads + Wait + Sync>(rt: &R) -> io::Result<()> {
-    println!(rt; "== publish")?;
-    publish::checksums(rt, rt.alloc())?;
-    println!(rt; "== fault")?;
-    fault::checksums(rt, rt.alloc())?;
-    println!(rt; "== crew")?;
-    crew::checksums(rt, rt.alloc())?;
-    println!(rt; "== pool")?;
-    pool::checksums(rt, rt.alloc())
+fn checksums<R: Print + Clock + Threads + Wait + Sync>(rt: &R, alloc: Global) -> io::Result<()> {
+    for (part, name) in PARTS {
+        println!(rt; "== {name}")?;
+        checksums_of(rt, alloc, part)?;
+    }
+    Ok(())
+}
+
+/// Prints the ratios of a part.
+fn measure_part<R: Print + Clock + Threads + Wait + Sync>(
+    rt: &R,
+    alloc: Global,
+    part: Part,
+) -> io::Result<()> {
+    match part {
+        Part::Publish => publish::measure(rt, alloc),
+        Part::Fault => fault::measure(rt, alloc),
+        Part::Crew => crew::measure(rt, alloc),
+        Part::Pool => pool::measure(rt, alloc),
+    }
 }
 
 /// Prints the ratios of the part that is named, or of all.
-fn measure<R: Print + Clock + AllocGlobal + Threads + Wait + Sync>(
+fn measure<R: Print + Clock + Threads + Wait + Sync>(
     rt: &R,
-    part: &str,
+    alloc: Global,
+    wanted: &str,
 ) -> io::Result<()> {
-    if part == "publish" || part.is_empty() {
-        publish::measure(rt, rt.alloc())?;
-    }
-    if part == "fault" || part.is_empty() {
-        fault::measure(rt, rt.alloc())?;
-    }
-    if part == "crew" || part.is_empty() {
-        crew::measure(rt, rt.alloc())?;
-    }
-    if part == "pool" || part.is_empty() {
-        pool::measure(rt, rt.alloc())?;
+    for (part, name) in PARTS {
+        if wanted.is_empty() || wanted == name {
+            measure_part(rt, alloc, part)?;
+        }
     }
     Ok(())
 }
 
 fn main(rt: HostRuntime) -> io::Result<()> {
-    let mut words = env::args(&rt)?.skip(1);
-    let Some(word) = words.next() else {
-        return checksums(&rt);
-    };
-    if word.as_str() != "measure" {
-        return println!(rt; "usage: bench_threads [measure [publish|fault|crew|pool]]");
-    }
-    match words.next() {
-        Some(part) => measure(&rt, part.as_str()),
-        None => measure(&rt, ""),
+    match read_wanted(&rt, "bench_threads [measure [publish|fault|crew|pool]]")? {
+        Wanted::Checksums => checksums(&rt, rt.alloc()),
+        Wanted::Ratios(part) => measure(&rt, rt.alloc(), part.as_str()),
+        Wanted::Nothing => Ok(()),
     }
 }

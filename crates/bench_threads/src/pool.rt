@@ -24,13 +24,22 @@ pub fn checksums<R: Print + Threads + Sync>(rt: &R, alloc: Global) -> io::Result
     fixed::print(rt, alloc, pools, seat)
 }
 
+/// Prints the ratios of one thread.
+fn measure_lone<R: Print + Clock>(rt: &R, alloc: Global) -> io::Result<()> {
+    match Seated::open(alloc) {
+        Some(mut seated) => {
+            let done = lone::measure(rt, &mut seated);
+            drop(seated);
+            done
+        }
+        None => lacking(rt),
+    }
+}
+
 /// Prints the ratios, of one thread and of several.
 pub fn measure<R: Print + Clock + Threads + Sync>(rt: &R, alloc: Global) -> io::Result<()> {
-    let Some(mut seated) = Seated::open(alloc) else {
-        return lacking(rt);
-    };
     println!(rt; "take and give over a bare fetch_or and fetch_and:")?;
-    lone::measure(rt, &mut seated)?;
+    measure_lone(rt, alloc)?;
     for count in [1, 2, 4] {
         crowd::measure(rt, alloc, count)?;
     }

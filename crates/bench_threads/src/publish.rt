@@ -6,16 +6,14 @@ mod looks;
 mod spaces;
 
 use crate::publish::looks::{choices, looks};
-use crate::times::lacking;
+use crate::setting::on_desk;
+use numa_examples::many::RANGES;
 use numa_publish::Desk;
 use std::alloc::Global;
 use std::io;
 use std::rt::Clock;
 use std::sync::Wait;
 use std::thread::Threads;
-
-/// How many ranges the large space has.
-const RANGES: u64 = 65_536;
 
 /// Prints what a reader of the large space sees.
 fn print_seen(rt: &impl Print, desk: &mut Desk) -> io::Result<()> {
@@ -29,18 +27,10 @@ fn print_seen(rt: &impl Print, desk: &mut Desk) -> io::Result<()> {
 
 /// Prints what readers see, alone and beside a desk.
 pub fn checksums<R: Print + Threads + Wait + Sync>(rt: &R, alloc: Global) -> io::Result<()> {
-    let Some(mut desk) = spaces::desk_of(rt, alloc, RANGES) else {
-        return lacking(rt);
-    };
-    let seen = print_seen(rt, &mut desk);
-    desk.end(rt);
-    let Some(mut desk) = spaces::desk_of(rt, alloc, 1) else {
-        return lacking(rt);
-    };
-    let beside = beside::checksums(rt, alloc, &mut desk);
-    desk.end(rt);
-    seen?;
-    beside
+    let large = spaces::desk_of(rt, alloc, RANGES);
+    on_desk(rt, large, |desk| print_seen(rt, desk))?;
+    let small = spaces::desk_of(rt, alloc, 1);
+    on_desk(rt, small, |desk| beside::checksums(rt, alloc, desk))
 }
 
 /// Prints the ratios on the large space.
@@ -66,16 +56,8 @@ fn measure_small<R: Print + Clock + Threads + Wait + Sync>(
 
 /// Prints the ratios.
 pub fn measure<R: Print + Clock + Threads + Wait + Sync>(rt: &R, alloc: Global) -> io::Result<()> {
-    let Some(mut desk) = spaces::desk_of(rt, alloc, RANGES) else {
-        return lacking(rt);
-    };
-    let large = measure_large(rt, alloc, &mut desk);
-    desk.end(rt);
-    let Some(mut desk) = spaces::desk_of(rt, alloc, 1) else {
-        return lacking(rt);
-    };
-    let small = measure_small(rt, alloc, &mut desk);
-    desk.end(rt);
-    large?;
-    small
+    let large = spaces::desk_of(rt, alloc, RANGES);
+    on_desk(rt, large, |desk| measure_large(rt, alloc, desk))?;
+    let small = spaces::desk_of(rt, alloc, 1);
+    on_desk(rt, small, |desk| measure_small(rt, alloc, desk))
 }

@@ -1,10 +1,11 @@
 //! The machine, the published policies and the requests of faults and crews.
+use crate::times::lacking;
+use numa_examples::{flat_machine, spec_of};
 use numa_machine::Machine;
-use numa_mask::{NodeId, NodeMask};
-use numa_mode::PolicySpec;
 use numa_publish::Desk;
 use numa_space::{Command, Limits, Request};
 use std::alloc::Global;
+use std::io;
 use std::sync::Wait;
 
 /// How many pages are mapped, from the first one on.
@@ -19,29 +20,24 @@ pub const ON_NODE_0: u32 = 5;
 /// The task of which all pages lie on node 15.
 pub const ON_NODE_15: u32 = 6;
 
-/// So many nodes from one on.
-fn nodes_from(first: u8, count: u8) -> NodeMask {
-    let mut set = NodeMask::empty();
-    for number in 0..count {
-        if let Some(node) = NodeId::new(first.wrapping_add(number)) {
-            set.insert(node);
-        }
-    }
-    set
-}
+/// The nodes that the pages of each task lie on in turn.
+const NODES: [(u32, &[u8]); 6] = [
+    (1, &[0, 1, 2, 3]),
+    (2, &[4, 5, 6, 7]),
+    (3, &[8, 9, 10, 11]),
+    (4, &[12, 13, 14, 15]),
+    (ON_NODE_0, &[0]),
+    (ON_NODE_15, &[15]),
+];
 
 /// A machine of 16 nodes with 4,096 frames each, 20 apart.
 pub fn machine_of(alloc: Global) -> Option<Machine> {
-    let mut distances = [20u8; 256];
-    for node in 0..16 {
-        distances[node * 17] = 10;
-    }
-    Machine::new(alloc, 16, nodes_from(0, 16), &distances, &[4_096; 16]).ok()
+    flat_machine(alloc, &[4_096; 16])
 }
 
-/// The pages of a task lie on so many nodes in turn, from one on.
-fn interleave(desk: &mut Desk, task: u32, first: u8, count: u8) {
-    if let Ok(spec) = PolicySpec::from_raw(3, nodes_from(first, count)) {
+/// The pages of a task lie on these nodes in turn.
+fn interleave(desk: &mut Desk, task: u32, nodes: &[u8]) {
+    if let Some(spec) = spec_of(3, nodes) {
         let _ = desk.accept(&Command::SetTask { task, spec });
     }
 }
@@ -55,13 +51,27 @@ pub fn desk_of<R: Wait>(rt: &R, alloc: Global) -> Option<Desk> {
         length: PAGES * 4_096,
         offset: 0,
     });
-    for place in 0..4u8 {
-        interleave(&mut desk, u32::from(place) + 1, place * 4, 4);
+    for (task, nodes) in NODES {
+        interleave(&mut desk, task, nodes);
     }
-    interleave(&mut desk, ON_NODE_0, 0, 1);
-    interleave(&mut desk, ON_NODE_15, 15, 1);
     let _ = desk.publish(rt);
     Some(desk)
+}
+
+/// Does this with a desk, which ends then. Where there is none, that is printed.
+pub fn on_desk<R: Print + Wait, F: FnOnce(&mut Desk) -> io::Result<()>>(
+    rt: &R,
+    desk: Option<Desk>,
+    run: F,
+) -> io::Result<()>
+    requires { F.IsAlwaysCallable run }
+{
+    let Some(mut desk) = desk else {
+        return lacking(rt);
+    };
+    let done = run(&mut desk);
+    desk.end(rt);
+    done
 }
 
 /// The request of a task for the page that stands at this place, round and round.

@@ -1,9 +1,10 @@
 //! Times, taken in turn with those of a baseline, and their medians.
 ghost use Rattle.std.specs.Prelude.{◌<◌};
 
+use numa_examples::times::nanos;
 use std::io;
 use std::rt::Clock;
-use std::time::{Duration, Instant};
+use std::time::Instant;
 
 /// How often a call and its baseline are timed.
 pub const ROUNDS: usize = 31;
@@ -29,10 +30,6 @@ impl Watch {
             None => 0,
         }
     }
-}
-
-fn nanos(spent: Duration) -> u64 {
-    u64::try_from(spent.as_nanos()).unwrap_or(u64::MAX)
 }
 
 /// The middle one of so many figures.
@@ -78,17 +75,27 @@ impl Times {
         median(ratios)
     }
 
-    /// Prints the median of the rounds' ratios, and the medians of both times for each of so many
-    /// calls.
-    pub fn print(&self, rt: &impl Print, what: &str, calls: u64) -> io::Result<()> {
+    /// Prints the median of the rounds' ratios.
+    fn print_ratio(&self, rt: &impl Print, what: &str) -> io::Result<()> {
         let ratio = self.ratio();
         let (whole, part) = (ratio / 100, ratio % 100);
+        print!(rt; "{what}: {whole}.{part:02} ")
+    }
+
+    /// Prints the medians of both times for each of so many calls.
+    fn print_times(&self, rt: &impl Print, calls: u64) -> io::Result<()> {
         let call = hundredths(median(self.call), calls);
         let baseline = hundredths(median(self.baseline), calls);
         let (call, call_part) = (call / 100, call % 100);
         let (baseline, baseline_part) = (baseline / 100, baseline % 100);
-        print!(rt; "{what}: {whole}.{part:02} ")?;
         println!(rt; "({call}.{call_part:02} ns over {baseline}.{baseline_part:02} ns)")
+    }
+
+    /// Prints the median of the rounds' ratios, and the medians of both times for each of so many
+    /// calls.
+    pub fn print(&self, rt: &impl Print, what: &str, calls: u64) -> io::Result<()> {
+        self.print_ratio(rt, what)?;
+        self.print_times(rt, calls)
     }
 
     /// Prints the median of the calls' times alone, for each of so many calls.

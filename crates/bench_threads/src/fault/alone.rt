@@ -110,6 +110,30 @@ fn time_far(rt: &impl Clock, placing: &mut Placing, times: &mut Times) -> u64 {
     sum
 }
 
+/// Prints the ratio to the parts. The sum of what the calls answered.
+fn measure_parts<R: Print + Clock>(
+    rt: &R,
+    placing: &mut Placing,
+    seated: &mut Seated,
+    reader: PlanReader,
+) -> io::Result<u64> {
+    let mut times = Times::new();
+    let sum = time_parts(rt, placing, seated, reader, &mut times);
+    let what = "fault and release over enter, choice, leave, take and give";
+    times.print(rt, what, FAULTS)?;
+    Ok(sum)
+}
+
+/// Prints the ratio of those behind 63 full words. The sum of what the calls answered.
+fn measure_far<R: Print + Clock>(rt: &R, placing: &mut Placing) -> io::Result<u64> {
+    let mut times = Times::new();
+    placing.keep(ON_NODE_15, 4_032);
+    let sum = time_far(rt, placing, &mut times);
+    let what = "fault and release behind 63 full words over those on an empty node";
+    times.print(rt, what, FAULTS)?;
+    Ok(sum)
+}
+
 /// Prints the ratios.
 pub fn measure<R: Print + Clock>(
     rt: &R,
@@ -117,19 +141,7 @@ pub fn measure<R: Print + Clock>(
     seated: &mut Seated,
     reader: PlanReader,
 ) -> io::Result<()> {
-    let (mut of_parts, mut of_far) = (Times::new(), Times::new());
-    let sum = time_parts(rt, placing, seated, reader, &mut of_parts);
-    of_parts.print(
-        rt,
-        "fault and release over enter, choice, leave, take and give",
-        FAULTS,
-    )?;
-    placing.keep(ON_NODE_15, 4_032);
-    let sum = sum.wrapping_add(time_far(rt, placing, &mut of_far));
-    of_far.print(
-        rt,
-        "fault and release behind 63 full words over those on an empty node",
-        FAULTS,
-    )?;
+    let sum = measure_parts(rt, placing, seated, reader)?;
+    let sum = sum.wrapping_add(measure_far(rt, placing)?);
     println!(rt; "sum of what these faults, takes and choices answered: {sum}")
 }

@@ -35,21 +35,51 @@ fn time_beside<R: Clock + Threads + Sync>(
 
 /// Prints how many times one worker's faults a second some workers serve, on nodes of their own and
 /// on one word.
+fn print_times<R: Print + Clock + Threads + Sync>(
+    rt: &R,
+    one: &mut Workers,
+    many: &mut Workers,
+) -> io::Result<()> {
+    for (apart, what) in [
+        (true, "  nodes of their own"),
+        (false, "  frames of one word"),
+    ] {
+        time_beside(rt, one, many, apart).print(rt, what, FAULTS)?;
+    }
+    Ok(())
+}
+
+/// The same beside a worker of its own.
+fn measure_beside<R: Print + Clock + Threads + Sync>(
+    rt: &R,
+    alloc: Global,
+    desk: &mut Desk,
+    many: &mut Workers,
+) -> io::Result<()> {
+    match Workers::open(alloc, desk, 1) {
+        Some(mut one) => {
+            let done = print_times(rt, &mut one, many);
+            drop(one);
+            done
+        }
+        None => lacking(rt),
+    }
+}
+
+/// The same of so many workers.
 pub fn measure<R: Print + Clock + Threads + Sync>(
     rt: &R,
     alloc: Global,
     desk: &mut Desk,
     count: u32,
 ) -> io::Result<()> {
-    let (Some(mut one), Some(mut many)) = (
-        Workers::open(alloc, desk, 1),
-        Workers::open(alloc, desk, count),
-    ) else {
-        return lacking(rt);
-    };
     println!(rt; "{count} threads, faults a second over one thread's (its time over theirs):")?;
-    let of_apart = time_beside(rt, &mut one, &mut many, true);
-    of_apart.print(rt, "  nodes of their own", FAULTS)?;
-    let of_word = time_beside(rt, &mut one, &mut many, false);
-    of_word.print(rt, "  frames of one word", FAULTS)
+    match Workers::open(alloc, desk, count) {
+        Some(mut many) => {
+            let done = measure_beside(rt, alloc, desk, &mut many);
+            drop(many);
+            done
+        }
+        None => lacking(rt),
+    }
 }

@@ -108,17 +108,57 @@ fn time_apart<R: Clock + Threads + Sync>(rt: &R, one: &mut Seats, seats: &mut Se
     times
 }
 
+/// Prints the ratio on one word.
+fn measure_word<R: Print + Clock + Threads + Sync>(
+    rt: &R,
+    seats: &mut Seats,
+    count: u32,
+) -> io::Result<()> {
+    print!(rt; "  {count} threads on one word, over as many on a word of no pools")?;
+    time_word(rt, seats).print(rt, "", TAKES)
+}
+
+/// Prints the ratio on nodes of their own, to one seat.
+fn measure_apart<R: Print + Clock + Threads + Sync>(
+    rt: &R,
+    one: &mut Seats,
+    seats: &mut Seats,
+    count: u32,
+) -> io::Result<()> {
+    print!(rt; "  {count} threads on nodes of their own, frames a second over one thread's")?;
+    time_apart(rt, one, seats).print(rt, "", TAKES)
+}
+
+/// Prints both ratios.
+fn measure_seats<R: Print + Clock + Threads + Sync>(
+    rt: &R,
+    alloc: Global,
+    seats: &mut Seats,
+    count: u32,
+) -> io::Result<()> {
+    measure_word(rt, seats, count)?;
+    match Seats::open(alloc, 1) {
+        Some(mut one) => {
+            let done = measure_apart(rt, &mut one, seats, count);
+            drop(one);
+            done
+        }
+        None => lacking(rt),
+    }
+}
+
 /// Prints the ratios of so many threads.
 pub fn measure<R: Print + Clock + Threads + Sync>(
     rt: &R,
     alloc: Global,
     count: u32,
 ) -> io::Result<()> {
-    let (Some(mut one), Some(mut seats)) = (Seats::open(alloc, 1), Seats::open(alloc, count)) else {
-        return lacking(rt);
-    };
-    print!(rt; "  {count} threads on one word, over as many on a word of no pools")?;
-    time_word(rt, &mut seats).print(rt, "", TAKES)?;
-    print!(rt; "  {count} threads on nodes of their own, frames a second over one thread's")?;
-    time_apart(rt, &mut one, &mut seats).print(rt, "", TAKES)
+    match Seats::open(alloc, count) {
+        Some(mut seats) => {
+            let done = measure_seats(rt, alloc, &mut seats, count);
+            drop(seats);
+            done
+        }
+        None => lacking(rt),
+    }
 }

@@ -120,30 +120,50 @@ fn time_publishes<R: Clock + Wait>(
     }
 }
 
-/// Prints the ratios of looks.
-fn print_looks<R: Print + Clock>(rt: &R, alloc: Global, desk: &mut Desk) -> io::Result<()> {
+/// Prints the ratios of looks by this reader.
+fn print_times<R: Print + Clock>(rt: &R, reader: PlanReader, plan: &Plan) -> io::Result<()> {
     let (mut of_looks, mut of_choices) = (Times::new(), Times::new());
-    let (Ok(plan), Ok(reader)) = (compile(alloc, desk.space()), desk.reader()) else {
-        return lacking(rt);
-    };
-    time_all(rt, reader, &plan, &mut of_looks, &mut of_choices);
-    of_looks.print(
-        rt,
-        "enter and leave over a fetch_add, a load and a fetch_add",
-        LOOKS,
-    )?;
-    of_choices.print(
-        rt,
-        "enter, choice and leave over Plan::choice, enter and leave",
-        LOOKS,
-    )
+    time_all(rt, reader, plan, &mut of_looks, &mut of_choices);
+    let what = "enter and leave over a fetch_add, a load and a fetch_add";
+    of_looks.print(rt, what, LOOKS)?;
+    let what = "enter, choice and leave over Plan::choice, enter and leave";
+    of_choices.print(rt, what, LOOKS)
+}
+
+/// The same by a new reader.
+fn print_beside<R: Print + Clock>(rt: &R, desk: &mut Desk, plan: &Plan) -> io::Result<()> {
+    match desk.reader() {
+        Ok(reader) => print_times(rt, reader, plan),
+        Err(_) => lacking(rt),
+    }
+}
+
+/// The same beside a plan of the space.
+fn print_looks<R: Print + Clock>(rt: &R, alloc: Global, desk: &mut Desk) -> io::Result<()> {
+    match compile(alloc, desk.space()) {
+        Ok(plan) => {
+            let done = print_beside(rt, desk, &plan);
+            drop(plan);
+            done
+        }
+        Err(_) => lacking(rt),
+    }
+}
+
+/// Prints the ratios of publishes.
+fn print_publishes<R: Print + Clock + Wait>(
+    rt: &R,
+    alloc: Global,
+    desk: &mut Desk,
+) -> io::Result<()> {
+    let (mut of_one, mut of_none) = (Times::new(), Times::new());
+    time_publishes(rt, alloc, desk, &mut of_one, &mut of_none);
+    of_one.print(rt, "publish of one command over compile", 1)?;
+    of_none.print_call(rt, "publish with nothing pending", PUBLISHES)
 }
 
 /// Prints the ratios.
 pub fn measure<R: Print + Clock + Wait>(rt: &R, alloc: Global, desk: &mut Desk) -> io::Result<()> {
-    let (mut of_one, mut of_none) = (Times::new(), Times::new());
     print_looks(rt, alloc, desk)?;
-    time_publishes(rt, alloc, desk, &mut of_one, &mut of_none);
-    of_one.print(rt, "publish of one command over compile", 1)?;
-    of_none.print_call(rt, "publish with nothing pending", PUBLISHES)
+    print_publishes(rt, alloc, desk)
 }

@@ -1,13 +1,9 @@
 //! Looks at what is published, and the least that they could be made of.
+use numa_examples::many::page_of;
 use numa_plan::{Plan, Steps};
 use numa_publish::PlanReader;
 use std::hint::black_box;
 use std::sync::atomic::{AtomicU64, Ordering};
-
-/// The page that look-up `i` asks for: the pages jump over all ranges.
-fn page_of(i: u64) -> u64 {
-    i.wrapping_mul(40_503) % 262_144
-}
 
 /// Looks so many times, and adds up the versions that are seen.
 pub fn looks(mut reader: PlanReader, count: u64) -> (PlanReader, u64) {
