@@ -285,8 +285,8 @@ impl<A: Respond, W: Write> Expect<A, W> {
         taken
     }
 
-    /// Takes the rest of the line at hand. A line that lies whole in its piece, and shows there what
-    /// it holds, isn't copied.
+    /// Takes the rest of the line at hand. A line that lies whole in its piece, and shows there
+    /// what it holds, isn't copied.
     fn take_rest(&mut self, rest: &[u8]) -> Result<(), Stop> {
         if self.reading == Reading::Head && self.head.is_empty() && rest.len() <= HEAD {
             return self.take_head(rest);
@@ -307,8 +307,8 @@ impl<A: Respond, W: Write> Expect<A, W> {
         Ok(())
     }
 
-    /// Takes the first bytes of the line at hand, up to those that show what it holds, and tells how
-    /// many these are.
+    /// Takes the first bytes of the line at hand, up to those that show what it holds, and tells
+    /// how many these are.
     fn take_first(&mut self, bytes: &[u8]) -> Result<usize, Stop>
         ensures { IfOk result (λ count. count ≤ length bytes.now) }
     {
