@@ -1,17 +1,18 @@
 //! Compiling.
 ghost use Rattle.std.specs.Prelude.{◌≡◌, ℕ, ◌+◌, ◌-◌, ◌^◌, ◌<◌, ◌≤◌, IfOk, OnOk, List, [], length};
-ghost use Rattle.std.specs.Prelude.{slice_get, All, IsSome, ◌∷◌, ◌++◌};
+ghost use Rattle.std.specs.Prelude.{slice_get, All, IsSome, None, ◌∷◌, ◌++◌};
 ghost use Rattle.std.specs.Option.{ForSome};
 ghost use Rattle.numa_ranges.specs.Runs.{AreApart, AreMaximal};
+ghost use Rattle.numa_plan.specs.Building.{empty_plan};
 ghost use Rattle.numa_plan.specs.Meaning.{planned_list};
 ghost use Rattle.numa_plan.specs.Slots.{rule_in};
 ghost use Rattle.numa_space.specs.declared.command.Command.{Command};
 ghost use Rattle.numa_space.specs.Policies.{allowed_nodes};
-ghost use Rattle.numa_space.specs.Standing.{StandsFor, IsNodeList, accepted_of};
+ghost use Rattle.numa_space.specs.Standing.{StandsFor, IsNodeList, accepted_of, setting_in};
 ghost use Rattle.numa_compile.specs.Copies.{AreCopies, HasTasks, HasRunsMore, IsUnderWay};
 ghost use Rattle.numa_compile.specs.Copies.{SharesRules};
 ghost use Rattle.numa_compile.specs.Follows.{Follows};
-ghost use Rattle.numa_compile.specs.Rules.{IsReady};
+ghost use Rattle.numa_compile.specs.Rules.{IsReady, IsRuleOf};
 ghost use Rattle.numa_compile.specs.Standing.{IsPlanOf, PlanStandsFor};
 
 use crate::numbers::{number_for, number_for_range};
@@ -157,6 +158,31 @@ fn set_tasks(
     Ok(())
 }
 
+/// Copies a space into a plan that has its local rule alone.
+///
+/// # Errors
+/// `NoMemory` where there is none for the runs, the rules and the tasks.
+fn copy_space(
+    alloc: Global,
+    space: &Space,
+    plan: &mut Plan,
+    steps: &mut Steps,
+) -> Result<(), NoMemory>
+    requires empty { plan.old ≡ empty_plan space.now.machine.nodes plan.old.local }
+    requires local { IsRuleOf (setting_in space.now) plan.old.local None }
+    ensures follows { OnOk result (Follows space.now plan.new) }
+    ensures rules { OnOk result (SharesRules space.now plan.new) }
+{
+    survey(space);
+    let mut records = IndexSet::new(alloc);
+    add_runs(alloc, space, plan, &mut records, steps)?;
+    set_tasks(alloc, space, plan, &mut records, steps)?;
+    plan.set_version(space.version());
+    // Tells the proof that no record is there twice.
+    let _ = records.len();
+    Ok(())
+}
+
 /// The plan of a space, as [`compile`] makes it. `steps` counts the runs and the rules that are
 /// written.
 ///
@@ -173,12 +199,10 @@ pub(crate) fn compile_counted(
     survey(space);
     let local = local_rule(alloc, space)?;
     let mut plan = Plan::new(alloc, space.machine().nodes(), local);
-    let mut records = IndexSet::new(alloc);
-    add_runs(alloc, space, &mut plan, &mut records, steps)?;
-    set_tasks(alloc, space, &mut plan, &mut records, steps)?;
-    plan.set_version(space.version());
-    // Tells the proof that no record is there twice.
-    let _ = records.len();
+    let Ok(()) = copy_space(alloc, space, &mut plan, steps) else {
+        drop(plan);
+        return Err(NoMemory);
+    };
     Ok(plan)
 }
 
@@ -221,7 +245,10 @@ pub fn compile_commands(
 {
     let mut space = Space::new(alloc, machine, limits);
     let Ok(()) = space.apply_all(commands) else {
+        drop(space);
         return Err(NoMemory);
     };
-    compile(alloc, &space)
+    let plan = compile(alloc, &space);
+    drop(space);
+    plan
 }

@@ -19,6 +19,7 @@ use numa_plan::{Plan, Steps};
 use numa_space::{Command, Limits, Refusal, Space};
 use std::alloc::Global;
 use std::marker::Model;
+use std::mem;
 
 /// A space, and its plan once it was asked for. From then on each accepted command edits the plan
 /// in place, so that asking for it again costs nothing. Contracts see the space alone.
@@ -71,14 +72,14 @@ fn follow(alloc: Global, plan: &mut Option<Plan>, space: &Space, command: &Comma
     ensures { ForSome plan.new (Follows space.now) }
 {
     if let Command::SetMems { .. } = command {
-        *plan = None;
+        drop(plan.take());
         return;
     }
     let Some(kept) = plan else {
         return;
     };
     if !edited(alloc, kept, space, command) {
-        *plan = None;
+        drop(plan.take());
     }
 }
 
@@ -91,7 +92,8 @@ fn prepare(alloc: Global, plan: &mut Option<Plan>, space: &Space) -> Result<(), 
     ensures { ForSome plan.new (Follows space.now) }
 {
     if plan.is_none() {
-        *plan = Some(compile_anew(alloc, space)?);
+        let made = compile_anew(alloc, space)?;
+        mem::forget(plan.replace(made));
     }
     Ok(())
 }
@@ -127,7 +129,10 @@ impl PlannedSpace {
         ensures { IfOk result (λ copy. copy ≡ self.now) }
     {
         let space = self.space.copy(alloc)?;
-        let plan = copy_of(alloc, &self.plan)?;
+        let Ok(plan) = copy_of(alloc, &self.plan) else {
+            drop(space);
+            return Err(NoMemory);
+        };
         Ok(PlannedSpace { space, plan })
     }
 

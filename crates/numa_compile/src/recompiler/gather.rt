@@ -8,7 +8,7 @@ ghost use Rattle.numa_compile.specs.Copies.{AreCopies, IsNumber};
 ghost use Rattle.numa_compile.specs.Windows.{IsNumbered, KeepsOutside, NumbersInside};
 ghost use Rattle.numa_compile.specs.declared.recompiler.window.Window.{Window};
 
-use crate::recompiler::window::{Window, begins_inside};
+use crate::recompiler::window::{Window, begins_inside, range_there};
 use numa_plan::{NoMemory, Plan};
 use numa_space::{RangeRecord, Run, Space};
 
@@ -91,9 +91,7 @@ pub(crate) fn gather_runs(
         (slice_range space.now.ranges window.now.from window.now.to_now) runs.new.items) }
 {
     for k in window.from..window.to_now {
-        let Some(range) = space.range_at(k) else {
-            unreachable!()
-        };
+        let range = range_there(space, k);
         let value = number_in(plan, window, &range, given);
         push_run(runs, &range, value)?;
     }

@@ -22,7 +22,7 @@ use crate::recompiler::added::number_or_add;
 use crate::recompiler::gather::{number_before, push_run};
 use crate::recompiler::put::put_runs;
 use crate::recompiler::unused::take_back;
-use crate::recompiler::window::{Window, begins_inside, open_window};
+use crate::recompiler::window::{Window, begins_inside, open_window, range_there};
 use numa_plan::{NoMemory, Plan, Steps};
 use numa_space::{RangeRecord, Run, Space};
 use std::alloc::Global;
@@ -100,9 +100,7 @@ fn gather_homes(
         steps.old steps.new }
 {
     for k in window.from..window.to_now {
-        let Some(range) = space.range_at(k) else {
-            unreachable!()
-        };
+        let range = range_there(space, k);
         let value = number_of_home(alloc, plan, space, window, &range, added, steps)?;
         push_run(runs, &range, value)?;
     }

@@ -1,6 +1,8 @@
 //! Recompiling for a span that is mapped.
-ghost use Rattle.std.specs.Prelude.{◌≡◌, ◌+◌, ◌-◌, ◌≤◌, ℕ, length, None, OnOk, OnErr};
+ghost use Rattle.std.specs.Prelude.{◌≡◌, ◌+◌, ◌-◌, ◌<◌, ◌≤◌, ℕ, length, None, OnOk, OnErr};
+ghost use Rattle.std.specs.Prelude.{true, false};
 ghost use Rattle.std.specs.Bool.{OnTrue, OnFalse};
+ghost use Rattle.numa_ranges.specs.Runs.{end_of};
 ghost use Rattle.numa_space.specs.declared.command.Command.{Command};
 ghost use Rattle.numa_compile.specs.Follows.{Follows, IsBehind};
 ghost use Rattle.numa_compile.specs.Recompiling.{WritesBoth, met_by};
@@ -9,10 +11,18 @@ ghost use Rattle.numa_compile.specs.declared.recompiler.window.Window.{Window};
 
 use crate::compiler::survey;
 use crate::recompiler::rewrite::rewrite_window;
-use crate::recompiler::window::{Window, find_window};
+use crate::recompiler::window::{Window, find_window, range_there};
 use numa_plan::{NoMemory, Plan, Steps};
-use numa_space::Space;
+use numa_space::{RangeRecord, Run, Space};
 use std::alloc::Global;
+
+/// Whether a range ends at a page or before it.
+fn ends_by(range: &Run<RangeRecord>, page: u64) -> bool
+    ensures ended { result ≡ true → end_of range.now ≤ page }
+    ensures reaches { result ≡ false → page < end_of range.now }
+{
+    range.first <= page && range.pages <= page - range.first
+}
 
 /// Whether the window's first range ends where the span begins, so that it wasn't joined to it.
 fn begins_beside(space: &Space, window: &Window) -> bool
@@ -23,10 +33,7 @@ fn begins_beside(space: &Space, window: &Window) -> bool
     if window.from >= window.to_now {
         return false;
     }
-    let Some(range) = space.range_at(window.from) else {
-        unreachable!()
-    };
-    range.first <= window.first && range.pages <= window.first - range.first
+    ends_by(&range_there(space, window.from), window.first)
 }
 
 /// The window of a span that is mapped, without a first range that wasn't joined to it. It has two

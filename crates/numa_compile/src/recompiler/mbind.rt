@@ -14,7 +14,7 @@ use crate::compiler::survey;
 use crate::recompiler::added::number_or_add;
 use crate::recompiler::rewrite::rewrite_window;
 use crate::recompiler::unused::take_back;
-use crate::recompiler::window::{Window, begins_inside, open_window};
+use crate::recompiler::window::{Window, begins_inside, open_window, range_there};
 use numa_mode::Record;
 use numa_plan::{NoMemory, Plan, Steps};
 use numa_space::Space;
@@ -28,9 +28,7 @@ fn policy_inside(space: &Space, window: &Window) -> Option<Record>
     ensures in_force { ForSome result (IsInForce space.now.machine space.now.allowed) }
 {
     for k in window.from..window.to_now {
-        let Some(range) = space.range_at(k) else {
-            unreachable!()
-        };
+        let range = range_there(space, k);
         if begins_inside(&range, window) {
             return range.value.policy();
         }

@@ -6,6 +6,7 @@ use crate::compiler::compile_counted;
 use numa_plan::{NoMemory, Plan, Steps};
 use numa_space::Space;
 use std::alloc::Global;
+use std::mem::replace;
 
 /// Compiles the plan anew, since every policy's nodes may have changed, every row, and which ranges
 /// stand as one. Takes the time of [`crate::compile`].
@@ -22,6 +23,6 @@ pub(crate) fn recompile_mems(
     ensures unchanged { OnErr result (plan.new ≡ plan.old) }
 {
     let fresh = compile_counted(alloc, space, steps)?;
-    *plan = fresh;
+    drop(replace(plan, fresh));
     Ok(())
 }

@@ -1,6 +1,10 @@
 //! Where the runs stand that a command of a span leaves to be written anew.
-ghost use Rattle.std.specs.Prelude.{◌≡◌, ◌+◌, ◌-◌, ◌≤◌, length, IfSome, OnSome, IfNone};
+ghost use Rattle.std.specs.Prelude.{◌≡◌, ◌+◌, ◌-◌, ◌<◌, ◌≤◌, length, get_or, Option};
+ghost use Rattle.std.specs.Prelude.{IfSome, OnSome, IfNone};
+ghost use Rattle.numa_mode.specs.Policy.{PolicyRecord};
+ghost use Rattle.numa_ranges.specs.Runs.{AreApart, AreMaximal};
 ghost use Rattle.numa_ranges.specs.Windows.{IsWindow, begins_in, begun};
+ghost use Rattle.numa_ranges.specs.declared.run.Run.{Run};
 ghost use Rattle.numa_space.specs.History.{page_of, page_count};
 ghost use Rattle.numa_compile.specs.Follows.{Follows};
 ghost use Rattle.numa_compile.specs.Recompiling.{met_by};
@@ -76,6 +80,19 @@ pub(crate) fn open_window(plan: &mut Plan, space: &Space, start: u64, bytes: u64
         return None;
     }
     Some(window)
+}
+
+/// The range at a place where there is one.
+pub(crate) fn range_there(space: &Space, place: usize) -> Run<RangeRecord>
+    requires { place < length space.now.ranges }
+    ensures there { (d : Run (Option PolicyRecord)) → get_or space.now.ranges place d ≡ result }
+    ensures rising { AreApart 0 space.now.ranges }
+    ensures maximal { AreMaximal space.now.ranges }
+{
+    let Some(range) = space.range_at(place) else {
+        unreachable!()
+    };
+    range
 }
 
 /// Whether a range begins in the window's span.

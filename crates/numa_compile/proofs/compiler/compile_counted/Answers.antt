@@ -1,25 +1,17 @@
-use Rattle.std.proofs.Common.{arith, rules, slice_get}
-use Rattle.numa_compile.proofs.CompileSteps.{under-empty, follows-done, shares-done}
-use Rattle.numa_compile.proofs.CopyLemmas.{copies-length}
-use Rattle.numa_compile.proofs.SeenLemmas.{unique-pairs}
+use Rattle.std.proofs.Common.{◌≡◌, None, rules, sym, ap, subst, ◌∙◌}
+use Rattle.numa_space.specs.Standing.{setting_in}
+use Rattle.numa_plan.specs.Building.{empty_plan}
+use Rattle.numa_plan.specs.Meaning.{PlanData}
+use Rattle.numa_plan.specs.Rows.{RuleData}
+use Rattle.numa_compile.specs.Rules.{IsRuleOf}
 use Rattle.numa_compile.proofs.compiler.compile_counted.Goals as goal
 
-pub add_runs-requires-clause-under_way : goal.add_runs-requires-clause-under_way
-add_runs-requires-clause-under_way c =
-    under-empty c.args.space.now c.new-plan.result c.nodes.result c.in_ok-local.local c.new-records.result.keys c.new-plan.ensures (search rules) c.in_ok-local.ensures c.new-records.ensures.empty
+pub copy_space-requires-clause-empty : goal.copy_space-requires-clause-empty
+copy_space-requires-clause-empty c =
+    let nodes : c.nodes.result ≡ c.args.space.now.machine.nodes = search rules in
+    let local : c.in_ok-local.local ≡ c.new-plan.result.local = sym (ap (λ (p : PlanData). p.local) c.new-plan.ensures) in
+    c.new-plan.ensures ∙ (λ i. empty_plan (nodes i) (local i))
 
-pub set_tasks-requires-clause-few : goal.set_tasks-requires-clause-few
-set_tasks-requires-clause-few c =
-    omega (arith, copies-length (slice_get c.add_runs.new.records.keys) c.args.space.now.ranges c.add_runs.new.plan.runs c.in_ok-add_runs.ensures.copies, c.survey.ensures.ranges, c.survey.ensures.tasks)
-
-pub set_tasks-requires-clause-room : goal.set_tasks-requires-clause-room
-set_tasks-requires-clause-room c =
-    omega (arith, c.in_ok-add_runs.ensures.room, c.survey.ensures.ranges, c.survey.ensures.tasks)
-
-pub returns-clause-follows : goal.returns-clause-follows
-returns-clause-follows c = follows-done c.args.space.now c.set_tasks.new.plan c.set_version.new.self c.set_tasks.new.records.keys c.version.result c.version.ensures.version c.set_version.ensures c.in_ok-set_tasks.ensures.under_way c.in_ok-set_tasks.ensures.copies c.in_ok-set_tasks.ensures.tasks
-
-pub returns-clause-rules : goal.returns-clause-rules
-returns-clause-rules c =
-    shares-done c.args.space.now c.set_tasks.new.plan c.set_version.new.self c.set_tasks.new.records.keys c.version.result c.version.ensures.version c.set_version.ensures c.in_ok-set_tasks.ensures.under_way c.in_ok-set_tasks.ensures.copies c.in_ok-set_tasks.ensures.tasks
-    (unique-pairs c.set_tasks.new.records.keys c.len.ensures.unique)
+pub copy_space-requires-clause-local : goal.copy_space-requires-clause-local
+copy_space-requires-clause-local c =
+    subst (λ (rule : RuleData). IsRuleOf (setting_in c.args.space.now) rule None) (sym (ap (λ (p : PlanData). p.local) c.new-plan.ensures)) c.in_ok-local.ensures

@@ -1,4 +1,4 @@
-use Rattle.std.proofs.Common.{◌+◌, arith}
+use Rattle.std.proofs.Common.{arith}
 use Rattle.numa_compile.proofs.SpanLemmas.{writes-few, writes-none}
 use Rattle.numa_compile.proofs.recompiler.map.recompile_map.Goals as goal
 
