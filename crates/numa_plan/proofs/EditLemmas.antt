@@ -15,7 +15,7 @@ use Rattle.numa_plan.specs.Editing.{all_used, all_unused, with_other, before_oth
 use Rattle.numa_plan.specs.Sound.{IsPlan}
 use Rattle.numa_plan.specs.declared.slots.Slot.{Slot}
 use Rattle.numa_plan.specs.declared.slots.Slot.TheVariants.{Free, Taken}
-use Rattle.numa_plan.proofs.SlotLemmas.{same_or_not, change-same, rule_of-kept, kept_in-used, kept_in-unused, rule_in-used, length-used, length-unused, uses_in-used, uses_in-unused}
+use Rattle.numa_plan.proofs.SlotLemmas.{same_or_not, change-same, rule_of-kept, kept_in-used, kept_in-unused, rule_in-used, length-used, length-unused}
 use Rattle.numa_plan.proofs.BuildLemmas.{keeps, lists-kept, uses_in-one, uses_in-one_less}
 
 -- ---- uses by many runs

@@ -1,6 +1,4 @@
-use Rattle.std.proofs.Common.{◌≡◌, ℕ, ◌*◌, ◌/◌, ◌%◌, length, ap, arith}
-use Rattle.numa_lanes.specs.Spans.{counted}
-use Rattle.numa_plan.specs.Rules.{turns_on}
+use Rattle.std.proofs.Common.{arith}
 use Rattle.numa_plan.proofs.CountLemmas.{count-turns}
 use Rattle.numa_plan.proofs.tally.add_rounds.Goals as goal
 

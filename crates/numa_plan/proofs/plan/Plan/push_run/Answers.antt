@@ -1,4 +1,4 @@
-use Rattle.std.proofs.Common.{ℕ, Option, List, ap, sym, subst}
+use Rattle.std.proofs.Common.{List, ap, sym, subst}
 use Rattle.std.specs.Prelude.{IsSome}
 use Rattle.std.specs.Option.{ForSome}
 use Rattle.numa_plan.specs.Meaning.{PlanData}
