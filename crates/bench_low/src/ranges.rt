@@ -2,7 +2,7 @@
 //!
 //! A figure of `measure` is a ratio: the best time of a call over the best time, in the same run,
 //! of the least that any sorted vector needs for it. Times alone say little about another machine.
-use numa_examples::many::{RANGES, ROUND, Row, mixed, page_of, places_in, rows_of};
+use numa_examples::many::{FlatRow, RANGES, ROUND, mixed, page_of, places_in, rows_of};
 use numa_examples::times::{best_of, print_ratio};
 use numa_ranges::RangeMap;
 use std::alloc::Global;
@@ -108,7 +108,7 @@ fn time_edits<R: Clock>(rt: &R, map: &mut RangeMap<u64>) -> io::Result<u64> {
 }
 
 /// The best time of moving half of a vector one row up and down again.
-fn time_moves<R: Clock>(rt: &R, rows: &mut Vec<Row>) -> io::Result<u64> {
+fn time_moves<R: Clock>(rt: &R, rows: &mut Vec<FlatRow>) -> io::Result<u64> {
     let (best, _) = best_of(rt, 400, || {
         let middle = rows.len() / 2;
         if black_box(rows.insert(middle, [0; 4])).is_ok() {
@@ -134,7 +134,7 @@ fn found(map: &RangeMap<u64>) -> u64 {
 fn measure_edits<R: Clock + Print>(
     rt: &R,
     map: &mut RangeMap<u64>,
-    rows: &mut Vec<Row>,
+    rows: &mut Vec<FlatRow>,
 ) -> io::Result<()> {
     let edits = time_edits(rt, map)?;
     let moves = time_moves(rt, rows)?;
@@ -147,7 +147,11 @@ fn measure_edits<R: Clock + Print>(
 }
 
 /// Prints the ratio of look-ups.
-fn measure_looks<R: Clock + Print>(rt: &R, map: &RangeMap<u64>, rows: &[Row]) -> io::Result<()> {
+fn measure_looks<R: Clock + Print>(
+    rt: &R,
+    map: &RangeMap<u64>,
+    rows: &[FlatRow],
+) -> io::Result<()> {
     let (looks, found) = best_of(rt, 40, || found(map))?;
     let (points, counted) = best_of(rt, 40, || places_in(rows))?;
     print_ratio(rt, "at over partition_point", looks, points)?;
@@ -158,7 +162,7 @@ fn measure_looks<R: Clock + Print>(rt: &R, map: &RangeMap<u64>, rows: &[Row]) ->
 fn measure_calls<R: Clock + Print>(
     rt: &R,
     map: &mut RangeMap<u64>,
-    rows: &mut Vec<Row>,
+    rows: &mut Vec<FlatRow>,
 ) -> io::Result<()> {
     measure_edits(rt, map, rows)?;
     measure_looks(rt, map, rows)

@@ -1,6 +1,6 @@
 //! Long lists of rows in chunks: the sum of the places that look-ups find, and with the argument
 //! `measure` how long they take beside those in one plain vector of the same rows.
-use numa_examples::many::{POLICIES, ROUND, Row, page_of, places_in, rows_of};
+use numa_examples::many::{FlatRow, POLICIES, ROUND, page_of, places_in, rows_of};
 use numa_examples::times::{best_of, print_ratio};
 use numa_rows::{Keep, Owned, Rows, Shared};
 use std::alloc::{AllocError, Global};
@@ -9,7 +9,10 @@ use std::io;
 use std::rt::Clock;
 
 /// The rows in chunks.
-fn chunked<K: Keep<Row>>(alloc: Global, plain: &[Row]) -> Result<Rows<Row, K>, AllocError> {
+fn chunked<K: Keep<FlatRow>>(
+    alloc: Global,
+    plain: &[FlatRow],
+) -> Result<Rows<FlatRow, K>, AllocError> {
     let mut rows = Rows::new(alloc);
     for row in plain {
         rows.push(*row)?;
@@ -18,19 +21,19 @@ fn chunked<K: Keep<Row>>(alloc: Global, plain: &[Row]) -> Result<Rows<Row, K>, A
 }
 
 /// The sum of the places that a round finds.
-fn places<K: Keep<Row>>(rows: &Rows<Row, K>) -> u64 {
+fn places<K: Keep<FlatRow>>(rows: &Rows<FlatRow, K>) -> u64 {
     let mut sum = 0u64;
     for i in 0..ROUND {
         let page = black_box(page_of(i));
-        let place = rows.partition_point(&mut |row: &Row| row[0] <= page);
+        let place = rows.partition_point(&mut |row: &FlatRow| row[0] <= page);
         sum = sum.wrapping_add(place as u64);
     }
     sum
 }
 
 /// The sum that a round finds in such chunks.
-fn places_in_chunks<K: Keep<Row>>(alloc: Global, plain: &[Row]) -> Result<u64, AllocError> {
-    let rows: Rows<Row, K> = chunked(alloc, plain)?;
+fn places_in_chunks<K: Keep<FlatRow>>(alloc: Global, plain: &[FlatRow]) -> Result<u64, AllocError> {
+    let rows: Rows<FlatRow, K> = chunked(alloc, plain)?;
     let sum = places(&rows);
     drop(rows);
     Ok(sum)
@@ -39,17 +42,17 @@ fn places_in_chunks<K: Keep<Row>>(alloc: Global, plain: &[Row]) -> Result<u64, A
 /// Prints the sums of the places that are found.
 pub fn checksums(rt: &impl Print, alloc: Global) -> io::Result<()> {
     let plain = rows_of(alloc, POLICIES)?;
-    let owned = places_in_chunks::<Owned<Row>>(alloc, &plain)?;
-    let shared = places_in_chunks::<Shared<Row>>(alloc, &plain)?;
+    let owned = places_in_chunks::<Owned<FlatRow>>(alloc, &plain)?;
+    let shared = places_in_chunks::<Shared<FlatRow>>(alloc, &plain)?;
     let wanted = places_in(&plain);
     println!(rt; "places in owned chunks {owned}, in shared ones {shared}, in one vector {wanted}")
 }
 
 /// Prints the ratio of look-ups in chunks to those in one vector, which takes so long.
-fn measure_chunks<R: Print + Clock, K: Keep<Row>>(
+fn measure_chunks<R: Print + Clock, K: Keep<FlatRow>>(
     rt: &R,
     what: &str,
-    rows: &Rows<Row, K>,
+    rows: &Rows<FlatRow, K>,
     baseline: u64,
 ) -> io::Result<()> {
     let (spent, sum) = best_of(rt, 40, || places(rows))?;
@@ -58,27 +61,27 @@ fn measure_chunks<R: Print + Clock, K: Keep<Row>>(
 }
 
 /// The same of such chunks.
-fn measure_kind<R: Print + Clock, K: Keep<Row>>(
+fn measure_kind<R: Print + Clock, K: Keep<FlatRow>>(
     rt: &R,
     alloc: Global,
     what: &str,
-    plain: &[Row],
+    plain: &[FlatRow],
     baseline: u64,
 ) -> io::Result<()> {
-    let rows: Rows<Row, K> = chunked(alloc, plain)?;
+    let rows: Rows<FlatRow, K> = chunked(alloc, plain)?;
     let done = measure_chunks(rt, what, &rows, baseline);
     drop(rows);
     done
 }
 
 /// Prints the ratios of both kinds of chunks.
-fn measure_kinds<R: Print + Clock>(rt: &R, alloc: Global, plain: &[Row]) -> io::Result<()> {
+fn measure_kinds<R: Print + Clock>(rt: &R, alloc: Global, plain: &[FlatRow]) -> io::Result<()> {
     let (baseline, sum) = best_of(rt, 40, || places_in(plain))?;
     println!(rt; "sum {sum}")?;
     let what = "partition_point of shared chunks over that of a vector of the same rows";
-    measure_kind::<R, Shared<Row>>(rt, alloc, what, plain, baseline)?;
+    measure_kind::<R, Shared<FlatRow>>(rt, alloc, what, plain, baseline)?;
     let what = "partition_point of owned chunks over that of a vector of the same rows";
-    measure_kind::<R, Owned<Row>>(rt, alloc, what, plain, baseline)
+    measure_kind::<R, Owned<FlatRow>>(rt, alloc, what, plain, baseline)
 }
 
 /// Prints how long look-ups take.

@@ -2,7 +2,7 @@
 use Rattle.std.specs.Prelude.{◌≡◌, ℕ, ◌+◌, ◌++◌, Bool, Option, List, [], ◌∷◌, length, refl}
 use Rattle.std.proofs.Common.{sym, ◌∙◌, ap, subst, append_assoc, length-append}
 use Rattle.std.proofs.lemmas.List.{append-nil}
-use Rattle.line_server.specs.Lines.{IsPiece, ended_lines, open_line, seen}
+use Rattle.line_server.specs.Lines.{IsPiece, ended_lines, open_line, given_part}
 use Rattle.line_server.specs.Output.{answers, on_seen, state_after}
 use Rattle.line_server.specs.Progress.{Progress, among}
 use Rattle.line_server.specs.Written.{Said, SaidNothing}
@@ -11,8 +11,8 @@ use Rattle.line_server.proofs.Adding.{said_both, said_nothing, said_still}
 use Rattle.line_server.proofs.Answering.{answers_more, state_more}
 use Rattle.line_server.proofs.Splitting.{ended_feed, open_feed, ended_piece, open_piece, ended_nil, open_nil}
 
-seen_nil : seen [] ≡ []
-unfolding seen
+seen_nil : given_part [] ≡ []
+unfolding given_part
 seen_nil = refl
 
 module _ {State W : Type 0} (contents : W → Option (List ℕ)) (answer_of : Bool → State → List ℕ → List ℕ) (after : Bool → State → List ℕ → State) (start : State) where
@@ -31,7 +31,7 @@ module _ {State W : Type 0} (contents : W → Option (List ℕ)) (answer_of : Bo
     count = ap length (sym ended_nil);
     says = subst (λ ls. Said contents from from (answers (on_seen answer_of) (on_seen after) (among []) start ls)) (sym ended_nil) (said_nothing contents from);
     reached = subst (λ ls. stands (state_after (on_seen answer_of) (on_seen after) (among []) start ls)) (sym ended_nil) ready;
-    line_is = empty ∙ sym (ap seen open_nil ∙ seen_nil);
+    line_is = empty ∙ sym (ap given_part open_nil ∙ seen_nil);
   }
 
   -- the open line is answered
@@ -43,7 +43,7 @@ module _ {State W : Type 0} (contents : W → Option (List ℕ)) (answer_of : Bo
       let lines : List (List ℕ) = ended_lines front in
       let last : List ℕ = open_line front in
       let state : State = reached_by (among so_far.flags) lines in
-      let given : said ≡ seen last = is ∙ so_far.line_is in
+      let given : said ≡ given_part last = is ∙ so_far.line_is in
       let served = serves state so_far.reached in
       let flag : Bool = served.0 in
       let flags : List Bool = so_far.flags ++ flag ∷ [] in
@@ -58,12 +58,12 @@ module _ {State W : Type 0} (contents : W → Option (List ℕ)) (answer_of : Bo
         count = length-append so_far.flags (flag ∷ []) ∙ ap (λ n. n + 1) so_far.count ∙ sym (length-append lines (last ∷ [])) ∙ ap length (sym grown);
         says = subst (Said contents from then) (sym answered) (said_both contents from now then (all (among so_far.flags) lines) (answer_of flag state said) so_far.says served.2);
         reached = subst later (sym moved) served.1;
-        line_is = sym (ap seen (open_feed front) ∙ seen_nil);
+        line_is = sym (ap given_part (open_feed front) ∙ seen_nil);
       }
 
   -- the open line grows
   pub progress_hold : (stands : State → Type 0) (from now : Watched W) (line more front piece : List ℕ) → IsPiece piece →
-      ((l : List ℕ) → line ≡ seen l → more ≡ seen (l ++ piece)) →
+      ((l : List ℕ) → line ≡ given_part l → more ≡ given_part (l ++ piece)) →
       Progress contents answer_of after start stands from now line front → Progress contents answer_of after start stands from now more (front ++ piece)
   progress_hold stands from now line more front piece other holds so_far =
       let same : ended_lines (front ++ piece) ≡ ended_lines front = ended_piece front piece other in
@@ -72,7 +72,7 @@ module _ {State W : Type 0} (contents : W → Option (List ℕ)) (answer_of : Bo
         count = so_far.count ∙ ap length (sym same);
         says = subst (λ ls. Said contents from now (answers (on_seen answer_of) (on_seen after) (among so_far.flags) start ls)) (sym same) so_far.says;
         reached = subst (λ ls. stands (state_after (on_seen answer_of) (on_seen after) (among so_far.flags) start ls)) (sym same) so_far.reached;
-        line_is = holds (open_line front) so_far.line_is ∙ ap seen (sym (open_piece front piece other));
+        line_is = holds (open_line front) so_far.line_is ∙ ap given_part (sym (open_piece front piece other));
       }
 
   -- nothing is taken, or some bytes and then some more

@@ -3,7 +3,7 @@ use Rattle.std.specs.Prelude.{◌≡◌, ℕ, ◌-◌, ◌<◌, ◌≤◌, ◌++
 use Rattle.std.proofs.Common.{sym, ◌∙◌, ap, arith}
 use Rattle.std.proofs.Math.Seq.{take-append-add}
 use Rattle.std.proofs.lemmas.List.{take_all, take-append-le, length-take-le}
-use Rattle.line_server.specs.Lines.{seen}
+use Rattle.line_server.specs.Lines.{given_part}
 
 take_short : (n : ℕ) (line : List ℕ) → length (take n line) < n → length line < n
 take_short n line h = grind (arith, length-take-le n line)
@@ -27,10 +27,10 @@ short_more n items line more h e =
     ap (λ l. items ++ l) (take_room (n - length items) more) ∙ sym (take-append-add items more (n - length items))
     ∙ ap (λ k. take k (items ++ more)) (omega (arith, h)) ∙ ap (λ l. take n (l ++ more)) same
 
-pub seen_more : (items line more : List ℕ) → length items < 4097 → items ≡ seen line → items ++ take (min (length more) (4097 - length items)) more ≡ seen (line ++ more)
-unfolding seen
+pub seen_more : (items line more : List ℕ) → length items < 4097 → items ≡ given_part line → items ++ take (min (length more) (4097 - length items)) more ≡ given_part (line ++ more)
+unfolding given_part
 seen_more items line more h e = short_more 4097 items line more h e
 
-pub seen_full : (items line more : List ℕ) → 4097 ≤ length items → items ≡ seen line → items ≡ seen (line ++ more)
-unfolding seen
+pub seen_full : (items line more : List ℕ) → 4097 ≤ length items → items ≡ given_part line → items ≡ given_part (line ++ more)
+unfolding given_part
 seen_full items line more h e = e ∙ sym (take-append-le 4097 line more (take_full 4097 line (omega (arith, h, ap length e))))

@@ -25,8 +25,8 @@ unfoldable pub open_line : List ℕ → List ℕ
 open_line bytes = last_of (lines_of bytes)
 
 -- as much of a line as a server is given: its first 4,097 bytes
-unfoldable pub seen : List ℕ → List ℕ
-seen line = take 4097 line
+unfoldable pub given_part : List ℕ → List ℕ
+given_part line = take 4097 line
 
 -- no line feed stands among the bytes
 abbrev pub IsPiece : List ℕ → Type 0

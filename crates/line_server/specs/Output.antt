@@ -2,7 +2,7 @@
 -- leads to.
 use Rattle.std.specs.Prelude.{◌≡◌, ℕ, Bool, List, [], ◌∷◌, ◌++◌}
 use Prim.Native.Nat.{suc}
-use Rattle.line_server.specs.Lines.{lines_of, seen}
+use Rattle.line_server.specs.Lines.{lines_of, given_part}
 
 module _ {State : Type 0} (answer_of : Bool → State → List ℕ → List ℕ)
     (after : Bool → State → List ℕ → State) where
@@ -28,9 +28,9 @@ module _ {State : Type 0} (answer_of : Bool → State → List ℕ → List ℕ)
   -- what a server is given of a line says as much as the whole line
   abbrev pub SeesEnough : Type 0
   SeesEnough = (refused : Bool) (state : State) (line : List ℕ)
-      → (answer_of refused state (seen line) ≡ answer_of refused state line)
-      × (after refused state (seen line) ≡ after refused state line)
+      → (answer_of refused state (given_part line) ≡ answer_of refused state line)
+      × (after refused state (given_part line) ≡ after refused state line)
 
 -- the same for what a server is given of a line
 abbrev pub on_seen : {State T : Type 0} → (Bool → State → List ℕ → T) → Bool → State → List ℕ → T
-on_seen f refused state line = f refused state (seen line)
+on_seen f refused state line = f refused state (given_part line)

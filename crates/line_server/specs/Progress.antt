@@ -1,7 +1,7 @@
 -- What a run has come to after the bytes that it has taken.
 use Rattle.std.specs.Prelude.{◌≡◌, ℕ, Bool, false, Option, List, [], ◌∷◌, ◌++◌, length}
 use Prim.Native.Nat.{suc, zero}
-use Rattle.line_server.specs.Lines.{ended_lines, open_line, seen}
+use Rattle.line_server.specs.Lines.{ended_lines, open_line, given_part}
 use Rattle.line_server.specs.Output.{answers, on_seen, state_after}
 use Rattle.line_server.specs.Written.{Said}
 use Rattle.line_server.specs.declared.engine.Engine.{Engine}
@@ -27,7 +27,7 @@ module _ {State W : Type 0} (contents : W → Option (List ℕ))
         (answers (on_seen answer_of) (on_seen after) (among flags) start (ended_lines front))
     pub reached : stands
         (state_after (on_seen answer_of) (on_seen after) (among flags) start (ended_lines front))
-    pub line_is : line ≡ seen (open_line front)
+    pub line_is : line ≡ given_part (open_line front)
 
   -- the engine took the bytes, and their answers were said
   abbrev pub Takes : {S : Type 0} → (S → State → Type 0) → Watched W → Engine S → Watched W

@@ -1,6 +1,6 @@
 //! Bytes that are held over calls: texts on their way to a writer, or a line that is not ended.
 ghost use Rattle.std.specs.Prelude.{◌≡◌, ℕ, ◌++◌, [], List, IfOk, if◌then◌else◌};
-ghost use Rattle.line_server.specs.Lines.{seen};
+ghost use Rattle.line_server.specs.Lines.{given_part};
 
 use std::alloc::{AllocError, Global};
 use std::marker::Model;
@@ -52,7 +52,8 @@ impl Held {
     /// Takes more bytes of the line.
     #[tactic(auto, using(crate::proofs::Seeing::seen_more, crate::proofs::Seeing::seen_full))]
     pub fn hold(&mut self, bytes: &[u8])
-        ensures { (line : List ℕ) → self.old ≡ seen line → self.new ≡ seen (line ++ bytes.now) }
+        ensures { (line : List ℕ) → self.old ≡ given_part line
+            → self.new ≡ given_part (line ++ bytes.now) }
     {
         if self.bytes.len() >= LIMIT {
             return;

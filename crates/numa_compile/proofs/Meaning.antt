@@ -6,7 +6,7 @@ use Rattle.numa_mode.specs.Policy.{PolicyRecord}
 use Rattle.numa_ranges.specs.Runs.{page_at}
 use Rattle.numa_space.specs.declared.command.Command.{Command}
 use Rattle.numa_space.specs.Lists.{list_for}
-use Rattle.numa_space.specs.Policies.{resolved}
+use Rattle.numa_space.specs.Policies.{policy_that_counts}
 use Rattle.numa_space.specs.Standing.{SpaceState, StandsFor, record_of, setting_in, list_in}
 use Rattle.numa_space.proofs.Lists.{list-same, mapped-same}
 use Rattle.numa_plan.specs.Rows.{row_of}
@@ -18,8 +18,8 @@ pub shown-there : (space : SpaceState) (task page cpu : ℕ) → is_some (page_a
 shown-there space task page cpu found = go (page_at space.ranges page) found
   where
     go : (o : Option (ℕ × Option PolicyRecord)) → is_some o ≡ true
-        → option_map (λ at. list_for (setting_in space) (resolved at.1 (record_of space.tasks task)) cpu at.0) o
-        ≡ Some (list_for (setting_in space) (resolved (option_and_then (λ at. at.1) o) (record_of space.tasks task)) cpu (option_map_or (λ at. at.0) o 0))
+        → option_map (λ at. list_for (setting_in space) (policy_that_counts at.1 (record_of space.tasks task)) cpu at.0) o
+        ≡ Some (list_for (setting_in space) (policy_that_counts (option_and_then (λ at. at.1) o) (record_of space.tasks task)) cpu (option_map_or (λ at. at.0) o 0))
     go None found = cc
     go (Some at) found = refl
 

@@ -7,7 +7,7 @@ use Rattle.std.specs.Prelude.{◌⊎◌, unwrap_or, option_and_then, slice_get}
 use Rattle.numa_mode.specs.Policy.{PolicyRecord, is_live}
 use Rattle.numa_ranges.specs.declared.run.Run.{Run}
 use Rattle.numa_space.specs.Lists.{Setting, list_for}
-use Rattle.numa_space.specs.Policies.{where_live, resolved}
+use Rattle.numa_space.specs.Policies.{where_live, policy_that_counts}
 use Rattle.numa_space.specs.Standing.{SpaceState, record_of, setting_in}
 use Rattle.numa_plan.specs.Rows.{RuleData, row_of}
 use Rattle.numa_plan.specs.Slots.{rule_in}
@@ -20,7 +20,7 @@ use Rattle.numa_compile.proofs.CopyLemmas.{live-some, live-there, number-contain
 
 -- ---- the policy that counts
 
-resolved-live : (range task : Option PolicyRecord) (r : PolicyRecord) → where_live range ≡ Some r → resolved range task ≡ Some r
+resolved-live : (range task : Option PolicyRecord) (r : PolicyRecord) → where_live range ≡ Some r → policy_that_counts range task ≡ Some r
 resolved-live None task r is = absurd (let odd : ◌≡◌ {A = Option PolicyRecord} None (Some r) = is in cc)
 resolved-live (Some other) task r is =
     let both = live-some (Some other) r is in
@@ -28,7 +28,7 @@ resolved-live (Some other) task r is =
     let live : is_live other ≡ true = subst (λ x. is_live x ≡ true) (sym own) both.1 in
     rw live (ap Some own)
 
-resolved-dead : (range task : Option PolicyRecord) → where_live range ≡ None → resolved range task ≡ where_live task
+resolved-dead : (range task : Option PolicyRecord) → where_live range ≡ None → policy_that_counts range task ≡ where_live task
 resolved-dead None task is = refl
 resolved-dead (Some other) task is =
     elim (cases_Bool (is_live other)) [
@@ -51,10 +51,10 @@ module _ (setting : Setting) (plan : PlanData) (at : ℕ → Option PolicyRecord
 
   -- the list of a task at a page of a range with this policy
   row-resolved : (range task_policy : Option PolicyRecord) (number : Option ℕ) (task cpu index : ℕ) → IsNumber at (where_live range) number → IsNumber at (where_live task_policy) (number_of plan.tasks task) → cpu < setting.machine.nodes
-      → row_of (rule_for plan task number) cpu index ≡ list_for setting (resolved range task_policy) cpu index
+      → row_of (rule_for plan task number) cpu index ≡ list_for setting (policy_that_counts range task_policy) cpu index
   row-resolved range task_policy number task cpu index own other lt = go (where_live range) refl own
     where
-      go : (live : Option PolicyRecord) → where_live range ≡ live → IsNumber at live number → row_of (rule_for plan task number) cpu index ≡ list_for setting (resolved range task_policy) cpu index
+      go : (live : Option PolicyRecord) → where_live range ≡ live → IsNumber at live number → row_of (rule_for plan task number) cpu index ≡ list_for setting (policy_that_counts range task_policy) cpu index
       go None is own =
           ap (λ (n : Option ℕ). row_of (rule_for plan task n) cpu index) own
           ∙ row-numbered (where_live task_policy) (number_of plan.tasks task) cpu index other lt
@@ -72,7 +72,7 @@ plan-of space plan at version nodes local copies tasks serves = record {
   version = version;
   nodes = nodes;
   lists = λ task page cpu lt.
-      copies-related (λ index number. row_of (rule_for plan task number) cpu index) (λ index policy. list_for (setting_in space) (resolved policy (record_of space.tasks task)) cpu index) at
+      copies-related (λ index number. row_of (rule_for plan task number) cpu index) (λ index policy. list_for (setting_in space) (policy_that_counts policy (record_of space.tasks task)) cpu index) at
       (λ policy number index own. row-resolved (setting_in space) plan at serves local policy (record_of space.tasks task) number task cpu index own (tasks task) lt)
       space.ranges plan.runs page copies;
   pages = λ page. copies-pages at space.ranges plan.runs page copies;

@@ -4,9 +4,9 @@ use Rattle.std.proofs.lemmas.List.{take_all, drop_all, append-nil}
 use Rattle.std.specs.List.{slice_range, splice}
 use Rattle.std.specs.Option.{ForSome}
 use Rattle.numa_ranges.specs.declared.run.Run.{Run}
-use Rattle.numa_plan.specs.Editing.{all_used, all_unused, with_runs}
+use Rattle.numa_plan.specs.Editing.{with_uses, with_uses_less, with_runs}
 use Rattle.numa_plan.specs.Meaning.{PlanData}
-use Rattle.numa_plan.specs.Slots.{kept_in, rule_in, used, unused}
+use Rattle.numa_plan.specs.Slots.{kept_in, rule_in, with_use, with_use_less}
 use Rattle.numa_plan.specs.declared.slots.Slot.{Slot}
 use Rattle.numa_plan.proofs.SlotLemmas.{length-used, length-unused}
 use Rattle.numa_compile.specs.Copies.{HasRunsMore}
@@ -23,13 +23,13 @@ pub named-behind : (slots : List Slot) (xs ys : List (Run (Option ℕ))) → All
 named-behind slots [] ys all = all
 named-behind slots (x ∷ xs) ys all = named-behind slots xs ys (λ k d lt. all (suc k) d (omega arith))
 
-length-all_used : (slots : List Slot) (runs : List (Run (Option ℕ))) → length (all_used slots runs) ≡ length slots
+length-all_used : (slots : List Slot) (runs : List (Run (Option ℕ))) → length (with_uses slots runs) ≡ length slots
 length-all_used slots [] = refl
-length-all_used slots (run ∷ runs) = length-all_used (used slots run.value) runs ∙ length-used slots run.value
+length-all_used slots (run ∷ runs) = length-all_used (with_use slots run.value) runs ∙ length-used slots run.value
 
-length-all_unused : (slots : List Slot) (runs : List (Run (Option ℕ))) → length (all_unused slots runs) ≡ length slots
+length-all_unused : (slots : List Slot) (runs : List (Run (Option ℕ))) → length (with_uses_less slots runs) ≡ length slots
 length-all_unused slots [] = refl
-length-all_unused slots (run ∷ runs) = length-all_unused (unused slots run.value) runs ∙ length-unused slots run.value
+length-all_unused slots (run ∷ runs) = length-all_unused (with_use_less slots run.value) runs ∙ length-unused slots run.value
 
 -- the plan with runs put in
 pub spliced-more : (plan new : PlanData) (from to : ℕ) (runs : List (Run (Option ℕ))) → new ≡ with_runs plan from to runs → ((number : ℕ) → kept_in new.slots number ≡ kept_in plan.slots number) → HasRunsMore plan new

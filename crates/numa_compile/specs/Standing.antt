@@ -6,7 +6,7 @@ use Rattle.numa_ranges.specs.Runs.{page_at}
 use Rattle.numa_space.specs.declared.command.Command.{Command}
 use Rattle.numa_space.specs.Lists.{list_for, node_list}
 use Rattle.numa_space.specs.Pages.{is_mapped}
-use Rattle.numa_space.specs.Policies.{resolved}
+use Rattle.numa_space.specs.Policies.{policy_that_counts}
 use Rattle.numa_space.specs.Standing.{SpaceState, record_of, setting_in}
 use Rattle.numa_plan.specs.Meaning.{PlanData, planned_list}
 
@@ -25,7 +25,7 @@ pub record PlanStandsFor (machine : Hardware) (plan : PlanData)
 -- the list of a page by what a space shows
 abbrev pub shown_list : SpaceState → ℕ → ℕ → ℕ → Option (List ℕ)
 shown_list space task page cpu = option_map (λ at. list_for (setting_in space)
-    (resolved at.1 (record_of space.tasks task)) cpu at.0) (page_at space.ranges page)
+    (policy_that_counts at.1 (record_of space.tasks task)) cpu at.0) (page_at space.ranges page)
 
 -- the plan says of each page what the space says, and has one run for each range
 pub record IsPlanOf (space : SpaceState) (plan : PlanData) : Type 0 where

@@ -12,7 +12,7 @@ use Rattle.numa_space.specs.declared.event.CoreReply.TheVariants.{Still, Exhaust
 use Rattle.numa_space.specs.declared.event.CoreRefusal.{CoreRefusal}
 use Rattle.numa_space.specs.declared.event.CoreRefusal.TheVariants.{Command as Because, NoSuchWorker, Busy, Idle, BadTry, NotOwned, BadCpu, Unmapped}
 use Rattle.numa_space.specs.declared.refusal.Refusal.TheVariants.{NoMemory as NoRoom}
-use Rattle.numa_core.specs.World.{Setup, Hunt, World, hunt_of, owner_of, is_frame, list_at, current_rank, looked, missed, may_try, begun}
+use Rattle.numa_core.specs.World.{Setup, Hunt, World, hunt_of, owner_of, is_frame, list_at, current_rank, hunt_after_look, hunt_past, may_try, new_hunt}
 use Rattle.numa_core.specs.Steps.{first_refusal, refusal_of, reply_of, refused_or, goes_on, placement_of, owns, IsAnswer, IsOutOfMemory}
 use Rattle.numa_core.specs.Executions.{Moment, IsExecution}
 
@@ -64,7 +64,7 @@ three_rows false false true x y z h = absurd (cc)
 three_rows false false false x y z h = (refl, refl, refl)
 
 -- a Begin that isn't refused has a list
-pub begin_means : (s : Setup) (world : World) (version w : ℕ) (request : Request) → refusal_of s world version (Begin w request) ≡ None → list_at s.machine world.history version request ≡ Some (begun s world version request).nodes
+pub begin_means : (s : Setup) (world : World) (version w : ℕ) (request : Request) → refusal_of s world version (Begin w request) ≡ None → list_at s.machine world.history version request ≡ Some (new_hunt s world version request).nodes
 begin_means s world version w request h = go (list_at s.machine world.history version request) (four_rows (nat_le s.workers w) (is_some (hunt_of world w)) (nat_le s.machine.nodes request.cpu) (is_none (list_at s.machine world.history version request)) NoSuchWorker Busy BadCpu (Unmapped version) h).3
   where
     go : (o : Option (List ℕ)) → is_none o ≡ false → o ≡ Some (unwrap_or o [])
@@ -101,9 +101,9 @@ goes_on-not_won s hunt placement = go (current_rank s hunt)
 pub won_means : (s : Setup) (world : World) (w version : ℕ) (frame : Frame) (placement : Placement) → Won placement ≡ reply_of s world version (Try w frame) → (hunt : Hunt) × (hunt_of world w ≡ Some hunt) × (owner_of world frame ≡ None) × (placement ≡ placement_of s hunt frame)
 won_means s world w version frame placement = go (owner_of world frame) (hunt_of world w)
   where
-    go : (owner : Option ℕ) (o : Option Hunt) → Won placement ≡ (if is_some owner then option_map_or (λ hunt. goes_on s (missed frame hunt)) o Still else option_map_or (λ hunt. Won (placement_of s hunt frame)) o Still) → (hunt : Hunt) × (o ≡ Some hunt) × (owner ≡ None) × (placement ≡ placement_of s hunt frame)
+    go : (owner : Option ℕ) (o : Option Hunt) → Won placement ≡ (if is_some owner then option_map_or (λ hunt. goes_on s (hunt_past frame hunt)) o Still else option_map_or (λ hunt. Won (placement_of s hunt frame)) o Still) → (hunt : Hunt) × (o ≡ Some hunt) × (owner ≡ None) × (placement ≡ placement_of s hunt frame)
     go (Some v) None e = absurd (cc)
-    go (Some v) (Some hunt) e = absurd (goes_on-not_won s (missed frame hunt) placement e)
+    go (Some v) (Some hunt) e = absurd (goes_on-not_won s (hunt_past frame hunt) placement e)
     go None None e = absurd (cc)
     go None (Some hunt) e = (hunt, refl, refl, cc)
 
@@ -111,12 +111,12 @@ won_means s world w version frame placement = go (owner_of world frame) (hunt_of
 pub won_by_try : (s : Setup) (world : World) (version : ℕ) (event : Event) (placement : Placement) → Won placement ≡ reply_of s world version event → (w : ℕ) × (event ≡ Try w placement.frame)
 won_by_try s world version (Accept command) placement e = absurd (cc)
 won_by_try s world version Publish placement e = absurd (cc)
-won_by_try s world version (Begin w request) placement e = absurd (goes_on-not_won s (begun s world version request) placement e)
+won_by_try s world version (Begin w request) placement e = absurd (goes_on-not_won s (new_hunt s world version request) placement e)
 won_by_try s world version (Look w word) placement e = absurd (go (hunt_of world w) e)
   where
-    go : (o : Option Hunt) → Won placement ≡ option_map_or (λ hunt. goes_on s (looked s world word hunt)) o Still → ⊥
+    go : (o : Option Hunt) → Won placement ≡ option_map_or (λ hunt. goes_on s (hunt_after_look s world word hunt)) o Still → ⊥
     go None e = cc
-    go (Some hunt) e = goes_on-not_won s (looked s world word hunt) placement e
+    go (Some hunt) e = goes_on-not_won s (hunt_after_look s world word hunt) placement e
 won_by_try s world version (Try w frame) placement e =
     let win = won_means s world w version frame placement e in
     (w, ap (λ f. Try w f) (sym (ap (λ (p : Placement). p.frame) win.3)))

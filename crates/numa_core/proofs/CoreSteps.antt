@@ -21,7 +21,7 @@ use Rattle.numa_space.specs.declared.event.CoreReply.{CoreReply}
 use Rattle.numa_space.specs.declared.event.CoreReply.TheVariants.{Accepted, Published, Still, Won, Given}
 use Rattle.numa_space.specs.declared.event.CoreRefusal.{CoreRefusal}
 use Rattle.numa_space.specs.declared.event.CoreRefusal.TheVariants.{Idle, BadTry}
-use Rattle.numa_core.specs.World.{Setup, Hunt, Worker, World, opening, newest_published, first_commands, hunt_of, last_of, owner_of, is_frame, list_at, may_look, may_try, looked, missed, begun}
+use Rattle.numa_core.specs.World.{Setup, Hunt, Worker, World, opening, newest_published, first_commands, hunt_of, last_of, owner_of, is_frame, list_at, may_look, may_try, hunt_after_look, hunt_past, new_hunt}
 use Rattle.numa_core.specs.Steps.{because, refusal_of, reply_of, effect_of, goes_on, going_on, placement_of, with_worker, with_owner, refused_or, IsAnswer, world_after, MayTake}
 use Rattle.numa_core.specs.Executions.{Moment, IsExecution, world_of}
 use Rattle.numa_core.specs.Standing.{Busy, CoreState, CoreStandsFor, LeadsTo, place_in, place_of, owner_at, hunt_by, setup_of, frames_before, moment_after, hunt_in, hunt_of_busy}
@@ -168,24 +168,24 @@ answered s world version event o result is e = inl (e ∙ ap (λ r. refused_or r
 -- ---- a Look
 
 pub look_answer : (s : Setup) (world : World) (version w word : ℕ) (old new : Option Hunt) (result : Result CoreReply CoreRefusal) → w < s.workers → hunt_of world w ≡ old
-    → MatchOption old (result ≡ Err Idle) (λ hunt. MatchBool (may_look s hunt word) ((result ≡ Ok (goes_on s (looked s world word hunt))) × (new ≡ going_on s (looked s world word hunt))) (result ≡ Err BadTry))
-    → IsAnswer s world version (Look w word) result × (is_ok result ≡ true → new ≡ option_map_or (λ hunt. going_on s (looked s world word hunt)) (hunt_of world w) None)
+    → MatchOption old (result ≡ Err Idle) (λ hunt. MatchBool (may_look s hunt word) ((result ≡ Ok (goes_on s (hunt_after_look s world word hunt))) × (new ≡ going_on s (hunt_after_look s world word hunt))) (result ≡ Err BadTry))
+    → IsAnswer s world version (Look w word) result × (is_ok result ≡ true → new ≡ option_map_or (λ hunt. going_on s (hunt_after_look s world word hunt)) (hunt_of world w) None)
 look_answer s world version w word old new result low is looks = go old is looks
   where
     rows : (o : Option Hunt) → hunt_of world w ≡ o → refusal_of s world version (Look w word) ≡ (if is_none o then Some Idle else (if not (option_map_or (λ hunt. may_look s hunt word) o false) then Some BadTry else None))
     rows o is = rw (not_le s.workers w low, is) refl
 
     go : (o : Option Hunt) → hunt_of world w ≡ o
-        → MatchOption o (result ≡ Err Idle) (λ hunt. MatchBool (may_look s hunt word) ((result ≡ Ok (goes_on s (looked s world word hunt))) × (new ≡ going_on s (looked s world word hunt))) (result ≡ Err BadTry))
-        → IsAnswer s world version (Look w word) result × (is_ok result ≡ true → new ≡ option_map_or (λ hunt. going_on s (looked s world word hunt)) (hunt_of world w) None)
+        → MatchOption o (result ≡ Err Idle) (λ hunt. MatchBool (may_look s hunt word) ((result ≡ Ok (goes_on s (hunt_after_look s world word hunt))) × (new ≡ going_on s (hunt_after_look s world word hunt))) (result ≡ Err BadTry))
+        → IsAnswer s world version (Look w word) result × (is_ok result ≡ true → new ≡ option_map_or (λ hunt. going_on s (hunt_after_look s world word hunt)) (hunt_of world w) None)
     go None is h = (answered s world version (Look w word) (Some Idle) result (rows None is) h, λ ok. absurd (let odd : false ≡ true = sym (ap is_ok h) ∙ ok in cc))
     go (Some hunt) is h = pick (may_look s hunt word) refl h
       where
-        pick : (b : Bool) → may_look s hunt word ≡ b → MatchBool b ((result ≡ Ok (goes_on s (looked s world word hunt))) × (new ≡ going_on s (looked s world word hunt))) (result ≡ Err BadTry)
-            → IsAnswer s world version (Look w word) result × (is_ok result ≡ true → new ≡ option_map_or (λ hunt. going_on s (looked s world word hunt)) (hunt_of world w) None)
+        pick : (b : Bool) → may_look s hunt word ≡ b → MatchBool b ((result ≡ Ok (goes_on s (hunt_after_look s world word hunt))) × (new ≡ going_on s (hunt_after_look s world word hunt))) (result ≡ Err BadTry)
+            → IsAnswer s world version (Look w word) result × (is_ok result ≡ true → new ≡ option_map_or (λ hunt. going_on s (hunt_after_look s world word hunt)) (hunt_of world w) None)
         pick true may h = (
-          answered s world version (Look w word) None result (rows (Some hunt) is ∙ ap (λ b. if not b then Some BadTry else None) may) (h.0 ∙ ap (λ o. Ok (option_map_or (λ hunt. goes_on s (looked s world word hunt)) o Still)) (sym is)),
-          λ ok. h.1 ∙ ap (λ o. option_map_or (λ hunt. going_on s (looked s world word hunt)) o None) (sym is),
+          answered s world version (Look w word) None result (rows (Some hunt) is ∙ ap (λ b. if not b then Some BadTry else None) may) (h.0 ∙ ap (λ o. Ok (option_map_or (λ hunt. goes_on s (hunt_after_look s world word hunt)) o Still)) (sym is)),
+          λ ok. h.1 ∙ ap (λ o. option_map_or (λ hunt. going_on s (hunt_after_look s world word hunt)) o None) (sym is),
         )
         pick false may h = (answered s world version (Look w word) (Some BadTry) result (rows (Some hunt) is ∙ ap (λ b. if not b then Some BadTry else None) may) h, λ ok. absurd (let odd : false ≡ true = sym (ap is_ok h) ∙ ok in cc))
 
@@ -193,9 +193,9 @@ look_answer s world version w word old new result low is looks = go old is looks
 
 pub try_answer : (s : Setup) (world : World) (version w : ℕ) (frame : Frame) (owned : Bool) (old new : Option Hunt) (result : Result CoreReply CoreRefusal) → w < s.workers → hunt_of world w ≡ old → (is_ok result ≡ true → is_some (owner_of world frame) ≡ owned)
     → MatchOption old (result ≡ Err Idle) (λ hunt. MatchBool (may_try s hunt frame)
-    (MatchBool owned ((result ≡ Ok (goes_on s (missed frame hunt))) × (new ≡ going_on s (missed frame hunt))) ((result ≡ Ok (Won (placement_of s hunt frame))) × (new ≡ None)))
+    (MatchBool owned ((result ≡ Ok (goes_on s (hunt_past frame hunt))) × (new ≡ going_on s (hunt_past frame hunt))) ((result ≡ Ok (Won (placement_of s hunt frame))) × (new ≡ None)))
     (result ≡ Err BadTry))
-    → IsAnswer s world version (Try w frame) result × (is_ok result ≡ true → new ≡ (if owned then option_map_or (λ hunt. going_on s (missed frame hunt)) (hunt_of world w) None else None))
+    → IsAnswer s world version (Try w frame) result × (is_ok result ≡ true → new ≡ (if owned then option_map_or (λ hunt. going_on s (hunt_past frame hunt)) (hunt_of world w) None else None))
 try_answer s world version w frame owned old new result low is owner tries = go old is tries
   where
     rows : (o : Option Hunt) → hunt_of world w ≡ o → refusal_of s world version (Try w frame) ≡ (if is_none o then Some Idle else (if not (option_map_or (λ hunt. may_try s hunt frame) o false) then Some BadTry else None))
@@ -203,22 +203,22 @@ try_answer s world version w frame owned old new result low is owner tries = go 
 
     go : (o : Option Hunt) → hunt_of world w ≡ o
         → MatchOption o (result ≡ Err Idle) (λ hunt. MatchBool (may_try s hunt frame)
-        (MatchBool owned ((result ≡ Ok (goes_on s (missed frame hunt))) × (new ≡ going_on s (missed frame hunt))) ((result ≡ Ok (Won (placement_of s hunt frame))) × (new ≡ None)))
+        (MatchBool owned ((result ≡ Ok (goes_on s (hunt_past frame hunt))) × (new ≡ going_on s (hunt_past frame hunt))) ((result ≡ Ok (Won (placement_of s hunt frame))) × (new ≡ None)))
         (result ≡ Err BadTry))
-        → IsAnswer s world version (Try w frame) result × (is_ok result ≡ true → new ≡ (if owned then option_map_or (λ hunt. going_on s (missed frame hunt)) (hunt_of world w) None else None))
+        → IsAnswer s world version (Try w frame) result × (is_ok result ≡ true → new ≡ (if owned then option_map_or (λ hunt. going_on s (hunt_past frame hunt)) (hunt_of world w) None else None))
     go None is h = (answered s world version (Try w frame) (Some Idle) result (rows None is) h, λ ok. absurd (let odd : false ≡ true = sym (ap is_ok h) ∙ ok in cc))
     go (Some hunt) is h = pick (may_try s hunt frame) owned refl owner h
       where
-        pick : (b owned : Bool) → may_try s hunt frame ≡ b → (is_ok result ≡ true → is_some (owner_of world frame) ≡ owned) → MatchBool b (MatchBool owned ((result ≡ Ok (goes_on s (missed frame hunt))) × (new ≡ going_on s (missed frame hunt))) ((result ≡ Ok (Won (placement_of s hunt frame))) × (new ≡ None))) (result ≡ Err BadTry)
-            → IsAnswer s world version (Try w frame) result × (is_ok result ≡ true → new ≡ (if owned then option_map_or (λ hunt. going_on s (missed frame hunt)) (hunt_of world w) None else None))
+        pick : (b owned : Bool) → may_try s hunt frame ≡ b → (is_ok result ≡ true → is_some (owner_of world frame) ≡ owned) → MatchBool b (MatchBool owned ((result ≡ Ok (goes_on s (hunt_past frame hunt))) × (new ≡ going_on s (hunt_past frame hunt))) ((result ≡ Ok (Won (placement_of s hunt frame))) × (new ≡ None))) (result ≡ Err BadTry)
+            → IsAnswer s world version (Try w frame) result × (is_ok result ≡ true → new ≡ (if owned then option_map_or (λ hunt. going_on s (hunt_past frame hunt)) (hunt_of world w) None else None))
         pick true true may own h = (
           answered s world version (Try w frame) None result (rows (Some hunt) is ∙ ap (λ b. if not b then Some BadTry else None) may)
-              (h.0 ∙ ap (λ o. Ok (option_map_or (λ hunt. goes_on s (missed frame hunt)) o Still)) (sym is) ∙ ap (λ b. Ok (if b then option_map_or (λ hunt. goes_on s (missed frame hunt)) (hunt_of world w) Still else option_map_or (λ hunt. Won (placement_of s hunt frame)) (hunt_of world w) Still)) (sym (own (ap is_ok h.0)))),
-          λ ok. h.1 ∙ ap (λ o. option_map_or (λ hunt. going_on s (missed frame hunt)) o None) (sym is),
+              (h.0 ∙ ap (λ o. Ok (option_map_or (λ hunt. goes_on s (hunt_past frame hunt)) o Still)) (sym is) ∙ ap (λ b. Ok (if b then option_map_or (λ hunt. goes_on s (hunt_past frame hunt)) (hunt_of world w) Still else option_map_or (λ hunt. Won (placement_of s hunt frame)) (hunt_of world w) Still)) (sym (own (ap is_ok h.0)))),
+          λ ok. h.1 ∙ ap (λ o. option_map_or (λ hunt. going_on s (hunt_past frame hunt)) o None) (sym is),
         )
         pick true false may own h = (
           answered s world version (Try w frame) None result (rows (Some hunt) is ∙ ap (λ b. if not b then Some BadTry else None) may)
-              (h.0 ∙ ap (λ o. Ok (option_map_or (λ hunt. Won (placement_of s hunt frame)) o Still)) (sym is) ∙ ap (λ b. Ok (if b then option_map_or (λ hunt. goes_on s (missed frame hunt)) (hunt_of world w) Still else option_map_or (λ hunt. Won (placement_of s hunt frame)) (hunt_of world w) Still)) (sym (own (ap is_ok h.0)))),
+              (h.0 ∙ ap (λ o. Ok (option_map_or (λ hunt. Won (placement_of s hunt frame)) o Still)) (sym is) ∙ ap (λ b. Ok (if b then option_map_or (λ hunt. goes_on s (hunt_past frame hunt)) (hunt_of world w) Still else option_map_or (λ hunt. Won (placement_of s hunt frame)) (hunt_of world w) Still)) (sym (own (ap is_ok h.0)))),
           λ ok. h.1,
         )
         pick false own may is_own h = (answered s world version (Try w frame) (Some BadTry) result (rows (Some hunt) is ∙ ap (λ b. if not b then Some BadTry else None) may) h, λ ok. absurd (let odd : false ≡ true = sym (ap is_ok h) ∙ ok in cc))
@@ -233,7 +233,7 @@ give_answer s world version w frame low idle owner = answered s world version (G
 pub begin_answer : (s : Setup) (world : World) (version w : ℕ) (request : Request) (row : List ℕ) (reply : CoreReply) → refusal_of s world version (Begin w request) ≡ None → list_at s.machine world.history version request ≡ Some row → reply ≡ goes_on s (fresh request version row) → IsAnswer s world version (Begin w request) (Ok reply)
 begin_answer s world version w request row reply allowed listed is = answered s world version (Begin w request) None (Ok reply) allowed (ap Ok (is ∙ ap (λ o. goes_on s (fresh request version (unwrap_or o []))) (sym listed)))
 
-pub begin_hunt : (s : Setup) (world : World) (version : ℕ) (request : Request) (row : List ℕ) → list_at s.machine world.history version request ≡ Some row → going_on s (fresh request version row) ≡ going_on s (begun s world version request)
+pub begin_hunt : (s : Setup) (world : World) (version : ℕ) (request : Request) (row : List ℕ) → list_at s.machine world.history version request ≡ Some row → going_on s (fresh request version row) ≡ going_on s (new_hunt s world version request)
 begin_hunt s world version request row listed = ap (λ o. going_on s (fresh request version (unwrap_or o []))) (sym listed)
 
 -- ---- runs

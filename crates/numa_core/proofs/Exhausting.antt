@@ -6,7 +6,7 @@ use Rattle.numa_machine.specs.Machine.{frames_of}
 use Rattle.numa_space.specs.declared.event.Event.{Event}
 use Rattle.numa_space.specs.declared.event.Event.TheVariants.{Accept, Publish, Begin, Look, Try, Give}
 use Rattle.numa_space.specs.declared.event.CoreReply.TheVariants.{Still, Exhausted, Won}
-use Rattle.numa_core.specs.World.{Setup, Hunt, hunt_of, owner_of, current_rank, has_unmet, begun, looked, missed}
+use Rattle.numa_core.specs.World.{Setup, Hunt, hunt_of, owner_of, current_rank, has_unmet, new_hunt, hunt_after_look, hunt_past}
 use Rattle.numa_core.specs.Steps.{refusal_of, reply_of, goes_on, placement_of, IsAnswer, MayTake}
 use Rattle.numa_core.specs.Executions.{Moment, world_of, IsExecution, IsExhausted, worker_of}
 use Rattle.numa_core.proofs.Answered.{replied}
@@ -43,19 +43,19 @@ exhausted-step : (s : Setup) (past : List Moment) (version : ℕ) (event : Event
 exhausted-step s past version (Accept command) told legal may ok e = absurd (cc)
 exhausted-step s past version Publish told legal may ok e = absurd (cc)
 exhausted-step s past version (Begin v request) told legal may ok e =
-    (v, refl, all_met s (moment (Begin v request) version (Ok (Exhausted told)) ∷ past) v told (begun s (world_of s past) version request) (tracked-begun s past version v v request (Exhausted told) (sound s past legal) may ok (eq-eqb v v refl)) e)
+    (v, refl, all_met s (moment (Begin v request) version (Ok (Exhausted told)) ∷ past) v told (new_hunt s (world_of s past) version request) (tracked-begun s past version v v request (Exhausted told) (sound s past legal) may ok (eq-eqb v v refl)) e)
 exhausted-step s past version (Look v word) told legal may ok e = go (hunt_of (world_of s past) v) refl e
   where
-    go : (o : Option Hunt) → hunt_of (world_of s past) v ≡ o → Exhausted told ≡ option_map_or (λ hunt. goes_on s (looked s (world_of s past) word hunt)) o Still → ends s past version (Look v word) told
+    go : (o : Option Hunt) → hunt_of (world_of s past) v ≡ o → Exhausted told ≡ option_map_or (λ hunt. goes_on s (hunt_after_look s (world_of s past) word hunt)) o Still → ends s past version (Look v word) told
     go None is e = absurd (cc)
     go (Some hunt) is e =
-        (v, refl, all_met s (moment (Look v word) version (Ok (Exhausted told)) ∷ past) v told (looked s (world_of s past) word hunt) (tracked-looked s past version v v word (Exhausted told) hunt (eq-eqb v v refl) is (tracked s past legal v hunt is)) e)
+        (v, refl, all_met s (moment (Look v word) version (Ok (Exhausted told)) ∷ past) v told (hunt_after_look s (world_of s past) word hunt) (tracked-looked s past version v v word (Exhausted told) hunt (eq-eqb v v refl) is (tracked s past legal v hunt is)) e)
 exhausted-step s past version (Try v frame) told legal may ok e = go (owner_of (world_of s past) frame) refl (hunt_of (world_of s past) v) refl e
   where
-    go : (owner : Option ℕ) → owner_of (world_of s past) frame ≡ owner → (o : Option Hunt) → hunt_of (world_of s past) v ≡ o → Exhausted told ≡ (if is_some owner then option_map_or (λ hunt. goes_on s (missed frame hunt)) o Still else option_map_or (λ hunt. Won (placement_of s hunt frame)) o Still) → ends s past version (Try v frame) told
+    go : (owner : Option ℕ) → owner_of (world_of s past) frame ≡ owner → (o : Option Hunt) → hunt_of (world_of s past) v ≡ o → Exhausted told ≡ (if is_some owner then option_map_or (λ hunt. goes_on s (hunt_past frame hunt)) o Still else option_map_or (λ hunt. Won (placement_of s hunt frame)) o Still) → ends s past version (Try v frame) told
     go (Some u) owned None is e = absurd (cc)
     go (Some u) owned (Some hunt) is e =
-        (v, refl, all_met s (moment (Try v frame) version (Ok (Exhausted told)) ∷ past) v told (missed frame hunt) (tracked-missed s past version v v u frame (Exhausted told) hunt owned (eq-eqb v v refl) (tracked s past legal v hunt is)) e)
+        (v, refl, all_met s (moment (Try v frame) version (Ok (Exhausted told)) ∷ past) v told (hunt_past frame hunt) (tracked-missed s past version v v u frame (Exhausted told) hunt owned (eq-eqb v v refl) (tracked s past legal v hunt is)) e)
     go None owned None is e = absurd (cc)
     go None owned (Some hunt) is e = absurd (cc)
 exhausted-step s past version (Give v frame) told legal may ok e = absurd (cc)

@@ -13,7 +13,7 @@ use Rattle.numa_space.specs.declared.event.CoreRefusal.TheVariants.{BadTry, Idle
 use Rattle.numa_core.specs.declared.seat.Cursor.{Cursor}
 use Rattle.numa_core.specs.declared.seat.Job.{Job}
 use Rattle.numa_core.specs.declared.seat.Seat.{Seat}
-use Rattle.numa_core.specs.World.{Setup, Hunt, World, current_rank, may_try, looked, missed, is_frame}
+use Rattle.numa_core.specs.World.{Setup, Hunt, World, current_rank, may_try, hunt_after_look, hunt_past, is_frame}
 use Rattle.numa_core.specs.Steps.{goes_on, going_on, placement_of}
 use Rattle.numa_core.specs.Standing.{place_in, is_met, owner_at, met_at, hunt_in}
 use Rattle.numa_core.specs.Seats.{busy_at, seat_hunt, fresh, JobStands, IsPassed, IsCursor, SeatLooks, SeatTries}
@@ -55,7 +55,7 @@ module _ (s : Setup) (world : World) (word : ℕ) (frames : List ℕ) (old new :
   current = rank-at s frames (busy_at job old.nodes.items old.met.items) job.at.rank job.at.next same cursor
 
   looks : (result : Result CoreReply CoreRefusal) (b : Bool) → nat_lt (64 * word) (slice_index frames node) ≡ b
-      → MatchBool b ((result ≡ Ok (goes_on s (looked s world word (hunt_in frames (busy_at job old.nodes.items old.met.items))))) × (seat_hunt frames new ≡ going_on s (looked s world word (hunt_in frames (busy_at job old.nodes.items old.met.items))))) (result ≡ Err BadTry)
+      → MatchBool b ((result ≡ Ok (goes_on s (hunt_after_look s world word (hunt_in frames (busy_at job old.nodes.items old.met.items))))) × (seat_hunt frames new ≡ going_on s (hunt_after_look s world word (hunt_in frames (busy_at job old.nodes.items old.met.items))))) (result ≡ Err BadTry)
       → SeatLooks frames s world word old result new
   looks result b test h = rw busy (matched _ b _ _ (ap (λ o. option_map_or (λ r. nat_lt (64 * word) (slice_index s.machine.frames (slice_index old.nodes.items r))) o false) current ∙ ap (λ n. nat_lt (64 * word) (slice_index s.machine.frames n)) (sym at) ∙ ap (λ fs. nat_lt (64 * word) (slice_index fs node)) (sym same) ∙ test) h)
 
@@ -69,13 +69,13 @@ module _ (s : Setup) (world : World) (word : ℕ) (frames : List ℕ) (old new :
       → reply ≡ goes_on s (hunt_in frames (busy_at job old.nodes.items words)) → seat_hunt frames new ≡ going_on s (hunt_in frames (busy_at job old.nodes.items words)) → SeatLooks frames s world word old (Ok reply) new
   looks-at owners words reply within owner met answer hunt = looks (Ok reply) true (is_lt (64 * word) (slice_index frames node) within) (ap Ok (answer ∙ ap (goes_on s) is), hunt ∙ ap (going_on s) is)
     where
-      each : (n k : ℕ) → met_at frames words n k ≡ (looked s world word (hunt_in frames (busy_at job old.nodes.items old.met.items))).met n k
+      each : (n k : ℕ) → met_at frames words n k ≡ (hunt_after_look s world word (hunt_in frames (busy_at job old.nodes.items old.met.items))).met n k
       each n k = met n k ∙ ap (λ m. ((n == m) && ((k / 64 == word) && is_some (owner_at owners (place_in frames n k)))) || met_at frames old.met.items n k) at
           ∙ ap (λ o. ((n == slice_index old.nodes.items job.at.rank) && ((k / 64 == word) && is_some o)) || met_at frames old.met.items n k) (sym (owner n k))
           ∙ ap (λ o. (option_map_or (λ r. n == slice_index old.nodes.items r) o false && ((k / 64 == word) && is_some (world.owner n k))) || met_at frames old.met.items n k) (sym current)
 
-      is : hunt_in frames (busy_at job old.nodes.items words) ≡ looked s world word (hunt_in frames (busy_at job old.nodes.items old.met.items))
-      is = same_hunt job.request job.version old.nodes.items (met_at frames words) (looked s world word (hunt_in frames (busy_at job old.nodes.items old.met.items))).met each
+      is : hunt_in frames (busy_at job old.nodes.items words) ≡ hunt_after_look s world word (hunt_in frames (busy_at job old.nodes.items old.met.items))
+      is = same_hunt job.request job.version old.nodes.items (met_at frames words) (hunt_after_look s world word (hunt_in frames (busy_at job old.nodes.items old.met.items))).met each
 
 -- ---- a Try
 
@@ -106,7 +106,7 @@ module _ (s : Setup) (frames : List ℕ) (owned : Bool) (frame : Frame) (old new
 
   tries : (result : Result CoreReply CoreRefusal) (b : Bool) → is_next frames old.met.items node frame ≡ b
       → MatchBool b (MatchBool owned
-      ((result ≡ Ok (goes_on s (missed frame (hunt_in frames (busy_at job old.nodes.items old.met.items))))) × (seat_hunt frames new ≡ going_on s (missed frame (hunt_in frames (busy_at job old.nodes.items old.met.items)))))
+      ((result ≡ Ok (goes_on s (hunt_past frame (hunt_in frames (busy_at job old.nodes.items old.met.items))))) × (seat_hunt frames new ≡ going_on s (hunt_past frame (hunt_in frames (busy_at job old.nodes.items old.met.items)))))
       ((result ≡ Ok (Won (placement_of s (hunt_in frames (busy_at job old.nodes.items old.met.items)) frame))) × (seat_hunt frames new ≡ None))) (result ≡ Err BadTry)
       → SeatTries frames s owned frame old result new
   tries result b test h = rw busy (matched _ b _ _
@@ -121,7 +121,7 @@ module _ (s : Setup) (frames : List ℕ) (owned : Bool) (frame : Frame) (old new
       → reply ≡ goes_on s (hunt_in frames (busy_at job old.nodes.items words)) → seat_hunt frames new ≡ going_on s (hunt_in frames (busy_at job old.nodes.items words)) → SeatTries frames s owned frame old (Ok reply) new
   tries-owned words reply test is met answer hunt = tries (Ok reply) true test (matched owned true _ _ is (ap Ok (answer ∙ ap (goes_on s) missed-is), hunt ∙ ap (going_on s) missed-is))
     where
-      missed-is : hunt_in frames (busy_at job old.nodes.items words) ≡ missed frame (hunt_in frames (busy_at job old.nodes.items old.met.items))
+      missed-is : hunt_in frames (busy_at job old.nodes.items words) ≡ hunt_past frame (hunt_in frames (busy_at job old.nodes.items old.met.items))
       missed-is = same_hunt job.request job.version old.nodes.items (met_at frames words) (λ n k. is_frame frame n k || met_at frames old.met.items n k) met
 
   pub tries-free : is_next frames old.met.items node frame ≡ true → owned ≡ false → node ≡ frame.node → seat_hunt frames new ≡ None

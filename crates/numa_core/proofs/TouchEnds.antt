@@ -9,7 +9,7 @@ use Rattle.numa_space.specs.declared.event.CoreRefusal.TheVariants.{NoSuchWorker
 use Rattle.numa_core.specs.World.{Hunt, World, newest_published, hunt_of, list_at}
 use Rattle.numa_core.specs.Steps.{with_owner, put_frame}
 use Rattle.numa_core.specs.Standing.{CoreState, CoreStandsFor, setup_of, owner_at, place_in}
-use Rattle.numa_core.specs.Kept.{shown, IsKept}
+use Rattle.numa_core.specs.Kept.{core_state, IsKept}
 use Rattle.numa_core.specs.Judging.{IsJudged, IsListed}
 use Rattle.numa_core.specs.Touching.{Shows, first_free, free_for, touch_refusal, touch_answer, touch_world}
 use Rattle.numa_core.proofs.Answered.{four_rows}
@@ -17,7 +17,7 @@ use Rattle.numa_core.proofs.TouchJudged.{version-newest}
 use Rattle.numa_core.proofs.TouchStands.{stands-idle, stands-owner}
 
 -- the tables of a core show what the world has
-pub tables-show : (state : State) (world : World) → IsKept state → CoreStandsFor (shown state) world → Shows (setup_of (shown state)) state.places state.owners.items world
+pub tables-show : (state : State) (world : World) → IsKept state → CoreStandsFor (core_state state) world → Shows (setup_of (core_state state)) state.places state.owners.items world
 tables-show state world kept stands = record {
   places = kept.places;
   owned = λ n k. subst (λ frames. world.owner n k ≡ owner_at state.owners.items (place_in frames n k)) (sym kept.places) (sym (stands.owners n k));

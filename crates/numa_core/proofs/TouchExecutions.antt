@@ -7,12 +7,12 @@ use Rattle.numa_space.specs.declared.event.Event.{Event}
 use Rattle.numa_space.specs.declared.event.Event.TheVariants.{Begin, Try}
 use Rattle.numa_core.specs.World.{Setup, newest_published}
 use Rattle.numa_core.specs.Steps.{answer_of}
-use Rattle.numa_core.specs.Executions.{Moment, IsExecution, world_of, answered}
-use Rattle.numa_core.specs.Touching.{Answered, next_try, answered_with, tried_on, touched, AreSteps, IsTouch}
+use Rattle.numa_core.specs.Executions.{Moment, IsExecution, world_of, next_moment}
+use Rattle.numa_core.specs.Touching.{Answered, next_try, answered_with, tried_on, result_of_touch, AreSteps, IsTouch}
 use Rattle.numa_core.proofs.Newest.{newest, may_take-newest}
 
 -- the execution goes on with any event
-goes_on : (s : Setup) (past : List Moment) (event : Event) → IsExecution s past → IsExecution s (answered s past event ∷ past)
+goes_on : (s : Setup) (past : List Moment) (event : Event) → IsExecution s past → IsExecution s (next_moment s past event ∷ past)
 goes_on s past event legal = (legal, may_take-newest (world_of s past) event (newest s past legal), inl refl)
 
 -- the moments, the newest first, are a touch that is answered so, and lead on from the execution to this world
@@ -31,7 +31,7 @@ tries : (s : Setup) (past : List Moment) (w : ℕ) (request : Request) (n : ℕ)
     → Touches s past w request (tried_on s n w (record { answer = m.answer; world = world_of s (m ∷ (earlier ++ past)) }))
 tries s past w request zero m earlier steps legal = record { moments = m ∷ earlier; touch = (refl, steps); legal = legal; world = refl }
 tries s past w request (suc n) m earlier steps legal = go (next_try s (world_of s (m ∷ (earlier ++ past))) w) refl (λ event attempt.
-    tries s past w request n (answered s (m ∷ (earlier ++ past)) event) (m ∷ earlier) (attempt, steps) (goes_on s (m ∷ (earlier ++ past)) event legal))
+    tries s past w request n (next_moment s (m ∷ (earlier ++ past)) event) (m ∷ earlier) (attempt, steps) (goes_on s (m ∷ (earlier ++ past)) event legal))
   where
     go : (o : Option Event) → next_try s (world_of s (m ∷ (earlier ++ past))) w ≡ o
         → ((event : Event) → (frame : Frame) × (event ≡ Try w frame) → Touches s past w request (tried_on s n w (answered_with s (world_of s (m ∷ (earlier ++ past))) event)))
@@ -40,16 +40,16 @@ tries s past w request (suc n) m earlier steps legal = go (next_try s (world_of 
     go (Some event) e later = later event (is_try w _ event e)
 
 -- from each execution a touch leads on
-pub touches : (s : Setup) (past : List Moment) (w : ℕ) (request : Request) → IsExecution s past → Touches s past w request (touched s (world_of s past) w request)
-unfolding touched
+pub touches : (s : Setup) (past : List Moment) (w : ℕ) (request : Request) → IsExecution s past → Touches s past w request (result_of_touch s (world_of s past) w request)
+unfolding result_of_touch
 touches s past w request legal = go (is_ok (answer_of s (world_of s past) (newest_published (world_of s past)) (Begin w request)))
-    (tries s past w request (sum s.machine.frames) (answered s past (Begin w request)) [] refl (goes_on s past (Begin w request) legal))
+    (tries s past w request (sum s.machine.frames) (next_moment s past (Begin w request)) [] refl (goes_on s past (Begin w request) legal))
   where
     go : (b : Bool) → Touches s past w request (tried_on s (sum s.machine.frames) w (answered_with s (world_of s past) (Begin w request)))
         → Touches s past w request (if b then tried_on s (sum s.machine.frames) w (answered_with s (world_of s past) (Begin w request)) else answered_with s (world_of s past) (Begin w request))
     go true after = after
     go false after = record {
-      moments = answered s past (Begin w request) ∷ [];
+      moments = next_moment s past (Begin w request) ∷ [];
       touch = (refl, refl);
       legal = goes_on s past (Begin w request) legal;
       world = refl;

@@ -10,9 +10,9 @@ use Rattle.numa_space.specs.declared.event.CoreReply.TheVariants.{Still, Exhaust
 use Rattle.numa_space.specs.declared.event.CoreRefusal.{CoreRefusal}
 use Rattle.numa_space.specs.declared.event.CoreRefusal.TheVariants.{NoSuchWorker, Busy, BadCpu, Unmapped}
 use Rattle.numa_core.specs.declared.free_frames.Spot.{Spot}
-use Rattle.numa_core.specs.World.{Setup, Hunt, World, newest_published, hunt_of, last_of, list_at, is_frame, current_rank, has_unmet, may_try, missed, begun}
+use Rattle.numa_core.specs.World.{Setup, Hunt, World, newest_published, hunt_of, last_of, list_at, is_frame, current_rank, has_unmet, may_try, hunt_past, new_hunt}
 use Rattle.numa_core.specs.Steps.{goes_on, going_on, with_worker, with_owner}
-use Rattle.numa_core.specs.Touching.{Answered, lowest_unmet, next_frame, next_try, answered_with, tried_on, touched, lowest_free, first_free, touch_reply, touch_effect, touch_refusal, touch_answer, touch_world}
+use Rattle.numa_core.specs.Touching.{Answered, lowest_unmet, next_frame, next_try, answered_with, tried_on, result_of_touch, lowest_free, first_free, touch_reply, touch_effect, touch_refusal, touch_answer, touch_world}
 use Rattle.numa_core.proofs.Cursors.{or_true}
 use Rattle.numa_core.proofs.Answered.{four_rows, one_frame}
 use Rattle.numa_core.proofs.Placing.{any_below-none, first_place-some, first_place-none, not_false-is}
@@ -98,8 +98,8 @@ module _ (s : Setup) (world : World) (w : ℕ) (request : Request) (nodes : List
       let version = newest_published world in
       let busy : World = with_worker world w version (Some (hunting met)) in
       let frame = frame_at rank k in
-      let reply = goes_on s (missed frame (hunting met)) in
-      let hunt = going_on s (missed frame (hunting met)) in
+      let reply = goes_on s (hunt_past frame (hunting met)) in
+      let hunt = going_on s (hunt_past frame (hunting met)) in
       try-owned s busy w frame (hunting met) some (hunt-put world w version (Some (hunting met))) (may met rank k e low) v is
       ∙ ap (λ last. record { answer = Ok reply; world = with_worker busy w last hunt }) (last-put world w version (Some (hunting met)))
       ∙ ap (λ x. record { answer = Ok reply; world = x }) (worker-twice world w version version (Some (hunting met)) hunt)
@@ -173,13 +173,13 @@ module _ (s : Setup) (world : World) (w : ℕ) (request : Request) (nodes : List
       go (Some rank) e later = let next = next-of met rank e in goes n met rank next.0 owned few e next.1 later
 
 -- a touch comes to this, in every world
-pub touch_law : (s : Setup) (world : World) (w : ℕ) (request : Request) → touched s world w request ≡ record { answer = touch_answer s world w request; world = touch_world s world w request }
-unfolding touched
+pub touch_law : (s : Setup) (world : World) (w : ℕ) (request : Request) → result_of_touch s world w request ≡ record { answer = touch_answer s world w request; world = touch_world s world w request }
+unfolding result_of_touch
 touch_law s world w request = go (touch_refusal s world w request) refl
   where
-    go : (o : Option CoreRefusal) → touch_refusal s world w request ≡ o → touched s world w request ≡ record { answer = touch_answer s world w request; world = touch_world s world w request }
+    go : (o : Option CoreRefusal) → touch_refusal s world w request ≡ o → result_of_touch s world w request ≡ record { answer = touch_answer s world w request; world = touch_world s world w request }
     go (Some refusal) e = rw e refl
     go None e =
         let ok = four_rows (nat_le s.workers w) (is_some (hunt_of world w)) (nat_le s.machine.nodes request.cpu) (is_none (list_at s.machine world.history (newest_published world) request)) NoSuchWorker Busy BadCpu (Unmapped (newest_published world)) e in
         let all : unmet (λ n k. false) s.machine.frames ≡ sum s.machine.frames = unmet-all s.machine.frames in
-        rw e (tries s world w request (begun s world (newest_published world) request).nodes ok.0 (sum s.machine.frames) (λ n k. false) (λ n k h. absurd (cc)) (omega arith))
+        rw e (tries s world w request (new_hunt s world (newest_published world) request).nodes ok.0 (sum s.machine.frames) (λ n k. false) (λ n k h. absurd (cc)) (omega arith))

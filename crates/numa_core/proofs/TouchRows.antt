@@ -14,7 +14,7 @@ use Rattle.numa_space.specs.declared.event.CoreReply.TheVariants.{Exhausted}
 use Rattle.numa_space.specs.declared.event.CoreRefusal.{CoreRefusal}
 use Rattle.numa_space.specs.declared.event.CoreRefusal.TheVariants.{NoSuchWorker, BadCpu, Unmapped}
 use Rattle.numa_core.specs.World.{Setup, World, opening, list_at}
-use Rattle.numa_core.specs.Touching.{touched}
+use Rattle.numa_core.specs.Touching.{result_of_touch}
 use Rattle.numa_core.proofs.Rows.{four_on, with_frames, fault, won}
 
 -- the world in which these commands, the newest first, were accepted and published
@@ -24,7 +24,7 @@ published history = record opening { history = history; published = length histo
 -- what the touches of one worker are answered
 abbrev answers : Setup → World → ℕ → List Request → List (Result CoreReply CoreRefusal)
 answers s world w [] = []
-answers s world w (request ∷ requests) = (touched s world w request).answer ∷ answers s (touched s world w request).world w requests
+answers s world w (request ∷ requests) = (result_of_touch s world w request).answer ∷ answers s (result_of_touch s world w request).world w requests
 
 -- ---- one frame on each node: a list that is exhausted, and one that goes on at its second node
 
@@ -42,7 +42,7 @@ exhausted-row : answers (four_on (with_frames (1 ∷ 1 ∷ []))) (published exha
     ∷ won 3 2 0x11 1 0 1
     ∷ Ok (Exhausted 3)
     ∷ [])
-unfolding members distance_order list_at touched exhausted
+unfolding members distance_order list_at result_of_touch exhausted
 exhausted-row = refl
 
 -- ---- eight frames on each node: each page is placed where its policy says, from the lowest frame up
@@ -61,7 +61,7 @@ maps-row : answers (four_on (with_frames (8 ∷ 8 ∷ 8 ∷ 8 ∷ []))) (publish
     ∷ won 3 1 0x14 2 0 0
     ∷ won 3 1 0x15 2 1 0
     ∷ [])
-unfolding members distance_order interleave_node list_at touched maps
+unfolding members distance_order interleave_node list_at result_of_touch maps
 maps-row = refl
 
 -- ---- what is refused, and nodes without frames: they are passed over, and their places in the list count
@@ -77,9 +77,9 @@ refused-row : answers (four_on (with_frames (0 ∷ 0 ∷ 1 ∷ []))) (published 
     ∷ won 1 1 0x10 2 0 2
     ∷ Ok (Exhausted 1)
     ∷ [])
-unfolding members distance_order list_at touched
+unfolding members distance_order list_at result_of_touch
 refused-row = refl
 
 no_worker-row : answers (four_on (with_frames (1 ∷ []))) (published (Map 0x10000 0x1000 0 ∷ [])) 4 (fault 1 0x10 ∷ []) ≡ (Err NoSuchWorker ∷ [])
-unfolding members distance_order list_at touched
+unfolding members distance_order list_at result_of_touch
 no_worker-row = refl

@@ -4,7 +4,7 @@ use Rattle.std.proofs.lemmas.Bool.{eq-eqb}
 use Rattle.numa_machine.specs.declared.frame.Frame.{Frame}
 use Rattle.numa_space.specs.declared.event.Event.TheVariants.{Try}
 use Rattle.numa_space.specs.declared.event.CoreReply.TheVariants.{Won}
-use Rattle.numa_core.specs.World.{Setup, Hunt, Worker, World, newest_published, hunt_of, last_of, owner_of, may_try, missed}
+use Rattle.numa_core.specs.World.{Setup, Hunt, Worker, World, newest_published, hunt_of, last_of, owner_of, may_try, hunt_past}
 use Rattle.numa_core.specs.Steps.{refusal_of, goes_on, going_on, placement_of, with_worker, with_owner, put}
 use Rattle.numa_core.specs.Touching.{answered_with, lowest_free, first_free}
 
@@ -39,7 +39,7 @@ module _ (s : Setup) (world : World) (w : ℕ) (frame : Frame) (hunt : Hunt) (so
   allowed version = rw (some, busy, may) refl
 
   -- the frame has an owner
-  pub try-owned : (v : ℕ) → owner_of world frame ≡ Some v → answered_with s world (Try w frame) ≡ record { answer = Ok (goes_on s (missed frame hunt)); world = with_worker world w (last_of world w) (going_on s (missed frame hunt)) }
+  pub try-owned : (v : ℕ) → owner_of world frame ≡ Some v → answered_with s world (Try w frame) ≡ record { answer = Ok (goes_on s (hunt_past frame hunt)); world = with_worker world w (last_of world w) (going_on s (hunt_past frame hunt)) }
   try-owned v owned = rw (allowed (newest_published world), owned, busy) refl
 
   -- the frame is free

@@ -8,7 +8,7 @@ use Rattle.numa_space.specs.declared.event.Event.{Event}
 use Rattle.numa_space.specs.declared.event.Event.TheVariants.{Accept, Publish, Begin, Look, Try, Give}
 use Rattle.numa_space.specs.declared.event.CoreReply.{CoreReply}
 use Rattle.numa_space.specs.declared.event.CoreRefusal.{CoreRefusal}
-use Rattle.numa_core.specs.World.{Setup, Hunt, Worker, World, is_frame, is_published, hunt_of, owner_of, first_commands, list_at, at_current, begun, looked, missed}
+use Rattle.numa_core.specs.World.{Setup, Hunt, Worker, World, is_frame, is_published, hunt_of, owner_of, first_commands, list_at, at_current, new_hunt, hunt_after_look, hunt_past}
 use Rattle.numa_core.specs.Steps.{refusal_of, effect_of, going_on, IsAnswer, MayTake}
 use Rattle.numa_core.specs.Executions.{Moment, Begun, world_of, IsExecution, begun_at, last_begin, or_else, finds, found_owned}
 use Rattle.numa_core.proofs.Answered.{replied, one_frame}
@@ -84,7 +84,7 @@ abbrev pub moment : Event → ℕ → Result CoreReply CoreRefusal → Moment
 moment event version answer = record { event = event; version = version; answer = answer }
 
 -- the hunt of a worker that begins, whether it goes on or is over at once
-pub tracked-begun : (s : Setup) (past : List Moment) (version v w : ℕ) (request : Request) (reply : CoreReply) → IsSound (world_of s past) → MayTake (world_of s past) version (Begin v request) → refusal_of s (world_of s past) version (Begin v request) ≡ None → (v == w) ≡ true → Tracked s (moment (Begin v request) version (Ok reply) ∷ past) w (begun s (world_of s past) version request)
+pub tracked-begun : (s : Setup) (past : List Moment) (version v w : ℕ) (request : Request) (reply : CoreReply) → IsSound (world_of s past) → MayTake (world_of s past) version (Begin v request) → refusal_of s (world_of s past) version (Begin v request) ≡ None → (v == w) ≡ true → Tracked s (moment (Begin v request) version (Ok reply) ∷ past) w (new_hunt s (world_of s past) version request)
 tracked-begun s past version v w request reply sound may ok same = record {
   begun = record { request = request; version = version; before = past };
   is_last = rw same refl;
@@ -97,16 +97,16 @@ tracked-begun s past version v w request reply sound may ok same = record {
 }
 
 -- the same of a worker that looks
-pub tracked-looked : (s : Setup) (past : List Moment) (version v w word : ℕ) (reply : CoreReply) (old : Hunt) → (v == w) ≡ true → hunt_of (world_of s past) w ≡ Some old → Tracked s past w old → Tracked s (moment (Look v word) version (Ok reply) ∷ past) w (looked s (world_of s past) word old)
+pub tracked-looked : (s : Setup) (past : List Moment) (version v w word : ℕ) (reply : CoreReply) (old : Hunt) → (v == w) ≡ true → hunt_of (world_of s past) w ≡ Some old → Tracked s past w old → Tracked s (moment (Look v word) version (Ok reply) ∷ past) w (hunt_after_look s (world_of s past) word old)
 tracked-looked s past version v w word reply old same here t =
-    tracked_on s (moment (Look v word) version (Ok reply)) past w old (looked s (world_of s past) word old) refl refl refl refl refl (omega arith)
+    tracked_on s (moment (Look v word) version (Ok reply)) past w old (hunt_after_look s (world_of s past) word old) refl refl refl refl refl (omega arith)
     (λ n k. rw (same, here) (ap (λ b. b || old.met n k) (regrouped (at_current s old (λ m. n == m)) (k / 64 == word) (is_some ((world_of s past).owner n k))))) t
 
 -- the same of a worker that tries a frame and misses it
-pub tracked-missed : (s : Setup) (past : List Moment) (version v w u : ℕ) (frame : Frame) (reply : CoreReply) (old : Hunt) → owner_of (world_of s past) frame ≡ Some u → (v == w) ≡ true → Tracked s past w old → Tracked s (moment (Try v frame) version (Ok reply) ∷ past) w (missed frame old)
+pub tracked-missed : (s : Setup) (past : List Moment) (version v w u : ℕ) (frame : Frame) (reply : CoreReply) (old : Hunt) → owner_of (world_of s past) frame ≡ Some u → (v == w) ≡ true → Tracked s past w old → Tracked s (moment (Try v frame) version (Ok reply) ∷ past) w (hunt_past frame old)
 tracked-missed s past version v w u frame reply old is same t =
     let kept : world_kept s past (Try v frame) version = rw is refl in
-    tracked_on s (moment (Try v frame) version (Ok reply)) past w old (missed frame old) refl refl refl refl (asked_kept s past (Try v frame) version old kept) (subst (λ h. length (world_of s past).history ≤ length h) (sym kept) (omega arith))
+    tracked_on s (moment (Try v frame) version (Ok reply)) past w old (hunt_past frame old) refl refl refl refl (asked_kept s past (Try v frame) version old kept) (subst (λ h. length (world_of s past).history ≤ length h) (sym kept) (omega arith))
     (λ n k. rw same (ap (λ b. b || old.met n k) (found-tried (world_of s past) frame u n k is))) t
 
 tracked-step : (s : Setup) (past : List Moment) (version : ℕ) (event : Event) (reply : CoreReply) → IsSound (world_of s past) → MayTake (world_of s past) version event → refusal_of s (world_of s past) version event ≡ None
@@ -122,23 +122,23 @@ tracked-step s past version (Give v frame) reply sound may ok ih w hunt e =
     tracked_on s (moment (Give v frame) version (Ok reply)) past w hunt hunt refl refl refl refl refl (omega arith) (λ n k. refl) (ih w hunt e)
 tracked-step s past version (Begin v request) reply sound may ok ih w hunt e = go (v == w) refl e
   where
-    go : (b : Bool) → (v == w) ≡ b → (if b then (let x : Worker = record { last = version; hunt = going_on s (begun s (world_of s past) version request) } in x) else (world_of s past).worker w).hunt ≡ Some hunt → Tracked s (moment (Begin v request) version (Ok reply) ∷ past) w hunt
-    go true same e = subst (λ h. Tracked s (moment (Begin v request) version (Ok reply) ∷ past) w h) (sym (going_on-is s (begun s (world_of s past) version request) hunt e)) (tracked-begun s past version v w request reply sound may ok same)
+    go : (b : Bool) → (v == w) ≡ b → (if b then (let x : Worker = record { last = version; hunt = going_on s (new_hunt s (world_of s past) version request) } in x) else (world_of s past).worker w).hunt ≡ Some hunt → Tracked s (moment (Begin v request) version (Ok reply) ∷ past) w hunt
+    go true same e = subst (λ h. Tracked s (moment (Begin v request) version (Ok reply) ∷ past) w h) (sym (going_on-is s (new_hunt s (world_of s past) version request) hunt e)) (tracked-begun s past version v w request reply sound may ok same)
     go false different e = tracked_on s (moment (Begin v request) version (Ok reply)) past w hunt hunt (rw different refl) refl refl refl refl (omega arith) (λ n k. refl) (ih w hunt e)
 tracked-step s past version (Look v word) reply sound may ok ih w hunt e = go (v == w) refl e
   where
-    go : (b : Bool) → (v == w) ≡ b → (if b then (let x : Worker = record { last = ((world_of s past).worker v).last; hunt = option_map_or (λ hunt. going_on s (looked s (world_of s past) word hunt)) (hunt_of (world_of s past) v) None } in x) else (world_of s past).worker w).hunt ≡ Some hunt → Tracked s (moment (Look v word) version (Ok reply) ∷ past) w hunt
+    go : (b : Bool) → (v == w) ≡ b → (if b then (let x : Worker = record { last = ((world_of s past).worker v).last; hunt = option_map_or (λ hunt. going_on s (hunt_after_look s (world_of s past) word hunt)) (hunt_of (world_of s past) v) None } in x) else (world_of s past).worker w).hunt ≡ Some hunt → Tracked s (moment (Look v word) version (Ok reply) ∷ past) w hunt
     go true same e =
-        let old = went_on s (hunt_of (world_of s past) v) (looked s (world_of s past) word) hunt e in
+        let old = went_on s (hunt_of (world_of s past) v) (hunt_after_look s (world_of s past) word) hunt e in
         let here : hunt_of (world_of s past) w ≡ Some old.0 = subst (λ u. hunt_of (world_of s past) u ≡ Some old.0) (eqb-true v w same) old.1 in
         subst (λ h. Tracked s (moment (Look v word) version (Ok reply) ∷ past) w h) (sym old.2)
         (tracked-looked s past version v w word reply old.0 same here (ih w old.0 here))
     go false different e = tracked_on s (moment (Look v word) version (Ok reply)) past w hunt hunt refl refl refl refl refl (omega arith) (λ n k. rw different refl) (ih w hunt e)
 tracked-step s past version (Try v frame) reply sound may ok ih w hunt e = pick (owner_of (world_of s past) frame) refl
   where
-    lost : (u : ℕ) → owner_of (world_of s past) frame ≡ Some u → (b : Bool) → (v == w) ≡ b → (if b then (let x : Worker = record { last = ((world_of s past).worker v).last; hunt = option_map_or (λ hunt. going_on s (missed frame hunt)) (hunt_of (world_of s past) v) None } in x) else (world_of s past).worker w).hunt ≡ Some hunt → world_kept s past (Try v frame) version → Tracked s (moment (Try v frame) version (Ok reply) ∷ past) w hunt
+    lost : (u : ℕ) → owner_of (world_of s past) frame ≡ Some u → (b : Bool) → (v == w) ≡ b → (if b then (let x : Worker = record { last = ((world_of s past).worker v).last; hunt = option_map_or (λ hunt. going_on s (hunt_past frame hunt)) (hunt_of (world_of s past) v) None } in x) else (world_of s past).worker w).hunt ≡ Some hunt → world_kept s past (Try v frame) version → Tracked s (moment (Try v frame) version (Ok reply) ∷ past) w hunt
     lost u is true same e kept =
-        let old = went_on s (hunt_of (world_of s past) v) (missed frame) hunt e in
+        let old = went_on s (hunt_of (world_of s past) v) (hunt_past frame) hunt e in
         let here : hunt_of (world_of s past) w ≡ Some old.0 = subst (λ u. hunt_of (world_of s past) u ≡ Some old.0) (eqb-true v w same) old.1 in
         subst (λ h. Tracked s (moment (Try v frame) version (Ok reply) ∷ past) w h) (sym old.2)
         (tracked-missed s past version v w u frame reply old.0 is same (ih w old.0 here))

@@ -9,7 +9,7 @@ use Rattle.numa_space.specs.declared.event.Event.TheVariants.{Accept, Publish, B
 use Rattle.numa_space.specs.declared.event.CoreReply.{CoreReply}
 use Rattle.numa_space.specs.declared.event.CoreReply.TheVariants.{Still, Exhausted, Won}
 use Rattle.numa_space.specs.declared.event.CoreRefusal.{CoreRefusal}
-use Rattle.numa_core.specs.World.{Setup, Hunt, Worker, World, is_published, last_of, hunt_of, owner_of, current_rank, begun, looked, missed}
+use Rattle.numa_core.specs.World.{Setup, Hunt, Worker, World, is_published, last_of, hunt_of, owner_of, current_rank, new_hunt, hunt_after_look, hunt_past}
 use Rattle.numa_core.specs.Steps.{reply_of, effect_of, goes_on, going_on, placement_of, IsAnswer, MayTake}
 use Rattle.numa_core.specs.Executions.{Moment, world_of, IsExecution, version_told, worker_of}
 use Rattle.numa_core.proofs.Answered.{legal_before, replied}
@@ -62,13 +62,13 @@ sound-step s world version Publish may sound = record {
 sound-step s world version (Begin v request) may sound = record {
   published = sound.published;
   lasts = λ w. by_itself (λ (worker : Worker). worker.last ≤ length world.history) v w _ (world.worker w) (λ e. sound.published version may.0) (sound.lasts w);
-  hunts = λ w hunt. by_itself (λ (worker : Worker). worker.hunt ≡ Some hunt → hunt.version ≡ worker.last) v w _ (world.worker w) (λ e is. ap (λ (h : Hunt). h.version) (going_on-is s (begun s world version request) hunt is)) (sound.hunts w hunt);
+  hunts = λ w hunt. by_itself (λ (worker : Worker). worker.hunt ≡ Some hunt → hunt.version ≡ worker.last) v w _ (world.worker w) (λ e is. ap (λ (h : Hunt). h.version) (going_on-is s (new_hunt s world version request) hunt is)) (sound.hunts w hunt);
 }
 sound-step s world version (Look v word) may sound = record {
   published = sound.published;
   lasts = λ w. by_itself (λ (worker : Worker). worker.last ≤ length world.history) v w _ (world.worker w) (λ e. sound.lasts v) (sound.lasts w);
   hunts = λ w hunt. by_itself (λ (worker : Worker). worker.hunt ≡ Some hunt → hunt.version ≡ worker.last) v w _ (world.worker w)
-      (λ e is. let old = went_on s (hunt_of world v) (looked s world word) hunt is in ap (λ (h : Hunt). h.version) old.2 ∙ sound.hunts v old.0 old.1)
+      (λ e is. let old = went_on s (hunt_of world v) (hunt_after_look s world word) hunt is in ap (λ (h : Hunt). h.version) old.2 ∙ sound.hunts v old.0 old.1)
       (sound.hunts w hunt);
 }
 sound-step s world version (Try v frame) may sound = go (owner_of world frame) refl
@@ -78,7 +78,7 @@ sound-step s world version (Try v frame) may sound = go (owner_of world frame) r
       published = sound.published;
       lasts = λ w. by_itself (λ (worker : Worker). worker.last ≤ length world.history) v w _ (world.worker w) (λ e. sound.lasts v) (sound.lasts w);
       hunts = λ w hunt. by_itself (λ (worker : Worker). worker.hunt ≡ Some hunt → hunt.version ≡ worker.last) v w _ (world.worker w)
-          (λ e is. let old = went_on s (hunt_of world v) (missed frame) hunt is in ap (λ (h : Hunt). h.version) old.2 ∙ sound.hunts v old.0 old.1)
+          (λ e is. let old = went_on s (hunt_of world v) (hunt_past frame) hunt is in ap (λ (h : Hunt). h.version) old.2 ∙ sound.hunts v old.0 old.1)
           (sound.hunts w hunt);
     }
     go None is = rw is record {
@@ -159,14 +159,14 @@ told-step : (s : Setup) (world : World) (version : ℕ) (event : Event) (w a : �
 told-step s world version (Accept command) w a sound own_step e = absurd (cc)
 told-step s world version Publish w a sound own_step e = absurd (cc)
 told-step s world version (Begin v request) w a sound own_step e =
-    by_true (λ worker. worker.last ≡ a) (v == w) _ (world.worker w) (own v w own_step) (told-goes_on s (begun s world version request) a e)
+    by_true (λ worker. worker.last ≡ a) (v == w) _ (world.worker w) (own v w own_step) (told-goes_on s (new_hunt s world version request) a e)
 told-step s world version (Look v word) w a sound own_step e =
-    let hunt = told-hunt s (hunt_of world v) (looked s world word) a e in
+    let hunt = told-hunt s (hunt_of world v) (hunt_after_look s world word) a e in
     by_true (λ worker. worker.last ≡ a) (v == w) _ (world.worker w) (own v w own_step) (sym (sound.hunts v hunt.0 hunt.1) ∙ hunt.2)
 told-step s world version (Try v frame) w a sound own_step e = go (owner_of world frame) refl e
   where
-    go : (owner : Option ℕ) → owner_of world frame ≡ owner → version_told (Ok (if is_some owner then option_map_or (λ hunt. goes_on s (missed frame hunt)) (hunt_of world v) Still else option_map_or (λ hunt. Won (placement_of s hunt frame)) (hunt_of world v) Still)) ≡ Some a → last_of (effect_of s world version (Try v frame)) w ≡ a
-    go (Some u) is e = let hunt = told-hunt s (hunt_of world v) (missed frame) a e in rw is (by_true (λ worker. worker.last ≡ a) (v == w) _ (world.worker w) (own v w own_step) (sym (sound.hunts v hunt.0 hunt.1) ∙ hunt.2))
+    go : (owner : Option ℕ) → owner_of world frame ≡ owner → version_told (Ok (if is_some owner then option_map_or (λ hunt. goes_on s (hunt_past frame hunt)) (hunt_of world v) Still else option_map_or (λ hunt. Won (placement_of s hunt frame)) (hunt_of world v) Still)) ≡ Some a → last_of (effect_of s world version (Try v frame)) w ≡ a
+    go (Some u) is e = let hunt = told-hunt s (hunt_of world v) (hunt_past frame) a e in rw is (by_true (λ worker. worker.last ≡ a) (v == w) _ (world.worker w) (own v w own_step) (sym (sound.hunts v hunt.0 hunt.1) ∙ hunt.2))
     go None is e = let hunt = told-won s (hunt_of world v) frame a e in rw is (by_true (λ worker. worker.last ≡ a) (v == w) _ (world.worker w) (own v w own_step) (sym (sound.hunts v hunt.0 hunt.1) ∙ hunt.2))
 told-step s world version (Give v frame) w a sound own_step e = absurd (cc)
 

@@ -62,8 +62,8 @@ module _ (s : Setup) where
 
   -- the moment of an event that comes after an execution, with ample memory; a Begin takes the
   -- newest published version
-  abbrev pub answered : List Moment → Event → Moment
-  answered past event = record {
+  abbrev pub next_moment : List Moment → Event → Moment
+  next_moment past event = record {
     event = event;
     version = newest_published (world_of past);
     answer = answer_of s (world_of past) (newest_published (world_of past)) event;

@@ -11,8 +11,8 @@ use Rattle.numa_core.specs.Standing.{CoreState, CoreStandsFor, setup_of, frames_
 use Rattle.numa_core.specs.Seats.{core_of, SeatFits}
 use Rattle.numa_core.specs.Hints.{AreTaken}
 
-abbrev pub shown : State → CoreState
-shown state = core_of state.space state.plan state.seats.items state.owners.items
+abbrev pub core_state : State → CoreState
+core_state state = core_of state.space state.plan state.seats.items state.owners.items
 
 -- the table of places is the machine's; each seat has its room and a cursor that stands right;
 -- there is an owner's place for each frame; a worker's number has room in a byte; for each node
@@ -37,6 +37,6 @@ Follows old event answer new = (world : World) → CoreStandsFor old world →
 pub record Performs (old : State) (event : Event) (answer : Result CoreReply CoreRefusal)
     (new : State) : Type 0 where
   pub kept : IsKept new
-  pub follows : Follows (shown old) event answer (shown new)
-  pub unchanged : OnErr answer (shown new ≡ shown old)
-  pub setup : setup_of (shown new) ≡ setup_of (shown old)
+  pub follows : Follows (core_state old) event answer (core_state new)
+  pub unchanged : OnErr answer (core_state new ≡ core_state old)
+  pub setup : setup_of (core_state new) ≡ setup_of (core_state old)

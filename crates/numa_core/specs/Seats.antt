@@ -10,7 +10,7 @@ use Rattle.numa_space.specs.declared.event.CoreRefusal.{CoreRefusal}
 use Rattle.numa_space.specs.declared.event.CoreRefusal.TheVariants.{Idle, BadTry}
 use Rattle.numa_core.specs.declared.seat.Job.{Job}
 use Rattle.numa_core.specs.declared.seat.Seat.{Seat}
-use Rattle.numa_core.specs.World.{Setup, Hunt, World, may_look, may_try, looked, missed}
+use Rattle.numa_core.specs.World.{Setup, Hunt, World, may_look, may_try, hunt_after_look, hunt_past}
 use Rattle.numa_core.specs.Steps.{goes_on, going_on, placement_of}
 use Rattle.numa_space.specs.Standing.{SpaceState}
 use Rattle.numa_plan.specs.Meaning.{PlanData}
@@ -105,8 +105,8 @@ abbrev pub SeatLooks : List ℕ → Setup → World → ℕ → Seat →
 SeatLooks frames s world word old result new =
     MatchOption (seat_hunt frames old) (result ≡ Err Idle) (λ hunt.
     MatchBool (may_look s hunt word)
-    ((result ≡ Ok (goes_on s (looked s world word hunt)))
-    × (seat_hunt frames new ≡ going_on s (looked s world word hunt)))
+    ((result ≡ Ok (goes_on s (hunt_after_look s world word hunt)))
+    × (seat_hunt frames new ≡ going_on s (hunt_after_look s world word hunt)))
     (result ≡ Err BadTry))
 
 -- what the seat answers to a Try of a frame that is owned or not, and its hunt afterwards
@@ -116,7 +116,7 @@ SeatTries frames s owned frame old result new =
     MatchOption (seat_hunt frames old) (result ≡ Err Idle) (λ hunt.
     MatchBool (may_try s hunt frame)
     (MatchBool owned
-    ((result ≡ Ok (goes_on s (missed frame hunt)))
-    × (seat_hunt frames new ≡ going_on s (missed frame hunt)))
+    ((result ≡ Ok (goes_on s (hunt_past frame hunt)))
+    × (seat_hunt frames new ≡ going_on s (hunt_past frame hunt)))
     ((result ≡ Ok (Won (placement_of s hunt frame))) × (seat_hunt frames new ≡ None)))
     (result ≡ Err BadTry))

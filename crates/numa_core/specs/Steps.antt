@@ -23,7 +23,7 @@ use Rattle.numa_space.specs.declared.event.CoreRefusal.TheVariants.{BadTry, NotO
 use Rattle.numa_space.specs.declared.event.CoreRefusal.TheVariants.{Unmapped, NoMemory}
 use Rattle.numa_core.specs.World.{Setup, Hunt, World, is_published, last_of, hunt_of}
 use Rattle.numa_core.specs.World.{owner_of, is_frame, list_at, current_rank, may_look}
-use Rattle.numa_core.specs.World.{may_try, begun, looked, missed}
+use Rattle.numa_core.specs.World.{may_try, new_hunt, hunt_after_look, hunt_past}
 
 -- ---- which versions a worker may take
 
@@ -129,12 +129,13 @@ module _ (s : Setup) where
   abbrev pub reply_of : World → ℕ → Event → CoreReply
   reply_of world version (Accept command) = Accepted (length world.history + 1)
   reply_of world version Publish = Published (length world.history)
-  reply_of world version (Begin w request) = goes_on (begun s world version request)
-  reply_of world version (Look w word) = option_map_or (λ hunt. goes_on (looked s world word hunt))
+  reply_of world version (Begin w request) = goes_on (new_hunt s world version request)
+  reply_of world version (Look w word) =
+      option_map_or (λ hunt. goes_on (hunt_after_look s world word hunt))
       (hunt_of world w) Still
   reply_of world version (Try w frame) =
       if is_some (owner_of world frame)
-      then option_map_or (λ hunt. goes_on (missed frame hunt)) (hunt_of world w) Still
+      then option_map_or (λ hunt. goes_on (hunt_past frame hunt)) (hunt_of world w) Still
       else option_map_or (λ hunt. Won (placement_of hunt frame)) (hunt_of world w) Still
   reply_of world version (Give w frame) = Given
 
@@ -155,14 +156,14 @@ module _ (s : Setup) where
         owner = world.owner;
       }
   effect_of world version (Begin w request) =
-      with_worker world w version (going_on (begun s world version request))
+      with_worker world w version (going_on (new_hunt s world version request))
   effect_of world version (Look w word) =
       with_worker world w (last_of world w)
-      (option_map_or (λ hunt. going_on (looked s world word hunt)) (hunt_of world w) None)
+      (option_map_or (λ hunt. going_on (hunt_after_look s world word hunt)) (hunt_of world w) None)
   effect_of world version (Try w frame) =
       if is_some (owner_of world frame)
       then with_worker world w (last_of world w)
-      (option_map_or (λ hunt. going_on (missed frame hunt)) (hunt_of world w) None)
+      (option_map_or (λ hunt. going_on (hunt_past frame hunt)) (hunt_of world w) None)
       else with_worker (with_owner world frame (Some w)) w (last_of world w) None
   effect_of world version (Give w frame) = with_owner world frame None
 

@@ -15,7 +15,7 @@ use Rattle.numa_space.specs.declared.event.CoreReply.{CoreReply}
 use Rattle.numa_space.specs.declared.event.CoreReply.TheVariants.{Exhausted, Won}
 use Rattle.numa_space.specs.declared.event.CoreRefusal.{CoreRefusal}
 use Rattle.numa_core.specs.World.{Setup, Hunt, World, newest_published}
-use Rattle.numa_core.specs.World.{hunt_of, current_rank, begun}
+use Rattle.numa_core.specs.World.{hunt_of, current_rank, new_hunt}
 use Rattle.numa_core.specs.Steps.{refusal_of, refused_or, answer_of, world_after}
 use Rattle.numa_core.specs.Steps.{with_worker, with_owner}
 use Rattle.numa_core.specs.Executions.{Moment}
@@ -62,8 +62,8 @@ module _ (s : Setup) where
       (next_try so_far.world w) so_far
 
   -- a touch: as many Trys as the machine has frames are enough
-  unfoldable pub touched : World → ℕ → Request → Answered
-  touched world w request =
+  unfoldable pub result_of_touch : World → ℕ → Request → Answered
+  result_of_touch world w request =
       if is_ok (answer_of s world (newest_published world) (Begin w request))
       then tried_on (sum s.machine.frames) w (answered_with world (Begin w request))
       else answered_with world (Begin w request)
@@ -89,7 +89,8 @@ module _ (s : Setup) where
 
   -- the first free frame of the request's list in the newest published version
   abbrev pub free_for : World → Request → Option Spot
-  free_for world request = first_free world (begun s world (newest_published world) request).nodes
+  free_for world request =
+      first_free world (new_hunt s world (newest_published world) request).nodes
 
   -- the worker wins the spot; without one its list is exhausted
   abbrev pub touch_reply : World → Request → Option Spot → CoreReply

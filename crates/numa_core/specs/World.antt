@@ -124,8 +124,8 @@ module _ (s : Setup) where
       && (nat_lt frame.number (frames_of s.machine n) && not (hunt.met n frame.number)))
 
   -- a hunt that begins: it has the list of its version, and has met no frame
-  abbrev pub begun : World → ℕ → Request → Hunt
-  begun world version request =
+  abbrev pub new_hunt : World → ℕ → Request → Hunt
+  new_hunt world version request =
       record {
         request = request;
         version = version;
@@ -139,8 +139,8 @@ module _ (s : Setup) where
       && ((k / 64 == word) && is_some (world.owner n k))
 
   -- the hunt, once it met each frame that the look finds owned
-  abbrev pub looked : World → ℕ → Hunt → Hunt
-  looked world word hunt = record {
+  abbrev pub hunt_after_look : World → ℕ → Hunt → Hunt
+  hunt_after_look world word hunt = record {
     request = hunt.request;
     version = hunt.version;
     nodes = hunt.nodes;
@@ -148,8 +148,8 @@ module _ (s : Setup) where
   }
 
 -- the hunt, once it met the frame
-abbrev pub missed : Frame → Hunt → Hunt
-missed frame hunt = record {
+abbrev pub hunt_past : Frame → Hunt → Hunt
+hunt_past frame hunt = record {
   request = hunt.request;
   version = hunt.version;
   nodes = hunt.nodes;

@@ -9,7 +9,7 @@ ghost use Rattle.numa_core.specs.World.{Setup, first_commands, is_published};
 ghost use Rattle.numa_core.specs.World.{list_at, newest_published};
 ghost use Rattle.numa_core.specs.Standing.{CoreState, CoreStandsFor, ShowsWorld, setup_of};
 ghost use Rattle.numa_space.specs.declared.request.Request.{Request};
-ghost use Rattle.numa_core.specs.Executions.{Moment, accepts, world_of, answered, IsExecution};
+ghost use Rattle.numa_core.specs.Executions.{Moment, accepts, world_of, next_moment, IsExecution};
 ghost use Rattle.numa_core.specs.Executions.{IsRightPlacement, IsExhausted, IsWin, worker_of};
 ghost use Rattle.numa_core.specs.Executions.{gives_back, version_told};
 ghost use Rattle.numa_space.specs.declared.event.Event.{Event};
@@ -46,7 +46,7 @@ pub fn every_execution()
 /// one.
 pub fn every_execution_goes_on()
     ensures goes_on { (s : Setup) (past : List Moment) (event : Event) → IsExecution s past →
-        IsExecution s (answered s past event ∷ past) }
+        IsExecution s (next_moment s past event ∷ past) }
     ensures newest { (s : Setup) (past : List Moment) (version : ℕ) → IsExecution s past →
         is_published (world_of s past) version ≡ true
         → version ≤ newest_published (world_of s past) }

@@ -12,7 +12,7 @@ ghost use Rattle.numa_core.specs.Steps.{IsAnswer, world_after};
 ghost use Rattle.numa_core.specs.Executions.{Moment};
 ghost use Rattle.numa_core.specs.Standing.{CoreState, CoreStandsFor, HasPast};
 ghost use Rattle.numa_core.specs.Standing.{LeadsTo, moment_after, setup_of};
-ghost use Rattle.numa_core.specs.Touching.{touched, IsTouch};
+ghost use Rattle.numa_core.specs.Touching.{result_of_touch, IsTouch};
 
 mod free_frames;
 mod judging;
@@ -44,13 +44,13 @@ pub struct Core {
 
 impl Model for Core {
     ghost use Rattle.numa_core.specs.Standing.{CoreState, HasPast};
-    ghost use Rattle.numa_core.specs.Kept.{shown, IsKept};
+    ghost use Rattle.numa_core.specs.Kept.{core_state, IsKept};
 
     ghost Value = { CoreState };
 
-    ghost view = { λ a. shown a.state };
+    ghost view = { λ a. core_state a.state };
 
-    ghost invariant = { λ a. IsKept a.state × HasPast (shown a.state) };
+    ghost invariant = { λ a. IsKept a.state × HasPast (core_state a.state) };
 }
 
 impl Core {
@@ -135,8 +135,9 @@ impl Core {
     /// As for a Begin: `NoSuchWorker`, `Busy`, `BadCpu` or `Unmapped`, in this order.
     pub fn touch(&mut self, worker: u32, request: Request) -> Result<CoreReply, CoreRefusal>
         ensures answer { (world : World) → CoreStandsFor self.old world →
-            (result ≡ (touched (setup_of self.old) world worker request).answer)
-            × CoreStandsFor self.new (touched (setup_of self.old) world worker request).world }
+            (result ≡ (result_of_touch (setup_of self.old) world worker request).answer)
+            × CoreStandsFor self.new
+            (result_of_touch (setup_of self.old) world worker request).world }
         ensures executions { (past : List Moment) → LeadsTo past self.old → (moments : List Moment)
             × IsTouch worker request result moments × LeadsTo (moments ++ past) self.new }
         ensures unchanged { OnErr result (self.new ≡ self.old) }

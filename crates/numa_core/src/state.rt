@@ -4,7 +4,7 @@ ghost use Rattle.std.specs.List.{AllZip};
 ghost use Rattle.numa_core.specs.World.{World, opening};
 ghost use Rattle.numa_core.specs.Steps.{put_frame};
 ghost use Rattle.numa_core.specs.Standing.{CoreStandsFor, owner_at, place_in, setup_of};
-ghost use Rattle.numa_core.specs.Kept.{shown, IsKept, Performs};
+ghost use Rattle.numa_core.specs.Kept.{core_state, IsKept, Performs};
 ghost use Rattle.numa_core.specs.Hints.{IsLow};
 ghost use Rattle.numa_core.specs.Seats.{SeatFits, IsSeatCopy};
 ghost use Rattle.numa_core.specs.Touching.{touch_answer, touch_world};
@@ -73,8 +73,8 @@ impl State {
     ) -> Result<State, NoMemory>
         requires few { workers ≤ 16 }
         ensures kept { IfOk result IsKept }
-        ensures opens { IfOk result (λ state. CoreStandsFor (shown state) opening) }
-        ensures setup { IfOk result (λ state. setup_of (shown state)
+        ensures opens { IfOk result (λ state. CoreStandsFor (core_state state) opening) }
+        ensures setup { IfOk result (λ state. setup_of (core_state state)
             ≡ record { machine = machine; bounds = limits; workers = workers }) }
     {
         let places = Places::new(alloc, &machine)?;
@@ -98,7 +98,7 @@ impl State {
     pub(crate) fn copy(&self) -> Result<State, NoMemory>
         requires kept { IsKept self.now }
         ensures kept { IfOk result IsKept }
-        ensures shown { IfOk result (λ copy. shown copy ≡ shown self.now) }
+        ensures shown { IfOk result (λ copy. core_state copy ≡ core_state self.now) }
     {
         let places = Places::new(self.alloc, self.space.space().machine())?;
         let seats = seat_copies(self.alloc, &self.seats)?;
@@ -133,7 +133,7 @@ impl State {
     pub(crate) fn prepare(&mut self) -> Result<(), NoMemory>
         requires kept { IsKept self.old }
         ensures kept { IsKept self.new }
-        ensures shown { shown self.new ≡ shown self.old }
+        ensures shown { core_state self.new ≡ core_state self.old }
     {
         self.space.prepare(self.alloc)
     }
@@ -217,12 +217,12 @@ impl State {
     pub(crate) fn touch(&mut self, worker: u32, request: Request) -> Result<CoreReply, CoreRefusal>
         requires kept { IsKept self.old }
         ensures kept { IsKept self.new }
-        ensures touches { (world : World) → CoreStandsFor (shown self.old) world →
-            (result ≡ touch_answer (setup_of (shown self.old)) world worker request)
-            × CoreStandsFor (shown self.new) (touch_world (setup_of (shown self.old))
+        ensures touches { (world : World) → CoreStandsFor (core_state self.old) world →
+            (result ≡ touch_answer (setup_of (core_state self.old)) world worker request)
+            × CoreStandsFor (core_state self.new) (touch_world (setup_of (core_state self.old))
             world worker request) }
-        ensures unchanged { OnErr result (shown self.new ≡ shown self.old) }
-        ensures setup { setup_of (shown self.new) ≡ setup_of (shown self.old) }
+        ensures unchanged { OnErr result (core_state self.new ≡ core_state self.old) }
+        ensures setup { setup_of (core_state self.new) ≡ setup_of (core_state self.old) }
     {
         let row = row_for(&self.plan, &self.seats, worker, request)?;
         let found = first_free(&self.places, &self.owners, &self.taken, row);

@@ -8,7 +8,7 @@ use std::alloc::Global;
 
 /// A command. Policies are a mode word and nodes.
 #[derive(Clone, Copy)]
-pub enum Asked<'a> {
+pub enum ShortCommand<'a> {
     /// Start, length and offset.
     Map(u64, u64, u64),
     /// Start and length.
@@ -25,7 +25,7 @@ pub enum Asked<'a> {
     Mems(&'a [u8]),
 }
 
-use Asked::{Home, Map, Mbind, Mems, Task, Unmap, Weight};
+use ShortCommand::{Home, Map, Mbind, Mems, Task, Unmap, Weight};
 
 /// The specification of a mode word and nodes; None where there is none.
 pub fn spec_of(word: u32, nodes: &[u8]) -> Option<PolicySpec> {
@@ -33,7 +33,7 @@ pub fn spec_of(word: u32, nodes: &[u8]) -> Option<PolicySpec> {
 }
 
 /// The command; None where its policy isn't one.
-pub fn command_of(asked: &Asked) -> Option<Command> {
+pub fn command_of(asked: &ShortCommand) -> Option<Command> {
     Some(match *asked {
         Map(start, length, offset) => Command::Map {
             start,
@@ -63,7 +63,7 @@ pub fn command_of(asked: &Asked) -> Option<Command> {
 }
 
 /// The commands; None where a policy isn't one, or where memory was refused.
-pub fn commands_of(alloc: Global, asked: &[Asked]) -> Option<Vec<Command>> {
+pub fn commands_of(alloc: Global, asked: &[ShortCommand]) -> Option<Vec<Command>> {
     let mut commands = Vec::new(alloc);
     for one in asked {
         commands.push(command_of(one)?).ok()?;

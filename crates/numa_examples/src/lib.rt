@@ -14,7 +14,7 @@ pub mod streams;
 pub mod times;
 pub mod wanted;
 
-pub use commands::{Asked, command_of, commands_of, spec_of};
+pub use commands::{ShortCommand, command_of, commands_of, spec_of};
 pub use machines::{flat_distances, flat_machine, machine_of};
 pub use marks::{made, mark};
 pub use sets::{first_nodes, nodes_of, set_of};

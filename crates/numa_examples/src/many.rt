@@ -27,7 +27,7 @@ const STEP: u64 = 16_384;
 
 /// A row of a plain vector, as large as a range with a value of 8 bytes: first page, pages, index
 /// and value.
-pub type Row = [u64; 4];
+pub type FlatRow = [u64; 4];
 
 /// A machine of 8 nodes, 20 apart.
 pub fn eight_nodes(alloc: Global) -> Option<Machine> {
@@ -78,7 +78,7 @@ pub fn page_of(i: u64) -> u64 {
 }
 
 /// The ranges as rows, with so many values in turn.
-pub fn rows_of(alloc: Global, values: u64) -> Result<Vec<Row>, AllocError>
+pub fn rows_of(alloc: Global, values: u64) -> Result<Vec<FlatRow>, AllocError>
     requires { 0 < values }
 {
     let mut rows = Vec::new(alloc);
@@ -89,7 +89,7 @@ pub fn rows_of(alloc: Global, values: u64) -> Result<Vec<Row>, AllocError>
 }
 
 /// The sum of the places that a round of std's partition point finds in such rows.
-pub fn places_in(rows: &[Row]) -> u64 {
+pub fn places_in(rows: &[FlatRow]) -> u64 {
     let mut sum = 0u64;
     for i in 0..ROUND {
         let page = black_box(page_of(i));

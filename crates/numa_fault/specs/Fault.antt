@@ -5,7 +5,7 @@ use Rattle.numa_machine.specs.declared.frame.Frame.{Frame}
 use Rattle.numa_space.specs.declared.placement.Placement.{Placement}
 use Rattle.numa_space.specs.declared.request.Request.{Request}
 use Rattle.numa_machine.specs.Machine.{Hardware}
-use Rattle.numa_pool.specs.Frames.{gained, times}
+use Rattle.numa_pool.specs.Frames.{with_found, times}
 use Rattle.numa_pool.specs.Seats.{SeatView}
 use Rattle.numa_pool.specs.Walk.{IsWalk, IsDistinct, LoadsOnce, TriesOnce}
 use Rattle.numa_pool.specs.declared.view.Entry.{Entry}
@@ -47,7 +47,7 @@ pub record Walks
   pub steps : (es : List Entry) × (after.log ≡ es ++ before.log)
       × IsWalk frames nodes won es × LoadsOnce es × TriesOnce es
   pub no_other : after.unlogged ≡ before.unlogged
-  pub held : after.held ≡ gained won before.held
+  pub held : after.held ≡ with_found won before.held
 
 -- ---- one page
 

@@ -2,7 +2,7 @@
 ghost use Rattle.std.specs.Prelude.{◌≡◌, ◌<◌, ◌++◌, List, None, Some, length, slice_index};
 ghost use Rattle.std.specs.Prelude.{MatchOption, IfSome, slice_get};
 ghost use Rattle.numa_space.specs.declared.placement.Placement.{Placement};
-ghost use Rattle.numa_pool.specs.Frames.{gained, times};
+ghost use Rattle.numa_pool.specs.Frames.{with_found, times};
 ghost use Rattle.numa_pool.specs.Walk.{WalksInOrder};
 ghost use Rattle.numa_pool.specs.declared.view.Entry.{Entry};
 ghost use Rattle.numa_space.specs.Policies.{allowed_nodes};
@@ -65,7 +65,7 @@ fn take_first_or_behind(
         × WalksInOrder pools.now.frames
         (list_of view.now.desk.machine view.now.history request) (frame_in result) es }
     ensures no_other { seat.new.unlogged ≡ seat.old.unlogged }
-    ensures held { seat.new.held ≡ gained (frame_in result) seat.old.held }
+    ensures held { seat.new.held ≡ with_found (frame_in result) seat.old.held }
     ensures rank { IfSome result (λ found.
         slice_get (list_of view.now.desk.machine view.now.history request) found.0
         ≡ Some found.1.node) }

@@ -1,7 +1,8 @@
 -- What a handle of a seat keeps, and what a call does to it.
 use Rattle.std.specs.Prelude.{◌≡◌, ℕ, Bool, List, Option, Some}
 use Rattle.numa_machine.specs.declared.frame.Frame.{Frame}
-use Rattle.numa_seat.specs.Seated.{Seated, newcomer, divided, joined, Gives, TakesAlong}
+use Rattle.numa_seat.specs.Seated.{Seated, newcomer, seat_after_split, seat_after_join}
+use Rattle.numa_seat.specs.Seated.{Gives, TakesAlong}
 use Rattle.numa_handle.specs.declared.handles.SeatHandle.{SeatHandle}
 use Rattle.numa_handle.specs.Kinds.{seat_of}
 
@@ -22,7 +23,7 @@ Returns old frame held new = (before : Seated) → old ≡ Some before →
 -- a seat at the same pools, which holds nothing, was split off
 abbrev pub Splits : Option Seated → Option Seated → Option Seated → Type 0
 Splits old new other = (before : Seated) → old ≡ Some before →
-    (new ≡ Some (divided before)) × (other ≡ Some (newcomer before))
+    (new ≡ Some (seat_after_split before)) × (other ≡ Some (newcomer before))
 
 -- the seat holds what it held, and took and gave back nothing
 abbrev pub Stays : Option Seated → Option Seated → Type 0
@@ -33,7 +34,7 @@ Stays old new = (before : Seated) → old ≡ Some before → (after : Seated) �
 -- the first got what the second held
 abbrev pub Joins : Option Seated → Option Seated → Option Seated → Type 0
 Joins first second new = (seat other : Seated) → first ≡ Some seat → second ≡ Some other →
-    new ≡ Some (joined seat other)
+    new ≡ Some (seat_after_join seat other)
 
 -- where both are kept, they are seats at the same pools
 abbrev pub AreTogether : Option Seated → Option Seated → Type 0

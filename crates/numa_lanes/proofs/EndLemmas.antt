@@ -3,7 +3,7 @@ use Rattle.std.proofs.Common.{◌≡◌, ◌≢◌, ℕ, zero, suc, ◌+◌, ◌
 use Rattle.std.specs.Simd.Lanes.{sel_l, zip2}
 use Rattle.std.proofs.lemmas.Bool.{cases_lt}
 use Rattle.std.proofs.lemmas.Bool.Decides.{nat_tests}
-use Rattle.numa_lanes.specs.Spans.{counted}
+use Rattle.numa_lanes.specs.Spans.{node_count}
 
 lesser_of : (x y : ℕ) → (cond (ltb x y) x y ≤ x) × (cond (ltb x y) x y ≤ y)
 lesser_of x y = (grind (arith, nat_tests), grind (arith, nat_tests))
@@ -50,9 +50,9 @@ more_below block old new at k before kept here lt =
     ]
 
 -- no page is counted on a node that no page is on
-pub counted_nowhere : (node : ℕ) (span : List ℕ) → ((k : ℕ) → k < length span → get_or span k 0 ≢ node) → counted node span ≡ 0
+pub counted_nowhere : (node : ℕ) (span : List ℕ) → ((k : ℕ) → k < length span → get_or span k 0 ≢ node) → node_count node span ≡ 0
 counted_nowhere node [] h = refl
 counted_nowhere node (x ∷ xs) h =
     let here : x ≢ node = h 0 (omega arith) in
-    let rest : counted node xs ≡ 0 = counted_nowhere node xs (λ k lt. h (suc k) (omega arith)) in
+    let rest : node_count node xs ≡ 0 = counted_nowhere node xs (λ k lt. h (suc k) (omega arith)) in
     grind (arith, nat_tests)

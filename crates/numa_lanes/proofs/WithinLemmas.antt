@@ -2,7 +2,7 @@
 use Rattle.std.proofs.Common.{◌≡◌, ◌<◌, ◌≤◌, ◌+◌, ◌==◌, ◌&&◌, ℕ, suc, List, [], ◌∷◌, Bool, true, false, cond, count_by, nat_lt, get_or, length, sym, ap, ◌∙◌, refl, arith}
 use Rattle.std.proofs.lemmas.List.Recursion.{is_count_by}
 use Rattle.std.proofs.lemmas.Bool.Decides.{nat_tests}
-use Rattle.numa_lanes.specs.Spans.{counted}
+use Rattle.numa_lanes.specs.Spans.{node_count}
 
 -- how many entries are below n and pass the test
 abbrev pub passed_below : (ℕ → Bool) → ℕ → List ℕ → ℕ
@@ -36,7 +36,7 @@ tallied_more test n [] = none_left (test n)
 tallied_more test n (x ∷ xs) = split (test n) _ _ _ _ _ _ (one_more test x n) (tallied_more test n xs)
 
 -- one node more
-pub passed_more : (test : ℕ → Bool) (n : ℕ) (xs : List ℕ) → passed_below test (n + 1) xs ≡ passed_below test n xs + cond (test n) (counted n xs) 0
+pub passed_more : (test : ℕ → Bool) (n : ℕ) (xs : List ℕ) → passed_below test (n + 1) xs ≡ passed_below test n xs + cond (test n) (node_count n xs) 0
 passed_more test n xs =
     sym (tallied_is (λ x. nat_lt x (n + 1) && test x) xs) ∙ tallied_more test n xs
     ∙ ap (λ m. m + cond (test n) (tallied (λ x. x == n) xs) 0) (tallied_is (λ x. nat_lt x n && test x) xs)

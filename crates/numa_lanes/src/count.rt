@@ -1,6 +1,6 @@
 //! How many pages of a span are on one node.
 ghost use Rattle.std.specs.Prelude.{◌≡◌, ℕ, ◌+◌, ◌*◌, ◌≤◌, ◌==◌, length};
-ghost use Rattle.numa_lanes.specs.Spans.{counted};
+ghost use Rattle.numa_lanes.specs.Spans.{node_count};
 
 use crate::lanes::{LANES, ROUNDS, add_lanes, hits, sum_of_lanes};
 use std::simd::prelude::*;
@@ -11,7 +11,7 @@ use std::simd::prelude::*;
 pub fn count_block(block: &[u8], rounds: usize, node: u8) -> u64
     requires whole { length block.now ≡ 32 * rounds }
     requires rounds_fit { rounds ≤ 255 }
-    ensures { result ≡ counted node block.now }
+    ensures { result ≡ node_count node block.now }
 {
     let mut sums = u8x32::splat(0);
     for round in 0..rounds {
@@ -22,7 +22,7 @@ pub fn count_block(block: &[u8], rounds: usize, node: u8) -> u64
 
 /// How many pages of a span are on the node.
 pub fn count_node(nodes: &[u8], node: u8) -> u64
-    ensures { result ≡ counted node nodes.now }
+    ensures { result ≡ node_count node nodes.now }
 {
     let mut total = 0u64;
     let mut rest = nodes;

@@ -1,6 +1,6 @@
 //! How many pages of a span are on each node.
 ghost use Rattle.std.specs.Prelude.{◌≡◌, ℕ, ◌+◌, ◌*◌, ◌^◌, ◌<◌, ◌≤◌, length, slice_index};
-ghost use Rattle.numa_lanes.specs.Spans.{counted, between, Adds};
+ghost use Rattle.numa_lanes.specs.Spans.{node_count, IsBetween, Adds};
 
 use crate::count::count_block;
 use crate::ends::near_ends;
@@ -10,7 +10,7 @@ use crate::lanes::{LANES, ROUNDS, WORTH};
 #[inline]
 pub fn tally(span: &[u8], counts: &mut [u64; 256])
     requires { (node : ℕ) → node < 256 →
-        slice_index counts.old node + counted node span.now < 2 ^ 64 }
+        slice_index counts.old node + node_count node span.now < 2 ^ 64 }
     ensures { Adds span.now counts.old counts.new }
 {
     for entry in span {
@@ -23,9 +23,9 @@ pub fn tally(span: &[u8], counts: &mut [u64; 256])
 fn add_between(block: &[u8], rounds: usize, least: u8, greatest: u8, counts: &mut [u64; 256])
     requires whole { length block.now ≡ 32 * rounds }
     requires rounds_fit { rounds ≤ 255 }
-    requires ends { between least greatest block.now }
+    requires ends { IsBetween least greatest block.now }
     requires room { (node : ℕ) → node < 256 →
-        slice_index counts.old node + counted node block.now < 2 ^ 64 }
+        slice_index counts.old node + node_count node block.now < 2 ^ 64 }
     ensures { Adds block.now counts.old counts.new }
 {
     for node in usize::from(least)..usize::from(greatest) + 1 {
@@ -39,7 +39,7 @@ fn add_block(block: &[u8], rounds: usize, counts: &mut [u64; 256])
     requires some { 8 ≤ rounds }
     requires rounds_fit { rounds ≤ 255 }
     requires room { (node : ℕ) → node < 256 →
-        slice_index counts.old node + counted node block.now < 2 ^ 64 }
+        slice_index counts.old node + node_count node block.now < 2 ^ 64 }
     ensures { Adds block.now counts.old counts.new }
 {
     match near_ends(block, rounds) {
@@ -50,7 +50,7 @@ fn add_block(block: &[u8], rounds: usize, counts: &mut [u64; 256])
 
 /// Writes how many pages of a span are on each node, over what `counts` held.
 pub fn count_all(nodes: &[u8], counts: &mut [u64; 256])
-    ensures { (node : ℕ) → node < 256 → slice_index counts.new node ≡ counted node nodes.now }
+    ensures { (node : ℕ) → node < 256 → slice_index counts.new node ≡ node_count node nodes.now }
 {
     *counts = [0; 256];
     let mut rest = nodes;

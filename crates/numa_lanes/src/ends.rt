@@ -1,7 +1,7 @@
 //! Between which nodes the pages of a block are.
 ghost use Rattle.std.specs.Prelude.{◌≡◌, ℕ, ◌+◌, ◌*◌, ◌<◌, ◌≤◌, length};
 ghost use Rattle.std.specs.Prelude.{slice_index, EachIndex, IfSome};
-ghost use Rattle.numa_lanes.specs.Spans.{between};
+ghost use Rattle.numa_lanes.specs.Spans.{IsBetween};
 
 use crate::lanes::LANES;
 use std::simd::prelude::*;
@@ -64,7 +64,7 @@ fn greatest_lane(lanes: u8x32) -> u8
 /// The least and the greatest node of a block of whole vectors.
 fn ends(block: &[u8], rounds: usize) -> (u8, u8)
     requires { length block.now ≡ 32 * rounds }
-    ensures { between result.0 result.1 block.now }
+    ensures { IsBetween result.0 result.1 block.now }
 {
     let mut least = u8x32::splat(u8::MAX);
     let mut greatest = u8x32::splat(0);
@@ -104,7 +104,7 @@ fn begins_wide(block: &[u8]) -> bool
 pub(crate) fn near_ends(block: &[u8], rounds: usize) -> Option<(u8, u8)>
     requires whole { length block.now ≡ 32 * rounds }
     requires some { 8 ≤ rounds }
-    ensures { IfSome result (λ ends. between ends.0 ends.1 block.now) }
+    ensures { IfSome result (λ ends. IsBetween ends.0 ends.1 block.now) }
 {
     if looks_wide(block) || begins_wide(block) {
         return None;

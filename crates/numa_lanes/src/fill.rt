@@ -1,6 +1,6 @@
 //! A span with all its pages on one node.
 ghost use Rattle.std.specs.Prelude.{◌≡◌, ℕ, ◌<◌, ◌≤◌, length, slice_index};
-ghost use Rattle.numa_lanes.specs.Spans.{filled};
+ghost use Rattle.numa_lanes.specs.Spans.{IsFilled};
 
 use crate::lanes::LANES;
 use std::simd::prelude::*;
@@ -26,7 +26,7 @@ fn fill_vectors(node: u8, out: &mut [u8]) -> usize
 
 /// Places each page of the span on the node.
 pub fn fill_one(node: u8, out: &mut [u8])
-    ensures { filled node out.new }
+    ensures { IsFilled node out.new }
 {
     for page in fill_vectors(node, out)..out.len() {
         out[page] = node;

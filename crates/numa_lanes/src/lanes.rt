@@ -1,7 +1,7 @@
 //! Vectors of 32 bytes, and what one step of a count does to them.
 ghost use Rattle.std.specs.Prelude.{◌≡◌, ℕ, ◌+◌, ◌<◌, ◌≤◌, ◌==◌, length};
 ghost use Rattle.std.specs.Simd.Lanes.{sum_l, Each1, chunk};
-ghost use Rattle.numa_lanes.specs.Spans.{counted};
+ghost use Rattle.numa_lanes.specs.Spans.{node_count};
 
 use std::simd::prelude::*;
 
@@ -18,7 +18,7 @@ pub(crate) const WORTH: usize = 32;
 #[inline(always)]
 pub(crate) fn hits(block: &[u8], at: usize, node: u8) -> u8x32
     requires { at + 32 ≤ length block.now }
-    ensures count { sum_l result ≡ counted node (chunk at 32 block.now) }
+    ensures count { sum_l result ≡ node_count node (chunk at 32 block.now) }
     ensures ones { Each1 (λ hit. hit ≤ 1) result }
     ensures long { length result ≡ 32 }
 {

@@ -1,7 +1,7 @@
 //! A span whose pages take the nodes of a cycle in turn.
 ghost use Rattle.std.specs.Prelude.{◌≡◌, ℕ, ◌+◌, ◌*◌, ◌%◌, ◌^◌, ◌<◌};
 ghost use Rattle.std.specs.Prelude.{◌≤◌, length, slice_index, IfOk};
-ghost use Rattle.numa_lanes.specs.Spans.{cycled};
+ghost use Rattle.numa_lanes.specs.Spans.{IsCycled};
 ghost use Rattle.numa_lanes.specs.Turns.{IsTable};
 
 use std::alloc::{AllocError, Global};
@@ -67,7 +67,7 @@ impl Cycle {
     pub fn turns(&self, start: u64, count: usize) -> &[u8]
         requires { count ≤ 64 }
         ensures size { length result.now ≡ count }
-        ensures nodes { cycled self.now start result.now }
+        ensures nodes { IsCycled self.now start result.now }
     {
         let turn = (start % self.len as u64) as usize;
         &self.table[turn..turn + count]
@@ -108,7 +108,7 @@ fn fill_vectors(table: &[u8], len: usize, start: usize, out: &mut [u8]) -> usize
 /// `start`, which is below 2^36. Turn t is that of entry t modulo the cycle's length.
 pub fn fill_cycle(cycle: &Cycle, start: u64, out: &mut [u8])
     requires { start < 2 ^ 36 }
-    ensures { cycled cycle.now start out.new }
+    ensures { IsCycled cycle.now start out.new }
 {
     if out.len() <= WIDE {
         out.copy_from_slice(cycle.turns(start, out.len()));

@@ -1,6 +1,6 @@
 //! How many pages of a span are on the nodes of a set.
 ghost use Rattle.std.specs.Prelude.{◌≡◌, ◌*◌, ◌<◌, ◌≤◌, length};
-ghost use Rattle.numa_lanes.specs.Spans.{counted_in, between};
+ghost use Rattle.numa_lanes.specs.Spans.{set_count, IsBetween};
 
 use crate::count::count_block;
 use crate::ends::near_ends;
@@ -9,7 +9,7 @@ use numa_mask::NodeMask;
 
 /// The count in a set, one page after another.
 fn count_pages_in(span: &[u8], set: &NodeMask) -> u64
-    ensures { result ≡ counted_in set.now span.now }
+    ensures { result ≡ set_count set.now span.now }
 {
     let mut total = 0u64;
     for entry in span {
@@ -23,8 +23,8 @@ fn count_pages_in(span: &[u8], set: &NodeMask) -> u64
 fn count_between_in(block: &[u8], rounds: usize, least: u8, greatest: u8, set: &NodeMask) -> u64
     requires whole { length block.now ≡ 32 * rounds }
     requires rounds_fit { rounds ≤ 255 }
-    requires ends { between least greatest block.now }
-    ensures { result ≡ counted_in set.now block.now }
+    requires ends { IsBetween least greatest block.now }
+    ensures { result ≡ set_count set.now block.now }
 {
     let mut total = 0u64;
     for number in usize::from(least)..usize::from(greatest) + 1 {
@@ -40,7 +40,7 @@ fn count_block_in(block: &[u8], rounds: usize, set: &NodeMask) -> u64
     requires whole { length block.now ≡ 32 * rounds }
     requires some { 8 ≤ rounds }
     requires rounds_fit { rounds ≤ 255 }
-    ensures { result ≡ counted_in set.now block.now }
+    ensures { result ≡ set_count set.now block.now }
 {
     match near_ends(block, rounds) {
         Some((least, greatest)) => count_between_in(block, rounds, least, greatest, set),
@@ -50,7 +50,7 @@ fn count_block_in(block: &[u8], rounds: usize, set: &NodeMask) -> u64
 
 /// How many pages of a span are on a node of the set.
 pub fn count_in(nodes: &[u8], set: &NodeMask) -> u64
-    ensures { result ≡ counted_in set.now nodes.now }
+    ensures { result ≡ set_count set.now nodes.now }
 {
     let mut total = 0u64;
     let mut rest = nodes;

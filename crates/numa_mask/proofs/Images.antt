@@ -8,7 +8,7 @@ use Rattle.std.proofs.lemmas.Nat.Bits.{bit_at-zero, bit_at-lt, bit_at_or, bit_at
 use Rattle.std.proofs.lemmas.Nat.{or_lt, pow_below}
 use Rattle.std.proofs.Math.Nat.{mod-le}
 use Rattle.std.proofs.lemmas.List.{length-map}
-use Rattle.numa_mask.specs.NodeSet.{has, members, weight_of, nth_member, ordinal_of, with_node, set_of, both, fold_set, onto_set, moved, remap_set}
+use Rattle.numa_mask.specs.NodeSet.{has, members, weight_of, nth_member, ordinal_of, with_node, set_of, both, fold_set, onto_set, node_after, remap_set}
 use Rattle.numa_mask.proofs.Sets.{contains-has, members-have, members-below, members-few}
 use Rattle.numa_mask.proofs.Ordinals.{nth-has, nth-within, nth-some}
 
@@ -172,15 +172,15 @@ pub weight-some : (set : ℕ) → set < 2 ^ 256 → (set ≡ 0 → ⊥) → 0 < 
 weight-some set h some = members-some set h some
 
 -- where a node moves
-pub moved-has : (old new node : ℕ) → new < 2 ^ 256 → (new ≡ 0 → ⊥) → has old node ≡ true → has new (moved old new node) ≡ true
+pub moved-has : (old new node : ℕ) → new < 2 ^ 256 → (new ≡ 0 → ⊥) → has old node ≡ true → has new (node_after old new node) ≡ true
 moved-has old new node h some t =
     let test : (has old node && not (eqb new 0)) ≡ true = ap (λ b. b && not (eqb new 0)) t ∙ ap not (ne_eqb new 0 some) in
-    let at : moved old new node ≡ slice_index (members new) (ordinal_of old node % weight_of new) = ap (λ b. cond b (slice_index (members new) (ordinal_of old node % weight_of new)) node) test in
+    let at : node_after old new node ≡ slice_index (members new) (ordinal_of old node % weight_of new) = ap (λ b. cond b (slice_index (members new) (ordinal_of old node % weight_of new)) node) test in
     let positive : 0 < weight_of new = weight-some new h some in
     let within : ordinal_of old node % weight_of new < weight_of new = omega arith in
     ap (has new) at ∙ members-have new (ordinal_of old node % weight_of new) 0 within
 
-pub moved-below : (old new node : ℕ) → new < 2 ^ 256 → node < 256 → moved old new node < 256
+pub moved-below : (old new node : ℕ) → new < 2 ^ 256 → node < 256 → node_after old new node < 256
 moved-below old new node h l =
     elim (has old node && not (eqb new 0)) as (λ b. (has old node && not (eqb new 0)) ≡ b → cond b (slice_index (members new) (ordinal_of old node % weight_of new)) node < 256) [
       | true ↦ λ (t : (has old node && not (eqb new 0)) ≡ true).
@@ -197,13 +197,13 @@ moved-below old new node h l =
 -- a set inside old goes into new
 pub remap-within : (set old new node : ℕ) → new < 2 ^ 256 → (new ≡ 0 → ⊥) → ((m : ℕ) → has set m ≡ true → has old m ≡ true) → has (remap_set set old new) node ≡ true → has new node ≡ true
 remap-within set old new node h some inside t =
-    All-contains (λ m. has new m ≡ true) (map (moved old new) (members set)) node
-    (All-map (λ m. has new m ≡ true) (moved old new) (members set) (λ k d l. moved-has old new (get_or (members set) k d) h some (inside (get_or (members set) k d) (members-have set k d l))))
-    (set_of-contains (map (moved old new) (members set)) node t)
+    All-contains (λ m. has new m ≡ true) (map (node_after old new) (members set)) node
+    (All-map (λ m. has new m ≡ true) (node_after old new) (members set) (λ k d l. moved-has old new (get_or (members set) k d) h some (inside (get_or (members set) k d) (members-have set k d l))))
+    (set_of-contains (map (node_after old new) (members set)) node t)
 
 pub remap-below : (set old new : ℕ) → new < 2 ^ 256 → remap_set set old new < 2 ^ 256
 remap-below set old new h =
-    set_of-below (map (moved old new) (members set)) (All-map (λ m. m < 256) (moved old new) (members set) (λ k d l. moved-below old new (get_or (members set) k d) h (members-below set k d l)))
+    set_of-below (map (node_after old new) (members set)) (All-map (λ m. m < 256) (node_after old new) (members set) (λ k d l. moved-below old new (get_or (members set) k d) h (members-below set k d l)))
 
 -- ---- images that aren't empty
 
@@ -218,7 +218,7 @@ pub fold-some : (set size : ℕ) → set < 2 ^ 256 → (set ≡ 0 → ⊥) → f
 fold-some set size h some = set_of-some (map (λ m. m % size) (members set)) (omega (arith, length-map (members set) (λ m. m % size), members-some set h some))
 
 pub remap-some : (set old new : ℕ) → set < 2 ^ 256 → (set ≡ 0 → ⊥) → remap_set set old new ≡ 0 → ⊥
-remap-some set old new h some = set_of-some (map (moved old new) (members set)) (omega (arith, length-map (members set) (moved old new), members-some set h some))
+remap-some set old new h some = set_of-some (map (node_after old new) (members set)) (omega (arith, length-map (members set) (node_after old new), members-some set h some))
 
 -- a set that has a node below the other's weight has an image there
 pub onto-some : (set other node : ℕ) → node < 256 → has set node ≡ true → node < weight_of other → onto_set set other ≡ 0 → ⊥

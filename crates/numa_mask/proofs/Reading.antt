@@ -10,7 +10,7 @@ use Rattle.std.proofs.lemmas.Bool.{ltb-true, lt-ltb, le-ltb, le-leb, lt-leb}
 use Rattle.numa_mask.specs.declared.list.ListFault.{ListFault}
 use Rattle.numa_mask.specs.declared.list.ListFault.TheVariants.{Empty, BackRange, NodeTooHigh}
 use Rattle.numa_mask.specs.NodeSet.{with_node}
-use Rattle.numa_mask.specs.Lists.{digit_of, numeral_of, both_of, ends_at, ends_of, judged, item_of, nodes_between, nodes_in, faults_of, unless}
+use Rattle.numa_mask.specs.Lists.{digit_of, numeral_of, both_of, ends_at, ends_of, ends_or_fault, item_of, nodes_between, nodes_in, faults_of, unless}
 
 -- ---- numerals
 
@@ -64,7 +64,7 @@ pub item_none : (item : List ℕ) → length item ≡ 0 → item_of item ≡ Err
 unfolding item_of
 item_none item h = rw h refl
 
-pub item_some : (item : List ℕ) → (length item == 0) ≡ false → item_of item ≡ judged (ends_of item)
+pub item_some : (item : List ℕ) → (length item == 0) ≡ false → item_of item ≡ ends_or_fault (ends_of item)
 unfolding item_of
 item_some item h = rw h refl
 
@@ -76,17 +76,17 @@ pub ends_one : (item : List ℕ) → position (λ b. b == 45) item ≡ None → 
 unfolding ends_of
 ends_one item h = ap (ends_at item) h
 
-pub judged_back : (first last : ℕ) → last < first → judged (Some (first, last)) ≡ Err BackRange
+pub judged_back : (first last : ℕ) → last < first → ends_or_fault (Some (first, last)) ≡ Err BackRange
 judged_back first last h = rw (lt-ltb last first h) refl
 
-pub judged_high : (first last : ℕ) → first ≤ last → 256 ≤ last → judged (Some (first, last)) ≡ Err NodeTooHigh
+pub judged_high : (first last : ℕ) → first ≤ last → 256 ≤ last → ends_or_fault (Some (first, last)) ≡ Err NodeTooHigh
 judged_high first last h high = rw (le-ltb last first h) (high_in (leb 256 first) (leb 256 last) (le-leb 256 last high))
   where
     high_in : (a b : Bool) → b ≡ true → cond (a || b) (Err NodeTooHigh) (Ok (first, last)) ≡ (let fault : Result (ℕ × ℕ) ListFault = Err NodeTooHigh in fault)
     high_in true b h = refl
     high_in false b h = rw h refl
 
-pub judged_fine : (first last : ℕ) → first ≤ last → last < 256 → judged (Some (first, last)) ≡ Ok (first, last)
+pub judged_fine : (first last : ℕ) → first ≤ last → last < 256 → ends_or_fault (Some (first, last)) ≡ Ok (first, last)
 judged_fine first last h low =
     let a : leb 256 first ≡ false = lt-leb 256 first (omega arith) in
     let b : leb 256 last ≡ false = lt-leb 256 last low in

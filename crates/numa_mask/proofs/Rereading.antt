@@ -13,7 +13,7 @@ use Rattle.std.proofs.lemmas.List.Sums.{position_or_len_is}
 use Rattle.std.proofs.lemmas.Str.Parse.{digit_at}
 use Rattle.std.proofs.lemmas.List.FromFn.{length-range_with_len, get_or-range_with_len}
 use Rattle.numa_mask.specs.NodeSet.{has, members, set_of}
-use Rattle.numa_mask.specs.Lists.{items_of, numeral_of, ends_of, judged, item_of, nodes_between, nodes_in, faults_of, set_of_items, unless, list_of, starts_run, run_end, run_starts, run_text, text_of}
+use Rattle.numa_mask.specs.Lists.{items_of, numeral_of, ends_of, ends_or_fault, item_of, nodes_between, nodes_in, faults_of, set_of_items, unless, list_of, starts_run, run_end, run_starts, run_text, text_of}
 use Rattle.numa_mask.proofs.Sets.{members-have, members-below, contains-has}
 use Rattle.numa_mask.proofs.Images.{set_of-contains, contains-set_of, same_members, members-some, below-has}
 use Rattle.numa_mask.proofs.Reading.{all_digits, item_some, ends_found, ends_alone, judged_fine}
@@ -85,7 +85,7 @@ ends-run first last h l =
 pub item-run : (first last : ℕ) → first ≤ last → last < 256 → item_of (run_text first last) ≡ Ok (first, last)
 item-run first last h l =
     let some : (length (run_text first last) == 0) ≡ false = ne_eqb (length (run_text first last)) 0 (omega (arith, run_text-some first last (omega arith))) in
-    item_some (run_text first last) some ∙ ap judged (ends-run first last h l) ∙ judged_fine first last h l
+    item_some (run_text first last) some ∙ ap ends_or_fault (ends-run first last h l) ∙ judged_fine first last h l
 
 -- no comma stands in it
 run-no_comma : (first last : ℕ) → first < 256 → last < 256 → All (λ b. (b == 44) ≡ false) (run_text first last)

@@ -44,14 +44,14 @@ unfoldable pub ends_of : List ℕ → Option (ℕ × ℕ)
 ends_of item = ends_at item (position (λ b. b == 45) item)
 
 -- the ends of a range, judged: the first may not be above the last, and both are nodes
-abbrev pub judged : Option (ℕ × ℕ) → Result (ℕ × ℕ) ListFault
-judged None = Err BadDigit
-judged (Some (first, last)) = if nat_lt last first then Err BackRange else if nat_le 256 first
+abbrev pub ends_or_fault : Option (ℕ × ℕ) → Result (ℕ × ℕ) ListFault
+ends_or_fault None = Err BadDigit
+ends_or_fault (Some (first, last)) = if nat_lt last first then Err BackRange else if nat_le 256 first
     || nat_le 256 last then Err NodeTooHigh else Ok (first, last)
 
 -- what an item is: the first and the last of its nodes, or its first fault
 unfoldable pub item_of : List ℕ → Result (ℕ × ℕ) ListFault
-item_of item = if length item == 0 then Err Empty else judged (ends_of item)
+item_of item = if length item == 0 then Err Empty else ends_or_fault (ends_of item)
 
 -- the nodes from the first to the last
 abbrev pub nodes_between : ℕ → ℕ → List ℕ

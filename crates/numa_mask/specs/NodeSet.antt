@@ -52,10 +52,10 @@ onto_set set other = set_of (filter_map (nth_member other) (members set))
 -- bitmap_remap, for one node: "map the position of the n-th set bit in @old to the position of the
 -- m-th set bit in @new, where m == n % w", w being the weight of new; "the positions of unset bits
 -- in @old are mapped to themselves", and so are all where new is empty
-abbrev pub moved : ℕ → ℕ → ℕ → ℕ
-moved old new node = if has old node && not (new == 0)
+abbrev pub node_after : ℕ → ℕ → ℕ → ℕ
+node_after old new node = if has old node && not (new == 0)
     then slice_index (members new) (ordinal_of old node % weight_of new) else node
 
 -- bitmap_remap: each member, moved
 abbrev pub remap_set : ℕ → ℕ → ℕ → ℕ
-remap_set set old new = set_of (map (moved old new) (members set))
+remap_set set old new = set_of (map (node_after old new) (members set))

@@ -5,7 +5,7 @@ use Rattle.std.specs.Int.{bit_at}
 use Rattle.std.specs.List.{AllByRecursion}
 use Rattle.std.proofs.lemmas.Nat.Bits.{bit_at_or, bit_at-zero, bit_at-pow_same, bit_at-pow_other}
 use Rattle.std.proofs.lemmas.List.Elements.{recursion_from_All, All-from_recursion}
-use Rattle.numa_mask.specs.NodeSet.{has, members, with_node, set_of, moved, remap_set}
+use Rattle.numa_mask.specs.NodeSet.{has, members, with_node, set_of, node_after, remap_set}
 use Rattle.numa_mode.specs.Policy.{Specification, is_preferred, is_preferred_mode, lowest, kept_nodes, given_nodes, effect_when_set}
 use Rattle.numa_mode.specs.Within.{IsWithin, IsAtMostOne}
 use Rattle.numa_mode.proofs.Subsets.{set_of-within, members-within}
@@ -57,7 +57,7 @@ image-at_most_one f (node ∷ nodes) same =
 
 pub remap-at_most_one : (set old new : ℕ) → IsAtMostOne set → IsAtMostOne (remap_set set old new)
 remap-at_most_one set old new single =
-    image-at_most_one (moved old new) (members set) (λ a b i j k l. single (get_or (members set) i a) (get_or (members set) j b) (members-within set i a k) (members-within set j b l))
+    image-at_most_one (node_after old new) (members set) (λ a b i j k l. single (get_or (members set) i a) (get_or (members set) j b) (members-within set i a k) (members-within set j b l))
 
 kept-at_most_one : (mode : Mode) (set : ℕ) → is_preferred_mode mode ≡ true → IsAtMostOne (kept_nodes mode set)
 kept-at_most_one Preferred set h = lowest-at_most_one set

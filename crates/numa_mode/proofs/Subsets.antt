@@ -8,7 +8,7 @@ use Rattle.std.specs.List.{filter_map, range_with_len, AllByRecursion, cons_opti
 use Rattle.std.proofs.lemmas.Nat.Bits.{bit_at_and, bit_at_or, bit_at-lt, bit_at-zero, bit_at-pow_other}
 use Rattle.std.proofs.lemmas.List.Elements.{All-map, All-take, All-from_recursion, recursion_from_All, filter_passes}
 use Rattle.std.proofs.lemmas.Option.{slice_get_within, get_or_from_slice_get}
-use Rattle.numa_mask.specs.NodeSet.{has, members, weight_of, nth_member, ordinal_of, with_node, set_of, both, fold_set, onto_set, moved, remap_set}
+use Rattle.numa_mask.specs.NodeSet.{has, members, weight_of, nth_member, ordinal_of, with_node, set_of, both, fold_set, onto_set, node_after, remap_set}
 use Rattle.numa_mode.specs.Policy.{Specification, lowest, kept_nodes, given_nodes, effect_when_set, effect_by_flag, effect_after}
 use Rattle.numa_mode.specs.declared.modes.Mode.{Mode}
 use Rattle.numa_mode.specs.declared.modes.Mode.TheVariants.{Default, Preferred, Bind, Interleave, Local, PreferredMany, WeightedInterleave}
@@ -77,7 +77,7 @@ unfolding members
 weight_of-zero = refl
 
 -- a member of the old set moves to a member of the new one
-moved-within : (old new node : ℕ) → 0 < weight_of new → has old node ≡ true → has new (moved old new node) ≡ true
+moved-within : (old new node : ℕ) → 0 < weight_of new → has old node ≡ true → has new (node_after old new node) ≡ true
 moved-within old new node some member =
     let filled : eqb new 0 ≡ false =
     elim (cases_eq new 0) [ inl e ↦ absurd (omega (arith, ap weight_of e, weight_of-zero)) | inr ne ↦ grind (arith, nat_tests) ] in
@@ -87,8 +87,8 @@ moved-within old new node some member =
 pub remap-within : (set old new : ℕ) → 0 < weight_of new → IsWithin set old → IsWithin (remap_set set old new) new
 remap-within set old new some inside =
     let P : ℕ → Type 0 = λ n. has new n ≡ true in
-    let each : All (λ n. P (moved old new n)) (members set) = λ k d within. moved-within old new (get_or (members set) k d) some (inside (get_or (members set) k d) (members-within set k d within)) in
-    set_of-within new (map (moved old new) (members set)) (All-map P (moved old new) (members set) each)
+    let each : All (λ n. P (node_after old new n)) (members set) = λ k d within. moved-within old new (get_or (members set) k d) some (inside (get_or (members set) k d) (members-within set k d within)) in
+    set_of-within new (map (node_after old new) (members set)) (All-map P (node_after old new) (members set) each)
 
 kept-within : (mode : Mode) (set : ℕ) → IsWithin (kept_nodes mode set) set
 kept-within Default set node member = member

@@ -12,7 +12,7 @@ use Rattle.std.specs.Option.{option_map, ForSome}
 use Rattle.numa_ranges.specs.Runs.{page_at, in_pages}
 use Rattle.numa_ranges.specs.declared.run.Run.{Run}
 use Rattle.numa_plan.specs.Rows.{Kept, RuleData, HasRows, row_of}
-use Rattle.numa_plan.specs.Slots.{slot_at, rule_of_slot, uses_of_slot, rule_in, uses_in, put_slot, used, unused, IsLowestFree}
+use Rattle.numa_plan.specs.Slots.{slot_at, rule_of_slot, uses_of_slot, rule_in, uses_in, put_slot, with_use, with_use_less, IsLowestFree}
 use Rattle.numa_plan.specs.Meaning.{PlanData, number_of, number_for, rule_for, planned_list, is_number}
 use Rattle.numa_plan.specs.Building.{with_rule}
 use Rattle.numa_plan.specs.Sound.{IsPlan, uses_of}
@@ -69,11 +69,11 @@ keeps nodes runs runs' slots slots' low tasks tasks' local plan same long counts
 
 -- ---- how many runs and tasks name a number
 
-pub uses_in-one : (slots : List Slot) (named : Option ℕ) (k : ℕ) → ForSome named (λ number. IsSome (rule_in slots number)) → uses_in (used slots named) k ≡ uses_in slots k + cond (is_number k named) 1 0
+pub uses_in-one : (slots : List Slot) (named : Option ℕ) (k : ℕ) → ForSome named (λ number. IsSome (rule_in slots number)) → uses_in (with_use slots named) k ≡ uses_in slots k + cond (is_number k named) 1 0
 uses_in-one slots None k there = omega arith
 uses_in-one slots (Some number) k there = uses_in-used slots number k (there number refl)
 
-pub uses_in-one_less : (slots : List Slot) (named : Option ℕ) (k : ℕ) → uses_in (unused slots named) k ≡ uses_in slots k - cond (is_number k named) 1 0
+pub uses_in-one_less : (slots : List Slot) (named : Option ℕ) (k : ℕ) → uses_in (with_use_less slots named) k ≡ uses_in slots k - cond (is_number k named) 1 0
 uses_in-one_less slots None k = omega arith
 uses_in-one_less slots (Some number) k = uses_in-unused slots number k
 
@@ -103,30 +103,30 @@ task-uses runs tasks task number is =
 -- ---- the calls
 
 pub keeps_with_run : (nodes : ℕ) (runs : List (Run (Option ℕ))) (slots : List Slot) (low : ℕ) (tasks : List (ℕ × ℕ)) (local : RuleData) (run : Run (Option ℕ)) → IsPlan nodes runs slots low tasks local → ForSome run.value (λ number. IsSome (rule_in slots number))
-    → IsPlan nodes (runs ++ run ∷ []) (used slots run.value) low tasks local
+    → IsPlan nodes (runs ++ run ∷ []) (with_use slots run.value) low tasks local
 keeps_with_run nodes runs slots low tasks local run plan named =
-    keeps nodes runs (runs ++ run ∷ []) slots (used slots run.value) low tasks tasks local plan (rule_in-used slots run.value) (length-used slots run.value) (λ k.
+    keeps nodes runs (runs ++ run ∷ []) slots (with_use slots run.value) low tasks tasks local plan (rule_in-used slots run.value) (length-used slots run.value) (λ k.
     omega (arith, uses_in-one slots run.value k named, plan.counted k, count-push (λ (r : Run (Option ℕ)). is_number k r.value) runs run))
 
 -- a task gets a rule, in place of the one that it had
 pub keeps_given : (nodes : ℕ) (runs : List (Run (Option ℕ))) (slots : List Slot) (low : ℕ) (tasks : List (ℕ × ℕ)) (local : RuleData) (task number : ℕ) (had : Option ℕ) → IsPlan nodes runs slots low tasks local → IsStrictlySortedBy nat_cmp (keys_of tasks) → had ≡ number_of tasks task → IsSome (rule_in slots number)
-    → IsPlan nodes runs (unused (used slots (Some number)) had) low (insert_entry nat_cmp tasks task number) local
+    → IsPlan nodes runs (with_use_less (with_use slots (Some number)) had) low (insert_entry nat_cmp tasks task number) local
 keeps_given nodes runs slots low tasks local task number None plan sorted is some =
-    keeps nodes runs runs slots (used slots (Some number)) low tasks (insert_entry nat_cmp tasks task number) local plan (rule_in-used slots (Some number)) (length-used slots (Some number)) (λ k.
+    keeps nodes runs runs slots (with_use slots (Some number)) low tasks (insert_entry nat_cmp tasks task number) local plan (rule_in-used slots (Some number)) (length-used slots (Some number)) (λ k.
     omega (arith, uses_in-used slots number k some, plan.counted k, uses-give runs tasks task number k None sorted is))
 keeps_given nodes runs slots low tasks local task number (Some had) plan sorted is some =
-    keeps nodes runs runs slots (unused (used slots (Some number)) (Some had)) low tasks (insert_entry nat_cmp tasks task number) local plan
-    (λ k. rule_in-unused (used slots (Some number)) (Some had) k ∙ rule_in-used slots (Some number) k)
-    (length-unused (used slots (Some number)) (Some had) ∙ length-used slots (Some number))
-    (λ k. omega (arith, uses_in-unused (used slots (Some number)) had k, uses_in-used slots number k some, plan.counted k, uses-give runs tasks task number k (Some had) sorted is))
+    keeps nodes runs runs slots (with_use_less (with_use slots (Some number)) (Some had)) low tasks (insert_entry nat_cmp tasks task number) local plan
+    (λ k. rule_in-unused (with_use slots (Some number)) (Some had) k ∙ rule_in-used slots (Some number) k)
+    (length-unused (with_use slots (Some number)) (Some had) ∙ length-used slots (Some number))
+    (λ k. omega (arith, uses_in-unused (with_use slots (Some number)) had k, uses_in-used slots number k some, plan.counted k, uses-give runs tasks task number k (Some had) sorted is))
 
 -- a task's rule is taken away, if it had one
 pub keeps_taken : (nodes : ℕ) (runs : List (Run (Option ℕ))) (slots : List Slot) (low : ℕ) (tasks : List (ℕ × ℕ)) (local : RuleData) (task : ℕ) (had : Option ℕ) → IsPlan nodes runs slots low tasks local → had ≡ number_of tasks task
-    → IsPlan nodes runs (unused slots had) low (remove_entry (is_at (nat_cmp task)) tasks) local
+    → IsPlan nodes runs (with_use_less slots had) low (remove_entry (is_at (nat_cmp task)) tasks) local
 keeps_taken nodes runs slots low tasks local task None plan is =
     keeps nodes runs runs slots slots low tasks (remove_entry (is_at (nat_cmp task)) tasks) local plan (λ k. refl) refl (λ k. omega (arith, plan.counted k, uses-take runs tasks task k None is))
 keeps_taken nodes runs slots low tasks local task (Some had) plan is =
-    keeps nodes runs runs slots (unused slots (Some had)) low tasks (remove_entry (is_at (nat_cmp task)) tasks) local plan (rule_in-unused slots (Some had)) (length-unused slots (Some had)) (λ k.
+    keeps nodes runs runs slots (with_use_less slots (Some had)) low tasks (remove_entry (is_at (nat_cmp task)) tasks) local plan (rule_in-unused slots (Some had)) (length-unused slots (Some had)) (λ k.
     omega (arith, uses_in-unused slots had k, plan.counted k, uses-take runs tasks task k (Some had) is))
 
 -- ---- a new rule changes no list

@@ -9,9 +9,9 @@ use Rattle.std.proofs.lemmas.List.Sums.{sum_by-append, sum_by-cons, sum_by-take-
 use Rattle.std.proofs.Math.ListN.{length-set}
 use Rattle.numa_ranges.specs.declared.run.Run.{Run}
 use Rattle.numa_plan.specs.Rows.{Kept, RuleData, HasRows}
-use Rattle.numa_plan.specs.Slots.{slot_at, kept_of_slot, rule_of_slot, uses_of_slot, kept_in, rule_in, uses_in, put_slot, one_use_more, used, unused, AreTaken, IsLowestFree, EndsTaken}
+use Rattle.numa_plan.specs.Slots.{slot_at, kept_of_slot, rule_of_slot, uses_of_slot, kept_in, rule_in, uses_in, put_slot, one_use_more, with_use, with_use_less, AreTaken, IsLowestFree, EndsTaken}
 use Rattle.numa_plan.specs.Meaning.{PlanData, is_number, planned_list}
-use Rattle.numa_plan.specs.Editing.{all_used, all_unused, with_other, before_others, trimmed, without_rule}
+use Rattle.numa_plan.specs.Editing.{with_uses, with_uses_less, with_other, before_others, up_to_last_taken, without_rule}
 use Rattle.numa_plan.specs.Sound.{IsPlan}
 use Rattle.numa_plan.specs.declared.slots.Slot.{Slot}
 use Rattle.numa_plan.specs.declared.slots.Slot.TheVariants.{Free, Taken}
@@ -30,39 +30,39 @@ AreThere slots runs = All (λ (run : Run (Option ℕ)). ForSome run.value (λ nu
 pub names-cons : (k : ℕ) (run : Run (Option ℕ)) (runs : List (Run (Option ℕ))) → names k (run ∷ runs) ≡ cond (is_number k run.value) 1 0 + names k runs
 names-cons k run runs = sum_by-cons (λ (r : Run (Option ℕ)). cond {A = ℕ} (is_number k r.value) 1 0) run runs
 
-kept_in-all_used : (slots : List Slot) (runs : List (Run (Option ℕ))) (k : ℕ) → kept_in (all_used slots runs) k ≡ kept_in slots k
+kept_in-all_used : (slots : List Slot) (runs : List (Run (Option ℕ))) (k : ℕ) → kept_in (with_uses slots runs) k ≡ kept_in slots k
 kept_in-all_used slots [] k = refl
-kept_in-all_used slots (run ∷ runs) k = kept_in-all_used (used slots run.value) runs k ∙ kept_in-used slots run.value k
+kept_in-all_used slots (run ∷ runs) k = kept_in-all_used (with_use slots run.value) runs k ∙ kept_in-used slots run.value k
 
-kept_in-all_unused : (slots : List Slot) (runs : List (Run (Option ℕ))) (k : ℕ) → kept_in (all_unused slots runs) k ≡ kept_in slots k
+kept_in-all_unused : (slots : List Slot) (runs : List (Run (Option ℕ))) (k : ℕ) → kept_in (with_uses_less slots runs) k ≡ kept_in slots k
 kept_in-all_unused slots [] k = refl
-kept_in-all_unused slots (run ∷ runs) k = kept_in-all_unused (unused slots run.value) runs k ∙ kept_in-unused slots run.value k
+kept_in-all_unused slots (run ∷ runs) k = kept_in-all_unused (with_use_less slots run.value) runs k ∙ kept_in-unused slots run.value k
 
 -- runs put in and taken out change no policy and no rule
-pub kept_in-spliced : (slots : List Slot) (runs gone : List (Run (Option ℕ))) (k : ℕ) → kept_in (all_unused (all_used slots runs) gone) k ≡ kept_in slots k
-kept_in-spliced slots runs gone k = kept_in-all_unused (all_used slots runs) gone k ∙ kept_in-all_used slots runs k
+pub kept_in-spliced : (slots : List Slot) (runs gone : List (Run (Option ℕ))) (k : ℕ) → kept_in (with_uses_less (with_uses slots runs) gone) k ≡ kept_in slots k
+kept_in-spliced slots runs gone k = kept_in-all_unused (with_uses slots runs) gone k ∙ kept_in-all_used slots runs k
 
-rule_in-spliced : (slots : List Slot) (runs gone : List (Run (Option ℕ))) (k : ℕ) → rule_in (all_unused (all_used slots runs) gone) k ≡ rule_in slots k
+rule_in-spliced : (slots : List Slot) (runs gone : List (Run (Option ℕ))) (k : ℕ) → rule_in (with_uses_less (with_uses slots runs) gone) k ≡ rule_in slots k
 rule_in-spliced slots runs gone k = rule_of-kept _ _ (kept_in-spliced slots runs gone k)
 
-length-all_used : (slots : List Slot) (runs : List (Run (Option ℕ))) → length (all_used slots runs) ≡ length slots
+length-all_used : (slots : List Slot) (runs : List (Run (Option ℕ))) → length (with_uses slots runs) ≡ length slots
 length-all_used slots [] = refl
-length-all_used slots (run ∷ runs) = length-all_used (used slots run.value) runs ∙ length-used slots run.value
+length-all_used slots (run ∷ runs) = length-all_used (with_use slots run.value) runs ∙ length-used slots run.value
 
-length-all_unused : (slots : List Slot) (runs : List (Run (Option ℕ))) → length (all_unused slots runs) ≡ length slots
+length-all_unused : (slots : List Slot) (runs : List (Run (Option ℕ))) → length (with_uses_less slots runs) ≡ length slots
 length-all_unused slots [] = refl
-length-all_unused slots (run ∷ runs) = length-all_unused (unused slots run.value) runs ∙ length-unused slots run.value
+length-all_unused slots (run ∷ runs) = length-all_unused (with_use_less slots run.value) runs ∙ length-unused slots run.value
 
-pub uses_in-all_used : (slots : List Slot) (runs : List (Run (Option ℕ))) (k : ℕ) → AreThere slots runs → uses_in (all_used slots runs) k ≡ uses_in slots k + names k runs
+pub uses_in-all_used : (slots : List Slot) (runs : List (Run (Option ℕ))) (k : ℕ) → AreThere slots runs → uses_in (with_uses slots runs) k ≡ uses_in slots k + names k runs
 uses_in-all_used slots [] k there = omega arith
 uses_in-all_used slots (run ∷ runs) k there =
-    let rest = uses_in-all_used (used slots run.value) runs k (λ i d l number is. ap is_some (rule_in-used slots run.value number) ∙ there (suc i) d (omega arith) number is) in
+    let rest = uses_in-all_used (with_use slots run.value) runs k (λ i d l number is. ap is_some (rule_in-used slots run.value number) ∙ there (suc i) d (omega arith) number is) in
     omega (arith, rest, uses_in-one slots run.value k (there 0 run (omega arith)), names-cons k run runs)
 
-uses_in-all_unused : (slots : List Slot) (runs : List (Run (Option ℕ))) (k : ℕ) → uses_in (all_unused slots runs) k ≡ uses_in slots k - names k runs
+uses_in-all_unused : (slots : List Slot) (runs : List (Run (Option ℕ))) (k : ℕ) → uses_in (with_uses_less slots runs) k ≡ uses_in slots k - names k runs
 uses_in-all_unused slots [] k = omega arith
 uses_in-all_unused slots (run ∷ runs) k =
-    omega (arith, uses_in-all_unused (unused slots run.value) runs k, uses_in-one_less slots run.value k, names-cons k run runs)
+    omega (arith, uses_in-all_unused (with_use_less slots run.value) runs k, uses_in-one_less slots run.value k, names-cons k run runs)
 
 -- ---- one run more
 
@@ -70,7 +70,7 @@ most-more : (slot : Slot) → uses_of_slot (one_use_more slot) ≤ uses_of_slot 
 most-more Free = omega arith
 most-more (Taken uses rule) = omega arith
 
-used-most : (slots : List Slot) (named : Option ℕ) (k : ℕ) → uses_in (used slots named) k ≤ uses_in slots k + 1
+used-most : (slots : List Slot) (named : Option ℕ) (k : ℕ) → uses_in (with_use slots named) k ≤ uses_in slots k + 1
 used-most slots None k = omega arith
 used-most slots (Some number) k = elim (same_or_not k number) [
   | inl e ↦ rw e (omega (arith, ap uses_of_slot (change-same one_use_more refl slots number), most-more (slot_at slots number)))
@@ -78,19 +78,19 @@ used-most slots (Some number) k = elim (same_or_not k number) [
 ]
 
 module _ (slots new : List Slot) where
-  pub used-rest : (all : List Slot) (runs : List (Run (Option ℕ))) (i : ℕ) (d : Run (Option ℕ)) → i < length runs → new ≡ used slots (get_or runs i d).value → all_used slots (drop i runs) ≡ all → all_used new (drop (i + 1) runs) ≡ all
-  used-rest all runs i d within is before = ap (λ s. all_used s (drop (i + 1) runs)) is ∙ sym (ap (all_used slots) (drop_more runs i d within)) ∙ before
+  pub used-rest : (all : List Slot) (runs : List (Run (Option ℕ))) (i : ℕ) (d : Run (Option ℕ)) → i < length runs → new ≡ with_use slots (get_or runs i d).value → with_uses slots (drop i runs) ≡ all → with_uses new (drop (i + 1) runs) ≡ all
+  used-rest all runs i d within is before = ap (λ s. with_uses s (drop (i + 1) runs)) is ∙ sym (ap (with_uses slots) (drop_more runs i d within)) ∙ before
 
-  pub used-there : (named : Option ℕ) → new ≡ used slots named → (k : ℕ) → rule_in new k ≡ rule_in slots k
+  pub used-there : (named : Option ℕ) → new ≡ with_use slots named → (k : ℕ) → rule_in new k ≡ rule_in slots k
   used-there named is k = ap (λ s. rule_in s k) is ∙ rule_in-used slots named k
 
-  pub used-few : (named : Option ℕ) → new ≡ used slots named → (k : ℕ) → uses_in new k ≤ uses_in slots k + 1
+  pub used-few : (named : Option ℕ) → new ≡ with_use slots named → (k : ℕ) → uses_in new k ≤ uses_in slots k + 1
   used-few named is k = omega (arith, ap (λ s. uses_in s k) is, used-most slots named k)
 
-  pub unused-rest : (all : List Slot) (runs : List (Run (Option ℕ))) (i : ℕ) (d : Run (Option ℕ)) → i < length runs → new ≡ unused slots (get_or runs i d).value → all_unused slots (drop i runs) ≡ all → all_unused new (drop (i + 1) runs) ≡ all
-  unused-rest all runs i d within is before = ap (λ s. all_unused s (drop (i + 1) runs)) is ∙ sym (ap (all_unused slots) (drop_more runs i d within)) ∙ before
+  pub unused-rest : (all : List Slot) (runs : List (Run (Option ℕ))) (i : ℕ) (d : Run (Option ℕ)) → i < length runs → new ≡ with_use_less slots (get_or runs i d).value → with_uses_less slots (drop i runs) ≡ all → with_uses_less new (drop (i + 1) runs) ≡ all
+  unused-rest all runs i d within is before = ap (λ s. with_uses_less s (drop (i + 1) runs)) is ∙ sym (ap (with_uses_less slots) (drop_more runs i d within)) ∙ before
 
-  pub unused-used : (runs : List (Run (Option ℕ))) (i : ℕ) (d : Run (Option ℕ)) → i < length runs → new ≡ unused slots (get_or runs i d).value → (k : ℕ) → names k (drop i runs) ≤ uses_in slots k → names k (drop (i + 1) runs) ≤ uses_in new k
+  pub unused-used : (runs : List (Run (Option ℕ))) (i : ℕ) (d : Run (Option ℕ)) → i < length runs → new ≡ with_use_less slots (get_or runs i d).value → (k : ℕ) → names k (drop i runs) ≤ uses_in slots k → names k (drop (i + 1) runs) ≤ uses_in new k
   unused-used runs i d within is k before =
       omega (arith, ap (λ s. uses_in s k) is, uses_in-one_less slots (get_or runs i d).value k, ap (names k) (drop_more runs i d within), names-cons k (get_or runs i d) (drop (i + 1) runs), before)
 
@@ -115,15 +115,15 @@ module _ (runs new : List (Run (Option ℕ))) (from to k : ℕ) where
       omega (arith, a, b, names-window rises)
 
 pub keeps_spliced : (nodes : ℕ) (runs new gone : List (Run (Option ℕ))) (slots : List Slot) (low : ℕ) (tasks : List (ℕ × ℕ)) (local : RuleData) (from to : ℕ) → IsPlan nodes runs slots low tasks local → from ≤ to → gone ≡ slice_range runs from to → AreThere slots new
-    → IsPlan nodes (splice runs from to new) (all_unused (all_used slots new) gone) low tasks local
+    → IsPlan nodes (splice runs from to new) (with_uses_less (with_uses slots new) gone) low tasks local
 keeps_spliced nodes runs new gone slots low tasks local from to plan rises is there =
-    keeps nodes runs (splice runs from to new) slots (all_unused (all_used slots new) gone) low tasks tasks local plan (rule_in-spliced slots new gone)
-    (length-all_unused (all_used slots new) gone ∙ length-all_used slots new)
-    (λ k. omega (arith, uses_in-all_unused (all_used slots new) gone k, uses_in-all_used slots new k there, plan.counted k, names-splice runs new from to k rises, ap (names k) is))
+    keeps nodes runs (splice runs from to new) slots (with_uses_less (with_uses slots new) gone) low tasks tasks local plan (rule_in-spliced slots new gone)
+    (length-all_unused (with_uses slots new) gone ∙ length-all_used slots new)
+    (λ k. omega (arith, uses_in-all_unused (with_uses slots new) gone k, uses_in-all_used slots new k there, plan.counted k, names-splice runs new from to k rises, ap (names k) is))
 
 -- the runs of a window have their uses
 pub window-used : (nodes : ℕ) (runs new gone : List (Run (Option ℕ))) (slots : List Slot) (low : ℕ) (tasks : List (ℕ × ℕ)) (local : RuleData) (from to : ℕ) → IsPlan nodes runs slots low tasks local → from ≤ to → gone ≡ slice_range runs from to → AreThere slots new
-    → (k : ℕ) → names k gone ≤ uses_in (all_used slots new) k
+    → (k : ℕ) → names k gone ≤ uses_in (with_uses slots new) k
 window-used nodes runs new gone slots low tasks local from to plan rises is there k =
     omega (arith, uses_in-all_used slots new k there, plan.counted k, names-window runs new from to k rises, ap (names k) is)
 
@@ -194,10 +194,10 @@ slot_at-before Free [] (suc k) = refl
 slot_at-before Free (s ∷ slots) k = refl
 slot_at-before (Taken uses kept) slots k = refl
 
-slot_at-trimmed : (slots : List Slot) (k : ℕ) → slot_at (trimmed slots) k ≡ slot_at slots k
+slot_at-trimmed : (slots : List Slot) (k : ℕ) → slot_at (up_to_last_taken slots) k ≡ slot_at slots k
 slot_at-trimmed [] k = refl
-slot_at-trimmed (slot ∷ slots) zero = slot_at-before slot (trimmed slots) zero
-slot_at-trimmed (slot ∷ slots) (suc k) = slot_at-before slot (trimmed slots) (suc k) ∙ slot_at-trimmed slots k
+slot_at-trimmed (slot ∷ slots) zero = slot_at-before slot (up_to_last_taken slots) zero
+slot_at-trimmed (slot ∷ slots) (suc k) = slot_at-before slot (up_to_last_taken slots) (suc k) ∙ slot_at-trimmed slots k
 
 ends-before : (slot : Slot) (slots : List Slot) → EndsTaken slots → EndsTaken (before_others slot slots)
 ends-before Free [] ends last is = absurd (omega arith)
@@ -206,11 +206,11 @@ ends-before Free (s ∷ slots) ends (suc last) is = ends last (omega arith)
 ends-before (Taken uses kept) slots ends zero is = refl
 ends-before (Taken uses kept) slots ends (suc last) is = ends last (omega arith)
 
-ends-trimmed : (slots : List Slot) → EndsTaken (trimmed slots)
+ends-trimmed : (slots : List Slot) → EndsTaken (up_to_last_taken slots)
 ends-trimmed [] last is = absurd (omega arith)
-ends-trimmed (slot ∷ slots) last is = ends-before slot (trimmed slots) (ends-trimmed slots) last is
+ends-trimmed (slot ∷ slots) last is = ends-before slot (up_to_last_taken slots) (ends-trimmed slots) last is
 
-pub trimmed-free : (slots : List Slot) → trimmed (slots ++ Free ∷ []) ≡ trimmed slots
+pub trimmed-free : (slots : List Slot) → up_to_last_taken (slots ++ Free ∷ []) ≡ up_to_last_taken slots
 trimmed-free [] = refl
 trimmed-free (slot ∷ slots) = ap (before_others slot) (trimmed-free slots)
 
@@ -219,7 +219,7 @@ before-ended Free [] ends = absurd (let odd : is_some {T = RuleData} None ≡ tr
 before-ended Free (s ∷ slots) ends = refl
 before-ended (Taken uses kept) slots ends = refl
 
-pub trimmed-ended : (slots : List Slot) → EndsTaken slots → trimmed slots ≡ slots
+pub trimmed-ended : (slots : List Slot) → EndsTaken slots → up_to_last_taken slots ≡ slots
 trimmed-ended [] ends = refl
 trimmed-ended (slot ∷ slots) ends = ap (before_others slot) (trimmed-ended slots (λ last is. ends (suc last) (omega arith))) ∙ before-ended slot slots ends
 
@@ -241,17 +241,17 @@ some-is Free taken = absurd (let odd : true ≡ false = taken in cc)
 some-is (Taken uses kept) taken = refl
 
 -- a free slot behind others is none of those up to the last that is taken
-pub trim-on : (slots : List Slot) (kept : ℕ) (slot : Slot) → 0 < kept → kept ≤ length slots → slot ≡ get_or slots (kept - 1) slot → not (is_some (rule_of_slot slot)) ≡ true → trimmed (take kept slots) ≡ trimmed slots → trimmed (take (kept - 1) slots) ≡ trimmed slots
+pub trim-on : (slots : List Slot) (kept : ℕ) (slot : Slot) → 0 < kept → kept ≤ length slots → slot ≡ get_or slots (kept - 1) slot → not (is_some (rule_of_slot slot)) ≡ true → up_to_last_taken (take kept slots) ≡ up_to_last_taken slots → up_to_last_taken (take (kept - 1) slots) ≡ up_to_last_taken slots
 trim-on slots kept slot some within is free same =
     let next : kept ≡ kept - 1 + 1 = omega arith in
     let last : get_or slots (kept - 1) slot ≡ Free = sym is ∙ free-is slot free in
     sym (trimmed-free (take (kept - 1) slots))
-    ∙ ap (λ s. trimmed (take (kept - 1) slots ++ s ∷ [])) (sym last)
-    ∙ sym (ap trimmed (take_more slots (kept - 1) slot (omega arith)))
-    ∙ sym (ap (λ n. trimmed (take n slots)) next) ∙ same
+    ∙ ap (λ s. up_to_last_taken (take (kept - 1) slots ++ s ∷ [])) (sym last)
+    ∙ sym (ap up_to_last_taken (take_more slots (kept - 1) slot (omega arith)))
+    ∙ sym (ap (λ n. up_to_last_taken (take n slots)) next) ∙ same
 
 -- the slots up to one that is taken
-pub trim-stops : (slots : List Slot) (kept : ℕ) (slot : Slot) → 0 < kept → kept ≤ length slots → slot ≡ get_or slots (kept - 1) slot → not (is_some (rule_of_slot slot)) ≡ false → trimmed (take kept slots) ≡ trimmed slots → take kept slots ≡ trimmed slots
+pub trim-stops : (slots : List Slot) (kept : ℕ) (slot : Slot) → 0 < kept → kept ≤ length slots → slot ≡ get_or slots (kept - 1) slot → not (is_some (rule_of_slot slot)) ≡ false → up_to_last_taken (take kept slots) ≡ up_to_last_taken slots → take kept slots ≡ up_to_last_taken slots
 trim-stops slots kept slot some within is taken same =
     sym (trimmed-ended (take kept slots) (λ last long.
     let place : last ≡ kept - 1 = omega (arith, long, length-take kept slots) in
@@ -265,7 +265,7 @@ trim-stops slots kept slot some within is taken same =
 -- ---- a rule taken out
 
 pub keeps_without : (nodes : ℕ) (runs : List (Run (Option ℕ))) (slots : List Slot) (low : ℕ) (tasks : List (ℕ × ℕ)) (local : RuleData) (number : ℕ) → IsPlan nodes runs slots low tasks local → IsSome (rule_in slots number) → uses_in slots number ≡ 0
-    → IsPlan nodes runs (trimmed (set slots number Free)) (min low number) tasks local
+    → IsPlan nodes runs (up_to_last_taken (set slots number Free)) (min low number) tasks local
 keeps_without nodes runs slots low tasks local number plan there none = record {
   counted = λ k. elim (same_or_not k number) [
     | inl e ↦ rw e (ap uses_of_slot here ∙ sym none ∙ plan.counted number)
@@ -282,7 +282,7 @@ keeps_without nodes runs slots low tasks local number plan there none = record {
 }
   where
     new : List Slot
-    new = trimmed (set slots number Free)
+    new = up_to_last_taken (set slots number Free)
 
     here : slot_at new number ≡ Free
     here = slot_at-trimmed (set slots number Free) number ∙ get_or-set_same slots number Free Free (some-within slots number there)
@@ -294,13 +294,13 @@ keeps_without nodes runs slots low tasks local number plan there none = record {
     below k lt = ap (λ (s : Slot). is_some (rule_of_slot s)) (others k (λ e. absurd (omega arith))) ∙ plan.taken_below k (omega arith)
 
 -- the slot is free, and each other holds what it held
-pub kept_in-freed : (slots : List Slot) (number : ℕ) → IsSome (rule_in slots number) → kept_in (trimmed (set slots number Free)) number ≡ None
+pub kept_in-freed : (slots : List Slot) (number : ℕ) → IsSome (rule_in slots number) → kept_in (up_to_last_taken (set slots number Free)) number ≡ None
 kept_in-freed slots number some = ap kept_of_slot (slot_at-trimmed (set slots number Free) number ∙ get_or-set_same slots number Free Free (some-within slots number some))
 
-pub kept_in-without : (slots : List Slot) (number k : ℕ) → (k ≡ number → ⊥) → kept_in (trimmed (set slots number Free)) k ≡ kept_in slots k
+pub kept_in-without : (slots : List Slot) (number k : ℕ) → (k ≡ number → ⊥) → kept_in (up_to_last_taken (set slots number Free)) k ≡ kept_in slots k
 kept_in-without slots number k ne = ap kept_of_slot (slot_at-trimmed (set slots number Free) k ∙ get_or-set_other slots number k Free Free ne)
 
-rule_in-without : (slots : List Slot) (number k : ℕ) → (k ≡ number → ⊥) → rule_in (trimmed (set slots number Free)) k ≡ rule_in slots k
+rule_in-without : (slots : List Slot) (number k : ℕ) → (k ≡ number → ⊥) → rule_in (up_to_last_taken (set slots number Free)) k ≡ rule_in slots k
 rule_in-without slots number k ne = rule_of-kept _ _ (kept_in-without slots number k ne)
 
 -- ---- a rule added and taken out again
@@ -315,20 +315,20 @@ set-last : (slots : List Slot) (slot : Slot) → set (slots ++ slot ∷ []) (len
 set-last [] slot = refl
 set-last (s ∷ slots) slot = ap (λ (l : List Slot). s ∷ l) (set-last slots slot)
 
-pub undone : (slots : List Slot) (number : ℕ) (kept : Kept) → IsLowestFree slots number → EndsTaken slots → trimmed (set (put_slot slots number (Taken 0 kept)) number Free) ≡ slots
+pub undone : (slots : List Slot) (number : ℕ) (kept : Kept) → IsLowestFree slots number → EndsTaken slots → up_to_last_taken (set (put_slot slots number (Taken 0 kept)) number Free) ≡ slots
 undone slots number kept lowest ends =
     elim (cases_lt number (length slots)) [
-      | inl lt ↦ rw (lt-ltb number (length slots) lt) (ap trimmed (set-back slots number (Taken 0 kept) lowest.free) ∙ trimmed-ended slots ends)
+      | inl lt ↦ rw (lt-ltb number (length slots) lt) (ap up_to_last_taken (set-back slots number (Taken 0 kept) lowest.free) ∙ trimmed-ended slots ends)
       | inr ge ↦
           let e : number ≡ length slots = omega (arith, lowest.within) in
           rw (le-ltb number (length slots) ge)
-          (ap (λ n. trimmed (set (slots ++ Taken 0 kept ∷ []) n Free)) e ∙ ap trimmed (set-last slots (Taken 0 kept)) ∙ trimmed-free slots ∙ trimmed-ended slots ends)
+          (ap (λ n. up_to_last_taken (set (slots ++ Taken 0 kept ∷ []) n Free)) e ∙ ap up_to_last_taken (set-last slots (Taken 0 kept)) ∙ trimmed-free slots ∙ trimmed-ended slots ends)
     ]
 
 -- a rule that nothing uses serves no page
 pub lists-without : (plan : PlanData) (low number : ℕ) → IsPlan plan.nodes plan.runs plan.slots low plan.tasks plan.local → uses_in plan.slots number ≡ 0
     → (task page cpu : ℕ) → planned_list (without_rule plan number) task page cpu ≡ planned_list plan task page cpu
-lists-without plan low number sound none = lists-kept plan (trimmed (set plan.slots number Free)) (λ named some.
+lists-without plan low number sound none = lists-kept plan (up_to_last_taken (set plan.slots number Free)) (λ named some.
     rule_in-without plan.slots number named (λ is.
-    let unused : uses_in plan.slots named ≡ 0 = ap (uses_in plan.slots) is ∙ none in
-    absurd (omega (arith, sound.counted named, unused))))
+    let with_use_less : uses_in plan.slots named ≡ 0 = ap (uses_in plan.slots) is ∙ none in
+    absurd (omega (arith, sound.counted named, with_use_less))))

@@ -7,7 +7,7 @@ use Rattle.std.proofs.Math.ListN.{length-set}
 use Rattle.std.specs.Option.{option_map}
 use Rattle.numa_mode.specs.Policy.{PolicyRecord}
 use Rattle.numa_plan.specs.Rows.{Kept, RuleData}
-use Rattle.numa_plan.specs.Slots.{slot_at, kept_of_slot, rule_of_slot, uses_of_slot, kept_in, policy_in, rule_in, uses_in, put_slot, one_use_more, one_use_less, used, unused, IsLowestFree, EndsTaken}
+use Rattle.numa_plan.specs.Slots.{slot_at, kept_of_slot, rule_of_slot, uses_of_slot, kept_in, policy_in, rule_in, uses_in, put_slot, one_use_more, one_use_less, with_use, with_use_less, IsLowestFree, EndsTaken}
 use Rattle.numa_plan.specs.declared.slots.Slot.{Slot}
 use Rattle.numa_plan.specs.declared.slots.Slot.TheVariants.{Free, Taken}
 
@@ -125,7 +125,7 @@ change-same change free (s ∷ slots) zero = refl
 change-same change free (s ∷ slots) (suc number) = change-same change free slots number
 
 -- one use more or less of a number changes no policy and no rule
-pub kept_in-used : (slots : List Slot) (number : Option ℕ) (k : ℕ) → kept_in (used slots number) k ≡ kept_in slots k
+pub kept_in-used : (slots : List Slot) (number : Option ℕ) (k : ℕ) → kept_in (with_use slots number) k ≡ kept_in slots k
 kept_in-used slots None k = refl
 kept_in-used slots (Some number) k =
     elim (same_or_not k number) [
@@ -133,7 +133,7 @@ kept_in-used slots (Some number) k =
       | inr ne ↦ ap kept_of_slot (get_or-set_other slots number k (one_use_more (slot_at slots number)) Free ne)
     ]
 
-pub kept_in-unused : (slots : List Slot) (number : Option ℕ) (k : ℕ) → kept_in (unused slots number) k ≡ kept_in slots k
+pub kept_in-unused : (slots : List Slot) (number : Option ℕ) (k : ℕ) → kept_in (with_use_less slots number) k ≡ kept_in slots k
 kept_in-unused slots None k = refl
 kept_in-unused slots (Some number) k =
     elim (same_or_not k number) [
@@ -145,15 +145,15 @@ kept_in-unused slots (Some number) k =
 pub rule_of-kept : (a b : Option Kept) → a ≡ b → option_map (λ kept. kept.rule) a ≡ option_map (λ kept. kept.rule) b
 rule_of-kept a b is = ap (option_map (λ (kept : Kept). kept.rule)) is
 
-pub rule_in-used : (slots : List Slot) (number : Option ℕ) (k : ℕ) → rule_in (used slots number) k ≡ rule_in slots k
+pub rule_in-used : (slots : List Slot) (number : Option ℕ) (k : ℕ) → rule_in (with_use slots number) k ≡ rule_in slots k
 rule_in-used slots number k = rule_of-kept _ _ (kept_in-used slots number k)
 
-pub rule_in-unused : (slots : List Slot) (number : Option ℕ) (k : ℕ) → rule_in (unused slots number) k ≡ rule_in slots k
+pub rule_in-unused : (slots : List Slot) (number : Option ℕ) (k : ℕ) → rule_in (with_use_less slots number) k ≡ rule_in slots k
 rule_in-unused slots number k = rule_of-kept _ _ (kept_in-unused slots number k)
 
 -- as a task's rule changes, the policies and rules stay
-pub kept_in-changed : (slots : List Slot) (number had : Option ℕ) (k : ℕ) → kept_in (unused (used slots number) had) k ≡ kept_in slots k
-kept_in-changed slots number had k = kept_in-unused (used slots number) had k ∙ kept_in-used slots number k
+pub kept_in-changed : (slots : List Slot) (number had : Option ℕ) (k : ℕ) → kept_in (with_use_less (with_use slots number) had) k ≡ kept_in slots k
+kept_in-changed slots number had k = kept_in-unused (with_use slots number) had k ∙ kept_in-used slots number k
 
 -- where there is no rule there is no policy
 kept-none : (o : Option Kept) → option_map (λ kept. kept.rule) o ≡ None → o ≡ None
@@ -171,26 +171,26 @@ some-rule (Some kept) policy is = refl
 pub rule-there : (slots : List Slot) (number : ℕ) (policy : PolicyRecord) → policy_in slots number ≡ Some policy → IsSome (rule_in slots number)
 rule-there slots number policy is = some-rule (kept_in slots number) policy is
 
-pub length-used : (slots : List Slot) (number : Option ℕ) → length (used slots number) ≡ length slots
+pub length-used : (slots : List Slot) (number : Option ℕ) → length (with_use slots number) ≡ length slots
 length-used slots None = refl
 length-used slots (Some number) = length-set slots number (one_use_more (slot_at slots number))
 
-pub length-unused : (slots : List Slot) (number : Option ℕ) → length (unused slots number) ≡ length slots
+pub length-unused : (slots : List Slot) (number : Option ℕ) → length (with_use_less slots number) ≡ length slots
 length-unused slots None = refl
 length-unused slots (Some number) = length-set slots number (one_use_less (slot_at slots number))
 
 -- as a task's rule changes there are as many slots
-pub length-changed : (slots : List Slot) (number had : Option ℕ) → length (unused (used slots number) had) ≡ length slots
-length-changed slots number had = length-unused (used slots number) had ∙ length-used slots number
+pub length-changed : (slots : List Slot) (number had : Option ℕ) → length (with_use_less (with_use slots number) had) ≡ length slots
+length-changed slots number had = length-unused (with_use slots number) had ∙ length-used slots number
 
-pub uses_in-used : (slots : List Slot) (number k : ℕ) → IsSome (rule_in slots number) → uses_in (used slots (Some number)) k ≡ uses_in slots k + cond (number == k) 1 0
+pub uses_in-used : (slots : List Slot) (number k : ℕ) → IsSome (rule_in slots number) → uses_in (with_use slots (Some number)) k ≡ uses_in slots k + cond (number == k) 1 0
 uses_in-used slots number k some =
     elim (same_or_not k number) [
       | inl is ↦ rw (is, eq-eqb number number refl) (ap uses_of_slot (change-same one_use_more refl slots number) ∙ uses-more (slot_at slots number) some)
       | inr ne ↦ rw (ne_eqb number k (λ e. ne (sym e))) (omega (arith, ap uses_of_slot (get_or-set_other slots number k (one_use_more (slot_at slots number)) Free ne)))
     ]
 
-pub uses_in-unused : (slots : List Slot) (number k : ℕ) → uses_in (unused slots (Some number)) k ≡ uses_in slots k - cond (number == k) 1 0
+pub uses_in-unused : (slots : List Slot) (number k : ℕ) → uses_in (with_use_less slots (Some number)) k ≡ uses_in slots k - cond (number == k) 1 0
 uses_in-unused slots number k =
     elim (same_or_not k number) [
       | inl is ↦ rw (is, eq-eqb number number refl) (ap uses_of_slot (change-same one_use_less refl slots number) ∙ uses-less (slot_at slots number))

@@ -6,7 +6,7 @@ use Rattle.std.specs.Map.{remove_entry}
 use Rattle.numa_ranges.specs.declared.run.Run.{Run}
 use Rattle.numa_plan.specs.Rows.{Kept, RuleData}
 use Rattle.numa_plan.specs.Meaning.{PlanData, number_of}
-use Rattle.numa_plan.specs.Slots.{put_slot, used, unused}
+use Rattle.numa_plan.specs.Slots.{put_slot, with_use, with_use_less}
 use Rattle.numa_plan.specs.declared.slots.Slot.TheVariants.{Taken}
 
 -- a plan of version 0 without runs, rules and tasks
@@ -26,7 +26,10 @@ with_rule plan number kept = record plan { slots = put_slot plan.slots number (T
 
 -- the plan with one run more, behind the others
 abbrev pub with_run : PlanData → Run (Option ℕ) → PlanData
-with_run plan run = record plan { runs = plan.runs ++ run ∷ []; slots = used plan.slots run.value }
+with_run plan run = record plan {
+  runs = plan.runs ++ run ∷ [];
+  slots = with_use plan.slots run.value;
+}
 
 -- the tasks, of which one has the rule of this number, or no rule
 abbrev pub set_number : List (ℕ × ℕ) → ℕ → Option ℕ → List (ℕ × ℕ)
@@ -37,5 +40,5 @@ set_number tasks task (Some number) = insert_entry nat_cmp tasks task number
 abbrev pub with_task : PlanData → ℕ → Option ℕ → PlanData
 with_task plan task number = record plan {
   tasks = set_number plan.tasks task number;
-  slots = unused (used plan.slots number) (number_of plan.tasks task);
+  slots = with_use_less (with_use plan.slots number) (number_of plan.tasks task);
 }

@@ -68,11 +68,11 @@ one_use_less Free = Free
 one_use_less (Taken uses kept) = Taken (uses - 1) kept
 
 -- the slots with one use more of a number, if one is given
-abbrev pub used : List Slot → Option ℕ → List Slot
-used slots None = slots
-used slots (Some number) = slice_set slots number (one_use_more (slot_at slots number))
+abbrev pub with_use : List Slot → Option ℕ → List Slot
+with_use slots None = slots
+with_use slots (Some number) = slice_set slots number (one_use_more (slot_at slots number))
 
 -- the slots with one use less of a number, if one is given
-abbrev pub unused : List Slot → Option ℕ → List Slot
-unused slots None = slots
-unused slots (Some number) = slice_set slots number (one_use_less (slot_at slots number))
+abbrev pub with_use_less : List Slot → Option ℕ → List Slot
+with_use_less slots None = slots
+with_use_less slots (Some number) = slice_set slots number (one_use_less (slot_at slots number))

@@ -4,8 +4,8 @@ ghost use Rattle.std.specs.Prelude.{◌≡◌, ℕ, ◌+◌, ◌-◌, ◌<◌, �
 ghost use Rattle.std.specs.Prelude.{Some, IsSome, is_some, IfOk, OnOk, OnErr, slice_set, take, not};
 ghost use Rattle.std.specs.Option.{ForSome};
 ghost use Rattle.numa_plan.specs.Slots.{rule_in, rule_of_slot, uses_in, AreTaken, IsLowestFree};
-ghost use Rattle.numa_plan.specs.Slots.{policy_in, put_slot, slot_at, used, unused};
-ghost use Rattle.numa_plan.specs.Editing.{all_used, all_unused, trimmed, with_other};
+ghost use Rattle.numa_plan.specs.Slots.{policy_in, put_slot, slot_at, with_use, with_use_less};
+ghost use Rattle.numa_plan.specs.Editing.{with_uses, with_uses_less, up_to_last_taken, with_other};
 ghost use Rattle.numa_plan.specs.Meaning.{is_number};
 ghost use Rattle.numa_plan.specs.declared.slots.Slot.TheVariants.{Free, Taken};
 
@@ -85,7 +85,7 @@ pub(crate) fn put_rule(
 pub(crate) fn use_rule(slots: &mut Vec<Slot>, number: u32)
     requires there { IsSome (rule_in slots.old.items number) }
     requires few { uses_in slots.old.items number < 2 ^ 32 - 1 }
-    ensures { slots.new.items ≡ used slots.old.items (Some number) }
+    ensures { slots.new.items ≡ with_use slots.old.items (Some number) }
 {
     let slot = &mut slots[number as usize];
     if let Slot::Taken { uses, .. } = slot {
@@ -96,7 +96,7 @@ pub(crate) fn use_rule(slots: &mut Vec<Slot>, number: u32)
 /// Counts one use of a rule less.
 fn leave_rule(slots: &mut Vec<Slot>, number: u32)
     requires { 0 < uses_in slots.old.items number }
-    ensures { slots.new.items ≡ unused slots.old.items (Some number) }
+    ensures { slots.new.items ≡ with_use_less slots.old.items (Some number) }
 {
     let slot = &mut slots[number as usize];
     if let Slot::Taken { uses, .. } = slot {
@@ -108,7 +108,7 @@ fn leave_rule(slots: &mut Vec<Slot>, number: u32)
 pub(crate) fn use_named(slots: &mut Vec<Slot>, named: Option<u32>)
     requires there { ForSome named (λ number. IsSome (rule_in slots.old.items number)) }
     requires few { ForSome named (λ number. uses_in slots.old.items number < 2 ^ 32 - 1) }
-    ensures { slots.new.items ≡ used slots.old.items named }
+    ensures { slots.new.items ≡ with_use slots.old.items named }
 {
     if let Some(number) = named {
         use_rule(slots, number);
@@ -118,7 +118,7 @@ pub(crate) fn use_named(slots: &mut Vec<Slot>, named: Option<u32>)
 /// Counts one use of a rule less, if one is named.
 pub(crate) fn leave_named(slots: &mut Vec<Slot>, named: Option<u32>)
     requires { ForSome named (λ number. 0 < uses_in slots.old.items number) }
-    ensures { slots.new.items ≡ unused slots.old.items named }
+    ensures { slots.new.items ≡ with_use_less slots.old.items named }
 {
     if let Some(number) = named {
         leave_rule(slots, number);
@@ -130,7 +130,7 @@ pub(crate) fn use_all(slots: &mut Vec<Slot>, runs: &[Run<Option<u32>>])
     requires there { All (λ run. ForSome run.value (λ number.
         IsSome (rule_in slots.old.items number))) runs.now }
     requires few { (number : ℕ) → uses_in slots.old.items number + length runs.now < 2 ^ 32 }
-    ensures { slots.new.items ≡ all_used slots.old.items runs.now }
+    ensures { slots.new.items ≡ with_uses slots.old.items runs.now }
 {
     for run in runs {
         use_named(slots, run.value);
@@ -141,7 +141,7 @@ pub(crate) fn use_all(slots: &mut Vec<Slot>, runs: &[Run<Option<u32>>])
 pub(crate) fn leave_all(slots: &mut Vec<Slot>, runs: &[Run<Option<u32>>])
     requires { (number : ℕ) →
         count_by (λ run. is_number number run.value) runs.now ≤ uses_in slots.old.items number }
-    ensures { slots.new.items ≡ all_unused slots.old.items runs.now }
+    ensures { slots.new.items ≡ with_uses_less slots.old.items runs.now }
 {
     for run in runs {
         leave_named(slots, run.value);
@@ -212,7 +212,7 @@ pub(crate) fn taken_count(slots: &[Slot]) -> usize
 /// How many slots there are up to the last that is taken.
 fn taken_length(slots: &[Slot]) -> usize
     ensures within { result ≤ length slots.now }
-    ensures kept { take result slots.now ≡ trimmed slots.now }
+    ensures kept { take result slots.now ≡ up_to_last_taken slots.now }
 {
     let mut kept = slots.len();
     while kept > 0 {
@@ -227,7 +227,7 @@ fn taken_length(slots: &[Slot]) -> usize
 /// Frees a slot, and takes out the free slots behind the last that is taken.
 pub(crate) fn free_slot(slots: &mut Vec<Slot>, number: usize)
     requires { number < length slots.old.items }
-    ensures { slots.new.items ≡ trimmed (slice_set slots.old.items number Free) }
+    ensures { slots.new.items ≡ up_to_last_taken (slice_set slots.old.items number Free) }
 {
     slots[number] = Slot::Free;
     let kept = taken_length(slots.as_slice());

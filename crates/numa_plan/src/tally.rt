@@ -1,6 +1,6 @@
 //! Counts of the pages that take the nodes of a cycle in turn.
 ghost use Rattle.std.specs.Prelude.{◌≡◌, ◌*◌, ◌/◌, ◌%◌, ◌<◌, length};
-ghost use Rattle.numa_lanes.specs.Spans.{counted};
+ghost use Rattle.numa_lanes.specs.Spans.{node_count};
 ghost use Rattle.numa_plan.specs.Rules.{turns_on};
 ghost use Rattle.numa_plan.specs.Tally.{Adds, HasRoom};
 
@@ -58,8 +58,8 @@ fn add_rest(nodes: &[u8], start: usize, pages: usize, counts: &mut [u64; 256])
 
 /// Adds so many pages for each of these nodes to the node's count.
 fn add_places(nodes: &[u8], pages: u64, counts: &mut [u64; 256])
-    requires { HasRoom counts.old (λ node. pages * counted node nodes.now) }
-    ensures { Adds counts.old counts.new (λ node. pages * counted node nodes.now) }
+    requires { HasRoom counts.old (λ node. pages * node_count node nodes.now) }
+    ensures { Adds counts.old counts.new (λ node. pages * node_count node nodes.now) }
 {
     if pages == 0 {
         return;

@@ -15,7 +15,7 @@ use Rattle.numa_pool.specs.declared.view.Entry.TheVariants.{Load}
 use Rattle.numa_pool.specs.declared.view.View.{View}
 use Rattle.numa_pool.specs.Frames.{frame_of, is_frame, one_if, times, bit_in, without}
 use Rattle.numa_pool.specs.Rule.{total, holdings, Counted}
-use Rattle.numa_pool.specs.Steps.{newcomer, logged, tried, gave, divided, poured, frame_at, looked, attempted, returned}
+use Rattle.numa_pool.specs.Steps.{newcomer, with_entry, after_try, after_give, after_split, after_join, frame_at, IsLook, IsAttempt, IsReturn}
 
 -- the total after a change of one view
 pub total_set : (h : View → ℕ) (views : List View) (id : ℕ) (v w : View) → get_elem? views id ≡ some v → total h (set views id w) + h v ≡ total h views + h w
@@ -150,8 +150,8 @@ module _ (frames words : List ℕ) (views : List View) (id : ℕ) (v : View) (at
 
   -- a try that found the frame free
   pub wins : (x : ℕ) → bit_at (slice_index words i) b ≡ 0 → bit_at x b ≡ 1 → ((j : ℕ) → j < 64 → j ≢ b → bit_at x j ≡ bit_at (slice_index words i) j)
-      → 64 * (i % 64) + b < slice_index frames (i / 64) → Counted frames (set words i x) (set views id (tried v (frame_at i b) true))
-  wins x clear now others there = moves frames words views id v at r i x (tried v (frame_at i b) true)
+      → 64 * (i % 64) + b < slice_index frames (i / 64) → Counted frames (set words i x) (set views id (after_try v (frame_at i b) true))
+  wins x clear now others there = moves frames words views id v at r i x (after_try v (frame_at i b) true)
       (λ n k low. exact n k (changes words i b x within small others n k low))
       (λ n k high. let zero_w : weight n k ≡ 0 = ap one_if (apart n k high (ℕ_discrete (i / 64) n) (ℕ_discrete (64 * (i % 64) + b) k)) in omega arith)
     where
@@ -165,8 +165,8 @@ module _ (frames words : List ℕ) (views : List View) (id : ℕ) (v : View) (at
       apart n k high (no e) d = and_false_first (i / 64 == n) (64 * (i % 64) + b == k) (ne_eqb (i / 64) n e)
 
   -- a try that found the frame taken
-  pub loses : (x : ℕ) → bit_at x b ≡ bit_at (slice_index words i) b → ((j : ℕ) → j < 64 → j ≢ b → bit_at x j ≡ bit_at (slice_index words i) j) → Counted frames (set words i x) (set views id (tried v (frame_at i b) false))
-  loses x same others = moves frames words views id v at r i x (tried v (frame_at i b) false) (λ n k low. exact n k (changes words i b x within small others n k low)) (λ n k high. omega arith)
+  pub loses : (x : ℕ) → bit_at x b ≡ bit_at (slice_index words i) b → ((j : ℕ) → j < 64 → j ≢ b → bit_at x j ≡ bit_at (slice_index words i) j) → Counted frames (set words i x) (set views id (after_try v (frame_at i b) false))
+  loses x same others = moves frames words views id v at r i x (after_try v (frame_at i b) false) (λ n k low. exact n k (changes words i b x within small others n k low)) (λ n k high. omega arith)
     where
       exact : (n k : ℕ) → Changed words i b x n k → bit_in (set words i x) n k + times n k v.held ≡ bit_in words n k + times n k v.held
       exact n k (inl t) = ap (λ y. y + times n k v.held) (t.1 ∙ same ∙ sym t.2)
@@ -174,8 +174,8 @@ module _ (frames words : List ℕ) (views : List View) (id : ℕ) (v : View) (at
 
   -- the frame is given up
   pub gives_up : (x : ℕ) → 0 < times (i / 64) (64 * (i % 64) + b) v.held → bit_at x b ≡ 0 → ((j : ℕ) → j < 64 → j ≢ b → bit_at x j ≡ bit_at (slice_index words i) j)
-      → Counted frames (set words i x) (set views id (gave v (frame_at i b)))
-  gives_up x mine now others = moves frames words views id v at r i x (gave v (frame_at i b)) (λ n k low. exact n k low (changes words i b x within small others n k low)) (λ n k high. times_without-le (i / 64) (64 * (i % 64) + b) n k v.held)
+      → Counted frames (set words i x) (set views id (after_give v (frame_at i b)))
+  gives_up x mine now others = moves frames words views id v at r i x (after_give v (frame_at i b)) (λ n k low. exact n k low (changes words i b x within small others n k low)) (λ n k high. times_without-le (i / 64) (64 * (i % 64) + b) n k v.held)
     where
       exact : (n k : ℕ) → k < 4096 → Changed words i b x n k → bit_in (set words i x) n k + times n k v.held ≡ bit_in words n k + times n k (without (i / 64) (64 * (i % 64) + b) v.held)
       exact n k low (inl t) =
@@ -211,8 +211,8 @@ module _ {S : Type 0} (frames : List ℕ) (slots id : ℕ) (me : Me S View) (i :
   abbrev Rule : State S View → Type 0
   Rule s = Counted frames s.words s.views
 
-  pub looks : Allows Rule slots id me i (λ n. n) (looked (step slots i 0 0 none) me)
-  looks s r deep at fits = let w = logged me.0 (Load (i / 64) (i % 64) (slice_index s.words i)) in (w, keeps, tt, stays frames s.words s.views id me.0 at r i w refl, refl)
+  pub looks : Allows Rule slots id me i (λ n. n) (IsLook (step slots i 0 0 none) me)
+  looks s r deep at fits = let w = with_entry me.0 (Load (i / 64) (i % 64) (slice_index s.words i)) in (w, keeps, tt, stays frames s.words s.views id me.0 at r i w refl, refl)
 
   module _ (inside : i < 64 * length frames) (b : ℕ) (small : b < 64) where
     abbrev set_mask : ℕ
@@ -222,13 +222,13 @@ module _ {S : Type 0} (frames : List ℕ) (slots id : ℕ) (me : Me S View) (i :
     clear_mask = bit_not w64 set_mask
 
     abbrev after : ℕ → View
-    after x = tried me.0 (frame_at i b) (bit_at x b == 0)
+    after x = after_try me.0 (frame_at i b) (bit_at x b == 0)
 
     abbrev tried_at : ℕ → ℕ → Me S View
-    tried_at x j = (tried me.0 (frame_at i j) (bit_at x j == 0), me.1)
+    tried_at x j = (after_try me.0 (frame_at i j) (bit_at x j == 0), me.1)
 
     abbrev gave_at : ℕ → Me S View
-    gave_at j = (gave me.0 (frame_at i j), me.1)
+    gave_at j = (after_give me.0 (frame_at i j), me.1)
 
     rules : 64 * (i % 64) + b < slice_index frames (i / 64) → (s : State S View) → Rule s → get_elem? s.views id ≡ some me.0 → Bit (bit_at (slice_index s.words i) b)
         → Counted frames (set s.words i (bit_or (slice_index s.words i) set_mask)) (set s.views id (after (slice_index s.words i)))
@@ -248,13 +248,13 @@ module _ {S : Type 0} (frames : List ℕ) (slots id : ℕ) (me : Me S View) (i :
         let now = r.exact (i / 64) (64 * (i % 64) + b) (omega arith) in
         omega arith
 
-    told : (x : ℕ) → Free x b → attempted (step slots i set_mask 0 none) me x (after x, me.1)
+    told : (x : ℕ) → Free x b → IsAttempt (step slots i set_mask 0 none) me x (after x, me.1)
     told x none_held k l e = let same = pow_same b k (sym (one_shl b 64 small) ∙ e) in (ap (tried_at x) same, subst (Free x) same none_held)
 
-    pub tries : 64 * (i % 64) + b < slice_index frames (i / 64) → Allows Rule slots id me i (λ n. bit_or n set_mask) (attempted (step slots i set_mask 0 none) me)
+    pub tries : 64 * (i % 64) + b < slice_index frames (i / 64) → Allows Rule slots id me i (λ n. bit_or n set_mask) (IsAttempt (step slots i set_mask 0 none) me)
     tries there s r deep at fits = (after (slice_index s.words i), keeps, tt, rules there s r at (is_bit (slice_index s.words i) b), told (slice_index s.words i) (free s r at))
 
-    told_gave : (x : ℕ) → returned (step slots i clear_mask 0 none) me x (gave me.0 (frame_at i b), me.1)
+    told_gave : (x : ℕ) → IsReturn (step slots i clear_mask 0 none) me x (after_give me.0 (frame_at i b), me.1)
     told_gave x k l e =
         let mask = one_shl b 64 small in
         let p = pow_below b 64 small in
@@ -262,42 +262,42 @@ module _ {S : Type 0} (frames : List ℕ) (slots id : ℕ) (me : Me S View) (i :
         let same : 2 ^ b ≡ 2 ^ k = omega arith in
         ap gave_at (pow_same b k same)
 
-    pub gives : 0 < times (i / 64) (64 * (i % 64) + b) me.0.held → Allows Rule slots id me i (λ n. bit_and n clear_mask) (returned (step slots i clear_mask 0 none) me)
+    pub gives : 0 < times (i / 64) (64 * (i % 64) + b) me.0.held → Allows Rule slots id me i (λ n. bit_and n clear_mask) (IsReturn (step slots i clear_mask 0 none) me)
     gives mine s r deep at fits = (
-      gave me.0 (frame_at i b),
+      after_give me.0 (frame_at i b),
       keeps,
       tt,
       gives_up frames s.words s.views id me.0 at r i b inside small (bit_and (slice_index s.words i) clear_mask) mine (bit_at_clear_same w64 (slice_index s.words i) b small) (λ j l d. bit_at_clear_other w64 (slice_index s.words i) b small j l d),
       told_gave (slice_index s.words i),
     )
 
-pub splits : {S : Type 0} (frames : List ℕ) (id : ℕ) (v : View) → Splits {S = S} (λ s. Counted frames s.words s.views) id v (divided v) newcomer
+pub splits : {S : Type 0} (frames : List ℕ) (id : ℕ) (v : View) → Splits {S = S} (λ s. Counted frames s.words s.views) id v (after_split v) newcomer
 splits frames id v s r at = record {
   wide = r.wide;
   exact = λ n k low.
-      let t = total_snoc (λ u. times n k u.held) (set s.views id (divided v)) newcomer in
-      let u = total_set (λ u. times n k u.held) s.views id v (divided v) at in
+      let t = total_snoc (λ u. times n k u.held) (set s.views id (after_split v)) newcomer in
+      let u = total_set (λ u. times n k u.held) s.views id v (after_split v) at in
       let b = r.exact n k low in
       omega arith;
   past = λ n k high.
-      let t = total_snoc (λ u. times n k u.held) (set s.views id (divided v)) newcomer in
-      let u = total_set (λ u. times n k u.held) s.views id v (divided v) at in
+      let t = total_snoc (λ u. times n k u.held) (set s.views id (after_split v)) newcomer in
+      let u = total_set (λ u. times n k u.held) s.views id v (after_split v) at in
       let b = r.past n k high in
       omega arith;
 }
 
-pub joins : {S : Type 0} (frames : List ℕ) (id : ℕ) (v : View) (other : ℕ) (w : View) → Joins {S = S} (λ s. Counted frames s.words s.views) id v other w (poured v w) newcomer
+pub joins : {S : Type 0} (frames : List ℕ) (id : ℕ) (v : View) (other : ℕ) (w : View) → Joins {S = S} (λ s. Counted frames s.words s.views) id v other w (after_join v w) newcomer
 joins frames id v other w s r at apart there = record {
   wide = r.wide;
   exact = λ n k low.
-      let t = total_set (λ u. times n k u.held) s.views id v (poured v w) at in
-      let u = total_set (λ u. times n k u.held) (set s.views id (poured v w)) other w newcomer there in
+      let t = total_set (λ u. times n k u.held) s.views id v (after_join v w) at in
+      let u = total_set (λ u. times n k u.held) (set s.views id (after_join v w)) other w newcomer there in
       let both = times_append n k v.held w.held in
       let b = r.exact n k low in
       omega arith;
   past = λ n k high.
-      let t = total_set (λ u. times n k u.held) s.views id v (poured v w) at in
-      let u = total_set (λ u. times n k u.held) (set s.views id (poured v w)) other w newcomer there in
+      let t = total_set (λ u. times n k u.held) s.views id v (after_join v w) at in
+      let u = total_set (λ u. times n k u.held) (set s.views id (after_join v w)) other w newcomer there in
       let both = times_append n k v.held w.held in
       let b = r.past n k high in
       omega arith;

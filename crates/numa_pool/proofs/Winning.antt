@@ -5,7 +5,7 @@ use native.Mathlib.Decide.{dec_le}
 use Rattle.numa_machine.specs.declared.frame.Frame.{Frame}
 use Rattle.numa_pool.specs.declared.view.Entry.{Entry}
 use Rattle.numa_pool.specs.declared.view.Entry.TheVariants.{Load, Won, Lost, Gave}
-use Rattle.numa_pool.specs.Frames.{gained, gained_each}
+use Rattle.numa_pool.specs.Frames.{with_found, gained_each}
 use Rattle.numa_pool.specs.Walk.{met, won_in, IsFull, IsCurrent, AllFull, Searches, IsWalk, WalksEach, LoadsOnce, IsDistinct}
 
 module _ (frames : List ℕ) where
@@ -17,7 +17,7 @@ module _ (frames : List ℕ) where
   wins-nothing ns (Won f ∷ es) s = absurd s
   wins-nothing ns (Gave f ∷ es) s = absurd s
 
-  pub wins-found : (ns : List ℕ) (found : Option Frame) (es : List Entry) → IsWalk frames ns found es → won_in es ≡ gained found []
+  pub wins-found : (ns : List ℕ) (found : Option Frame) (es : List Entry) → IsWalk frames ns found es → won_in es ≡ with_found found []
   wins-found ns None es h = wins-nothing ns es h.0
   wins-found ns (Some f) [] h = absurd h
   wins-found ns (Some f) (e ∷ es) h = ap (λ (x : Entry). won_in (x ∷ es)) h.0 ∙ ap (λ fs. f ∷ fs) (wins-nothing ns es h.1)
@@ -96,7 +96,7 @@ won-append (Load n w x ∷ fs) es = won-append fs es
 won-append (Lost f ∷ fs) es = won-append fs es
 won-append (Gave f ∷ fs) es = won-append fs es
 
-gained-append : (found : Option Frame) (held : List Frame) → gained found [] ++ held ≡ gained found held
+gained-append : (found : Option Frame) (held : List Frame) → with_found found [] ++ held ≡ with_found found held
 gained-append None held = refl
 gained-append (Some f) held = refl
 
@@ -108,4 +108,4 @@ walks-won frames (ns ∷ rows) (f ∷ found) es held h =
     ap (λ l. won_in l ++ held) h.2 ∙ ap (λ l. l ++ held) (won-append h.1 h.0)
     ∙ append_assoc (won_in h.1) (won_in h.0) held
     ∙ ap (λ l. won_in h.1 ++ l) (ap (λ l. l ++ held) (wins-found frames ns f h.0 h.3) ∙ gained-append f held)
-    ∙ walks-won frames rows found h.1 (gained f held) h.5
+    ∙ walks-won frames rows found h.1 (with_found f held) h.5

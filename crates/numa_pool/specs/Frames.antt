@@ -35,14 +35,14 @@ without n k [] = []
 without n k (f ∷ fs) = cond (is_frame f n k) (without n k fs) (f ∷ without n k fs)
 
 -- these and the frame that was found, if one was
-abbrev pub gained : Option Frame → List Frame → List Frame
-gained None held = held
-gained (Some f) held = f ∷ held
+abbrev pub with_found : Option Frame → List Frame → List Frame
+with_found None held = held
+with_found (Some f) held = f ∷ held
 
 -- these and each frame that was found, one after the other
 abbrev pub gained_each : List (Option Frame) → List Frame → List Frame
 gained_each [] held = held
-gained_each (found ∷ more) held = gained_each more (gained found held)
+gained_each (found ∷ more) held = gained_each more (with_found found held)
 
 -- the bit of frame k of node n
 abbrev pub bit_in : List ℕ → ℕ → ℕ → ℕ

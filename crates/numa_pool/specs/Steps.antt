@@ -15,25 +15,25 @@ use Rattle.numa_pool.specs.Frames.{frame_of, times, without}
 abbrev pub newcomer : View
 newcomer = record { held = []; log = []; unlogged = 0 }
 
-abbrev pub logged : View → Entry → View
-logged v e = record v { log = e ∷ v.log }
+abbrev pub with_entry : View → Entry → View
+with_entry v e = record v { log = e ∷ v.log }
 
 -- after a try of the frame, which was free or not
-abbrev pub tried : View → Frame → Bool → View
-tried v f true = record v { held = f ∷ v.held; log = Won f ∷ v.log }
-tried v f false = logged v (Lost f)
+abbrev pub after_try : View → Frame → Bool → View
+after_try v f true = record v { held = f ∷ v.held; log = Won f ∷ v.log }
+after_try v f false = with_entry v (Lost f)
 
 -- after the frame was given up
-abbrev pub gave : View → Frame → View
-gave v f = record v { held = without f.node f.number v.held; log = Gave f ∷ v.log }
+abbrev pub after_give : View → Frame → View
+after_give v f = record v { held = without f.node f.number v.held; log = Gave f ∷ v.log }
 
 -- after a split: one step more, which the log leaves out
-abbrev pub divided : View → View
-divided v = record v { unlogged = v.unlogged + 1 }
+abbrev pub after_split : View → View
+after_split v = record v { unlogged = v.unlogged + 1 }
 
 -- after a join: the first seat has the frames of both, and one step more, which the log leaves out
-abbrev pub poured : View → View → View
-poured v w = record v { held = v.held ++ w.held; unlogged = v.unlogged + 1 }
+abbrev pub after_join : View → View → View
+after_join v w = record v { held = v.held ++ w.held; unlogged = v.unlogged + 1 }
 
 -- the frame of a bit of a word
 abbrev pub frame_at : ℕ → ℕ → Frame
@@ -41,21 +41,21 @@ frame_at word bit = frame_of (word / 64) (64 * (word % 64) + bit)
 
 module _ {S : Type 0} where
   -- a load: the seat logs the word and the value found
-  abbrev pub looked : Step S → Me S View → ℕ → Me S View → Type 0
-  looked step before found after =
-      after ≡ (logged before.0 (Load (step.word / 64) (step.word % 64) found), before.1)
+  abbrev pub IsLook : Step S → Me S View → ℕ → Me S View → Type 0
+  IsLook step before found after =
+      after ≡ (with_entry before.0 (Load (step.word / 64) (step.word % 64) found), before.1)
 
   -- an or of one bit: won where the bit was clear, and then the seat did not hold the frame; lost
   -- where it was set
-  abbrev pub attempted : Step S → Me S View → ℕ → Me S View → Type 0
-  attempted step before found after =
+  abbrev pub IsAttempt : Step S → Me S View → ℕ → Me S View → Type 0
+  IsAttempt step before found after =
       (bit : ℕ) → bit < 64 → step.first ≡ 2 ^ bit
-      → (after ≡ (tried before.0 (frame_at step.word bit) (bit_at found bit == 0), before.1))
+      → (after ≡ (after_try before.0 (frame_at step.word bit) (bit_at found bit == 0), before.1))
       × (bit_at found bit ≡ 0 →
       times (step.word / 64) (64 * (step.word % 64) + bit) before.0.held ≡ 0)
 
   -- an and of all bits but one: the seat gives up the frame
-  abbrev pub returned : Step S → Me S View → ℕ → Me S View → Type 0
-  returned step before found after =
+  abbrev pub IsReturn : Step S → Me S View → ℕ → Me S View → Type 0
+  IsReturn step before found after =
       (bit : ℕ) → bit < 64 → step.first ≡ bit_not w64 (2 ^ bit)
-      → after ≡ (gave before.0 (frame_at step.word bit), before.1)
+      → after ≡ (after_give before.0 (frame_at step.word bit), before.1)

@@ -1,7 +1,7 @@
 //! Laws of the definitions that contracts cite.
 ghost use Rattle.std.specs.Prelude.{◌≡◌, ℕ, ◌<◌, ◌≤◌, true, false, List, [], ◌∷◌, ◌++◌};
 ghost use Rattle.std.specs.Prelude.{length, slice_index, slice_get, Option, Some, None};
-ghost use Rattle.numa_pool.specs.Frames.{gained, gained_each};
+ghost use Rattle.numa_pool.specs.Frames.{with_found, gained_each};
 ghost use Rattle.numa_pool.specs.Rule.{PoolRule, Counted};
 ghost use Rattle.numa_pool.specs.Walk.{met, won_in, IsWalk, WalksInOrder, WalksEach};
 ghost use Rattle.numa_pool.specs.Walk.{IsDistinct, LoadsOnce, TriesOnce};
@@ -34,7 +34,7 @@ pub fn walks_compose()
 /// A walk that found a frame won that one and no other, and a walk that found none won none.
 pub fn walk_wins_what_it_found()
     ensures { (frames nodes : List ℕ) (found : Option Frame) (es : List Entry)
-        → IsWalk frames nodes found es → won_in es ≡ gained found [] }
+        → IsWalk frames nodes found es → won_in es ≡ with_found found [] }
 {}
 
 /// A walk that won a frame found each frame of each node before the frame's own taken, at one of

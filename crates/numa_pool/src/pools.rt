@@ -2,7 +2,7 @@
 ghost use Rattle.std.specs.Prelude.{◌≡◌, ℕ, ◌+◌, ◌*◌, ◌<◌, ◌≤◌, ◌∷◌, ◌++◌, []};
 ghost use Rattle.std.specs.Prelude.{List, length, slice_index, IfOk, MatchResult};
 ghost use Rattle.std.specs.Prelude.{IfSome, IsTrue, MatchOption, ◌↔◌};
-ghost use Rattle.numa_pool.specs.Frames.{times, without, gained, Holds};
+ghost use Rattle.numa_pool.specs.Frames.{times, without, with_found, Holds};
 ghost use Rattle.numa_pool.specs.Seats.{Closes};
 ghost use Rattle.numa_pool.specs.Walk.{IsWalk, LoadsOnce, TriesOnce};
 ghost use Rattle.numa_pool.specs.declared.view.Entry.{Entry};
@@ -117,7 +117,7 @@ impl Pools {
         ensures walk { (es : List Entry) × (seat.new.log ≡ es ++ seat.old.log)
             × IsWalk self.now.frames (node ∷ []) result es × LoadsOnce es × TriesOnce es }
         ensures no_other { seat.new.unlogged ≡ seat.old.unlogged }
-        ensures held { seat.new.held ≡ gained result seat.old.held }
+        ensures held { seat.new.held ≡ with_found result seat.old.held }
         ensures found { IfSome result (λ f. (f.node ≡ node)
             × (f.number < slice_index self.now.frames node)
             × (times f.node f.number seat.old.held ≡ 0)) }

@@ -1,7 +1,7 @@
 //! The search for a free frame of a node.
 ghost use Rattle.std.specs.Prelude.{◌≡◌, ℕ, ◌+◌, ◌*◌, ◌<◌, ◌≤◌, ◌∷◌, [], List, length};
 ghost use Rattle.std.specs.Prelude.{slice_index, MatchOption, IfSome, ◌++◌, ◌⊎◌};
-ghost use Rattle.numa_pool.specs.Frames.{frame_of, times, gained};
+ghost use Rattle.numa_pool.specs.Frames.{frame_of, times, with_found};
 ghost use Rattle.numa_pool.specs.Seats.{IsShaped};
 ghost use Rattle.numa_pool.specs.Walk.{IsWalk, LoadsOnce, TriesOnce};
 ghost use Rattle.numa_pool.specs.Search.{Reached, SearchedWord};
@@ -56,7 +56,7 @@ pub(crate) fn take_frame(words: &Words, token: &mut Token, node: u8, frames: usi
         × (frames ≡ slice_index words.now.frames node) }
     ensures same { (token.new.table ≡ token.old.table)
         × (token.new.view.unlogged ≡ token.old.view.unlogged) }
-    ensures held { token.new.view.held ≡ gained result token.old.view.held }
+    ensures held { token.new.view.held ≡ with_found result token.old.view.held }
     ensures found { IfSome result (λ f. (f.node ≡ node) × (f.number < frames)
         × (times f.node f.number token.old.view.held ≡ 0)) }
     ensures walk { (es : List Entry) × (token.new.view.log ≡ es ++ token.old.view.log)

@@ -13,7 +13,8 @@ ghost use Rattle.std.specs.Prelude.{length, slice_index, IfOk};
 ghost use Rattle.std.specs.Mem.Slots.{slots_items, slots_len, IsFull};
 ghost use Rattle.numa_pool.specs.Frames.{frame_of, times, bit_in};
 ghost use Rattle.numa_pool.specs.Seats.{IsShaped, IsLast};
-ghost use Rattle.numa_pool.specs.Steps.{newcomer, logged, tried, gave, divided, poured};
+ghost use Rattle.numa_pool.specs.Steps.{newcomer, with_entry, after_try, after_give};
+ghost use Rattle.numa_pool.specs.Steps.{after_split, after_join};
 ghost use Rattle.numa_pool.specs.declared.view.Entry.TheVariants.{Load};
 
 use crate::view::View;
@@ -37,36 +38,36 @@ impl TableRule<Option<()>, View, Vec<u32>> for CountedRule {
 struct LoadWord;
 
 impl Play<Option<()>, View> for LoadWord {
-    ghost use Rattle.numa_pool.specs.Steps.{looked};
+    ghost use Rattle.numa_pool.specs.Steps.{IsLook};
 
-    ghost then = { looked };
+    ghost then = { IsLook };
 }
 
 /// A fetch_or of one bit.
 struct SetBit;
 
 impl Play<Option<()>, View> for SetBit {
-    ghost use Rattle.numa_pool.specs.Steps.{attempted};
+    ghost use Rattle.numa_pool.specs.Steps.{IsAttempt};
 
-    ghost then = { attempted };
+    ghost then = { IsAttempt };
 }
 
 /// A fetch_and of all bits but one.
 struct ClearBit;
 
 impl Play<Option<()>, View> for ClearBit {
-    ghost use Rattle.numa_pool.specs.Steps.{returned};
+    ghost use Rattle.numa_pool.specs.Steps.{IsReturn};
 
-    ghost then = { returned };
+    ghost then = { IsReturn };
 }
 
 /// A new seat, which holds nothing.
 struct NewSeat;
 
 impl Split<View> for NewSeat {
-    ghost use Rattle.numa_pool.specs.Steps.{divided, newcomer};
+    ghost use Rattle.numa_pool.specs.Steps.{after_split, newcomer};
 
-    ghost left = { divided };
+    ghost left = { after_split };
 
     ghost right = { λ _. newcomer };
 }
@@ -75,9 +76,9 @@ impl Split<View> for NewSeat {
 struct JoinSeats;
 
 impl Join<View> for JoinSeats {
-    ghost use Rattle.numa_pool.specs.Steps.{newcomer, poured};
+    ghost use Rattle.numa_pool.specs.Steps.{newcomer, after_join};
 
-    ghost both = { poured };
+    ghost both = { after_join };
 
     ghost spent = { newcomer };
 }
@@ -145,7 +146,7 @@ pub(crate) fn look(words: &Words, token: &mut Token, node: usize, word: usize) -
     requires table { token.old.table ≡ words.now.table }
     requires word { (node < length words.now.frames) × (word < 64) }
     ensures { (token.new.table ≡ token.old.table)
-        × (token.new.view ≡ logged token.old.view (Load node word result)) }
+        × (token.new.view ≡ with_entry token.old.view (Load node word result)) }
 {
     let board = &words.table.shared;
     board.load::<LoadWord>(&mut token.seat, 64 * node + word)
@@ -163,7 +164,7 @@ pub(crate) fn attempt(
     requires place { (node < length words.now.frames) × (word < 64) × (bit < 64)
         × (64 * word + bit < slice_index words.now.frames node) }
     ensures step { (token.new.table ≡ token.old.table)
-        × (token.new.view ≡ tried token.old.view (frame_of node (64 * word + bit)) result) }
+        × (token.new.view ≡ after_try token.old.view (frame_of node (64 * word + bit)) result) }
     ensures free { result ≡ true → times node (64 * word + bit) token.old.view.held ≡ 0 }
 {
     let board = &words.table.shared;
@@ -177,7 +178,7 @@ pub(crate) fn clear(words: &Words, token: &mut Token, node: usize, word: usize, 
     requires place { (node < length words.now.frames) × (word < 64) × (bit < 64) }
     requires held { 0 < times node (64 * word + bit) token.old.view.held }
     ensures { (token.new.table ≡ token.old.table)
-        × (token.new.view ≡ gave token.old.view (frame_of node (64 * word + bit))) }
+        × (token.new.view ≡ after_give token.old.view (frame_of node (64 * word + bit))) }
 {
     let board = &words.table.shared;
     board.fetch_and::<ClearBit>(&mut token.seat, 64 * node + word, !(1u64 << bit));
@@ -186,7 +187,8 @@ pub(crate) fn clear(words: &Words, token: &mut Token, node: usize, word: usize, 
 /// A new seat, which holds nothing.
 pub(crate) fn another(words: &Words, token: &mut Token) -> Token
     requires { token.old.table ≡ words.now.table }
-    ensures same { (token.new.table ≡ token.old.table) × (token.new.view ≡ divided token.old.view) }
+    ensures same { (token.new.table ≡ token.old.table)
+        × (token.new.view ≡ after_split token.old.view) }
     ensures fresh { (result.table ≡ token.old.table) × (result.view ≡ newcomer) }
 {
     let board = &words.table.shared;
@@ -198,7 +200,7 @@ pub(crate) fn another(words: &Words, token: &mut Token) -> Token
 pub(crate) fn pour(words: &Words, token: &mut Token, other: Token)
     requires { (token.old.table ≡ words.now.table) × (other.table ≡ words.now.table) }
     ensures { (token.new.table ≡ token.old.table)
-        × (token.new.view ≡ poured token.old.view other.view) }
+        × (token.new.view ≡ after_join token.old.view other.view) }
 {
     let Token { seat } = other;
     let board = &words.table.shared;

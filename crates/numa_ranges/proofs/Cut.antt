@@ -4,7 +4,7 @@ use Rattle.std.specs.Prelude.{if◌then◌else◌}
 use Rattle.std.proofs.lemmas.Bool.{cases_lt, lt-ltb, le-ltb}
 use Rattle.std.proofs.lemmas.Bool.Decides.{nat_tests}
 use Rattle.numa_ranges.specs.Runs.{page_at, in_pages, end_of, AreApart}
-use Rattle.numa_ranges.specs.Edits.{part_before, part_from, part_within, with_value, parts, edited, edited_page, edited_span}
+use Rattle.numa_ranges.specs.Edits.{part_before, part_from, part_within, with_value, parts, edit_of, edited_page, edited_span}
 use Rattle.std.specs.Prelude.{nat_lt, option_map}
 use Rattle.numa_ranges.specs.declared.run.Run.{Run}
 use Rattle.numa_ranges.proofs.Apart.{in_pages-true, in_pages-below, in_pages-above, page_at-before}
@@ -119,22 +119,22 @@ module _ {T : Type 0} where
   regroup : (a b c d : List (Run T)) → (a ++ (b ++ c)) ++ d ≡ a ++ (b ++ (c ++ d))
   regroup a b c d = simp append_assoc
 
-  pub apart-edited : (from first end : ℕ) (edit : T → Option T) (runs : List (Run T)) → first ≤ end → AreApart from runs → AreApart from (edited first end edit runs)
+  pub apart-edited : (from first end : ℕ) (edit : T → Option T) (runs : List (Run T)) → first ≤ end → AreApart from runs → AreApart from (edit_of first end edit runs)
   apart-edited from first end edit [] le apart = apart
   apart-edited from first end edit (run ∷ runs) le apart =
-      subst (AreApart from) (sym (regroup (part_before first run) (part_within first end edit run) (part_from end run) (edited first end edit runs)))
-      (apart-parts from first end le edit run (edited first end edit runs) apart.0 apart.1 apart.2 (apart-edited (end_of run) first end edit runs le apart.3))
+      subst (AreApart from) (sym (regroup (part_before first run) (part_within first end edit run) (part_from end run) (edit_of first end edit runs)))
+      (apart-parts from first end le edit run (edit_of first end edit runs) apart.0 apart.1 apart.2 (apart-edited (end_of run) first end edit runs le apart.3))
 
   edited-here : (edit : T → Option T) (run : Run T) (page : ℕ) (o : Option T) → said o (run.index + (page - run.first)) None ≡ option_map (λ value. (run.index + (page - run.first), value)) o
   edited-here edit run page None = refl
   edited-here edit run page (Some value) = refl
 
   -- what the edited runs say, page by page
-  pub page_at-edited : (from first pages : ℕ) (edit : T → Option T) (runs : List (Run T)) (page : ℕ) → AreApart from runs → page_at (edited first (first + pages) edit runs) page ≡ edited_span first pages edit (page_at runs) page
+  pub page_at-edited : (from first pages : ℕ) (edit : T → Option T) (runs : List (Run T)) (page : ℕ) → AreApart from runs → page_at (edit_of first (first + pages) edit runs) page ≡ edited_span first pages edit (page_at runs) page
   page_at-edited from first pages edit [] page apart = let none : Option (ℕ × T) = None in elim (in_pages first pages page) as (λ b. none ≡ (if b then none else none)) [ true ↦ refl | false ↦ refl ]
   page_at-edited from first pages edit (run ∷ runs) page apart =
       let end = first + pages in
-      let rest = edited first end edit runs in
+      let rest = edit_of first end edit runs in
       let more = part_from end run ++ rest in
       let hyp : page_at rest page ≡ edited_span first pages edit (page_at runs) page = page_at-edited (end_of run) first pages edit runs page apart.3 in
       ap (λ l. page_at l page) (regroup (part_before first run) (part_within first end edit run) (part_from end run) rest)

@@ -7,7 +7,7 @@ use Rattle.std.proofs.lemmas.Bool.{cases_lt, cases_Bool, lt-ltb, le-ltb, le-leb,
 use Rattle.std.proofs.lemmas.List.{get_or_default}
 use Rattle.std.proofs.lemmas.List.Sums.{sum_by-cons}
 use Rattle.numa_ranges.specs.Runs.{end_of, page_at, AreApart}
-use Rattle.numa_ranges.specs.Windows.{meets, begins_in, met, begun, IsWindow}
+use Rattle.numa_ranges.specs.Windows.{meets, begins_in, met, starts_in, IsWindow}
 use Rattle.numa_ranges.specs.declared.run.Run.{Run}
 use Rattle.numa_ranges.proofs.Apart.{in_pages-true, in_pages-below, in_pages-above, page_at-before}
 use Rattle.numa_ranges.proofs.Joined.{and_split}
@@ -149,7 +149,7 @@ module _ {T : Type 0} where
   begins-head run runs = rw (eq-eqb run.first run.first refl) refl
 
   -- where each page of a span at which a run of the second list begins is one at which one of the first begins, the second has at most as many
-  pub begun-fewer : (low low' a b : ℕ) (xs ys : List (Run T)) → AreApart low xs → AreApart low' ys → ((page : ℕ) → a ≤ page → page < b → begins_at ys page ≡ true → begins_at xs page ≡ true) → begun a b ys ≤ begun a b xs
+  pub begun-fewer : (low low' a b : ℕ) (xs ys : List (Run T)) → AreApart low xs → AreApart low' ys → ((page : ℕ) → a ≤ page → page < b → begins_at ys page ≡ true → begins_at xs page ≡ true) → starts_in a b ys ≤ starts_in a b xs
   begun-fewer low low' a b xs [] apart apart' h = omega arith
   begun-fewer low low' a b [] (y ∷ ys) apart apart' h =
       elim (cases_Bool (begins_in a b y)) [
@@ -186,7 +186,7 @@ module _ {T : Type 0} where
   -- ---- runs that meet a span
 
   -- one has its first page, where that is mapped, and the others begin behind that
-  pub met-split : (low first end : ℕ) (runs : List (Run T)) → AreApart low runs → first < end → met first end runs ≡ cond (is_some (page_at runs first)) 1 0 + begun (first + 1) end runs
+  pub met-split : (low first end : ℕ) (runs : List (Run T)) → AreApart low runs → first < end → met first end runs ≡ cond (is_some (page_at runs first)) 1 0 + starts_in (first + 1) end runs
   met-split low first end [] apart lt = refl
   met-split low first end (run ∷ runs) apart lt =
       let m = count-cons (meets first end) run runs in
@@ -227,7 +227,7 @@ module _ {T : Type 0} where
       and-true false = refl
 
   -- a run that begins in a span meets it
-  pub begun-met : (low first end : ℕ) (runs : List (Run T)) → AreApart low runs → begun first end runs ≤ met first end runs
+  pub begun-met : (low first end : ℕ) (runs : List (Run T)) → AreApart low runs → starts_in first end runs ≤ met first end runs
   begun-met low first end [] apart = omega arith
   begun-met low first end (run ∷ runs) apart =
       let m = count-cons (meets first end) run runs in

@@ -5,7 +5,7 @@ use Rattle.std.proofs.lemmas.Bool.{cases_lt}
 use Rattle.std.proofs.lemmas.List.{drop_all, drop_more, drop-drop, take-append-drop}
 use Rattle.numa_ranges.specs.Runs.{page_at, AreApart, AreMaximal, end_of}
 use Rattle.numa_ranges.specs.Maps.{any_page, with_span}
-use Rattle.numa_ranges.specs.Edits.{inserted, Each, StartsAround, HasRoom, joined}
+use Rattle.numa_ranges.specs.Edits.{runs_with, Each, StartsAround, HasRoom, maximal_runs}
 use Rattle.numa_ranges.specs.declared.run.Run.{Run}
 use Rattle.numa_ranges.proofs.Apart.{in_pages-true, in_pages-below, in_pages-above, apart-from, page_at-inside}
 use Rattle.numa_ranges.proofs.Cut.{page_at-append}
@@ -32,7 +32,7 @@ module _ {T : Type 0} where
       ap (λ l. page_at l page) (sym (take-append-drop place runs)) ∙ page_at-beside (take place runs) (drop place runs) first page before low ∙ page_at-ahead (drop place runs) last page behind high
 
   pub page_at-inserted : (place : ℕ) (run : Run T) (runs : List (Run T)) (page : ℕ) → Each (λ r. (0 < r.pages) × (end_of r ≤ run.first)) (take place runs)
-      → page_at (inserted place run runs) page ≡ with_span run.first run.pages run.index run.value (page_at runs) page
+      → page_at (runs_with place run runs) page ≡ with_span run.first run.pages run.index run.value (page_at runs) page
   page_at-inserted place run runs page before =
       elim (cases_lt page run.first) [
         | inl low ↦
@@ -53,7 +53,7 @@ module _ {T : Type 0} where
       (omega arith, apart.1, apart.2, apart.3)
 
   pub apart-inserted : (from place : ℕ) (run : Run T) (runs : List (Run T)) → AreApart from runs → from ≤ run.first → 0 < run.pages → end_of run ≤ 2 ^ 35 → run.index + run.pages ≤ 2 ^ 36
-      → Each (λ r. (0 < r.pages) × (end_of r ≤ run.first)) (take place runs) → Each (λ r. (0 < r.pages) × (end_of run < r.first + 1)) (drop place runs) → AreApart from (inserted place run runs)
+      → Each (λ r. (0 < r.pages) × (end_of r ≤ run.first)) (take place runs) → Each (λ r. (0 < r.pages) × (end_of run < r.first + 1)) (drop place runs) → AreApart from (runs_with place run runs)
   apart-inserted from zero run runs apart low some top index before behind =
       (low, some, index, apart-ahead (end_of run) from runs top apart behind)
   apart-inserted from (suc place) run [] apart low some top index before behind = (low, some, index, top)
@@ -111,19 +111,19 @@ module _ {T : Type 0} (same : T → T → Bool) (exact : (a b : T) → same a b 
 
   -- a run that is put in, joined, changes only its neighbours
   pub inserted-window : (run : Run T) (runs : List (Run T)) (place : ℕ) → AreMaximal runs → place ≤ length runs
-      → splice runs (place - 1) (min (length runs) (place + 1)) (joined same ((slice_range runs (place - 1) place ++ run ∷ []) ++ slice_range runs place (min (length runs) (place + 1)))) ≡ joined same (inserted place run runs)
+      → splice runs (place - 1) (min (length runs) (place + 1)) (maximal_runs same ((slice_range runs (place - 1) place ++ run ∷ []) ++ slice_range runs place (min (length runs) (place + 1)))) ≡ maximal_runs same (runs_with place run runs)
   inserted-window run runs place maximal within =
       let from = place - 1 in
       let to = min (length runs) (place + 1) in
       let M = (slice_range runs from place ++ run ∷ []) ++ slice_range runs place to in
       let after = drop to runs in
-      let whole : inserted place run runs ≡ take from runs ++ (M ++ after) =
+      let whole : runs_with place run runs ≡ take from runs ++ (M ++ after) =
       ap (λ l. l ++ run ∷ drop place runs) (take-cut from place runs (omega arith))
       ∙ ap (λ l. (take from runs ++ slice_range runs from place) ++ run ∷ l) (drop-cut place to runs (omega arith))
       ∙ simp append_assoc in
       let left : LeftSeam same exact itself (take from runs) (M ++ after) =
       subst (λ (l : List (Run T)). LeftSeam same exact itself (take from runs) l) (simp append_assoc) (left-seam run runs (run ∷ (slice_range runs place to ++ after)) place maximal within) in
-      sym (ap (joined same) whole
+      sym (ap (maximal_runs same) whole
       ∙ joined-before same exact itself (take from runs) (M ++ after) left
       ∙ ap (λ l. take from runs ++ l) (joined-after same exact itself M after (right-seam run runs (slice_range runs from place ++ run ∷ []) place maximal)))
 

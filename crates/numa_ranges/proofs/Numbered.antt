@@ -6,9 +6,9 @@ use Rattle.std.specs.List.{AllWithin, splice}
 use Rattle.std.proofs.lemmas.Option.{slice_get-map, slice_get-get_or}
 use Rattle.std.proofs.lemmas.Grind.{flat_map-append}
 use Rattle.std.proofs.lemmas.List.{get_or_default, take_more}
-use Rattle.numa_ranges.specs.Edits.{StartsAround, revalued}
+use Rattle.numa_ranges.specs.Edits.{StartsAround, with_new_value}
 use Rattle.numa_ranges.specs.Runs.{AreApart}
-use Rattle.numa_ranges.specs.Numbered.{valued, run_of, runs_of, AreNumbered, IsLonger}
+use Rattle.numa_ranges.specs.Numbered.{run_of_row, run_of, runs_of, AreNumbered, IsLonger}
 use Rattle.numa_ranges.specs.declared.run.Run.{Run}
 use Rattle.numa_ranges.specs.declared.row.Row.{Row}
 use Rattle.numa_ranges.proofs.Apart.{apart-rising}
@@ -55,7 +55,7 @@ module _ {T : Type 0} where
   pub runs-longer : (old new : List T) (rows : List Row) → IsLonger old new → AreNumbered old rows → runs_of new rows ≡ runs_of old rows
   runs-longer old new [] longer numbered = refl
   runs-longer old new (row ∷ rows) longer numbered =
-      let head : run_of new row ≡ run_of old row = ap (valued row) (longer.same row.number numbered.0) in
+      let head : run_of new row ≡ run_of old row = ap (run_of_row row) (longer.same row.number numbered.0) in
       let rest = runs-longer old new rows longer numbered.1 in
       λ i. head i ++ rest i
 
@@ -63,7 +63,7 @@ module _ {T : Type 0} where
 
   -- one row has one run
   pub one-run : (values : List T) (row : Row) (d : T) → row.number < length values → run_of values row ≡ record { first = row.first; pages = row.pages; index = row.index; value = get_or values row.number d } ∷ []
-  one-run values row d within = ap (valued row) (slice_get-get_or values row.number d within)
+  one-run values row d within = ap (run_of_row row) (slice_get-get_or values row.number d within)
 
   pub length-runs : (values : List T) (rows : List Row) → AreNumbered values rows → length (runs_of values rows) ≡ length rows
   length-runs values [] numbered = refl
@@ -155,7 +155,7 @@ module _ {T : Type 0} where
   numbered-changed old new [] size numbered = tt
   numbered-changed old new (row ∷ rows) size numbered = (omega (arith, numbered.0), numbered-changed old new rows size numbered.1)
 
-  pub runs-changed : (change : T → T) (values : List T) (rows : List Row) → AreNumbered values rows → runs_of (map change values) rows ≡ map (revalued change) (runs_of values rows)
+  pub runs-changed : (change : T → T) (values : List T) (rows : List Row) → AreNumbered values rows → runs_of (map change values) rows ≡ map (with_new_value change) (runs_of values rows)
   runs-changed change values [] numbered = refl
   runs-changed change [] (row ∷ rows) numbered = absurd (omega (arith, numbered.0))
   runs-changed change (v ∷ vs) (row ∷ rows) numbered =

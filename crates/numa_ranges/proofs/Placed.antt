@@ -4,13 +4,13 @@ use Rattle.std.specs.Prelude.{nat_lt, if◌then◌else◌}
 use Rattle.std.specs.List.{slice_range, splice}
 use Rattle.numa_ranges.specs.Runs.{page_at, AreApart, end_of}
 use Rattle.numa_ranges.specs.Maps.{with_span}
-use Rattle.numa_ranges.specs.Edits.{Each, HasRoom, joined}
+use Rattle.numa_ranges.specs.Edits.{Each, HasRoom, maximal_runs}
 use Rattle.numa_ranges.specs.Gathered.{Gathered}
 use Rattle.numa_ranges.specs.declared.run.Run.{Run}
 use Rattle.numa_ranges.specs.declared.pieces.Pieces.{Pieces}
 use Rattle.numa_ranges.specs.declared.fault.RangeFault.{RangeFault}
 use Rattle.numa_ranges.specs.declared.fault.RangeFault.TheVariants.{TooManyRanges, NoMemory}
-use Rattle.numa_ranges.specs.Edits.{inserted}
+use Rattle.numa_ranges.specs.Edits.{runs_with}
 use Rattle.numa_ranges.proofs.Insert.{inserted-window, apart-inserted, page_at-inserted}
 
 module _ {T : Type 0} where
@@ -18,33 +18,33 @@ module _ {T : Type 0} where
   each-behind [] last end is behind = tt
   each-behind (run ∷ runs) last end is behind = let starts : last < run.first = behind.0.1 in ((behind.0.0, omega arith), each-behind runs last end is behind.1)
 
-  pub apart-placed : (runs : List (Run T)) (place : ℕ) (run : Run T) → HasRoom runs place run.first (run.first + (run.pages - 1)) → 0 < run.pages → end_of run ≤ 2 ^ 35 → run.index < 2 ^ 35 → AreApart 0 (inserted place run runs)
+  pub apart-placed : (runs : List (Run T)) (place : ℕ) (run : Run T) → HasRoom runs place run.first (run.first + (run.pages - 1)) → 0 < run.pages → end_of run ≤ 2 ^ 35 → run.index < 2 ^ 35 → AreApart 0 (runs_with place run runs)
   apart-placed runs place run room some top index =
       apart-inserted 0 place run runs room.apart (omega arith) some top (omega arith) room.before (each-behind (drop place runs) (run.first + (run.pages - 1)) (end_of run) (omega arith) room.behind)
 
-  pub page_at-placed : (runs : List (Run T)) (place : ℕ) (run : Run T) → HasRoom runs place run.first (run.first + (run.pages - 1)) → (page : ℕ) → page_at (inserted place run runs) page ≡ with_span run.first run.pages run.index run.value (page_at runs) page
+  pub page_at-placed : (runs : List (Run T)) (place : ℕ) (run : Run T) → HasRoom runs place run.first (run.first + (run.pages - 1)) → (page : ℕ) → page_at (runs_with place run runs) page ≡ with_span run.first run.pages run.index run.value (page_at runs) page
   page_at-placed runs place run room page = page_at-inserted place run runs page room.before
 
 module _ {T : Type 0} (same : T → T → Bool) (exact : (a b : T) → same a b ≡ true → a ≡ b) (itself : (a : T) → same a a ≡ true) where
   pub placed-put : (now inside seen other new : List (Run T)) (pieces : Pieces T) (run : Run T) (place from to limit : ℕ) → inside ≡ now → seen ≡ inside → other ≡ inside → from ≡ place - 1 → to ≡ min (length now) (place + 1)
       → HasRoom now place run.first (run.first + (run.pages - 1))
       → Gathered same pieces (([] ++ slice_range seen from place ++ run ∷ []) ++ slice_range other place to)
-      → ((added : List (Run T)) → Gathered same pieces added → (new ≡ splice inside from to (joined same added)) × (length (splice inside from to (joined same added)) ≤ limit))
-      → (new ≡ joined same (inserted place run now)) × (length new ≤ limit)
+      → ((added : List (Run T)) → Gathered same pieces added → (new ≡ splice inside from to (maximal_runs same added)) × (length (splice inside from to (maximal_runs same added)) ≤ limit))
+      → (new ≡ maximal_runs same (runs_with place run now)) × (length new ≤ limit)
   placed-put now inside seen other new pieces run place from to limit a b b' e f room gathered put =
       let M = ([] ++ slice_range seen from place ++ run ∷ []) ++ slice_range other place to in
       let done = put M gathered in
-      let here : splice inside from to (joined same M) ≡ joined same (inserted place run now) =
+      let here : splice inside from to (maximal_runs same M) ≡ maximal_runs same (runs_with place run now) =
       rw (b, b', a, e, f) (inserted-window same exact itself run now place room.maximal room.within) in
       (done.0 ∙ here, omega (arith, done.1, ap length done.0))
 
   pub placed-refused : (now inside seen other : List (Run T)) (pieces : Pieces T) (run : Run T) (place from to limit : ℕ) (refusal : RangeFault) → inside ≡ now → seen ≡ inside → other ≡ inside → from ≡ place - 1 → to ≡ min (length now) (place + 1)
       → HasRoom now place run.first (run.first + (run.pages - 1))
       → Gathered same pieces (([] ++ slice_range seen from place ++ run ∷ []) ++ slice_range other place to)
-      → ((added : List (Run T)) → Gathered same pieces added → refusal ≡ (if nat_lt limit (length (splice inside from to (joined same added))) then TooManyRanges else NoMemory))
-      → refusal ≡ (if nat_lt limit (length (joined same (inserted place run now))) then TooManyRanges else NoMemory)
+      → ((added : List (Run T)) → Gathered same pieces added → refusal ≡ (if nat_lt limit (length (splice inside from to (maximal_runs same added))) then TooManyRanges else NoMemory))
+      → refusal ≡ (if nat_lt limit (length (maximal_runs same (runs_with place run now))) then TooManyRanges else NoMemory)
   placed-refused now inside seen other pieces run place from to limit refusal a b b' e f room gathered put =
       let M = ([] ++ slice_range seen from place ++ run ∷ []) ++ slice_range other place to in
-      let here : splice inside from to (joined same M) ≡ joined same (inserted place run now) =
+      let here : splice inside from to (maximal_runs same M) ≡ maximal_runs same (runs_with place run now) =
       rw (b, b', a, e, f) (inserted-window same exact itself run now place room.maximal room.within) in
       put M gathered ∙ ap (λ l. if nat_lt limit (length l) then TooManyRanges else NoMemory) here

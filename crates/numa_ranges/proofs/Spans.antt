@@ -11,7 +11,7 @@ use Rattle.std.proofs.lemmas.List.{get_or-drop, get_or-take}
 use Rattle.numa_ranges.specs.Runs.{in_pages, page_at, AreApart, AreMaximal}
 use Rattle.numa_ranges.specs.Counts.{range_count}
 use Rattle.numa_ranges.specs.Maps.{IsRefusal, changed_page, changed_span, without_span, count_refusal}
-use Rattle.numa_ranges.specs.Edits.{IsInRange, edited, joined, edited_span, edited_page}
+use Rattle.numa_ranges.specs.Edits.{IsInRange, edit_of, maximal_runs, edited_span, edited_page}
 use Rattle.numa_ranges.specs.declared.run.Run.{Run}
 use Rattle.numa_ranges.proofs.Apart.{apart-bounds}
 use Rattle.numa_ranges.proofs.Joined.{page_at-joined, apart-joined, maximal-joined}
@@ -26,23 +26,23 @@ module _ {T : Type 0} where
       subst IsInRange (sym same) (record { end = bounds.0; index = bounds.1 })
 
 module _ {T : Type 0} (same : T → T → Bool) (exact : (a b : T) → same a b ≡ true → a ≡ b) (itself : (a : T) → same a a ≡ true) where
-  pub apart-joined-all : (runs : List (Run T)) → AreApart 0 runs → AreApart 0 (joined same runs)
+  pub apart-joined-all : (runs : List (Run T)) → AreApart 0 runs → AreApart 0 (maximal_runs same runs)
   apart-joined-all [] apart = apart
   apart-joined-all (run ∷ runs) apart = apart-joined same exact itself 0 runs run apart
 
-  pub maximal-joined-all : (runs : List (Run T)) → AreMaximal (joined same runs)
+  pub maximal-joined-all : (runs : List (Run T)) → AreMaximal (maximal_runs same runs)
   maximal-joined-all [] = tt
   maximal-joined-all (run ∷ runs) = maximal-joined same exact itself runs run
 
-  pub page_at-joined-all : (runs : List (Run T)) (page : ℕ) → page_at (joined same runs) page ≡ page_at runs page
+  pub page_at-joined-all : (runs : List (Run T)) (page : ℕ) → page_at (maximal_runs same runs) page ≡ page_at runs page
   page_at-joined-all [] page = refl
   page_at-joined-all (run ∷ runs) page = page_at-joined same exact itself runs run page
 
   -- runs that say what a map says are as many as its maximal ranges, once joined
-  pub count-joined : (runs : List (Run T)) (at : ℕ → Option (ℕ × T)) → AreApart 0 runs → ((page : ℕ) → page_at runs page ≡ at page) → range_count same at ≡ length (joined same runs)
+  pub count-joined : (runs : List (Run T)) (at : ℕ → Option (ℕ × T)) → AreApart 0 runs → ((page : ℕ) → page_at runs page ≡ at page) → range_count same at ≡ length (maximal_runs same runs)
   count-joined runs at apart says =
-      let whole : page_at (joined same runs) ≡ at = λ i page. (page_at-joined-all runs page ∙ says page) i in
-      ap (range_count same) (sym whole) ∙ range_count-length same exact itself (joined same runs) (apart-joined-all runs apart) (maximal-joined-all runs)
+      let whole : page_at (maximal_runs same runs) ≡ at = λ i page. (page_at-joined-all runs page ∙ says page) i in
+      ap (range_count same) (sym whole) ∙ range_count-length same exact itself (maximal_runs same runs) (apart-joined-all runs apart) (maximal-joined-all runs)
 
   -- what an edit of a span has to show where it is accepted
   pub record Stands (runs new : List (Run T)) (at : ℕ → Option (ℕ × T)) (limit : ℕ) : Type 0 where
@@ -52,9 +52,9 @@ module _ {T : Type 0} (same : T → T → Bool) (exact : (a b : T) → same a b 
     pub page : (page : ℕ) → page_at new page ≡ at page
     pub accepted : count_refusal same limit at ≡ None
 
-  pub stands-joined : (runs edited_runs new : List (Run T)) (at : ℕ → Option (ℕ × T)) (limit : ℕ) → AreApart 0 edited_runs → ((page : ℕ) → page_at edited_runs page ≡ at page) → new ≡ joined same edited_runs → length new ≤ limit → Stands runs new at limit
+  pub stands-joined : (runs edited_runs new : List (Run T)) (at : ℕ → Option (ℕ × T)) (limit : ℕ) → AreApart 0 edited_runs → ((page : ℕ) → page_at edited_runs page ≡ at page) → new ≡ maximal_runs same edited_runs → length new ≤ limit → Stands runs new at limit
   stands-joined runs edited_runs new at limit apart says is fits =
-      let count : range_count same at ≡ length (joined same edited_runs) = count-joined edited_runs at apart says in
+      let count : range_count same at ≡ length (maximal_runs same edited_runs) = count-joined edited_runs at apart says in
       let few : nat_lt limit (range_count same at) ≡ false = le-ltb _ _ (omega (arith, count, ap length is)) in
       record {
         apart = subst (AreApart 0) (sym is) (apart-joined-all edited_runs apart);
@@ -64,7 +64,7 @@ module _ {T : Type 0} (same : T → T → Bool) (exact : (a b : T) → same a b 
         accepted = rw few refl;
       }
 
-  pub refused-joined : (edited_runs whole : List (Run T)) (at : ℕ → Option (ℕ × T)) (limit : ℕ) (refusal : RangeFault) → AreApart 0 edited_runs → ((page : ℕ) → page_at edited_runs page ≡ at page) → whole ≡ joined same edited_runs
+  pub refused-joined : (edited_runs whole : List (Run T)) (at : ℕ → Option (ℕ × T)) (limit : ℕ) (refusal : RangeFault) → AreApart 0 edited_runs → ((page : ℕ) → page_at edited_runs page ≡ at page) → whole ≡ maximal_runs same edited_runs
       → refusal ≡ (if nat_lt limit (length whole) then TooManyRanges else NoMemory) → IsRefusal (count_refusal same limit at) refusal
   refused-joined edited_runs whole at limit refusal apart says is cause =
       let count : length whole ≡ range_count same at = ap length is ∙ sym (count-joined edited_runs at apart says) in
@@ -77,25 +77,25 @@ module _ {T : Type 0} (same : T → T → Bool) (exact : (a b : T) → same a b 
 
   -- the window of an edit, put in its place
   pub window-put : (now inside seen new : List (Run T)) (pieces : Pieces T) (from to first end limit : ℕ) (edit : T → Option T) → inside ≡ now → seen ≡ inside
-      → Gathered same pieces (edited first end edit (slice_range seen from to))
-      → splice now from to (joined same (edited first end edit (slice_range now from to))) ≡ joined same (edited first end edit now)
-      → ((added : List (Run T)) → Gathered same pieces added → (new ≡ splice inside from to (joined same added)) × (length (splice inside from to (joined same added)) ≤ limit))
-      → (new ≡ joined same (edited first end edit now)) × (length new ≤ limit)
+      → Gathered same pieces (edit_of first end edit (slice_range seen from to))
+      → splice now from to (maximal_runs same (edit_of first end edit (slice_range now from to))) ≡ maximal_runs same (edit_of first end edit now)
+      → ((added : List (Run T)) → Gathered same pieces added → (new ≡ splice inside from to (maximal_runs same added)) × (length (splice inside from to (maximal_runs same added)) ≤ limit))
+      → (new ≡ maximal_runs same (edit_of first end edit now)) × (length new ≤ limit)
   window-put now inside seen new pieces from to first end limit edit a b gathered whole put =
-      let W = edited first end edit (slice_range now from to) in
-      let here : edited first end edit (slice_range seen from to) ≡ W = ap (λ l. edited first end edit (slice_range l from to)) (b ∙ a) in
+      let W = edit_of first end edit (slice_range now from to) in
+      let here : edit_of first end edit (slice_range seen from to) ≡ W = ap (λ l. edit_of first end edit (slice_range l from to)) (b ∙ a) in
       let done = put W (subst (Gathered same pieces) here gathered) in
-      (done.0 ∙ ap (λ l. splice l from to (joined same W)) a ∙ whole, omega (arith, done.1, ap length done.0))
+      (done.0 ∙ ap (λ l. splice l from to (maximal_runs same W)) a ∙ whole, omega (arith, done.1, ap length done.0))
 
   pub window-refused : (now inside seen : List (Run T)) (pieces : Pieces T) (from to first end limit : ℕ) (refusal : RangeFault) (edit : T → Option T) → inside ≡ now → seen ≡ inside
-      → Gathered same pieces (edited first end edit (slice_range seen from to))
-      → splice now from to (joined same (edited first end edit (slice_range now from to))) ≡ joined same (edited first end edit now)
-      → ((added : List (Run T)) → Gathered same pieces added → refusal ≡ (if nat_lt limit (length (splice inside from to (joined same added))) then TooManyRanges else NoMemory))
-      → refusal ≡ (if nat_lt limit (length (joined same (edited first end edit now))) then TooManyRanges else NoMemory)
+      → Gathered same pieces (edit_of first end edit (slice_range seen from to))
+      → splice now from to (maximal_runs same (edit_of first end edit (slice_range now from to))) ≡ maximal_runs same (edit_of first end edit now)
+      → ((added : List (Run T)) → Gathered same pieces added → refusal ≡ (if nat_lt limit (length (splice inside from to (maximal_runs same added))) then TooManyRanges else NoMemory))
+      → refusal ≡ (if nat_lt limit (length (maximal_runs same (edit_of first end edit now))) then TooManyRanges else NoMemory)
   window-refused now inside seen pieces from to first end limit refusal edit a b gathered whole put =
-      let W = edited first end edit (slice_range now from to) in
-      let here : edited first end edit (slice_range seen from to) ≡ W = ap (λ l. edited first end edit (slice_range l from to)) (b ∙ a) in
-      put W (subst (Gathered same pieces) here gathered) ∙ ap (λ l. if nat_lt limit (length l) then TooManyRanges else NoMemory) (ap (λ l. splice l from to (joined same W)) a ∙ whole)
+      let W = edit_of first end edit (slice_range now from to) in
+      let here : edit_of first end edit (slice_range seen from to) ≡ W = ap (λ l. edit_of first end edit (slice_range l from to)) (b ∙ a) in
+      put W (subst (Gathered same pieces) here gathered) ∙ ap (λ l. if nat_lt limit (length l) then TooManyRanges else NoMemory) (ap (λ l. splice l from to (maximal_runs same W)) a ∙ whole)
 
 module _ {T : Type 0} where
   pub without-is : (first pages : ℕ) (at : ℕ → Option (ℕ × T)) → edited_span first pages (λ value. None) at ≡ without_span first pages at

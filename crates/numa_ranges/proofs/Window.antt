@@ -5,7 +5,7 @@ use Rattle.std.proofs.lemmas.Bool.{cases_lt, lt-ltb, le-ltb}
 use Rattle.std.proofs.lemmas.List.{drop_all, take_more, drop_more, drop-drop, take-append-drop, get_or-drop, length-take}
 use Rattle.std.proofs.lemmas.List.Concat.{flat_map-append}
 use Rattle.numa_ranges.specs.Runs.{AreApart, AreMaximal, end_of}
-use Rattle.numa_ranges.specs.Edits.{Each, StartsAround, edited, parts, part_within, joined}
+use Rattle.numa_ranges.specs.Edits.{Each, StartsAround, edit_of, parts, part_within, maximal_runs}
 use Rattle.numa_ranges.specs.declared.run.Run.{Run}
 use Rattle.numa_ranges.proofs.Apart.{apart-from}
 use Rattle.numa_ranges.proofs.Cut.{parts-below, parts-above}
@@ -55,16 +55,16 @@ module _ {T : Type 0} where
       ((apart.1, later 0 run (omega arith) (omega arith)), starts-behind (end_of run) runs zero page apart.3 (λ k d low high. later (suc k) d (omega arith) (omega arith)))
   starts-behind from (run ∷ runs) (suc place) page apart later = starts-behind (end_of run) runs place page apart.3 (λ k d low high. later (suc k) d (omega arith) (omega arith))
 
-  pub edited-below : (first end : ℕ) (edit : T → Option T) (runs : List (Run T)) → first ≤ end → Each (λ run. (0 < run.pages) × (end_of run ≤ first)) runs → edited first end edit runs ≡ runs
+  pub edited-below : (first end : ℕ) (edit : T → Option T) (runs : List (Run T)) → first ≤ end → Each (λ run. (0 < run.pages) × (end_of run ≤ first)) runs → edit_of first end edit runs ≡ runs
   edited-below first end edit [] le below = refl
   edited-below first end edit (run ∷ runs) le below =
-      ap (λ l. l ++ edited first end edit runs) (parts-below first end edit run le below.0.0 below.0.1) ∙ ap (λ l. run ∷ l) (edited-below first end edit runs le below.1)
+      ap (λ l. l ++ edit_of first end edit runs) (parts-below first end edit run le below.0.0 below.0.1) ∙ ap (λ l. run ∷ l) (edited-below first end edit runs le below.1)
 
-  pub edited-above : (first end : ℕ) (edit : T → Option T) (runs : List (Run T)) → first ≤ end → Each (λ run. (0 < run.pages) × (end < run.first)) runs → edited first end edit runs ≡ runs
+  pub edited-above : (first end : ℕ) (edit : T → Option T) (runs : List (Run T)) → first ≤ end → Each (λ run. (0 < run.pages) × (end < run.first)) runs → edit_of first end edit runs ≡ runs
   edited-above first end edit [] le above = refl
   edited-above first end edit (run ∷ runs) le above =
       let here : end < run.first = above.0.1 in
-      ap (λ l. l ++ edited first end edit runs) (parts-above first end edit run le above.0.0 (omega arith)) ∙ ap (λ l. run ∷ l) (edited-above first end edit runs le above.1)
+      ap (λ l. l ++ edit_of first end edit runs) (parts-above first end edit run le above.0.0 (omega arith)) ∙ ap (λ l. run ∷ l) (edited-above first end edit runs le above.1)
 
   pub Each-take-le : (P : Run T → Type 0) (m n : ℕ) (runs : List (Run T)) → m ≤ n → Each P (take n runs) → Each P (take m runs)
   Each-take-le P zero n runs le all = tt
@@ -96,7 +96,7 @@ module _ {T : Type 0} where
 
 module _ {T : Type 0} (same : T → T → Bool) (exact : (a b : T) → same a b ≡ true → a ≡ b) (itself : (a : T) → same a a ≡ true) where
   left-seam : (run : Run T) (runs : List (Run T)) (lo first end to : ℕ) (edit : T → Option T) → AreApart 0 (run ∷ runs) → AreMaximal (run ∷ runs) → first ≤ end → lo ≤ length (run ∷ runs) → StartsAround (run ∷ runs) lo first → lo ≤ to → to ≤ length (run ∷ runs)
-      → Each (λ r. (0 < r.pages) × (end_of r ≤ first)) (take (lo - 2) (run ∷ runs)) × LeftSeam same exact itself (take (lo - 2) (run ∷ runs)) (edited first end edit (slice_range (run ∷ runs) (lo - 2) to))
+      → Each (λ r. (0 < r.pages) × (end_of r ≤ first)) (take (lo - 2) (run ∷ runs)) × LeftSeam same exact itself (take (lo - 2) (run ∷ runs)) (edit_of first end edit (slice_range (run ∷ runs) (lo - 2) to))
   left-seam run runs lo first end to edit apart maximal le within low behind top =
       let all = run ∷ runs in
       elim (cases_lt lo 2) [
@@ -110,16 +110,16 @@ module _ {T : Type 0} (same : T → T → Bool) (exact : (a b : T) → same a b 
             let before = get_or all from run in
             let here = each-at (λ r. (0 < r.pages) × (end_of r ≤ first)) all (lo - 1) from run ends (omega arith) (omega arith) in
             let whole : parts first end edit before ≡ before ∷ [] = parts-below first end edit before le here.0 here.1 in
-            let opens : edited first end edit (slice_range all from to) ≡ before ∷ edited first end edit (slice_range all (from + 1) to) =
-            ap (edited first end edit) (window-first all from to run (omega arith) top) ∙ ap (λ l. l ++ edited first end edit (slice_range all (from + 1) to)) whole in
+            let opens : edit_of first end edit (slice_range all from to) ≡ before ∷ edit_of first end edit (slice_range all (from + 1) to) =
+            ap (edit_of first end edit) (window-first all from to run (omega arith) top) ∙ ap (λ l. l ++ edit_of first end edit (slice_range all (from + 1) to)) whole in
             let around : all ≡ take from all ++ before ∷ drop (from + 1) all = sym (take-append-drop from all) ∙ ap (λ l. take from all ++ l) (drop_more all from run (omega arith)) in (
               Each-take-le (λ r. (0 < r.pages) × (end_of r ≤ first)) from (lo - 1) all (omega arith) ends,
-              inr (before, edited first end edit (slice_range all (from + 1) to), opens, maximal-front (take from all) before (drop (from + 1) all) (subst AreMaximal around maximal)),
+              inr (before, edit_of first end edit (slice_range all (from + 1) to), opens, maximal-front (take from all) before (drop (from + 1) all) (subst AreMaximal around maximal)),
             )
       ]
 
   right-seam : (run : Run T) (runs : List (Run T)) (hi first end from : ℕ) (edit : T → Option T) → AreApart 0 (run ∷ runs) → AreMaximal (run ∷ runs) → first ≤ end → StartsAround (run ∷ runs) hi end → from ≤ hi
-      → Each (λ r. (0 < r.pages) × (end < r.first)) (drop (min (length (run ∷ runs)) (hi + 1)) (run ∷ runs)) × RightSeam same exact itself (edited first end edit (slice_range (run ∷ runs) from (min (length (run ∷ runs)) (hi + 1)))) (drop (min (length (run ∷ runs)) (hi + 1)) (run ∷ runs))
+      → Each (λ r. (0 < r.pages) × (end < r.first)) (drop (min (length (run ∷ runs)) (hi + 1)) (run ∷ runs)) × RightSeam same exact itself (edit_of first end edit (slice_range (run ∷ runs) from (min (length (run ∷ runs)) (hi + 1)))) (drop (min (length (run ∷ runs)) (hi + 1)) (run ∷ runs))
   right-seam run runs hi first end from edit apart maximal le high below =
       let all = run ∷ runs in
       elim (cases_lt hi (length all)) [
@@ -137,15 +137,15 @@ module _ {T : Type 0} (same : T → T → Bool) (exact : (a b : T) → same a b 
             let whole : parts first end edit last ≡ last ∷ [] = parts-above first end edit last le here.0.0 (omega arith) in
             let back : hi + 1 - 1 ≡ hi = omega arith in
             let cut : slice_range all from (hi + 1) ≡ slice_range all from hi ++ last ∷ [] = window-last all from (hi + 1) run (omega arith) (omega arith) ∙ ap (λ n. slice_range all from n ++ get_or all n run ∷ []) back in
-            let closes : edited first end edit (slice_range all from (hi + 1)) ≡ edited first end edit (slice_range all from hi) ++ last ∷ [] =
-            ap (edited first end edit) cut ∙ flat_map-append (parts first end edit) (slice_range all from hi) (last ∷ []) ∙ ap (λ l. edited first end edit (slice_range all from hi) ++ l) (append-nil _ ∙ whole) in
+            let closes : edit_of first end edit (slice_range all from (hi + 1)) ≡ edit_of first end edit (slice_range all from hi) ++ last ∷ [] =
+            ap (edit_of first end edit) cut ∙ flat_map-append (parts first end edit) (slice_range all from hi) (last ∷ []) ∙ ap (λ l. edit_of first end edit (slice_range all from hi) ++ l) (append-nil _ ∙ whole) in
             let split : all ≡ take hi all ++ last ∷ drop (hi + 1) all = sym (take-append-drop hi all) ∙ ap (λ l. take hi all ++ l) opens in
-            rw top (here.1, inr (edited first end edit (slice_range all from hi), last, closes, maximal-back (take hi all) (last ∷ drop (hi + 1) all) (subst AreMaximal split maximal)))
+            rw top (here.1, inr (edit_of first end edit (slice_range all from hi), last, closes, maximal-back (take hi all) (last ∷ drop (hi + 1) all) (subst AreMaximal split maximal)))
       ]
 
   -- an edit of a span, joined, changes only a window of the runs
   pub edited-window : (runs : List (Run T)) (lo hi first end : ℕ) (edit : T → Option T) → AreApart 0 runs → AreMaximal runs → first ≤ end → lo ≤ length runs → StartsAround runs lo first → hi ≤ length runs → StartsAround runs hi end
-      → splice runs (lo - 2) (min (length runs) (hi + 1)) (joined same (edited first end edit (slice_range runs (lo - 2) (min (length runs) (hi + 1))))) ≡ joined same (edited first end edit runs)
+      → splice runs (lo - 2) (min (length runs) (hi + 1)) (maximal_runs same (edit_of first end edit (slice_range runs (lo - 2) (min (length runs) (hi + 1))))) ≡ maximal_runs same (edit_of first end edit runs)
   edited-window [] lo hi first end edit apart maximal le within low within' high =
       let a : lo - 2 ≡ 0 = omega arith in
       let b : min 0 (hi + 1) ≡ 0 = omega arith in
@@ -157,18 +157,18 @@ module _ {T : Type 0} (same : T → T → Bool) (exact : (a b : T) → same a b 
       let rises : lo ≤ hi = places-rise all lo hi first end le within low high in
       let left = left-seam run runs lo first end to edit apart maximal le within low (omega arith) (omega arith) in
       let right = right-seam run runs hi first end from edit apart maximal le high (omega arith) in
-      let W = edited first end edit (slice_range all from to) in
-      let whole : edited first end edit all ≡ take from all ++ (W ++ drop to all) =
-      ap (edited first end edit) (around all from to (omega arith))
+      let W = edit_of first end edit (slice_range all from to) in
+      let whole : edit_of first end edit all ≡ take from all ++ (W ++ drop to all) =
+      ap (edit_of first end edit) (around all from to (omega arith))
       ∙ flat_map-append (parts first end edit) (take from all) (slice_range all from to ++ drop to all)
-      ∙ ap (λ l. edited first end edit (take from all) ++ l) (flat_map-append (parts first end edit) (slice_range all from to) (drop to all))
-      ∙ ap (λ l. l ++ (W ++ edited first end edit (drop to all))) (edited-below first end edit (take from all) le left.0)
+      ∙ ap (λ l. edit_of first end edit (take from all) ++ l) (flat_map-append (parts first end edit) (slice_range all from to) (drop to all))
+      ∙ ap (λ l. l ++ (W ++ edit_of first end edit (drop to all))) (edited-below first end edit (take from all) le left.0)
       ∙ ap (λ l. take from all ++ (W ++ l)) (edited-above first end edit (drop to all) le right.0) in
       let seam : LeftSeam same exact itself (take from all) (W ++ drop to all) = elim left.1 [
         | inl none ↦ inl none
         | inr h ↦ inr (h.0, h.1 ++ drop to all, ap (λ l. l ++ drop to all) h.2, h.3)
       ] in
-      sym (ap (joined same) whole
+      sym (ap (maximal_runs same) whole
       ∙ joined-before same exact itself (take from all) (W ++ drop to all) seam
       ∙ ap (λ l. take from all ++ l) (joined-after same exact itself W (drop to all) right.1))
 
@@ -187,8 +187,8 @@ module _ {T : Type 0} where
         | inr none ↦ rw (le-ltb _ _ none) refl
       ]
 
-  pub edited-more : (first end : ℕ) (edit : T → Option T) (runs : List (Run T)) (i : ℕ) (run : Run T) → i < length runs → run ≡ get_or runs i run → edited first end edit (take (i + 1) runs) ≡ edited first end edit (take i runs) ++ parts first end edit run
+  pub edited-more : (first end : ℕ) (edit : T → Option T) (runs : List (Run T)) (i : ℕ) (run : Run T) → i < length runs → run ≡ get_or runs i run → edit_of first end edit (take (i + 1) runs) ≡ edit_of first end edit (take i runs) ++ parts first end edit run
   edited-more first end edit runs i run within is =
-      ap (edited first end edit) (take_more runs i run within)
+      ap (edit_of first end edit) (take_more runs i run within)
       ∙ flat_map-append (parts first end edit) (take i runs) (get_or runs i run ∷ [])
-      ∙ ap (λ l. edited first end edit (take i runs) ++ l) (append-nil _ ∙ ap (parts first end edit) (sym is))
+      ∙ ap (λ l. edit_of first end edit (take i runs) ++ l) (append-nil _ ∙ ap (parts first end edit) (sym is))

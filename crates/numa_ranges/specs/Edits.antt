@@ -31,8 +31,8 @@ joins same run next = (next.first == end_of run)
     && ((next.index == run.index + run.pages) && same run.value next.value)
 
 -- a run, with the pages of one that continues it
-abbrev pub grown : {T : Type 0} → Run T → Run T → Run T
-grown run next = record {
+abbrev pub run_and_next : {T : Type 0} → Run T → Run T → Run T
+run_and_next run next = record {
   first = run.first;
   pages = run.pages + next.pages;
   index = run.index;
@@ -43,17 +43,17 @@ grown run next = record {
 abbrev pub joined_from : {T : Type 0} → (T → T → Bool) → List (Run T) → Run T → List (Run T)
 joined_from same [] run = run ∷ []
 joined_from same (next ∷ runs) run = if joins same run next
-    then joined_from same runs (grown run next) else run ∷ joined_from same runs next
+    then joined_from same runs (run_and_next run next) else run ∷ joined_from same runs next
 
 -- the runs, each that continues the one before it joined to that
-abbrev pub joined : {T : Type 0} → (T → T → Bool) → List (Run T) → List (Run T)
-joined same [] = []
-joined same (run ∷ runs) = joined_from same runs run
+abbrev pub maximal_runs : {T : Type 0} → (T → T → Bool) → List (Run T) → List (Run T)
+maximal_runs same [] = []
+maximal_runs same (run ∷ runs) = joined_from same runs run
 
 -- the runs behind one that is still open, if one is
 abbrev pub joined_after : {T : Type 0} → (T → T → Bool) → Option (Run T) → List (Run T)
     → List (Run T)
-joined_after same None runs = joined same runs
+joined_after same None runs = maximal_runs same runs
 joined_after same (Some open_run) runs = joined_from same runs open_run
 
 -- the part of a run before a page
@@ -100,16 +100,16 @@ parts first end edit run = part_before first run
     ++ (part_within first end edit run ++ part_from end run)
 
 -- the runs, edited in a span and not joined
-abbrev pub edited : {T : Type 0} → ℕ → ℕ → (T → Option T) → List (Run T) → List (Run T)
-edited first end edit runs = flat_map (parts first end edit) runs
+abbrev pub edit_of : {T : Type 0} → ℕ → ℕ → (T → Option T) → List (Run T) → List (Run T)
+edit_of first end edit runs = flat_map (parts first end edit) runs
 
 -- the runs with one put in before a place
-abbrev pub inserted : {T : Type 0} → ℕ → Run T → List (Run T) → List (Run T)
-inserted place run runs = take place runs ++ run ∷ drop place runs
+abbrev pub runs_with : {T : Type 0} → ℕ → Run T → List (Run T) → List (Run T)
+runs_with place run runs = take place runs ++ run ∷ drop place runs
 
 -- a run with a changed value
-abbrev pub revalued : {T : Type 0} → (T → T) → Run T → Run T
-revalued change run = record {
+abbrev pub with_new_value : {T : Type 0} → (T → T) → Run T → Run T
+with_new_value change run = record {
   first = run.first;
   pages = run.pages;
   index = run.index;

@@ -5,9 +5,9 @@ use Rattle.numa_ranges.specs.declared.run.Run.{Run}
 use Rattle.numa_ranges.specs.declared.row.Row.{Row}
 
 -- the run of a row, if it has a value
-abbrev pub valued : {T : Type 0} → Row → Option T → List (Run T)
-valued row None = []
-valued row (Some value) = record {
+abbrev pub run_of_row : {T : Type 0} → Row → Option T → List (Run T)
+run_of_row row None = []
+run_of_row row (Some value) = record {
   first = row.first;
   pages = row.pages;
   index = row.index;
@@ -16,7 +16,7 @@ valued row (Some value) = record {
 
 -- the run of a row with the value that stands under the row's number
 abbrev pub run_of : {T : Type 0} → List T → Row → List (Run T)
-run_of values row = valued row (slice_get values row.number)
+run_of values row = run_of_row row (slice_get values row.number)
 
 -- the runs of rows
 abbrev pub runs_of : {T : Type 0} → List T → List Row → List (Run T)

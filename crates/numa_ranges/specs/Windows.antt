@@ -20,8 +20,8 @@ abbrev pub met : {T : Type 0} → ℕ → ℕ → List (Run T) → ℕ
 met first end runs = count_by (meets first end) runs
 
 -- how many runs begin in the span
-abbrev pub begun : {T : Type 0} → ℕ → ℕ → List (Run T) → ℕ
-begun first end runs = count_by (begins_in first end) runs
+abbrev pub starts_in : {T : Type 0} → ℕ → ℕ → List (Run T) → ℕ
+starts_in first end runs = count_by (begins_in first end) runs
 
 -- the places of the runs that meet the span or stand right beside it: those before `from` end
 -- before its first page, and those from `to` on begin behind its end

@@ -3,7 +3,7 @@ ghost use Rattle.std.specs.Prelude.{◌≡◌, ◌+◌, ◌*◌, ◌<◌, ◌≤
 ghost use Rattle.std.specs.Prelude.{Option, All};
 ghost use Rattle.numa_rows.specs.Changes.{Makes};
 ghost use Rattle.numa_ranges.specs.Edits.{IsInRange, part_before, part_within, part_from, parts};
-ghost use Rattle.numa_ranges.specs.Edits.{edited};
+ghost use Rattle.numa_ranges.specs.Edits.{edit_of};
 ghost use Rattle.numa_ranges.specs.Gathered.{Gathered};
 
 use crate::exact::Exact;
@@ -26,7 +26,7 @@ pub(crate) fn gather_edited<T: Exact, F: Fn(&T) -> Option<T>>(
     requires len { count ≤ 2 ^ 32 }
     requires in_range { All IsInRange (take count rest.old) }
     ensures gathered { (change : T → Option T) → Makes F.Fn edit.now change
-        → Gathered T.eq result (edited first end change (take count rest.old)) }
+        → Gathered T.eq result (edit_of first end change (take count rest.old)) }
     ensures count { result.count ≤ 3 * count }
 {
     let mut pieces = Pieces::new(alloc, count + 2);

@@ -1,7 +1,7 @@
 //! Runs that are joined where they stand.
 ghost use Rattle.std.specs.Prelude.{◌≡◌, ◌<◌, length, slice_get, slice_set, slice_index_or, Some};
 ghost use Rattle.std.specs.Prelude.{All, take};
-ghost use Rattle.numa_ranges.specs.Edits.{IsInRange, joined};
+ghost use Rattle.numa_ranges.specs.Edits.{IsInRange, maximal_runs};
 ghost use Rattle.numa_ranges.specs.Numbered.{AreNumbered, run_of, runs_of};
 
 use crate::exact::Exact;
@@ -14,7 +14,7 @@ pub(crate) fn join_in_place<T: Exact>(rows: &mut Rows<Row, Owned<Row>>, values: 
     requires numbered { AreNumbered values.now rows.old }
     requires in_range { All IsInRange (runs_of values.now rows.old) }
     ensures numbered { AreNumbered values.now rows.new }
-    ensures joined { runs_of values.now rows.new ≡ joined T.eq (runs_of values.now rows.old) }
+    ensures joined { runs_of values.now rows.new ≡ maximal_runs T.eq (runs_of values.now rows.old) }
 {
     if rows.is_empty() {
         return;

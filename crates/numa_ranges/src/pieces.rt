@@ -24,7 +24,7 @@ pub(crate) struct Pieces<T> {
 impl<T: Exact> Pieces<T> {
     ghost use Rattle.std.specs.Prelude.{◌≡◌, ◌+◌, ◌<◌, ◌≤◌, ◌^◌, List, [], ◌∷◌, ◌++◌, length, OnOk};
     ghost use Rattle.std.specs.Prelude.{OnErr, IfErr, false, if◌then◌else◌, nat_lt};
-    ghost use Rattle.numa_ranges.specs.Edits.{IsInRange, joined};
+    ghost use Rattle.numa_ranges.specs.Edits.{IsInRange, maximal_runs};
     ghost use Rattle.numa_ranges.specs.Gathered.{Gathered};
     ghost use Rattle.std.specs.List.{splice};
     ghost use Rattle.numa_ranges.specs.declared.fault.RangeFault.TheVariants.{TooManyRanges};
@@ -73,9 +73,9 @@ impl<T: Exact> Pieces<T> {
     fn seal(&mut self)
         requires room { self.old.count < 2 ^ 63 }
         ensures count { (added : List (Run T)) → Gathered T.eq self.old added
-            → self.new.count ≡ length (joined T.eq added) }
+            → self.new.count ≡ length (maximal_runs T.eq added) }
         ensures closed { (added : List (Run T)) → Gathered T.eq self.old added
-            → self.new.is_refused ≡ false → self.new.closed.items ≡ joined T.eq added }
+            → self.new.is_refused ≡ false → self.new.closed.items ≡ maximal_runs T.eq added }
         ensures bound { self.new.count ≤ self.old.count + 1 }
     {
         if let Some(last) = self.open_run {
@@ -97,11 +97,11 @@ impl<T: Exact> Pieces<T> {
         requires window { (from ≤ to) × (to ≤ length runs.old) }
         requires room { self.count < 2 ^ 62 }
         ensures ok { (added : List (Run T)) → Gathered T.eq self added
-            → OnOk result ((runs.new ≡ splice runs.old from to (joined T.eq added))
-            × (length (splice runs.old from to (joined T.eq added)) ≤ limit)) }
+            → OnOk result ((runs.new ≡ splice runs.old from to (maximal_runs T.eq added))
+            × (length (splice runs.old from to (maximal_runs T.eq added)) ≤ limit)) }
         ensures err { (added : List (Run T)) → Gathered T.eq self added
             → IfErr result (λ refusal. refusal
-            ≡ (if nat_lt limit (length (splice runs.old from to (joined T.eq added)))
+            ≡ (if nat_lt limit (length (splice runs.old from to (maximal_runs T.eq added)))
             then TooManyRanges else NoMemory)) }
         ensures unchanged { OnErr result (runs.new ≡ runs.old) }
     {

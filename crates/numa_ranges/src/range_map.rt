@@ -10,7 +10,7 @@ ghost use Rattle.numa_rows.specs.Changes.{Makes};
 ghost use Rattle.numa_ranges.specs.Maps.{Shows, IsRefusal, any_page, with_span, without_span};
 ghost use Rattle.numa_ranges.specs.Maps.{changed_page, changed_span, count_refusal, map_refusal};
 ghost use Rattle.numa_ranges.specs.Maps.{set_refusal};
-ghost use Rattle.numa_ranges.specs.Edits.{StartsAround, joined, edited, HoldsPage, HasRoom};
+ghost use Rattle.numa_ranges.specs.Edits.{StartsAround, maximal_runs, edit_of, HoldsPage, HasRoom};
 ghost use Rattle.numa_ranges.specs.Edits.{Becomes, edited_span};
 ghost use Rattle.numa_ranges.specs.Numbered.{AreNumbered, runs_of};
 
@@ -405,8 +405,9 @@ impl<T: Exact> RangeMap<T> {
         ensures within { result.1 ≤ length self.now.runs }
         ensures whole { (change : T → Option T)
             → splice self.now.runs result.0 result.1
-            (joined T.eq (edited first end change (slice_range self.now.runs result.0 result.1)))
-            ≡ joined T.eq (edited first end change self.now.runs) }
+            (maximal_runs T.eq
+            (edit_of first end change (slice_range self.now.runs result.0 result.1)))
+            ≡ maximal_runs T.eq (edit_of first end change self.now.runs) }
     {
         let from = place.saturating_sub(2);
         let to = self

@@ -4,7 +4,7 @@ ghost use Rattle.std.specs.Prelude.{slice_index_or, IfSome, IfOk, OnOk, OnErr};
 ghost use Rattle.std.specs.List.{splice};
 ghost use Rattle.numa_rows.specs.Changes.{Makes};
 ghost use Rattle.numa_ranges.specs.Runs.{AreApart};
-ghost use Rattle.numa_ranges.specs.Edits.{IsInRange, StartsAround, joined, revalued};
+ghost use Rattle.numa_ranges.specs.Edits.{IsInRange, StartsAround, maximal_runs, with_new_value};
 ghost use Rattle.numa_ranges.specs.Numbered.{AreNumbered, IsLonger, runs_of};
 
 use crate::even::starts_beside;
@@ -237,7 +237,7 @@ impl<T: Exact> Runs<T> {
         requires { F.IsAlwaysCallable f.now }
         ensures size { length self.new ≡ length self.old }
         ensures made { (change : T → T) → Makes F.Fn f.now change
-            → self.new ≡ map (revalued change) self.old }
+            → self.new ≡ map (with_new_value change) self.old }
     {
         self.values.change_all(f);
     }
@@ -246,7 +246,7 @@ impl<T: Exact> Runs<T> {
     /// refused.
     pub(crate) fn join(&mut self)
         requires { All IsInRange self.old }
-        ensures { self.new ≡ joined T.eq self.old }
+        ensures { self.new ≡ maximal_runs T.eq self.old }
     {
         join_in_place(&mut self.rows, self.values.items());
     }

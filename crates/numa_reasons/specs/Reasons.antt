@@ -11,11 +11,11 @@ use Rattle.numa_mode.specs.declared.modes.Mode.TheVariants as mode
 use Rattle.numa_ranges.specs.Runs.{in_pages}
 use Rattle.numa_ranges.specs.declared.run.Run.{Run}
 use Rattle.numa_space.specs.Lists.{Setting, near, within}
-use Rattle.numa_reasons.specs.declared.rule.Block.{Block}
-use Rattle.numa_reasons.specs.declared.rule.Rule.{Rule}
-use Rattle.numa_reasons.specs.declared.rule.Rule.TheVariants.{Local, Preferred, Bind}
-use Rattle.numa_reasons.specs.declared.rule.Rule.TheVariants.{PreferredMany, Interleave}
-use Rattle.numa_reasons.specs.declared.rule.Rule.TheVariants.{WeightedInterleave}
+use Rattle.numa_reasons.specs.declared.rule.WeightedTurn.{WeightedTurn}
+use Rattle.numa_reasons.specs.declared.rule.OrderRule.{OrderRule}
+use Rattle.numa_reasons.specs.declared.rule.OrderRule.TheVariants.{Local, Preferred, Bind}
+use Rattle.numa_reasons.specs.declared.rule.OrderRule.TheVariants.{PreferredMany, Interleave}
+use Rattle.numa_reasons.specs.declared.rule.OrderRule.TheVariants.{WeightedInterleave}
 use Rattle.numa_reasons.specs.declared.rule.Turn.{Turn}
 use Rattle.numa_reasons.specs.declared.scope.Scope.{Scope}
 use Rattle.numa_reasons.specs.declared.scope.Scope.TheVariants as scope
@@ -51,7 +51,7 @@ turn_of set index = record {
 
 -- weighted interleave: the place of an index in a round of all weights, the member that has it, and
 -- that member's places
-abbrev pub block_of : (ℕ → ℕ) → ℕ → ℕ → Block
+abbrev pub block_of : (ℕ → ℕ) → ℕ → ℕ → WeightedTurn
 block_of weight set index = record {
   place = index % total_weight weight set;
   total = total_weight weight set;
@@ -62,7 +62,7 @@ block_of weight set index = record {
 
 -- the rule of a policy with this effective set, for a fault on the node `from`, at a page of this
 -- index
-abbrev pub rule_by_mode : (ℕ → ℕ) → Mode → ℕ → ℕ → ℕ → Rule
+abbrev pub rule_by_mode : (ℕ → ℕ) → Mode → ℕ → ℕ → ℕ → OrderRule
 rule_by_mode weight mode.Default set from index = Local from
 rule_by_mode weight mode.Local set from index = Local from
 rule_by_mode weight mode.Preferred set from index = Preferred (slice_index (members set) 0)
@@ -74,7 +74,7 @@ rule_by_mode weight mode.WeightedInterleave set from index =
 
 -- the rule of a policy: its home, where it has one, stands in for the faulting node; without a
 -- policy it is local
-abbrev pub rule_for : (ℕ → ℕ) → Option PolicyRecord → ℕ → ℕ → Rule
+abbrev pub rule_for : (ℕ → ℕ) → Option PolicyRecord → ℕ → ℕ → OrderRule
 rule_for weight None cpu index = Local cpu
 rule_for weight (Some r) cpu index =
     rule_by_mode weight r.spec.mode r.effective (unwrap_or r.home cpu) index
@@ -91,7 +91,7 @@ before_others setting set from = within set (distance_order setting.machine from
     (distance_order setting.machine from)
 
 -- the nodes as a rule puts them in order, for an effective set
-abbrev pub ordered_by : Setting → ℕ → Rule → List ℕ
+abbrev pub ordered_by : Setting → ℕ → OrderRule → List ℕ
 ordered_by setting set (Local from) = near setting from
 ordered_by setting set (Preferred node) = near setting node
 ordered_by setting set (Bind from) = within set (distance_order setting.machine from)

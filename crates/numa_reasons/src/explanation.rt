@@ -6,7 +6,7 @@ ghost use Rattle.numa_reasons.specs.Explained.{IsExplanation, IsRefusedBy};
 
 use crate::fault::ReasonFault;
 use crate::place::{range_of, task_policy};
-use crate::rule::{Rule, rule_for};
+use crate::rule::{OrderRule, rule_for};
 use crate::scope::{Scope, scope_of};
 use arrayvec::ArrayVec;
 use numa_mask::NodeMask;
@@ -36,7 +36,7 @@ pub struct Explanation {
     /// The nodes on which memory may be placed.
     pub allowed: NodeMask,
     /// The rule that puts the nodes in order.
-    pub rule: Rule,
+    pub rule: OrderRule,
     /// The nodes in order.
     pub nodes: ArrayVec<u8, 256>,
 }

@@ -15,6 +15,6 @@ mod text;
 pub use explanation::{Explanation, explain};
 pub use fault::ReasonFault;
 pub use place::{range_of, task_policy};
-pub use rule::{Block, Rule, Turn};
+pub use rule::{OrderRule, Turn, WeightedTurn};
 pub use scope::Scope;
 pub use text::say;

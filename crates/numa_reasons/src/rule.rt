@@ -24,7 +24,7 @@ pub struct Turn {
 /// A turn of weighted interleave: in each round the members, rising, have as many places as their
 /// weights.
 #[derive(Clone, Copy, Debug, PartialEq, Eq)]
-pub struct Block {
+pub struct WeightedTurn {
     /// The page's index modulo the weights of all members together.
     pub place: u64,
     /// The weights of all members together.
@@ -40,7 +40,7 @@ pub struct Block {
 /// The rule that puts the nodes of a page in order ("NUMA Memory Policy", components of memory
 /// policies).
 #[derive(Clone, Copy, Debug, PartialEq, Eq)]
-pub enum Rule {
+pub enum OrderRule {
     /// The allowed nodes, the nearest to this node first, which is the faulting one.
     Local(u32),
     /// The allowed nodes, the nearest to this node first, which is the lowest of the effective set.
@@ -54,7 +54,7 @@ pub enum Rule {
     /// The allowed nodes, the nearest to the node whose turn it is first.
     Interleave(Turn),
     /// The allowed nodes, the nearest to the node whose turn it is by weight first.
-    WeightedInterleave(Block),
+    WeightedInterleave(WeightedTurn),
 }
 
 /// The turn of an index among the members of a set.
@@ -94,7 +94,7 @@ fn block_of(
     weights: &Weights,
     set: &NodeMask,
     index: u64,
-) -> Result<Block, AllocError>
+) -> Result<WeightedTurn, AllocError>
     requires { set.now ≢ 0 }
     ensures { IfOk result (λ block. block
         ≡ block_of (weight_at weights.now) set.now index) }
@@ -105,7 +105,7 @@ fn block_of(
     let node = turns[place as usize];
     let before = weight_below(weights, set, node);
     let weight = u64::from(weights.get(u32::from(node)));
-    Ok(Block {
+    Ok(WeightedTurn {
         place,
         total,
         node,
@@ -133,7 +133,7 @@ fn rule_by_mode(
     policy: &Record,
     from: u32,
     index: u64,
-) -> Result<Rule, AllocError>
+) -> Result<OrderRule, AllocError>
     requires { is_live policy.now ≡ true }
     ensures { IfOk result (λ rule. rule
         ≡ rule_by_mode (weight_at weights.now) policy.now.spec.mode policy.now.effective from
@@ -141,14 +141,14 @@ fn rule_by_mode(
 {
     let set = policy.effective();
     match policy.spec().mode() {
-        Mode::Default | Mode::Local => Ok(Rule::Local(from)),
-        Mode::Preferred => Ok(Rule::Preferred(lowest(&set))),
-        Mode::Bind => Ok(Rule::Bind(from)),
-        Mode::PreferredMany => Ok(Rule::PreferredMany(from)),
-        Mode::Interleave => Ok(Rule::Interleave(turn_of(&set, index))),
+        Mode::Default | Mode::Local => Ok(OrderRule::Local(from)),
+        Mode::Preferred => Ok(OrderRule::Preferred(lowest(&set))),
+        Mode::Bind => Ok(OrderRule::Bind(from)),
+        Mode::PreferredMany => Ok(OrderRule::PreferredMany(from)),
+        Mode::Interleave => Ok(OrderRule::Interleave(turn_of(&set, index))),
         Mode::WeightedInterleave => {
             let block = block_of(alloc, weights, &set, index)?;
-            Ok(Rule::WeightedInterleave(block))
+            Ok(OrderRule::WeightedInterleave(block))
         }
     }
 }
@@ -161,13 +161,13 @@ pub(crate) fn rule_for(
     policy: &Option<Record>,
     cpu: u32,
     index: u64,
-) -> Result<Rule, AllocError>
+) -> Result<OrderRule, AllocError>
     requires { IfSome policy.now (λ r. is_live r ≡ true) }
     ensures { IfOk result (λ rule. rule
         ≡ rule_for (weight_at weights.now) policy.now cpu index) }
 {
     let Some(policy) = policy else {
-        return Ok(Rule::Local(cpu));
+        return Ok(OrderRule::Local(cpu));
     };
     let from = policy.home().map_or(cpu, |home| u32::from(home));
     rule_by_mode(alloc, weights, policy, from, index)

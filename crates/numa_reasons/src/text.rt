@@ -1,6 +1,6 @@
 //! An explanation as text.
 use crate::explanation::Explanation;
-use crate::rule::{Block, Rule, Turn};
+use crate::rule::{OrderRule, Turn, WeightedTurn};
 use crate::scope::Scope;
 use numa_machine::Machine;
 use numa_mask::{NodeMask, list_text};
@@ -110,12 +110,12 @@ fn push_sets(text: &mut String, said: &Explanation) -> Result<(), AllocError> {
 }
 
 /// The node around which a rule puts nodes in order.
-fn center(rule: Rule) -> u32 {
+fn center(rule: OrderRule) -> u32 {
     match rule {
-        Rule::Local(from) | Rule::Bind(from) | Rule::PreferredMany(from) => from,
-        Rule::Preferred(node) => u32::from(node),
-        Rule::Interleave(turn) => u32::from(turn.node),
-        Rule::WeightedInterleave(block) => u32::from(block.node),
+        OrderRule::Local(from) | OrderRule::Bind(from) | OrderRule::PreferredMany(from) => from,
+        OrderRule::Preferred(node) => u32::from(node),
+        OrderRule::Interleave(turn) => u32::from(turn.node),
+        OrderRule::WeightedInterleave(block) => u32::from(block.node),
     }
 }
 
@@ -165,7 +165,7 @@ fn push_turn(text: &mut String, index: u64, turn: Turn) -> Result<(), AllocError
 }
 
 /// The turn of weighted interleave.
-fn push_block(text: &mut String, index: u64, block: Block) -> Result<(), AllocError> {
+fn push_block(text: &mut String, index: u64, block: WeightedTurn) -> Result<(), AllocError> {
     let last = block.before.saturating_add(block.weight.saturating_sub(1));
     write!(
         text,
@@ -179,21 +179,21 @@ fn push_block(text: &mut String, index: u64, block: Block) -> Result<(), AllocEr
 fn push_first(text: &mut String, machine: &Machine, said: &Explanation) -> Result<(), AllocError> {
     text.push_str("first: ")?;
     match said.rule {
-        Rule::Local(from) => push_nearest(text, machine, said, "allowed", from)?,
-        Rule::Bind(from) => push_nearest(text, machine, said, "effective", from)?,
-        Rule::PreferredMany(from) => push_nearest(text, machine, said, "effective", from)?,
-        Rule::Preferred(node) => write!(text, "the policy prefers node {}", node)?,
-        Rule::Interleave(turn) => push_turn(text, said.index, turn)?,
-        Rule::WeightedInterleave(block) => push_block(text, said.index, block)?,
+        OrderRule::Local(from) => push_nearest(text, machine, said, "allowed", from)?,
+        OrderRule::Bind(from) => push_nearest(text, machine, said, "effective", from)?,
+        OrderRule::PreferredMany(from) => push_nearest(text, machine, said, "effective", from)?,
+        OrderRule::Preferred(node) => write!(text, "the policy prefers node {}", node)?,
+        OrderRule::Interleave(turn) => push_turn(text, said.index, turn)?,
+        OrderRule::WeightedInterleave(block) => push_block(text, said.index, block)?,
     }
     text.push_str("\n")
 }
 
 /// Which nodes follow the first, and in which order.
-fn order_words(rule: Rule) -> &'static str {
+fn order_words(rule: OrderRule) -> &'static str {
     match rule {
-        Rule::Bind(_) => "the other effective nodes",
-        Rule::PreferredMany(_) =>
+        OrderRule::Bind(_) => "the other effective nodes",
+        OrderRule::PreferredMany(_) =>
             "the other effective nodes, and behind them the other allowed ones",
         _ => "the other allowed nodes",
     }

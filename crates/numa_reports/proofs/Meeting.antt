@@ -6,7 +6,7 @@ use Rattle.numa_mode.specs.Policy.{PolicyRecord}
 use Rattle.numa_ranges.specs.Runs.{in_pages, AreApart, end_of}
 use Rattle.numa_ranges.specs.declared.run.Run.{Run}
 use Rattle.numa_ranges.proofs.Apart.{in_pages-true, in_pages-below, in_pages-above, apart-top}
-use Rattle.numa_reports.specs.declared.outlook.Span.{Span}
+use Rattle.numa_reports.specs.declared.outlook.PageSpan.{PageSpan}
 use Rattle.numa_reports.specs.Mapped.{span_of}
 use Rattle.numa_reports.specs.Common.{span_end, has_page, AreRising, AreInside, AreCommon, span_between, common_of}
 
@@ -15,16 +15,16 @@ pub spans-rise : (from : ℕ) (runs : List (Run (Option PolicyRecord))) → AreA
 spans-rise from [] apart = tt
 spans-rise from (run ∷ runs) apart = (apart.0, apart.1, omega (arith, apart-top (end_of run) runs apart.3), spans-rise (end_of run) runs apart.3)
 
-rising-from : (low from : ℕ) (spans : List Span) → low ≤ from → AreRising from spans → AreRising low spans
+rising-from : (low from : ℕ) (spans : List PageSpan) → low ≤ from → AreRising from spans → AreRising low spans
 rising-from low from [] le rises = tt
 rising-from low from (span ∷ spans) le rises = (omega (arith, rises.0), rises.1, rises.2, rises.3)
 
-page-before : (from : ℕ) (spans : List Span) (page : ℕ) → AreRising from spans → page < from → has_page spans page ≡ false
+page-before : (from : ℕ) (spans : List PageSpan) (page : ℕ) → AreRising from spans → page < from → has_page spans page ≡ false
 page-before from [] page rises low = refl
 page-before from (span ∷ spans) page rises low =
     rw (in_pages-below span.first span.pages page (omega (arith, rises.0))) (page-before (span_end span) spans page rises.3 (omega (arith, rises.0)))
 
-inside-more : (span : Span) (spans inner : List Span) → AreInside spans inner → AreInside (span ∷ spans) inner
+inside-more : (span : PageSpan) (spans inner : List PageSpan) → AreInside spans inner → AreInside (span ∷ spans) inner
 inside-more span spans [] all = tt
 inside-more span spans (x ∷ inner) all = (inr all.0, inside-more span spans inner all.1)
 
@@ -64,17 +64,17 @@ apart-page f p g q page le = elim (cases_lt page f) [
 ]
 
 -- what the spans have in common has the pages that both have
-common-page : (one other : Span) (more : List Span) (page : ℕ) → has_page (common_of one other ++ more) page ≡ ((in_pages one.first one.pages page && in_pages other.first other.pages page) || has_page more page)
+common-page : (one other : PageSpan) (more : List PageSpan) (page : ℕ) → has_page (common_of one other ++ more) page ≡ ((in_pages one.first one.pages page && in_pages other.first other.pages page) || has_page more page)
 common-page one other more page =
     let first = max one.first other.first in
     let end = min (span_end one) (span_end other) in
     elim (cases_lt first end) [
-      | inl lt ↦ ap (λ (l : List Span). has_page (l ++ more) page) (between-some first end lt) ∙ ap (λ b. b || has_page more page) (between-page one.first one.pages other.first other.pages page lt)
-      | inr le ↦ ap (λ (l : List Span). has_page (l ++ more) page) (between-none first end le) ∙ ap (λ b. b || has_page more page) (sym (apart-page one.first one.pages other.first other.pages page le))
+      | inl lt ↦ ap (λ (l : List PageSpan). has_page (l ++ more) page) (between-some first end lt) ∙ ap (λ b. b || has_page more page) (between-page one.first one.pages other.first other.pages page lt)
+      | inr le ↦ ap (λ (l : List PageSpan). has_page (l ++ more) page) (between-none first end le) ∙ ap (λ b. b || has_page more page) (sym (apart-page one.first one.pages other.first other.pages page le))
     ]
 
 -- spans in common that rise from an end in either list
-pub record AreShared (low high : ℕ) (ones others spans : List Span) : Type 0 where
+pub record AreShared (low high : ℕ) (ones others spans : List PageSpan) : Type 0 where
   pub above_ones : AreRising low spans
   pub above_others : AreRising high spans
   pub pages : (page : ℕ) → has_page spans page ≡ (has_page ones page && has_page others page)
@@ -87,7 +87,7 @@ and-swap true false = refl
 and-swap false true = refl
 and-swap false false = refl
 
-shared-swap : (low high : ℕ) (ones others spans : List Span) → AreShared low high ones others spans → AreShared high low others ones spans
+shared-swap : (low high : ℕ) (ones others spans : List PageSpan) → AreShared low high ones others spans → AreShared high low others ones spans
 shared-swap low high ones others spans has = record {
   above_ones = has.above_others;
   above_others = has.above_ones;
@@ -96,20 +96,20 @@ shared-swap low high ones others spans has = record {
   inside_others = has.inside_ones;
 }
 
-common-swap : (one other : Span) → common_of one other ≡ common_of other one
+common-swap : (one other : PageSpan) → common_of one other ≡ common_of other one
 common-swap one other =
     let low : max one.first other.first ≡ max other.first one.first = omega arith in
     let high : min (span_end one) (span_end other) ≡ min (span_end other) (span_end one) = omega arith in
     ap (λ a. span_between a (min (span_end one) (span_end other))) low ∙ ap (span_between (max other.first one.first)) high
 
 -- what a list has at a place in it does not hang on what is said past its end
-any_default : (spans : List Span) (i : ℕ) (d e : Span) → i < length spans → get_or spans i d ≡ get_or spans i e
+any_default : (spans : List PageSpan) (i : ℕ) (d e : PageSpan) → i < length spans → get_or spans i d ≡ get_or spans i e
 any_default [] i d e l = absurd (omega arith)
 any_default (span ∷ spans) zero d e l = refl
 any_default (span ∷ spans) (suc i) d e l = any_default spans i d e (omega arith)
 
 -- the pages of one more span, whose end both rests lie behind
-more-pages : (low high : ℕ) (one other : Span) (ones others more : List Span) (page : ℕ) → AreRising low (one ∷ ones) → AreRising high (other ∷ others) → span_end one ≤ span_end other
+more-pages : (low high : ℕ) (one other : PageSpan) (ones others more : List PageSpan) (page : ℕ) → AreRising low (one ∷ ones) → AreRising high (other ∷ others) → span_end one ≤ span_end other
     → has_page more page ≡ (has_page ones page && has_page (other ∷ others) page)
     → ((in_pages one.first one.pages page && in_pages other.first other.pages page) || has_page more page) ≡ (has_page (one ∷ ones) page && has_page (other ∷ others) page)
 more-pages low high one other ones others more page rises climbs le so = elim (cases_lt page one.first) [
@@ -125,7 +125,7 @@ more-pages low high one other ones others more page rises climbs le so = elim (c
 ]
 
 -- what is in common behind a step over one, with what it has in common in front
-take-one : (low high : ℕ) (one other : Span) (ones others more : List Span) → AreRising low (one ∷ ones) → AreRising high (other ∷ others) → span_end one ≤ span_end other
+take-one : (low high : ℕ) (one other : PageSpan) (ones others more : List PageSpan) → AreRising low (one ∷ ones) → AreRising high (other ∷ others) → span_end one ≤ span_end other
     → AreShared (span_end one) high ones (other ∷ others) more → AreShared low high (one ∷ ones) (other ∷ others) (common_of one other ++ more)
 take-one low high one other ones others more rises climbs le has =
     let first = max one.first other.first in
@@ -137,39 +137,39 @@ take-one low high one other ones others more rises climbs le has =
           let is = between-some first end lt in
           let behind : AreRising (first + (end - first)) more = rising-from (first + (end - first)) (span_end one) more (omega arith) has.above_ones in
           record {
-            above_ones = subst (λ (l : List Span). AreRising low (l ++ more)) (sym is) (omega (arith, rises.0), omega arith, omega (arith, rises.2), behind);
-            above_others = subst (λ (l : List Span). AreRising high (l ++ more)) (sym is) (omega (arith, climbs.0), omega arith, omega (arith, rises.2), behind);
+            above_ones = subst (λ (l : List PageSpan). AreRising low (l ++ more)) (sym is) (omega (arith, rises.0), omega arith, omega (arith, rises.2), behind);
+            above_others = subst (λ (l : List PageSpan). AreRising high (l ++ more)) (sym is) (omega (arith, climbs.0), omega arith, omega (arith, rises.2), behind);
             pages = pages;
-            inside_ones = subst (λ (l : List Span). AreInside (one ∷ ones) (l ++ more)) (sym is) (inl (omega arith, omega arith), inside-more one ones more has.inside_ones);
-            inside_others = subst (λ (l : List Span). AreInside (other ∷ others) (l ++ more)) (sym is) (inl (omega arith, omega arith), has.inside_others);
+            inside_ones = subst (λ (l : List PageSpan). AreInside (one ∷ ones) (l ++ more)) (sym is) (inl (omega arith, omega arith), inside-more one ones more has.inside_ones);
+            inside_others = subst (λ (l : List PageSpan). AreInside (other ∷ others) (l ++ more)) (sym is) (inl (omega arith, omega arith), has.inside_others);
           }
       | inr ge ↦
           let is = between-none first end ge in
           record {
-            above_ones = subst (λ (l : List Span). AreRising low (l ++ more)) (sym is) (rising-from low (span_end one) more (omega (arith, rises.0)) has.above_ones);
-            above_others = subst (λ (l : List Span). AreRising high (l ++ more)) (sym is) has.above_others;
+            above_ones = subst (λ (l : List PageSpan). AreRising low (l ++ more)) (sym is) (rising-from low (span_end one) more (omega (arith, rises.0)) has.above_ones);
+            above_others = subst (λ (l : List PageSpan). AreRising high (l ++ more)) (sym is) has.above_others;
             pages = pages;
-            inside_ones = subst (λ (l : List Span). AreInside (one ∷ ones) (l ++ more)) (sym is) (inside-more one ones more has.inside_ones);
-            inside_others = subst (λ (l : List Span). AreInside (other ∷ others) (l ++ more)) (sym is) has.inside_others;
+            inside_ones = subst (λ (l : List PageSpan). AreInside (one ∷ ones) (l ++ more)) (sym is) (inside-more one ones more has.inside_ones);
+            inside_others = subst (λ (l : List PageSpan). AreInside (other ∷ others) (l ++ more)) (sym is) has.inside_others;
           }
     ]
 
-take-other : (low high : ℕ) (one other : Span) (ones others more : List Span) → AreRising low (one ∷ ones) → AreRising high (other ∷ others) → span_end other ≤ span_end one
+take-other : (low high : ℕ) (one other : PageSpan) (ones others more : List PageSpan) → AreRising low (one ∷ ones) → AreRising high (other ∷ others) → span_end other ≤ span_end one
     → AreShared low (span_end other) (one ∷ ones) others more → AreShared low high (one ∷ ones) (other ∷ others) (common_of one other ++ more)
 take-other low high one other ones others more rises climbs le has =
-    subst (λ (l : List Span). AreShared low high (one ∷ ones) (other ∷ others) (l ++ more)) (common-swap other one)
+    subst (λ (l : List PageSpan). AreShared low high (one ∷ ones) (other ∷ others) (l ++ more)) (common-swap other one)
     (shared-swap high low (other ∷ others) (one ∷ ones) (common_of other one ++ more)
     (take-one high low other one others ones more climbs rises le (shared-swap low (span_end other) (one ∷ ones) others more has)))
 
 -- what is found, with what is left in common, is what the lists have in common
-pub record IsGathered (ones others found ones_left others_left : List Span) : Type 0 where
+pub record IsGathered (ones others found ones_left others_left : List PageSpan) : Type 0 where
   pub low : ℕ
   pub high : ℕ
   pub ones_rise : AreRising low ones_left
   pub others_rise : AreRising high others_left
-  pub all : (more : List Span) → AreShared low high ones_left others_left more → AreShared 0 0 ones others (found ++ more)
+  pub all : (more : List PageSpan) → AreShared low high ones_left others_left more → AreShared 0 0 ones others (found ++ more)
 
-pub gathered-none : (ones others : List Span) → AreRising 0 ones → AreRising 0 others → IsGathered ones others [] ones others
+pub gathered-none : (ones others : List PageSpan) → AreRising 0 ones → AreRising 0 others → IsGathered ones others [] ones others
 gathered-none ones others rises climbs = record {
   low = 0;
   high = 0;
@@ -178,11 +178,11 @@ gathered-none ones others rises climbs = record {
   all = λ more has. has;
 }
 
-pub gathered-one : (ones others found : List Span) (i j : ℕ) (one other : Span) → i < length ones → j < length others → one ≡ get_or ones i one → other ≡ get_or others j other → span_end one ≤ span_end other
+pub gathered-one : (ones others found : List PageSpan) (i j : ℕ) (one other : PageSpan) → i < length ones → j < length others → one ≡ get_or ones i one → other ≡ get_or others j other → span_end one ≤ span_end other
     → IsGathered ones others found (drop i ones) (drop j others) → IsGathered ones others (found ++ common_of one other) (drop (i + 1) ones) (drop j others)
 gathered-one ones others found i j one other l m is so le has =
-    let front : drop i ones ≡ one ∷ drop (i + 1) ones = drop_more ones i one l ∙ ap (λ (x : Span). x ∷ drop (i + 1) ones) (sym is) in
-    let facing : drop j others ≡ other ∷ drop (j + 1) others = drop_more others j other m ∙ ap (λ (x : Span). x ∷ drop (j + 1) others) (sym so) in
+    let front : drop i ones ≡ one ∷ drop (i + 1) ones = drop_more ones i one l ∙ ap (λ (x : PageSpan). x ∷ drop (i + 1) ones) (sym is) in
+    let facing : drop j others ≡ other ∷ drop (j + 1) others = drop_more others j other m ∙ ap (λ (x : PageSpan). x ∷ drop (j + 1) others) (sym so) in
     let rises = subst (AreRising has.low) front has.ones_rise in
     let climbs = subst (AreRising has.high) facing has.others_rise in
     record {
@@ -197,11 +197,11 @@ gathered-one ones others found i j one other l m is so le has =
           (subst (λ l. AreShared (span_end one) has.high (drop (i + 1) ones) l more) facing rest)))));
     }
 
-pub gathered-other : (ones others found : List Span) (i j : ℕ) (one other : Span) → i < length ones → j < length others → one ≡ get_or ones i one → other ≡ get_or others j other → span_end other ≤ span_end one
+pub gathered-other : (ones others found : List PageSpan) (i j : ℕ) (one other : PageSpan) → i < length ones → j < length others → one ≡ get_or ones i one → other ≡ get_or others j other → span_end other ≤ span_end one
     → IsGathered ones others found (drop i ones) (drop j others) → IsGathered ones others (found ++ common_of one other) (drop i ones) (drop (j + 1) others)
 gathered-other ones others found i j one other l m is so le has =
-    let front : drop i ones ≡ one ∷ drop (i + 1) ones = drop_more ones i one l ∙ ap (λ (x : Span). x ∷ drop (i + 1) ones) (sym is) in
-    let facing : drop j others ≡ other ∷ drop (j + 1) others = drop_more others j other m ∙ ap (λ (x : Span). x ∷ drop (j + 1) others) (sym so) in
+    let front : drop i ones ≡ one ∷ drop (i + 1) ones = drop_more ones i one l ∙ ap (λ (x : PageSpan). x ∷ drop (i + 1) ones) (sym is) in
+    let facing : drop j others ≡ other ∷ drop (j + 1) others = drop_more others j other m ∙ ap (λ (x : PageSpan). x ∷ drop (j + 1) others) (sym so) in
     let rises = subst (AreRising has.low) front has.ones_rise in
     let climbs = subst (AreRising has.high) facing has.others_rise in
     record {
@@ -221,7 +221,7 @@ and-none true = refl
 and-none false = refl
 
 -- where nothing is left of one list, what is found is all
-pub gathered-all : (ones others found ones_left others_left : List Span) → IsGathered ones others found ones_left others_left → ((page : ℕ) → (has_page ones_left page && has_page others_left page) ≡ false) → AreCommon ones others found
+pub gathered-all : (ones others found ones_left others_left : List PageSpan) → IsGathered ones others found ones_left others_left → ((page : ℕ) → (has_page ones_left page && has_page others_left page) ≡ false) → AreCommon ones others found
 gathered-all ones others found ones_left others_left has none =
     let shared : AreShared 0 0 ones others (found ++ []) = has.all [] (record {
       above_ones = tt;
@@ -239,33 +239,33 @@ gathered-all ones others found ones_left others_left has none =
     }
 
 -- behind the last of one list
-pub gathered-end : (ones others found : List Span) (i j : ℕ) → (i < length ones → j < length others → ⊥) → IsGathered ones others found (drop i ones) (drop j others) → AreCommon ones others found
+pub gathered-end : (ones others found : List PageSpan) (i j : ℕ) → (i < length ones → j < length others → ⊥) → IsGathered ones others found (drop i ones) (drop j others) → AreCommon ones others found
 gathered-end ones others found i j past has =
     gathered-all ones others found (drop i ones) (drop j others) has (λ page. elim (cases_lt i (length ones)) [
       | inl l ↦ elim (cases_lt j (length others)) [
         | inl m ↦ absurd (past l m)
-        | inr m ↦ ap (λ (l : List Span). has_page (drop i ones) page && has_page l page) (drop_all j others m) ∙ and-none (has_page (drop i ones) page)
+        | inr m ↦ ap (λ (l : List PageSpan). has_page (drop i ones) page && has_page l page) (drop_all j others m) ∙ and-none (has_page (drop i ones) page)
       ]
-      | inr l ↦ ap (λ (l : List Span). has_page l page && has_page (drop j others) page) (drop_all i ones l)
+      | inr l ↦ ap (λ (l : List PageSpan). has_page l page && has_page (drop j others) page) (drop_all i ones l)
     ])
 
 -- the body's step over a span of the first list: what it adds, and the ends that it compares
-pub stepped-one : (ones others found made : List Span) (i j end stop : ℕ) (d e : Span) → i < length ones → j < length others
+pub stepped-one : (ones others found made : List PageSpan) (i j end stop : ℕ) (d e : PageSpan) → i < length ones → j < length others
     → (span_end (get_or ones i d) < 2 ^ 64 → span_end (get_or others j e) < 2 ^ 64 → made ≡ found ++ common_of (get_or ones i d) (get_or others j e))
     → (span_end (get_or ones i d) < 2 ^ 64 → end ≡ span_end (get_or ones i d)) → (span_end (get_or others j e) < 2 ^ 64 → stop ≡ span_end (get_or others j e)) → end ≤ stop
     → IsGathered ones others found (drop i ones) (drop j others) → IsGathered ones others made (drop (i + 1) ones) (drop j others)
 stepped-one ones others found made i j end stop d e l m adds ends stops le has =
     let fits = (subst (AreRising has.low) (drop_more ones i d l) has.ones_rise).2 in
     let holds = (subst (AreRising has.high) (drop_more others j e m) has.others_rise).2 in
-    subst (λ (x : List Span). IsGathered ones others x (drop (i + 1) ones) (drop j others)) (sym (adds fits holds))
+    subst (λ (x : List PageSpan). IsGathered ones others x (drop (i + 1) ones) (drop j others)) (sym (adds fits holds))
     (gathered-one ones others found i j (get_or ones i d) (get_or others j e) l m (any_default ones i d (get_or ones i d) l) (any_default others j e (get_or others j e) m) (omega (arith, ends fits, stops holds)) has)
 
-pub stepped-other : (ones others found made : List Span) (i j end stop : ℕ) (d e : Span) → i < length ones → j < length others
+pub stepped-other : (ones others found made : List PageSpan) (i j end stop : ℕ) (d e : PageSpan) → i < length ones → j < length others
     → (span_end (get_or ones i d) < 2 ^ 64 → span_end (get_or others j e) < 2 ^ 64 → made ≡ found ++ common_of (get_or ones i d) (get_or others j e))
     → (span_end (get_or ones i d) < 2 ^ 64 → end ≡ span_end (get_or ones i d)) → (span_end (get_or others j e) < 2 ^ 64 → stop ≡ span_end (get_or others j e)) → stop ≤ end
     → IsGathered ones others found (drop i ones) (drop j others) → IsGathered ones others made (drop i ones) (drop (j + 1) others)
 stepped-other ones others found made i j end stop d e l m adds ends stops le has =
     let fits = (subst (AreRising has.low) (drop_more ones i d l) has.ones_rise).2 in
     let holds = (subst (AreRising has.high) (drop_more others j e m) has.others_rise).2 in
-    subst (λ (x : List Span). IsGathered ones others x (drop i ones) (drop (j + 1) others)) (sym (adds fits holds))
+    subst (λ (x : List PageSpan). IsGathered ones others x (drop i ones) (drop (j + 1) others)) (sym (adds fits holds))
     (gathered-other ones others found i j (get_or ones i d) (get_or others j e) l m (any_default ones i d (get_or ones i d) l) (any_default others j e (get_or others j e) m) (omega (arith, ends fits, stops holds)) has)

@@ -22,7 +22,7 @@ use Rattle.numa_reports.specs.Mapped.{IsOutlook, span_of}
 use Rattle.numa_reports.specs.declared.fault.ReportFault.{ReportFault}
 use Rattle.numa_reports.specs.declared.fault.ReportFault.TheVariants.{Memory, Refused}
 use Rattle.numa_reports.specs.declared.outlook.Outlook.{Outlook}
-use Rattle.numa_reports.specs.declared.outlook.Span.{Span}
+use Rattle.numa_reports.specs.declared.outlook.PageSpan.{PageSpan}
 
 -- ---- refusals of spans by a plan
 
@@ -192,7 +192,7 @@ spans-pages (range ∷ ranges) page = ap (λ (b : Bool). in_pages range.first ra
     go false = refl
 
 -- a page of a span is one of its list
-pub item-page : (spans : List Span) (k : ℕ) (d : Span) (page : ℕ) → k < length spans → (get_or spans k d).first ≤ page → page < span_end (get_or spans k d) → has_page spans page ≡ true
+pub item-page : (spans : List PageSpan) (k : ℕ) (d : PageSpan) (page : ℕ) → k < length spans → (get_or spans k d).first ≤ page → page < span_end (get_or spans k d) → has_page spans page ≡ true
 item-page [] k d page lt low high = absurd (omega arith)
 item-page (span ∷ spans) zero d page lt low high = rw (in_pages-true span.first span.pages page low high) refl
 item-page (span ∷ spans) (suc k) d page lt low high = rw (item-page spans k d page (omega arith) low high) (go (in_pages span.first span.pages page))
@@ -207,14 +207,14 @@ both-true true false e = absurd (let odd = e in cc)
 both-true false b e = absurd (let odd = e in cc)
 
 -- the pages of the spans that two outlooks have in common are mapped in both
-pub common-mapped : (machine : Hardware) (old new : List Command) (before after : Outlook) (spans : List Span) (k : ℕ) (d : Span) (page : ℕ) → IsOutlook machine old before → IsOutlook machine new after → AreCommon before.spans.items after.spans.items spans → k < length spans → (get_or spans k d).first ≤ page → page < span_end (get_or spans k d)
+pub common-mapped : (machine : Hardware) (old new : List Command) (before after : Outlook) (spans : List PageSpan) (k : ℕ) (d : PageSpan) (page : ℕ) → IsOutlook machine old before → IsOutlook machine new after → AreCommon before.spans.items after.spans.items spans → k < length spans → (get_or spans k d).first ≤ page → page < span_end (get_or spans k d)
     → (is_mapped old page ≡ true) × (is_mapped new page ≡ true)
 common-mapped machine old new before after spans k d page was is common lt low high =
     let both = both-true (has_page before.spans.items page) (has_page after.spans.items page) (sym (common.pages page) ∙ item-page spans k d page lt low high) in
     (sym (was.pages page) ∙ both.0, sym (is.pages page) ∙ both.1)
 
 -- what was found of two outlooks' spans, read as slices
-pub shown-common : (before after : Outlook) (ones others found items : List Span) → ones ≡ before.spans.items → others ≡ after.spans.items → items ≡ found → AreRising 0 before.spans.items → AreRising 0 after.spans.items
+pub shown-common : (before after : Outlook) (ones others found items : List PageSpan) → ones ≡ before.spans.items → others ≡ after.spans.items → items ≡ found → AreRising 0 before.spans.items → AreRising 0 after.spans.items
     → (AreRising 0 ones → AreRising 0 others → AreCommon ones others found) → AreCommon before.spans.items after.spans.items items
 shown-common before after ones others found items one other all rising rising' common =
     subst (λ l. AreCommon before.spans.items after.spans.items l) (sym all) (subst (λ l. AreCommon before.spans.items l found) other (subst (λ l. AreCommon l others found) one

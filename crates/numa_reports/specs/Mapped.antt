@@ -8,10 +8,10 @@ use Rattle.numa_space.specs.declared.command.Command.{Command}
 use Rattle.numa_compile.specs.Standing.{PlanStandsFor}
 use Rattle.numa_reports.specs.Common.{AreRising, has_page}
 use Rattle.numa_reports.specs.declared.outlook.Outlook.{Outlook}
-use Rattle.numa_reports.specs.declared.outlook.Span.{Span}
+use Rattle.numa_reports.specs.declared.outlook.PageSpan.{PageSpan}
 
 -- the pages of a range
-abbrev pub span_of : Run (Option PolicyRecord) → Span
+abbrev pub span_of : Run (Option PolicyRecord) → PageSpan
 span_of range = record { first = range.first; pages = range.pages }
 
 -- the outlook is that of the history: its plan stands for it, and its rising spans have the mapped

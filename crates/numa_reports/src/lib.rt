@@ -15,6 +15,6 @@ mod tally;
 pub use fault::ReportFault;
 pub use filling::{FreePages, fill_all};
 pub use moves::span_moves;
-pub use outlook::{Outlook, Span, common_spans, outlook_of};
+pub use outlook::{Outlook, PageSpan, common_spans, outlook_of};
 pub use prediction::{RangePrediction, TakeRange, predict_all, predict_range};
 pub use sheet::{Format, difference_text, filling_text, prediction_text};

@@ -15,7 +15,7 @@ use std::alloc::{AllocError, Global};
 
 /// Pages one behind another: the first, and how many.
 #[derive(Clone, Copy, Debug, PartialEq, Eq)]
-pub struct Span {
+pub struct PageSpan {
     pub first: u64,
     pub pages: u64,
 }
@@ -24,17 +24,17 @@ pub struct Span {
 #[derive(Drop)]
 pub struct Outlook {
     pub plan: Plan,
-    pub spans: Vec<Span>,
+    pub spans: Vec<PageSpan>,
 }
 
 /// The pages of each range of a space, rising.
-fn spans_of(alloc: Global, space: &Space) -> Result<Vec<Span>, AllocError>
+fn spans_of(alloc: Global, space: &Space) -> Result<Vec<PageSpan>, AllocError>
     ensures spans { IfOk result (λ spans. spans.items ≡ map span_of space.now.ranges) }
     ensures rising { IfOk result (λ spans. AreRising 0 spans.items) }
 {
     let mut spans = Vec::new(alloc);
     for range in space.range_iter() {
-        spans.push(Span {
+        spans.push(PageSpan {
             first: range.first,
             pages: range.pages,
         })?;
@@ -62,14 +62,14 @@ pub fn outlook_of(alloc: Global, space: &Space) -> Result<Outlook, ReportFault>
 }
 
 /// The page behind the last.
-fn end_of(span: Span) -> u64
+fn end_of(span: PageSpan) -> u64
     ensures { span_end span < 2 ^ 64 → result ≡ span_end span }
 {
     span.first.saturating_add(span.pages)
 }
 
 /// Puts the pages that both spans have behind the spans found so far.
-fn add_common(found: &mut Vec<Span>, one: Span, other: Span) -> Result<(), AllocError>
+fn add_common(found: &mut Vec<PageSpan>, one: PageSpan, other: PageSpan) -> Result<(), AllocError>
     ensures { span_end one < 2 ^ 64 → span_end other < 2 ^ 64
         → IfOk result (λ _. found.new.items ≡ found.old.items ++ common_of one other) }
 {
@@ -79,12 +79,16 @@ fn add_common(found: &mut Vec<Span>, one: Span, other: Span) -> Result<(), Alloc
         return Ok(());
     }
     let pages = end - first;
-    found.push(Span { first, pages })?;
+    found.push(PageSpan { first, pages })?;
     Ok(())
 }
 
 /// The spans that two rising lists of spans have in common, each inside one span of either.
-pub fn common_spans(alloc: Global, ones: &[Span], others: &[Span]) -> Result<Vec<Span>, AllocError>
+pub fn common_spans(
+    alloc: Global,
+    ones: &[PageSpan],
+    others: &[PageSpan],
+) -> Result<Vec<PageSpan>, AllocError>
     ensures common { AreRising 0 ones.now → AreRising 0 others.now
         → IfOk result (λ spans. AreCommon ones.now others.now spans.items) }
 {

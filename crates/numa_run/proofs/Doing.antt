@@ -3,7 +3,7 @@ use Rattle.std.proofs.Common.{◌≡◌, ℕ, Bool, true, false, Some, None, Res
 use Rattle.std.specs.Prelude.{is_ok, is_err, if◌then◌else◌}
 use Rattle.numa_core.specs.World.{World, newest_published}
 use Rattle.numa_core.specs.Steps.{world_after, IsAnswer}
-use Rattle.numa_core.specs.Touching.{touched}
+use Rattle.numa_core.specs.Touching.{result_of_touch}
 use Rattle.numa_core.specs.Standing.{CoreState, CoreStandsFor, setup_of}
 use Rattle.numa_machine.specs.declared.frame.Frame.{Frame}
 use Rattle.numa_space.specs.declared.placement.Placement.{Placement}
@@ -33,7 +33,7 @@ Steps old event answer new =
 abbrev pub Touches : CoreState → ℕ → Request → Result CoreReply CoreRefusal → CoreState → Type 0
 Touches old w request answer new =
     (world : World) → CoreStandsFor old world
-    → (answer ≡ (touched (setup_of old) world w request).answer) × CoreStandsFor new (touched (setup_of old) world w request).world
+    → (answer ≡ (result_of_touch (setup_of old) world w request).answer) × CoreStandsFor new (result_of_touch (setup_of old) world w request).world
 
 -- a running machine with another core and placed pages
 pub moved : (old new : Running) (state : State) (world : World) (kept : Kept) → RunsAs old state → setup_of new.core ≡ setup_of old.core → CoreStandsFor new.core world → new.resident ≡ kept
@@ -140,18 +140,18 @@ none_won done.Given none = refl
 
 -- the machine after the core's touch
 touched-there : (old mid : Running) (w : ℕ) (request : Request) (answer : Result CoreReply CoreRefusal) → Touches old.core w request answer mid.core → setup_of mid.core ≡ setup_of old.core → mid.resident ≡ old.resident
-    → (state : State) → RunsAs old state → RunsAs mid (record { bounds = state.bounds; machine = state.machine; world = (touched (setup_of old.core) state.world w request).world; resident = state.resident })
+    → (state : State) → RunsAs old state → RunsAs mid (record { bounds = state.bounds; machine = state.machine; world = (result_of_touch (setup_of old.core) state.world w request).world; resident = state.resident })
 touched-there old mid w request answer touches same resident state stands =
     let s = setup_of old.core in
     let touch = touches state.world stands.core.world in
-    moved old mid state (touched s state.world w request).world state.resident stands same touch.1 (resident ∙ stands.resident)
+    moved old mid state (result_of_touch s state.world w request).world state.resident stands same touch.1 (resident ∙ stands.resident)
 
 pub touches-nothing : (old new : Running) (w : ℕ) (request : Request) (answer : Result CoreReply CoreRefusal) → Touches old.core w request answer new.core → setup_of new.core ≡ setup_of old.core
     → new.resident ≡ old.resident → won_by answer ≡ None → Does old (reply_to answer) new (λ refused state. touch_outcome refused (setup_of old.core) state.world state.resident w request)
 touches-nothing old new w request answer touches same resident lost =
     λ state stands.
     let s = setup_of old.core in
-    let t = touched s state.world w request in
+    let t = result_of_touch s state.world w request in
     let touch = touches state.world stands.core.world in
     let none : won_by t.answer ≡ None = ap won_by (sym touch.0) ∙ lost in
     let out : touch_by false s None t.answer t.world state.resident w ≡ touch_outcome false s state.world state.resident w request = ap (λ o. touch_by false s o t.answer t.world state.resident w) (sym none) in (
@@ -167,7 +167,7 @@ pub touches-won : (old mid new : Running) (w : ℕ) (request : Request) (answer 
 touches-won old mid new w request answer placement said touches same resident won keep =
     λ state stands.
     let s = setup_of old.core in
-    let t = touched s state.world w request in
+    let t = result_of_touch s state.world w request in
     let touch = touches state.world stands.core.world in
     let some : won_by t.answer ≡ Some placement = ap won_by (sym touch.0) ∙ won in
     let kept = keep (record { bounds = state.bounds; machine = state.machine; world = t.world; resident = state.resident }) (touched-there old mid w request answer touches same resident state stands) in

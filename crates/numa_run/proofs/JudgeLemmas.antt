@@ -13,7 +13,7 @@ use Rattle.numa_run.specs.Answers.{State, reply_of, after}
 use Rattle.numa_run.specs.Judged.{fault_in, fault_or, fault_of, asked_by, asked_fault, cause_at, question_cause, question_refusal}
 use Rattle.numa_run.specs.Questions.{question_text}
 use Rattle.numa_run.specs.Ranges.{listing_of}
-use Rattle.numa_run.specs.Replies.{Served, reply_in, with_text, served, served_by, served_later}
+use Rattle.numa_run.specs.Replies.{Served, reply_in, with_text, outcome_of, served_by, served_later}
 use Rattle.numa_run.specs.Standing.{RunsAs, Takes}
 use Rattle.numa_run.specs.declared.running.Running.{Running}
 use Rattle.numa_run.specs.declared.running.Taken.TheVariants as taken
@@ -38,8 +38,8 @@ replied-judged old new said told takes =
     (t.0, told-judged told t.0 state said t.1, t.2)
 
 served-is : (running : Running) (said : Line) (refused : Bool) (state : State) → RunsAs running state →
-    served refused state said ≡ served_later refused (setup_of running.core).machine state said
-unfolding served
+    outcome_of refused state said ≡ served_later refused (setup_of running.core).machine state said
+unfolding outcome_of
 served-is running said refused state stands = ap (λ m. served_by m refused state said) stands.core.machine
 
 -- a question, by what refuses it
@@ -53,7 +53,7 @@ asked-judged old mid new said asked cause is same h =
     (λ state stands.
     let a = h state stands in
     let machine = (setup_of mid.core).machine in
-    let is : served a.0 state (line.Question asked) ≡ with_text (question_text a.0 machine state.world.history asked) state = served-is mid (line.Question asked) a.0 state stands in
+    let is : outcome_of a.0 state (line.Question asked) ≡ with_text (question_text a.0 machine state.world.history asked) state = served-is mid (line.Question asked) a.0 state stands in
     let none : None ≡ reply_of a.0 state (line.Question asked) = sym (ap (λ r. reply_in r.answer) is) in
     let asks : option_map reply.Refused (question_cause a.0 machine state.world.history asked) ≡ asked_fault a.0 state (line.Question asked) =
     sym (ap (λ m. asked_by m a.0 state.world.history asked) stands.core.machine) in
@@ -65,7 +65,7 @@ listed-judged old new said task is same =
     subst (λ (l : Line). Judges old l None new) (sym is)
     (subst (λ (r : Running). Judges r (line.Maps task) None new) same
     (λ state stands.
-    let is : served false state (line.Maps task) ≡ with_text (listing_of (setup_of new.core).machine state.world.history task state.resident) state = served-is new (line.Maps task) false state stands in
+    let is : outcome_of false state (line.Maps task) ≡ with_text (listing_of (setup_of new.core).machine state.world.history task state.resident) state = served-is new (line.Maps task) false state stands in
     (false, ap (λ o. fault_or o None) (sym (ap (λ r. reply_in r.answer) is)), subst (λ (r : Served). RunsAs new r.state) (sym is) stands)))
 
 -- with memory, a question is refused by what refuses it

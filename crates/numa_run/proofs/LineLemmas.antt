@@ -18,7 +18,7 @@ use Rattle.numa_run.specs.Answers.{State, answer_of, reply_of, after}
 use Rattle.numa_run.specs.Machines.{limits_fit, hardware_of, first_fault}
 use Rattle.numa_run.specs.Questions.{question_text}
 use Rattle.numa_run.specs.Ranges.{listing_of}
-use Rattle.numa_run.specs.Replies.{Answer, Replied, Shown, bytes_of, reply_in, Served, with_text, with_reply, machine_unless, machine_served, served_first, served_later, with_outcome, served_by, served}
+use Rattle.numa_run.specs.Replies.{Answer, Replied, Shown, bytes_of, reply_in, Served, with_text, with_reply, machine_unless, machine_outcome, served_first, served_later, with_outcome, served_by, outcome_of}
 use Rattle.numa_run.specs.Standing.{RunsAs, Stands, Replies, Takes, Does}
 use Rattle.numa_run.specs.States.{setup_with}
 use Rattle.numa_script.specs.Texts.{text_of}
@@ -30,15 +30,15 @@ use Rattle.numa_script.specs.declared.reply.Reply.TheVariants as reply
 
 -- ---- before a machine is ready
 
-first_is : (limits : Bounds) (said : Line) (refused : Bool) (state : State) → Stands limits None state → served refused state said ≡ served_first refused state said
-unfolding served
+first_is : (limits : Bounds) (said : Line) (refused : Bool) (state : State) → Stands limits None state → outcome_of refused state said ≡ served_first refused state said
+unfolding outcome_of
 first_is limits said refused state stands = ap (λ m. served_by m refused state said) stands.1
 
 -- a line that changes nothing
 pub first_same : (limits : Bounds) (said : Line) (answer : Reply) (refused : Bool) → ((state : State) → served_first refused state said ≡ with_reply answer state) → Replies limits None said (Some answer) limits None
 first_same limits said answer refused right =
     λ state stands.
-    let is : served refused state said ≡ with_reply answer state = first_is limits said refused state stands ∙ right state in
+    let is : outcome_of refused state said ≡ with_reply answer state = first_is limits said refused state stands ∙ right state in
     (refused, sym (ap (λ r. reply_in r.answer) is), subst (λ (r : Served). Stands limits None r.state) (sym is) stands)
 
 -- limits that are taken
@@ -47,7 +47,7 @@ pub first_limits : (limits : Bounds) (ranges tasks commands : ℕ) → limits_fi
 first_limits limits ranges tasks commands fits =
     λ state stands.
     let taken : State = record { bounds = record { max_ranges = ranges; max_tasks = tasks; max_commands = commands }; machine = state.machine; world = state.world; resident = state.resident } in
-    let is : served false state (line.Limits ranges tasks commands) ≡ with_reply reply.LimitsOk taken =
+    let is : outcome_of false state (line.Limits ranges tasks commands) ≡ with_reply reply.LimitsOk taken =
     first_is limits (line.Limits ranges tasks commands) false state stands ∙ ap (λ b. if b then with_reply reply.LimitsOk taken else with_reply reply.BadLimits state) fits in
     (false, sym (ap (λ r. reply_in r.answer) is), subst (λ (r : Served). Stands (record { max_ranges = ranges; max_tasks = tasks; max_commands = commands }) None r.state) (sym is) (refl, stands.1))
 
@@ -61,8 +61,8 @@ pub first_ready : (limits : Bounds) (said : MachineLine) (memory : ℕ) (running
 first_ready limits said memory running named sound setup leads resident =
     λ state stands.
     let ready : State = record { bounds = state.bounds; machine = Some (hardware_of said memory); world = opening; resident = [] } in
-    let is : served false state (line.Machine said) ≡ with_reply reply.Ready ready =
-    first_is limits (line.Machine said) false state stands ∙ ap (λ m. machine_served false said m state) named ∙ ap (λ f. machine_unless f (hardware_of said memory) state) sound in
+    let is : outcome_of false state (line.Machine said) ≡ with_reply reply.Ready ready =
+    first_is limits (line.Machine said) false state stands ∙ ap (λ m. machine_outcome false said m state) named ∙ ap (λ f. machine_unless f (hardware_of said memory) state) sound in
     let reached : RunsAs running ready = record {
       core = record {
         bounds = stands.0 ∙ sym (ap (λ s. s.bounds) setup);
@@ -78,10 +78,10 @@ first_ready limits said memory running named sound setup leads resident =
 pub first_bad : (limits : Bounds) (said : MachineLine) (memory : ℕ) (refused : Bool) (fault : MachineFault) → said.memory ≡ Ok memory → first_fault refused (hardware_of said memory) ≡ Some fault
     → Replies limits None (line.Machine said) (Some (reply.BadMachine fault)) limits None
 first_bad limits said memory refused fault named why =
-    first_same limits (line.Machine said) (reply.BadMachine fault) refused (λ state. ap (λ m. machine_served refused said m state) named ∙ ap (λ f. machine_unless f (hardware_of said memory) state) why)
+    first_same limits (line.Machine said) (reply.BadMachine fault) refused (λ state. ap (λ m. machine_outcome refused said m state) named ∙ ap (λ f. machine_unless f (hardware_of said memory) state) why)
 
 pub first_bad_list : (limits : Bounds) (said : MachineLine) (fault : ListFault) → said.memory ≡ Err fault → Replies limits None (line.Machine said) (Some (reply.BadWord (word_fault.List fault))) limits None
-first_bad_list limits said fault named = first_same limits (line.Machine said) (reply.BadWord (word_fault.List fault)) false (λ state. ap (λ m. machine_served false said m state) named)
+first_bad_list limits said fault named = first_same limits (line.Machine said) (reply.BadWord (word_fault.List fault)) false (λ state. ap (λ m. machine_outcome false said m state) named)
 
 -- where a machine has no fault, its core may find no memory
 pub core-starved : (hardware : Hardware) → first_fault false hardware ≡ None → first_fault true hardware ≡ Some machine_fault.NoMemory
@@ -93,8 +93,8 @@ core-starved hardware sound = by_count (hardware.nodes == 0 || nat_lt 256 hardwa
 
 -- ---- with a machine
 
-later_is : (running : Running) (said : Line) (refused : Bool) (state : State) → RunsAs running state → served refused state said ≡ served_later refused (setup_of running.core).machine state said
-unfolding served
+later_is : (running : Running) (said : Line) (refused : Bool) (state : State) → RunsAs running state → outcome_of refused state said ≡ served_later refused (setup_of running.core).machine state said
+unfolding outcome_of
 later_is running said refused state stands = ap (λ m. served_by m refused state said) stands.core.machine
 
 setup_is : (running : Running) (state : State) → RunsAs running state → setup_with (setup_of running.core).machine state.bounds ≡ setup_of running.core
@@ -106,7 +106,7 @@ pub later_same : (running : Running) (said : Line) (answer : Reply)
     → Takes running said (taken.Reply answer) running
 later_same running said answer right =
     λ state stands.
-    let is : served false state said ≡ with_reply answer state = later_is running said false state stands ∙ right (setup_of running.core).machine state in
+    let is : outcome_of false state said ≡ with_reply answer state = later_is running said false state stands ∙ right (setup_of running.core).machine state in
     (false, sym (ap (λ r. reply_in r.answer) is), subst (λ (r : Served). RunsAs running r.state) (sym is) stands)
 
 -- a command, or a line of workers
@@ -117,7 +117,7 @@ pub later_done : (old new : Running) (said : Line) (answer : Reply) (outcome : B
 later_done old new said answer outcome does right =
     λ state stands.
     let d = does state stands in
-    let is : served d.0 state said ≡ with_outcome state (outcome d.0 (setup_of old.core) state) =
+    let is : outcome_of d.0 state said ≡ with_outcome state (outcome d.0 (setup_of old.core) state) =
     later_is old said d.0 state stands ∙ right d.0 (setup_of old.core).machine state ∙ ap (λ s. with_outcome state (outcome d.0 s state)) (setup_is old state stands) in
     (d.0, ap Some d.1 ∙ sym (ap (λ r. reply_in r.answer) is), subst (λ (r : Served). RunsAs new r.state) (sym is) d.2)
 
@@ -137,14 +137,14 @@ pub told_later : (old new : Running) (said : Line) (answer : Reply) (P : List �
 told_later old new said answer P takes told =
     λ state stands.
     let t = takes state stands in
-    (t.0, t.2, subst P (text-of_reply (served t.0 state said).answer answer t.1) told)
+    (t.0, t.2, subst P (text-of_reply (outcome_of t.0 state said).answer answer t.1) told)
 
 pub told_first : (limits limits_then : Bounds) (running_then : Option Running) (said : Line) (answer : Reply) (P : List ℕ → Type 0) → Replies limits None said (Some answer) limits_then running_then → P (text_of answer)
     → (state : State) → Stands limits None state → (refused : Bool) × Stands limits_then running_then (after refused state said) × P (answer_of refused state said)
 told_first limits limits_then running_then said answer P replies told =
     λ state stands.
     let t = replies state stands in
-    (t.0, t.2, subst P (text-of_reply (served t.0 state said).answer answer t.1) told)
+    (t.0, t.2, subst P (text-of_reply (outcome_of t.0 state said).answer answer t.1) told)
 
 -- a question
 pub asked_later : (old mid new : Running) (said : Line) (asked : Question) (P : List ℕ → Type 0) → said ≡ line.Question asked → mid ≡ old
@@ -155,7 +155,7 @@ asked_later old mid new said asked P is same h =
     (subst (λ (r : Running). IsServed r new (line.Question asked) P) same
     (λ state stands.
     let a = h state stands in
-    let is : served a.0 state (line.Question asked) ≡ with_text (question_text a.0 (setup_of mid.core).machine state.world.history asked) state = later_is mid (line.Question asked) a.0 state stands in
+    let is : outcome_of a.0 state (line.Question asked) ≡ with_text (question_text a.0 (setup_of mid.core).machine state.world.history asked) state = later_is mid (line.Question asked) a.0 state stands in
     (a.0, subst (λ (r : Served). RunsAs new r.state) (sym is) a.1, subst (λ (r : Served). P (bytes_of r.answer)) (sym is) a.2)))
 
 -- maps
@@ -166,7 +166,7 @@ listed_later old mid said task P is same h =
     subst (λ (l : Line). IsServed old mid l P) (sym is)
     (subst (λ (r : Running). IsServed r mid (line.Maps task) P) same
     (λ state stands.
-    let is : served false state (line.Maps task) ≡ with_text (listing_of (setup_of mid.core).machine state.world.history task state.resident) state = later_is mid (line.Maps task) false state stands in
+    let is : outcome_of false state (line.Maps task) ≡ with_text (listing_of (setup_of mid.core).machine state.world.history task state.resident) state = later_is mid (line.Maps task) false state stands in
     (false, subst (λ (r : Served). RunsAs mid r.state) (sym is) stands, subst (λ (r : Served). P (bytes_of r.answer)) (sym is) (h state stands))))
 
 -- ---- a question and `maps` have no reply
@@ -179,7 +179,7 @@ question_has_none old new said asked is same =
     subst (λ (l : Line). HasNone old new l) (sym is)
     (subst (λ (r : Running). HasNone r new (line.Question asked)) same
     (λ state stands.
-    let is : served false state (line.Question asked) ≡ with_text (question_text false (setup_of new.core).machine state.world.history asked) state = later_is new (line.Question asked) false state stands in
+    let is : outcome_of false state (line.Question asked) ≡ with_text (question_text false (setup_of new.core).machine state.world.history asked) state = later_is new (line.Question asked) false state stands in
     (false, sym (ap (λ r. reply_in r.answer) is), subst (λ (r : Served). RunsAs new r.state) (sym is) stands)))
 
 pub maps_have_none : (old new : Running) (said : Line) (task : ℕ) → said ≡ line.Maps task → new ≡ old → HasNone old new said
@@ -187,5 +187,5 @@ maps_have_none old new said task is same =
     subst (λ (l : Line). HasNone old new l) (sym is)
     (subst (λ (r : Running). HasNone r new (line.Maps task)) same
     (λ state stands.
-    let is : served false state (line.Maps task) ≡ with_text (listing_of (setup_of new.core).machine state.world.history task state.resident) state = later_is new (line.Maps task) false state stands in
+    let is : outcome_of false state (line.Maps task) ≡ with_text (listing_of (setup_of new.core).machine state.world.history task state.resident) state = later_is new (line.Maps task) false state stands in
     (false, sym (ap (λ r. reply_in r.answer) is), subst (λ (r : Served). RunsAs new r.state) (sym is) stands)))

@@ -3,7 +3,7 @@ use Rattle.std.proofs.Common.{◌≡◌, ℕ, zero, suc, ◌+◌, ◌-◌, ◌<�
 use Rattle.std.specs.Prelude.{unwrap_or}
 use Rattle.std.proofs.lemmas.Bool.{cases_lt}
 use Rattle.numa_ranges.specs.Runs.{page_at, end_of, AreApart, AreMaximal}
-use Rattle.numa_ranges.specs.Edits.{joined}
+use Rattle.numa_ranges.specs.Edits.{maximal_runs}
 use Rattle.numa_ranges.specs.declared.run.Run.{Run}
 use Rattle.numa_ranges.proofs.Apart.{in_pages-true, in_pages-below, in_pages-above, apart-top}
 use Rattle.numa_ranges.proofs.Joined.{page_at-joined, apart-joined, maximal-joined}
@@ -98,24 +98,24 @@ module _ {T : Type 0} where
       by_page (Some p) rest = rw (in_pages-above first 1 page (omega arith)) rest
 
 module _ {T : Type 0} (same : T → T → Bool) (exact : (a b : T) → same a b ≡ true → a ≡ b) (itself : (a : T) → same a a ≡ true) where
-  joined-apart : (runs : List (Run T)) → AreApart 0 runs → AreApart 0 (joined same runs)
+  joined-apart : (runs : List (Run T)) → AreApart 0 runs → AreApart 0 (maximal_runs same runs)
   joined-apart [] apart = apart
   joined-apart (run ∷ runs) apart = apart-joined same exact itself 0 runs run apart
 
-  joined-maximal : (runs : List (Run T)) → AreMaximal (joined same runs)
+  joined-maximal : (runs : List (Run T)) → AreMaximal (maximal_runs same runs)
   joined-maximal [] = tt
   joined-maximal (run ∷ runs) = maximal-joined same exact itself runs run
 
-  joined-page : (runs : List (Run T)) (page : ℕ) → page_at (joined same runs) page ≡ page_at runs page
+  joined-page : (runs : List (Run T)) (page : ℕ) → page_at (maximal_runs same runs) page ≡ page_at runs page
   joined-page [] page = refl
   joined-page (run ∷ runs) page = page_at-joined same exact itself runs run page
 
   -- runs that are apart and maximal are their pages, each as a run of its own, joined
   pub joined-singles : (runs : List (Run T)) (at : ℕ → Option (ℕ × T)) (pages : ℕ) → pages ≡ 2 ^ 35 → AreApart 0 runs → AreMaximal runs → ((page : ℕ) → page_at runs page ≡ at page)
-      → joined same (singles at 0 pages) ≡ runs
+      → maximal_runs same (singles at 0 pages) ≡ runs
   joined-singles runs at pages all apart maximal shows =
       let small : AreSmall at = λ page p is. page_at-small 0 runs apart page p (shows page ∙ is) in
-      same-runs same exact itself 0 (joined same (singles at 0 pages)) runs (joined-apart (singles at 0 pages) (apart-singles at pages 0 0 small (omega arith) (omega arith))) apart
+      same-runs same exact itself 0 (maximal_runs same (singles at 0 pages)) runs (joined-apart (singles at 0 pages) (apart-singles at pages 0 0 small (omega arith) (omega arith))) apart
       (joined-maximal (singles at 0 pages)) maximal
       (λ page. joined-page (singles at 0 pages) page ∙ elim (cases_lt page pages) [
         | inl low ↦ page_at-singles at pages 0 page (omega arith) (omega arith) ∙ sym (shows page)

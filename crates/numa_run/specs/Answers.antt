@@ -2,19 +2,19 @@
 use Rattle.std.specs.Prelude.{ℕ, Bool, List, Option}
 use Rattle.numa_script.specs.Lines.{line_of}
 use Rattle.numa_script.specs.declared.line.Line.{Line}
-use Rattle.numa_run.specs.Replies.{bytes_of, reply_in, served}
+use Rattle.numa_run.specs.Replies.{bytes_of, reply_in, outcome_of}
 use Rattle.numa_script.specs.declared.reply.Reply.{Reply}
 pub use Rattle.numa_run.specs.States.{State, start}
 
 abbrev pub answer_of : Bool → State → Line → List ℕ
-answer_of refused state said = bytes_of (served refused state said).answer
+answer_of refused state said = bytes_of (outcome_of refused state said).answer
 
 -- the reply that is answered; none where a machine is ready and the line is a question or `maps`
 abbrev pub reply_of : Bool → State → Line → Option Reply
-reply_of refused state said = reply_in (served refused state said).answer
+reply_of refused state said = reply_in (outcome_of refused state said).answer
 
 abbrev pub after : Bool → State → Line → State
-after refused state said = (served refused state said).state
+after refused state said = (outcome_of refused state said).state
 
 -- the same of a line that is given as bytes
 abbrev pub answer_to : Bool → State → List ℕ → List ℕ

@@ -2,7 +2,7 @@
 use Rattle.std.specs.Prelude.{zero, suc, ℕ, ◌+◌, ◌^◌, Option, Some, None, List, [], ◌∷◌, ◌++◌}
 use Rattle.numa_machine.specs.Machine.{Hardware}
 use Rattle.numa_mode.specs.Policy.{PolicyRecord}
-use Rattle.numa_ranges.specs.Edits.{joined}
+use Rattle.numa_ranges.specs.Edits.{maximal_runs}
 use Rattle.numa_ranges.specs.declared.run.Run.{Run}
 use Rattle.numa_space.specs.Pages.{page_in, resolved_policy}
 use Rattle.numa_space.specs.Same.{same_record}
@@ -22,7 +22,7 @@ singles at first (suc pages) = single first (at first) ++ singles at (first + 1)
 
 -- the ranges, rising: the mapped pages, each that continues the one before it joined to that
 unfoldable pub ranges_of : Hardware → List Command → List (Run (Option PolicyRecord))
-ranges_of machine history = joined same_record (singles (page_in machine history) 0 (2 ^ 35))
+ranges_of machine history = maximal_runs same_record (singles (page_in machine history) 0 (2 ^ 35))
 
 -- one line for each range, with the policy that serves the task there and the pages that are placed
 -- there

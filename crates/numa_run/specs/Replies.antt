@@ -50,8 +50,8 @@ with_text text state = record { answer = Shown text; state = state }
 -- ---- before a machine is ready
 
 -- limits R T C: the last that are taken before the machine count
-abbrev pub limits_served : ℕ → ℕ → ℕ → State → Served
-limits_served ranges tasks commands state =
+abbrev pub limits_outcome : ℕ → ℕ → ℕ → State → Served
+limits_outcome ranges tasks commands state =
     if limits_fit ranges tasks
     then with_reply reply.LimitsOk (record state {
       bounds = record { max_ranges = ranges; max_tasks = tasks; max_commands = commands };
@@ -71,18 +71,18 @@ machine_unless (Some fault) hardware state = with_reply (reply.BadMachine fault)
 
 -- machine NODES MEM FRAMES DIST: a fault of the list of nodes comes before every fault of the
 -- machine
-abbrev pub machine_served : Bool → MachineLine → Result ℕ ListFault → State → Served
-machine_served refused said (Err fault) state =
+abbrev pub machine_outcome : Bool → MachineLine → Result ℕ ListFault → State → Served
+machine_outcome refused said (Err fault) state =
     with_reply (reply.BadWord (word_fault.List fault)) state
-machine_served refused said (Ok memory) state =
+machine_outcome refused said (Ok memory) state =
     machine_unless (first_fault refused (hardware_of said memory)) (hardware_of said memory) state
 
 abbrev pub served_first : Bool → State → Line → Served
 served_first refused state line.Silent = with_reply reply.Silent state
 served_first refused state line.Malformed = with_reply reply.BadWords state
 served_first refused state (line.Limits ranges tasks commands) =
-    limits_served ranges tasks commands state
-served_first refused state (line.Machine said) = machine_served refused said said.memory state
+    limits_outcome ranges tasks commands state
+served_first refused state (line.Machine said) = machine_outcome refused said said.memory state
 served_first refused state (line.Command said) = with_reply reply.BadState state
 served_first refused state (line.Question said) = with_reply reply.BadState state
 served_first refused state (line.Maps task) = with_reply reply.BadState state
@@ -96,9 +96,9 @@ with_outcome state outcome =
 
 -- map, unmap, mbind, home, task, weight, mems: a fault of a list or a policy comes before every
 -- refusal
-abbrev pub command_served : Bool → Hardware → State → Result Command WordFault → Served
-command_served refused machine state (Err fault) = with_reply (reply.BadWord fault) state
-command_served refused machine state (Ok command) =
+abbrev pub command_outcome : Bool → Hardware → State → Result Command WordFault → Served
+command_outcome refused machine state (Err fault) = with_reply (reply.BadWord fault) state
+command_outcome refused machine state (Ok command) =
     with_outcome state (event_outcome refused (setup_with machine state.bounds) state.world
     state.resident (Accept command))
 
@@ -108,7 +108,7 @@ served_later refused machine state line.Malformed = with_reply reply.BadWords st
 served_later refused machine state (line.Limits ranges tasks commands) =
     with_reply reply.BadState state
 served_later refused machine state (line.Machine said) = with_reply reply.BadState state
-served_later refused machine state (line.Command said) = command_served refused machine state said
+served_later refused machine state (line.Command said) = command_outcome refused machine state said
 served_later refused machine state (line.Question said) =
     with_text (question_text refused machine state.world.history said) state
 served_later refused machine state (line.Maps task) =
@@ -124,5 +124,5 @@ served_by None refused state said = served_first refused state said
 served_by (Some machine) refused state said = served_later refused machine state said
 
 -- what serving a line in a state comes to
-unfoldable pub served : Bool → State → Line → Served
-served refused state said = served_by state.machine refused state said
+unfoldable pub outcome_of : Bool → State → Line → Served
+outcome_of refused state said = served_by state.machine refused state said

@@ -9,7 +9,7 @@ use Rattle.numa_space.specs.declared.command.Command.TheVariants.{SetHome, SetWe
 use Rattle.numa_space.specs.declared.refusal.Refusal.TheVariants.{NoMemory as NoRoom}
 use Rattle.numa_core.specs.World.{Setup, World, newest_published}
 use Rattle.numa_core.specs.Steps.{answer_of, world_after}
-use Rattle.numa_core.specs.Touching.{touched}
+use Rattle.numa_core.specs.Touching.{result_of_touch}
 use Rattle.numa_space.specs.declared.placement.Placement.{Placement}
 use Rattle.numa_space.specs.declared.request.Request.{Request}
 use Rattle.numa_space.specs.declared.event.Event.{Event}
@@ -125,8 +125,9 @@ module _ (refused : Bool) (s : Setup) where
 
   abbrev pub touch_outcome : World → Kept → ℕ → Request → Outcome
   touch_outcome world resident w request =
-      touch_by (won_by (touched s world w request).answer) (touched s world w request).answer
-      (touched s world w request).world resident w
+      touch_by (won_by (result_of_touch s world w request).answer)
+      (result_of_touch s world w request).answer
+      (result_of_touch s world w request).world resident w
 
   -- ---- release W ADDR
 

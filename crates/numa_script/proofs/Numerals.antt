@@ -9,10 +9,10 @@ use Rattle.std.proofs.lemmas.Int.Digits.{digits_value_more}
 use Rattle.std.proofs.lemmas.Bool.Decides.{nat_tests}
 use native.Mathlib.Nat.{pow-suc, pow-le-pow_right}
 use Rattle.std.specs.Str.{bytes_eq}
-use Rattle.numa_script.specs.Numbers.{numeral_of, number_of, IsNumber, IsNumeral, fitting, digit_of}
+use Rattle.numa_script.specs.Numbers.{numeral_of, number_of, IsNumber, IsNumeral, in_64_bits, digit_of}
 
-not_fitting : (n m : ℕ) → fitting n ≡ None → n ≤ m → fitting m ≡ None
-unfolding fitting
+not_fitting : (n m : ℕ) → in_64_bits n ≡ None → n ≤ m → in_64_bits m ≡ None
+unfolding in_64_bits
 not_fitting n m h le = grind (arith, nat_tests)
 
 none_at : (a b : Bool) → cond a None (cond b None None) ≡ (let none : Option ℕ = None in none)
@@ -48,7 +48,7 @@ none_then true = refl
 none_then false = refl
 
 -- a front that doesn't fit
-pub too_large : (radix most : ℕ) (ds : List ℕ) (i : ℕ) → i < length ds → 1 ≤ radix → fitting (digits_value radix (take i ds) * radix + digit_value (get_or ds i 0)) ≡ None → numeral_of radix most ds ≡ None
+pub too_large : (radix most : ℕ) (ds : List ℕ) (i : ℕ) → i < length ds → 1 ≤ radix → in_64_bits (digits_value radix (take i ds) * radix + digit_value (get_or ds i 0)) ≡ None → numeral_of radix most ds ≡ None
 unfolding numeral_of
 too_large radix most ds i lt one h =
     none_in (length ds == 0) (nat_lt most (length ds)) (list_all (λ c. is_digit c radix) ds) _ (not_fitting _ (digits_value radix ds) h (rw (← digits_value_more radix ds i lt) (digits_value-take-le radix ds (i + 1) one)))
@@ -61,8 +61,8 @@ pub digit_is : (radix c d : ℕ) → digit_of radix c ≡ Some d → (is_digit c
 unfolding digit_of
 digit_is radix c d h = let a = chosen_then (is_digit c radix) (Some (digit_value c)) d h in (a.0, cc (a.1))
 
-pub fitting_is : (n m : ℕ) → Some m ≡ fitting n → (m ≡ n) × (n < 2 ^ 64)
-unfolding fitting
+pub fitting_is : (n m : ℕ) → Some m ≡ in_64_bits n → (m ≡ n) × (n < 2 ^ 64)
+unfolding in_64_bits
 fitting_is n m h =
     let a = chosen_then (nat_lt n (2 ^ 64)) (Some n) m (sym h) in
     let few : n < 2 ^ 64 = grind (arith, nat_tests, a.0) in
@@ -74,7 +74,7 @@ more_digits radix ds i lt h d = rw (list_all_more (λ c. is_digit c radix) ds i 
 
 -- all are digits, and the number fits
 pub all_digits : (radix most : ℕ) (ds : List ℕ) → (length ds == 0) ≡ false → length ds ≤ most → list_all (λ c. is_digit c radix) ds ≡ true → digits_value radix ds < 2 ^ 64 → numeral_of radix most ds ≡ Some (digits_value radix ds)
-unfolding numeral_of fitting
+unfolding numeral_of in_64_bits
 all_digits radix most ds some few digits fits = rw (some, digits) (grind (arith, nat_tests))
 
 pub none_empty : (radix most : ℕ) (ds : List ℕ) → length ds ≡ 0 → numeral_of radix most ds ≡ None
@@ -116,7 +116,7 @@ match_from (Some n) P Q none some = some n refl
 
 -- what is read is a numeral, and below 2^64
 numeral_found : (radix most : ℕ) (ds : List ℕ) (n : ℕ) → numeral_of radix most ds ≡ Some n → (n < 2 ^ 64) × IsNumeral radix most ds n
-unfolding numeral_of fitting
+unfolding numeral_of in_64_bits
 numeral_found radix most ds n h =
     let a = chosen_else (length ds == 0) _ n h in
     let b = chosen_else (nat_lt most (length ds)) _ n a.1 in

@@ -3,7 +3,7 @@ use Rattle.std.specs.Prelude.{◌≡◌, codes, ◌++◌, [], ◌∷◌, Some, N
 use Rattle.numa_script.specs.Causes.{fault_of}
 use Rattle.numa_script.specs.Lines.{keyword_of}
 use Rattle.numa_script.specs.Machines.{distances_of}
-use Rattle.numa_script.specs.Numbers.{number_of, numeral_of, fitting}
+use Rattle.numa_script.specs.Numbers.{number_of, numeral_of, in_64_bits}
 use Rattle.numa_script.specs.declared.keyword.Keyword.TheVariants as keyword
 use Rattle.numa_script.specs.declared.malformed.Cause.TheVariants as cause
 use Rattle.numa_script.specs.declared.parameter.Misfit.TheVariants.{Unreadable, TooGreat}
@@ -50,16 +50,16 @@ unfolding fault_of keyword_of
 too_many = refl
 
 no_number : fault_of (codes "map 0 four 2") ≡ Some (record { cause = cause.BadWord keyword.Map parameter.Length Unreadable; column = 7 })
-unfolding fault_of keyword_of number_of numeral_of fitting
+unfolding fault_of keyword_of number_of numeral_of in_64_bits
 no_number = refl
 
 too_great : fault_of (codes "span 1 0 65537 0") ≡ Some (record { cause = cause.BadWord keyword.Span parameter.SpanPages TooGreat; column = 10 })
-unfolding fault_of keyword_of number_of numeral_of fitting
+unfolding fault_of keyword_of number_of numeral_of in_64_bits
 too_great = refl
 
 -- no list of distances has one above 255
 no_distances : fault_of (codes "machine 1 0 1 256") ≡ Some (record { cause = cause.BadWord keyword.Machine parameter.Distances Unreadable; column = 15 })
-unfolding fault_of keyword_of number_of numeral_of fitting distances_of
+unfolding fault_of keyword_of number_of numeral_of in_64_bits distances_of
 no_distances = refl
 
 -- ---- lines that aren't malformed
@@ -73,5 +73,5 @@ unfolding fault_of
 comment = refl
 
 policy : fault_of (codes "mbind 0 1 nothing") ≡ None
-unfolding fault_of keyword_of number_of numeral_of fitting
+unfolding fault_of keyword_of number_of numeral_of in_64_bits
 policy = refl

@@ -24,15 +24,15 @@ unfoldable pub digit_of : ℕ → ℕ → Option ℕ
 digit_of radix c = if is_digit c radix then Some (digit_value c) else None
 
 -- the number, where it fits 64 bits
-unfoldable pub fitting : ℕ → Option ℕ
-fitting n = if nat_lt n (2 ^ 64) then Some n else None
+unfoldable pub in_64_bits : ℕ → Option ℕ
+in_64_bits n = if nat_lt n (2 ^ 64) then Some n else None
 
 -- the number that the digits write, where they are 1 to `most` in the radix, and fit 64 bits
 unfoldable pub numeral_of : ℕ → ℕ → List ℕ → Option ℕ
 numeral_of radix most digits =
     if length digits == 0 then None
     else if nat_lt most (length digits) then None
-    else if list_all (λ c. is_digit c radix) digits then fitting (digits_value radix digits)
+    else if list_all (λ c. is_digit c radix) digits then in_64_bits (digits_value radix digits)
     else None
 
 -- the number of a word, where it is one

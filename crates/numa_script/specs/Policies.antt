@@ -57,16 +57,16 @@ form_of_parts _ = None
 abbrev pub form_of : List ℕ → Option PolicyForm
 form_of text = form_of_parts (parts_of 61 text)
 
-abbrev pub specified : Result Specification SpecFault → Result Specification WordFault
-specified (Ok spec) = Ok spec
-specified (Err f) = Err (fault.Policy f)
+abbrev pub spec_or_fault : Result Specification SpecFault → Result Specification WordFault
+spec_or_fault (Ok spec) = Ok spec
+spec_or_fault (Err f) = Err (fault.Policy f)
 
 -- the form is judged first, then the list, then the two together
 abbrev pub policy_from : Option PolicyForm → Result ℕ ListFault → Result Specification WordFault
 policy_from None nodes = Err (fault.Policy UnknownMode)
 policy_from (Some form) (Err f) = Err (fault.List f)
 policy_from (Some form) (Ok mask) =
-    specified (specification_of form.mode form.is_static form.is_relative mask)
+    spec_or_fault (specification_of form.mode form.is_static form.is_relative mask)
 
 -- a word without a colon names no nodes
 abbrev pub policy_cut : List ℕ → Option ℕ → Result Specification WordFault

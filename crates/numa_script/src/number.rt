@@ -1,6 +1,6 @@
 //! Numbers, as words of a script.
 ghost use Rattle.std.specs.Prelude.{◌≡◌, ℕ, ◌+◌, ◌*◌, ◌^◌, ◌<◌, ◌≤◌, List, MatchOption, IfSome};
-ghost use Rattle.numa_script.specs.Numbers.{digit_of, fitting, numeral_of, number_of, small_of};
+ghost use Rattle.numa_script.specs.Numbers.{digit_of, in_64_bits, numeral_of, number_of, small_of};
 ghost use Rattle.numa_script.specs.Numbers.{item_of, page_of, node_of, frame_number_of};
 ghost use Rattle.numa_script.specs.Numbers.{span_pages_of, below, IsNumber};
 
@@ -27,9 +27,9 @@ fn digit_in(byte: u8, radix: u32) -> Option<u32>
 }
 
 /// The number with one more digit, where it fits.
-#[tactic(auto, unfolding(crate::specs::Numbers::fitting))]
+#[tactic(auto, unfolding(crate::specs::Numbers::in_64_bits))]
 fn with_digit(value: u64, radix: u32, digit: u32) -> Option<u64>
-    ensures { result ≡ fitting (value * radix + digit) }
+    ensures { result ≡ in_64_bits (value * radix + digit) }
 {
     value
         .checked_mul(u64::from(radix))?

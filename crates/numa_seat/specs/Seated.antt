@@ -4,7 +4,7 @@ use Rattle.std.specs.Prelude.{Option, Some, IfSome, slice_get}
 use Rattle.std.specs.Option.{option_map}
 use Rattle.atomic_table.specs.Seated.{TableId}
 use Rattle.numa_machine.specs.declared.frame.Frame.{Frame}
-use Rattle.numa_pool.specs.Frames.{gained, times, without, Holds}
+use Rattle.numa_pool.specs.Frames.{with_found, times, without, Holds}
 use Rattle.numa_pool.specs.Seats.{SeatView}
 use Rattle.numa_pool.specs.Walk.{WalksInOrder}
 use Rattle.numa_pool.specs.declared.view.Entry.{Entry}
@@ -27,12 +27,12 @@ abbrev pub newcomer : Seated → Seated
 newcomer s = at_first s.frames s.seat.table
 
 -- after a split: one step more, which the log leaves out
-abbrev pub divided : Seated → Seated
-divided s = record s { seat = record s.seat { unlogged = s.seat.unlogged + 1 } }
+abbrev pub seat_after_split : Seated → Seated
+seat_after_split s = record s { seat = record s.seat { unlogged = s.seat.unlogged + 1 } }
 
 -- after a join: the frames of both, and one step more, which the log leaves out
-abbrev pub joined : Seated → Seated → Seated
-joined s other = record s {
+abbrev pub seat_after_join : Seated → Seated → Seated
+seat_after_join s other = record s {
   seat = record s.seat {
     held = s.seat.held ++ other.seat.held;
     unlogged = s.seat.unlogged + 1;
@@ -40,8 +40,8 @@ joined s other = record s {
 }
 
 -- after the frame was given back
-abbrev pub given : Frame → Seated → Seated
-given f s = record s {
+abbrev pub seat_after_give : Frame → Seated → Seated
+seat_after_give f s = record s {
   seat = record s.seat {
     held = without f.node f.number s.seat.held;
     log = Gave f ∷ s.seat.log;
@@ -51,7 +51,7 @@ given f s = record s {
 -- a seat gave a frame back where it holds it, and told whether it does
 pub record Gives (frame : Frame) (held : Bool) (before after : Seated) : Type 0 where
   pub told : IsTrue held ↔ Holds before.seat.held frame
-  pub given : held ≡ true → after ≡ given frame before
+  pub seat_after_give : held ≡ true → after ≡ seat_after_give frame before
   pub kept : held ≡ false → after ≡ before
 
 -- the frame that was found, without the place of its node
@@ -66,6 +66,6 @@ pub record TakesAlong (nodes : List ℕ) (found : Option (ℕ × Frame)) (before
   pub walks : (es : List Entry) × (after.seat.log ≡ es ++ before.seat.log)
       × WalksInOrder before.frames nodes (frame_in found) es
   pub no_other : after.seat.unlogged ≡ before.seat.unlogged
-  pub held : after.seat.held ≡ gained (frame_in found) before.seat.held
+  pub held : after.seat.held ≡ with_found (frame_in found) before.seat.held
   pub rank : IfSome found (λ f. slice_get nodes f.0 ≡ Some f.1.node)
   pub fresh : IfSome found (λ f. times f.1.node f.1.number before.seat.held ≡ 0)

@@ -1,6 +1,6 @@
 //! A frame of the first node of a list that has one.
 ghost use Rattle.std.specs.Prelude.{◌≡◌, ◌++◌, List, Some, IfSome, slice_get};
-ghost use Rattle.numa_pool.specs.Frames.{gained, times};
+ghost use Rattle.numa_pool.specs.Frames.{with_found, times};
 ghost use Rattle.numa_pool.specs.Walk.{WalksInOrder};
 ghost use Rattle.numa_pool.specs.declared.view.Entry.{Entry};
 ghost use Rattle.numa_seat.specs.Seated.{frame_in};
@@ -17,7 +17,7 @@ pub fn take_along(pools: &Pools, seat: &mut PoolSeat, nodes: &[u8]) -> Option<(u
     ensures walks { (es : List Entry) × (seat.new.log ≡ es ++ seat.old.log)
         × WalksInOrder pools.now.frames nodes.now (frame_in result) es }
     ensures no_other { seat.new.unlogged ≡ seat.old.unlogged }
-    ensures held { seat.new.held ≡ gained (frame_in result) seat.old.held }
+    ensures held { seat.new.held ≡ with_found (frame_in result) seat.old.held }
     ensures rank { IfSome result (λ found. slice_get nodes.now found.0 ≡ Some found.1.node) }
     ensures fresh { IfSome result (λ found. times found.1.node found.1.number seat.old.held ≡ 0) }
 {

@@ -1,6 +1,7 @@
 //! Seats that carry their pools.
 ghost use Rattle.std.specs.Prelude.{◌≡◌, IfOk, OnOk, OnErr};
-ghost use Rattle.numa_seat.specs.Seated.{at_first, newcomer, divided, joined, Gives, TakesAlong};
+ghost use Rattle.numa_seat.specs.Seated.{at_first, newcomer, seat_after_split, seat_after_join};
+ghost use Rattle.numa_seat.specs.Seated.{Gives, TakesAlong};
 
 use crate::along::take_along;
 use numa_machine::{Frame, Machine};
@@ -47,7 +48,7 @@ impl Seat {
     /// there was no memory for it, or as many seats share the pools as can.
     pub fn split(&mut self, alloc: Global) -> Result<Seat, NoMemory>
         ensures other { IfOk result (λ other. other ≡ newcomer self.old) }
-        ensures ok { OnOk result (self.new ≡ divided self.old) }
+        ensures ok { OnOk result (self.new ≡ seat_after_split self.old) }
         ensures err { OnErr result (self.new ≡ self.old) }
     {
         let Ok(pools) = Arc::try_clone(&self.pools) else {
@@ -80,7 +81,7 @@ impl Seat {
     /// Gets the frames of another seat at the same pools, which is spent. Takes no memory.
     pub fn join(&mut self, other: Seat)
         requires { other.seat.table ≡ self.old.seat.table }
-        ensures { self.new ≡ joined self.old other }
+        ensures { self.new ≡ seat_after_join self.old other }
     {
         let Seat { pools: _, seat } = other;
         self.pools.join(&mut self.seat, seat);

@@ -13,7 +13,7 @@ use Rattle.numa_ranges.specs.Maps.{changed_page}
 use Rattle.numa_space.specs.History.{page_of, page_count}
 use Rattle.numa_space.specs.Refusals.{Scene, PageMap, when, bad_span, has_no_node, cause_in, refusal_in}
 use Rattle.numa_space.specs.Standing.{SpaceState, record_of, IsInForce, IsSound}
-use Rattle.numa_space.specs.Steps.{record_now, homed, rebound, allowed_next, pages_next, task_next, task_count_next, IsNext, scene_in, IsAnswer}
+use Rattle.numa_space.specs.Steps.{record_now, policy_with_home, policy_after, allowed_next, pages_next, task_next, task_count_next, IsNext, scene_in, IsAnswer}
 use Rattle.numa_space.specs.declared.command.Command.{Command}
 use Rattle.numa_space.specs.declared.command.Command.TheVariants.{Map, Unmap, Mbind, SetTask, SetHome, SetWeight, SetMems}
 use Rattle.numa_space.specs.declared.refusal.Refusal.{Refusal}
@@ -59,11 +59,11 @@ Holds machine allowed r = IfSome r (IsInForce machine allowed)
 holds-now : (machine : Hardware) (allowed : ℕ) (spec : Specification) → Holds machine allowed (record_now allowed spec)
 holds-now machine allowed spec = elim (cases_Bool (is_default spec)) [ inl t ↦ rw t tt | inr f ↦ rw f (in_force-now machine allowed spec) ]
 
-holds-homed : (machine : Hardware) (allowed node : ℕ) (r : Option PolicyRecord) → node < machine.nodes → Holds machine allowed r → Holds machine allowed (homed node r)
+holds-homed : (machine : Hardware) (allowed node : ℕ) (r : Option PolicyRecord) → node < machine.nodes → Holds machine allowed r → Holds machine allowed (policy_with_home node r)
 holds-homed machine allowed node None low h = tt
 holds-homed machine allowed node (Some r) low h = elim (cases_Bool (takes_home r)) [ inl t ↦ rw t (in_force-home machine allowed r node low h) | inr f ↦ rw f h ]
 
-holds-rebound : (machine : Hardware) (old new : ℕ) (r : Option PolicyRecord) → 0 < weight_of new → Holds machine old r → Holds machine new (rebound old new r)
+holds-rebound : (machine : Hardware) (old new : ℕ) (r : Option PolicyRecord) → 0 < weight_of new → Holds machine old r → Holds machine new (policy_after old new r)
 holds-rebound machine old new None some h = tt
 holds-rebound machine old new (Some r) some h = in_force-after machine old new r some h
 
@@ -155,12 +155,12 @@ module _ (scene : Scene) (small : scene.machine.memory < 2 ^ 256) (force : AreIn
       (λ e. force.at_pages page)
   page-next (SetTask task spec) page none = force.at_pages page
   page-next (SetHome start bytes node) page none =
-      cond_both (in_pages (page_of start) (page_count bytes) page) (changed_page (homed node) (scene.pages page)) (scene.pages page) (PageHolds scene.machine scene.allowed)
-      (λ e. page-changed scene.machine scene.allowed scene.allowed (homed node) (scene.pages page) (λ r h. holds-homed scene.machine scene.allowed node r (home-node scene start bytes node none) h) (force.at_pages page))
+      cond_both (in_pages (page_of start) (page_count bytes) page) (changed_page (policy_with_home node) (scene.pages page)) (scene.pages page) (PageHolds scene.machine scene.allowed)
+      (λ e. page-changed scene.machine scene.allowed scene.allowed (policy_with_home node) (scene.pages page) (λ r h. holds-homed scene.machine scene.allowed node r (home-node scene start bytes node none) h) (force.at_pages page))
       (λ e. force.at_pages page)
   page-next (SetWeight node weight) page none = force.at_pages page
   page-next (SetMems mask) page none =
-      page-changed scene.machine scene.allowed (both mask scene.machine.memory) (rebound scene.allowed (both mask scene.machine.memory)) (scene.pages page) (λ r h. holds-rebound scene.machine scene.allowed (both mask scene.machine.memory) r (some-mems mask none) h) (force.at_pages page)
+      page-changed scene.machine scene.allowed (both mask scene.machine.memory) (policy_after scene.allowed (both mask scene.machine.memory)) (scene.pages page) (λ r h. holds-rebound scene.machine scene.allowed (both mask scene.machine.memory) r (some-mems mask none) h) (force.at_pages page)
 
   held-next : (command : Command) (task : ℕ) → refusal_in scene command ≡ None → Holds scene.machine (allowed_next scene.machine scene.allowed command) (task_next scene.machine scene.allowed scene.task command task)
   held-next (Map start bytes offset) task none = force.at_tasks task

@@ -8,7 +8,7 @@ use Rattle.numa_ranges.specs.Runs.{page_at, AreApart, AreMaximal}
 use Rattle.numa_ranges.specs.Counts.{range_count}
 use Rattle.numa_ranges.proofs.Counted.{range_count-length}
 use Rattle.numa_space.specs.History.{Place}
-use Rattle.numa_space.specs.Policies.{resolved}
+use Rattle.numa_space.specs.Policies.{policy_that_counts}
 use Rattle.numa_space.specs.Pages.{cover_of, is_unmap, is_mapped, index_of, bound_by, range_record, page_in, resolved_policy}
 use Rattle.numa_space.specs.Lists.{list_for, setting_of, node_list}
 use Rattle.numa_space.specs.Same.{same_record}
@@ -44,7 +44,7 @@ record-of_page machine history page = go (cover_of history page)
 pub policy-same : (space : SpaceState) (history : List Command) (task page : ℕ) → StandsFor space history → policy_in space task page ≡ resolved_policy space.machine history task page
 policy-same space history task page stands =
     let range : option_and_then (λ (at : ℕ × Option PolicyRecord). at.1) (page_at space.ranges page) ≡ range_record space.machine history page = ap (λ o. option_and_then (λ (at : ℕ × Option PolicyRecord). at.1) o) (stands.pages page) ∙ record-of_page space.machine history page in
-    λ i. resolved (range i) (stands.tasks task i)
+    λ i. policy_that_counts (range i) (stands.tasks task i)
 
 pub setting-same : (space : SpaceState) (history : List Command) → StandsFor space history → setting_in space ≡ setting_of space.machine history
 setting-same space history stands = λ i. record { machine = space.machine; allowed = stands.allowed i; weight = λ node. stands.weights node i }

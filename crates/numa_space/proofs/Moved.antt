@@ -5,7 +5,7 @@ use Rattle.std.specs.Map.{values_of}
 use Rattle.indexmap.specs.IndexMap.{set_value_at}
 use Rattle.numa_mode.specs.Policy.{PolicyRecord, record_after}
 use Rattle.numa_space.specs.Standing.{record_of}
-use Rattle.numa_space.specs.Steps.{rebound}
+use Rattle.numa_space.specs.Steps.{policy_after}
 
 -- the first so many tasks' policies are moved
 abbrev pub moved_first : ℕ → ℕ → ℕ → List (ℕ × PolicyRecord) → List (ℕ × PolicyRecord)
@@ -24,7 +24,7 @@ moved_first-more old new (e ∷ es) zero policy at =
     (λ i. (e.0, record_after (sym here i) old new) ∷ es) ∙ ap (λ rest. (e.0, record_after e.1 old new) ∷ rest) (sym (moved_first-none old new es))
 moved_first-more old new (e ∷ es) (suc k) policy at = ap (λ rest. (e.0, record_after e.1 old new) ∷ rest) (moved_first-more old new es k policy at)
 
-pub record_of-moved_first : (old new : ℕ) (es : List (ℕ × PolicyRecord)) (k : ℕ) (task : ℕ) → length es ≤ k → record_of (moved_first old new k es) task ≡ rebound old new (record_of es task)
+pub record_of-moved_first : (old new : ℕ) (es : List (ℕ × PolicyRecord)) (k : ℕ) (task : ℕ) → length es ≤ k → record_of (moved_first old new k es) task ≡ policy_after old new (record_of es task)
 record_of-moved_first old new [] k task all = refl
 record_of-moved_first old new (e ∷ es) zero task all = absurd (omega arith)
 record_of-moved_first old new (e ∷ es) (suc k) task all =

@@ -7,7 +7,7 @@ use Rattle.numa_machine.specs.Machine.{Hardware}
 use Rattle.numa_ranges.specs.Runs.{in_pages, end_of, page_at, AreApart, AreMaximal}
 use Rattle.numa_ranges.specs.Maps.{any_page, changed_page}
 use Rattle.numa_ranges.specs.Edits.{edited_page}
-use Rattle.numa_ranges.specs.Windows.{begins_in, met, begun, IsWindow, AgreeOutside, to_now, Moves}
+use Rattle.numa_ranges.specs.Windows.{begins_in, met, starts_in, IsWindow, AgreeOutside, to_now, Moves}
 use Rattle.numa_ranges.specs.declared.run.Run.{Run}
 use Rattle.numa_ranges.proofs.Apart.{in_pages-true, in_pages-below, in_pages-above}
 use Rattle.numa_ranges.proofs.Beside.{run-page, left-same}
@@ -24,7 +24,7 @@ use Rattle.numa_space.specs.Refusals.{PageMap, bad_span, cause_in, first_of, too
 use Rattle.numa_space.specs.Same.{same_record}
 use Rattle.numa_space.specs.Spans.{span_first, span_pages, span_end, StaysInSpan, EditsSpan, span_edit}
 use Rattle.numa_space.specs.Standing.{SpaceState}
-use Rattle.numa_space.specs.Steps.{record_now, homed, pages_next, scene_in, IsStep}
+use Rattle.numa_space.specs.Steps.{record_now, policy_with_home, pages_next, scene_in, IsStep}
 use Rattle.numa_space.proofs.Refused.{first_of-none, when-none}
 use Rattle.numa_space.proofs.Same.{same_record-exact, same_record-refl}
 
@@ -35,7 +35,7 @@ next-outside machine allowed pages (Map start bytes offset) page stays out = ap 
 next-outside machine allowed pages (Unmap start bytes) page stays out = ap (λ (b : Bool). cond b None (pages page)) out
 next-outside machine allowed pages (Mbind start bytes spec) page stays out = ap (λ (b : Bool). cond b (changed_page (λ old. record_now allowed spec) (pages page)) (pages page)) out
 next-outside machine allowed pages (SetTask task spec) page stays out = refl
-next-outside machine allowed pages (SetHome start bytes node) page stays out = ap (λ (b : Bool). cond b (changed_page (homed node) (pages page)) (pages page)) out
+next-outside machine allowed pages (SetHome start bytes node) page stays out = ap (λ (b : Bool). cond b (changed_page (policy_with_home node) (pages page)) (pages page)) out
 next-outside machine allowed pages (SetWeight node weight) page stays out = refl
 next-outside machine allowed pages (SetMems mask) page stays out = absurd stays
 
@@ -52,7 +52,7 @@ next-edited machine allowed pages (Map start bytes offset) page edits in_span = 
 next-edited machine allowed pages (Unmap start bytes) page edits in_span = ap (λ (b : Bool). cond b None (pages page)) in_span ∙ edit-none (pages page)
 next-edited machine allowed pages (Mbind start bytes spec) page edits in_span = ap (λ (b : Bool). cond b (changed_page (λ old. record_now allowed spec) (pages page)) (pages page)) in_span ∙ edit-some (λ old. record_now allowed spec) (pages page)
 next-edited machine allowed pages (SetTask task spec) page edits in_span = absurd edits
-next-edited machine allowed pages (SetHome start bytes node) page edits in_span = ap (λ (b : Bool). cond b (changed_page (homed node) (pages page)) (pages page)) in_span ∙ edit-some (homed node) (pages page)
+next-edited machine allowed pages (SetHome start bytes node) page edits in_span = ap (λ (b : Bool). cond b (changed_page (policy_with_home node) (pages page)) (pages page)) in_span ∙ edit-some (policy_with_home node) (pages page)
 next-edited machine allowed pages (SetWeight node weight) page edits in_span = absurd edits
 next-edited machine allowed pages (SetMems mask) page edits in_span = absurd edits
 
@@ -123,7 +123,7 @@ module _ (old new : SpaceState) (command : Command) (step : IsStep old command n
       omega (arith, met-few some, window-few new.ranges (span_first command) (span_end command) from (to_now old.ranges new.ranges to) apart now)
 
   -- and at most as many begin in the span as met it
-  pub begun-few : 0 < span_pages command → begun (span_first command) (span_end command) new.ranges ≤ met (span_first command) (span_end command) old.ranges
+  pub begun-few : 0 < span_pages command → starts_in (span_first command) (span_end command) new.ranges ≤ met (span_first command) (span_end command) old.ranges
   begun-few some = omega (arith, met-few some, begun-met 0 (span_first command) (span_end command) new.ranges apart)
 
   -- a range that begins in the span has what the command made of the policy there
@@ -158,15 +158,15 @@ module _ (old new : SpaceState) (start bytes : ℕ) (spec : Specification) (step
 module _ (old new : SpaceState) (start bytes node : ℕ) (step : IsStep old (SetHome start bytes node) new) (apart : AreApart 0 new.ranges) (maximal : AreMaximal new.ranges) where
   -- a range that begins in the span has the policy that its first page had, with the home
   pub home-value : (k : ℕ) (d : Run (Option PolicyRecord)) → k < length new.ranges → begins_in (page_of start) (page_of start + page_count bytes) (get_or new.ranges k d) ≡ true
-      → (policy : Option PolicyRecord) × (page_at old.ranges (get_or new.ranges k d).first ≡ Some ((get_or new.ranges k d).index, policy)) × ((get_or new.ranges k d).value ≡ homed node policy)
+      → (policy : Option PolicyRecord) × (page_at old.ranges (get_or new.ranges k d).first ≡ Some ((get_or new.ranges k d).index, policy)) × ((get_or new.ranges k d).value ≡ policy_with_home node policy)
   home-value k d l in_span =
       let run : Run (Option PolicyRecord) = get_or new.ranges k d in
       go run.index run.value (page_at old.ranges run.first) (edited-value old new (SetHome start bytes node) step tt apart maximal k d l in_span)
     where
-      go : (index : ℕ) (value : Option PolicyRecord) (o : Option (ℕ × Option PolicyRecord)) → Some (index, value) ≡ edited_page (λ policy. Some (homed node policy)) o → (policy : Option PolicyRecord) × (o ≡ Some (index, policy)) × (value ≡ homed node policy)
+      go : (index : ℕ) (value : Option PolicyRecord) (o : Option (ℕ × Option PolicyRecord)) → Some (index, value) ≡ edited_page (λ policy. Some (policy_with_home node policy)) o → (policy : Option PolicyRecord) × (o ≡ Some (index, policy)) × (value ≡ policy_with_home node policy)
       go index value None is = let odd : true ≡ false = ap is_some is in absurd (cc)
       go index value (Some p) is =
-          let both : (index, value) ≡ (p.0, homed node p.1) = ap (λ (q : Option (ℕ × Option PolicyRecord)). unwrap_or q (index, value)) is in
+          let both : (index, value) ≡ (p.0, policy_with_home node p.1) = ap (λ (q : Option (ℕ × Option PolicyRecord)). unwrap_or q (index, value)) is in
           let place : index ≡ p.0 = ap (λ (q : ℕ × Option PolicyRecord). q.0) both in
           (p.1, ap (λ (n : ℕ). Some (n, p.1)) (sym place), ap (λ (q : ℕ × Option PolicyRecord). q.1) both)
 

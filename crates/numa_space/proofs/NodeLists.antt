@@ -18,7 +18,7 @@ use Rattle.numa_mode.specs.Within.{IsWithin}
 use Rattle.numa_mode.specs.declared.modes.Mode.{Mode}
 use Rattle.numa_mode.specs.declared.modes.Mode.TheVariants.{Default, Preferred, Bind, Interleave, Local, PreferredMany, WeightedInterleave}
 use Rattle.numa_ranges.specs.Runs.{page_at}
-use Rattle.numa_space.specs.Policies.{where_live, resolved}
+use Rattle.numa_space.specs.Policies.{where_live, policy_that_counts}
 use Rattle.numa_space.specs.Lists.{within, list_by_mode, list_for}
 use Rattle.numa_space.specs.Standing.{SpaceState, record_of, setting_in, policy_in, list_in, IsNodeList, IsInForce, IsSound}
 
@@ -135,7 +135,7 @@ where_live-some None P h = tt
 where_live-some (Some r) P h = elim (cases_Bool (is_live r)) [ inl t ↦ rw t (h, t) | inr f ↦ rw f tt ]
 
 -- it is live, and one of the two
-pub resolved-some : (range task : Option PolicyRecord) (P : PolicyRecord → Type 0) → IfSome range P → IfSome task P → IfSome (resolved range task) (λ r. P r × (is_live r ≡ true))
+pub resolved-some : (range task : Option PolicyRecord) (P : PolicyRecord → Type 0) → IfSome range P → IfSome task P → IfSome (policy_that_counts range task) (λ r. P r × (is_live r ≡ true))
 resolved-some None task P h k = where_live-some task P k
 resolved-some (Some r) task P h k = elim (cases_Bool (is_live r)) [ inl t ↦ rw t (h, t) | inr f ↦ rw f (where_live-some task P k) ]
 

@@ -10,7 +10,7 @@ use Rattle.numa_ranges.specs.Maps.{changed_page}
 use Rattle.numa_space.specs.History.{Place, last_where, one_later, in_span}
 use Rattle.numa_space.specs.Policies.{allowed_nodes, effective_set, record_set}
 use Rattle.numa_space.specs.Pages.{covers, cover_of, is_unmap, is_mapped, maps, index_by, index_of, last_home, at_home, bound_by, range_record, page_in}
-use Rattle.numa_space.specs.Steps.{record_now, homed, rebound, pages_next}
+use Rattle.numa_space.specs.Steps.{record_now, policy_with_home, policy_after, pages_next}
 use Rattle.numa_space.specs.declared.command.Command.{Command}
 use Rattle.numa_space.specs.declared.command.Command.TheVariants.{Map, Unmap, Mbind, SetTask, SetHome, SetWeight, SetMems}
 use Rattle.numa_space.proofs.Places.{changes_allowed, IsPlace, last_where-place, allowed-at_place, effective-now, effective-mems, effective-other}
@@ -75,11 +75,11 @@ record-other machine history page command same none =
     (λ place start bytes spec found is i. option_map (λ r. if takes_home r then record r { home = last_home-other page command place.after none i } else r) (if is_default spec then None else Some (record { spec = spec; effective = effective-other machine place.before place.after spec command same i; home = None })))
 
 record-home : (machine : Hardware) (history : List Command) (page start bytes node : ℕ) → in_span start bytes page ≡ true
-    → option_and_then (λ place. bound_by machine page place.command place) (option_map (one_later (SetHome start bytes node)) (cover_of history page)) ≡ homed node (range_record machine history page)
+    → option_and_then (λ place. bound_by machine page place.command place) (option_map (one_later (SetHome start bytes node)) (cover_of history page)) ≡ policy_with_home node (range_record machine history page)
 record-home machine history page start bytes node inside =
-    later-record machine page (SetHome start bytes node) (homed node) (cover_of history page) refl (λ place s b spec found is. go place spec)
+    later-record machine page (SetHome start bytes node) (policy_with_home node) (cover_of history page) refl (λ place s b spec found is. go place spec)
   where
-    go : (place : Place) (spec : Specification) → option_map (at_home page (SetHome start bytes node ∷ place.after)) (record_set machine spec (one_later (SetHome start bytes node) place)) ≡ homed node (option_map (at_home page place.after) (record_set machine spec place))
+    go : (place : Place) (spec : Specification) → option_map (at_home page (SetHome start bytes node ∷ place.after)) (record_set machine spec (one_later (SetHome start bytes node) place)) ≡ policy_with_home node (option_map (at_home page place.after) (record_set machine spec place))
     go place spec =
         elim (cases_Bool (is_default spec)) [
           | inl d ↦ rw d refl
@@ -96,15 +96,15 @@ record-home_elsewhere machine history page start bytes node outside =
     none after = rw outside refl
 
 record-mems : (machine : Hardware) (history : List Command) (page mask : ℕ)
-    → option_and_then (λ place. bound_by machine page place.command place) (option_map (one_later (SetMems mask)) (cover_of history page)) ≡ rebound (allowed_nodes machine history) (both mask machine.memory) (range_record machine history page)
+    → option_and_then (λ place. bound_by machine page place.command place) (option_map (one_later (SetMems mask)) (cover_of history page)) ≡ policy_after (allowed_nodes machine history) (both mask machine.memory) (range_record machine history page)
 record-mems machine history page mask =
-    later-record machine page (SetMems mask) (rebound (allowed_nodes machine history) (both mask machine.memory)) (cover_of history page) refl
+    later-record machine page (SetMems mask) (policy_after (allowed_nodes machine history) (both mask machine.memory)) (cover_of history page) refl
     (λ place start bytes spec found is.
     let here : IsPlace (covers page) history place = rw found at (last_where-place (covers page) history) in
     go place spec (effective-mems machine place.before place.after spec mask ∙ ap (λ a. effect_after spec (effective_set machine place.before place.after spec) a (both mask machine.memory)) (allowed-at_place machine (covers page) history place (ap changes_allowed is) here)))
   where
     go : (place : Place) (spec : Specification) → effective_set machine place.before (SetMems mask ∷ place.after) spec ≡ effect_after spec (effective_set machine place.before place.after spec) (allowed_nodes machine history) (both mask machine.memory)
-        → option_map (at_home page (SetMems mask ∷ place.after)) (record_set machine spec (one_later (SetMems mask) place)) ≡ rebound (allowed_nodes machine history) (both mask machine.memory) (option_map (at_home page place.after) (record_set machine spec place))
+        → option_map (at_home page (SetMems mask ∷ place.after)) (record_set machine spec (one_later (SetMems mask) place)) ≡ policy_after (allowed_nodes machine history) (both mask machine.memory) (option_map (at_home page place.after) (record_set machine spec place))
     go place spec moved =
         elim (cases_Bool (is_default spec)) [
           | inl d ↦ rw d refl
@@ -151,10 +151,10 @@ pages-next machine history (SetTask task spec) page mapped =
     kept machine history page (SetTask task spec) refl refl ∙ ap (with_record machine history page) (record-other machine history page (SetTask task spec) refl refl)
 pages-next machine history (SetHome start bytes node) page mapped =
     elim (cases_Bool (in_span start bytes page)) [
-      | inl e ↦ kept machine history page (SetHome start bytes node) refl refl ∙ ap (with_record machine history page) (record-home machine history page start bytes node e) ∙ changed-either (homed node) (is_mapped history page) (index_of history page) (range_record machine history page) ∙ rw e refl
+      | inl e ↦ kept machine history page (SetHome start bytes node) refl refl ∙ ap (with_record machine history page) (record-home machine history page start bytes node e) ∙ changed-either (policy_with_home node) (is_mapped history page) (index_of history page) (range_record machine history page) ∙ rw e refl
       | inr e ↦ kept machine history page (SetHome start bytes node) refl refl ∙ ap (with_record machine history page) (record-home_elsewhere machine history page start bytes node e) ∙ rw e refl
     ]
 pages-next machine history (SetWeight node weight) page mapped =
     kept machine history page (SetWeight node weight) refl refl ∙ ap (with_record machine history page) (record-other machine history page (SetWeight node weight) refl refl)
 pages-next machine history (SetMems mask) page mapped =
-    kept machine history page (SetMems mask) refl refl ∙ ap (with_record machine history page) (record-mems machine history page mask) ∙ changed-either (rebound (allowed_nodes machine history) (both mask machine.memory)) (is_mapped history page) (index_of history page) (range_record machine history page)
+    kept machine history page (SetMems mask) refl refl ∙ ap (with_record machine history page) (record-mems machine history page mask) ∙ changed-either (policy_after (allowed_nodes machine history) (both mask machine.memory)) (is_mapped history page) (index_of history page) (range_record machine history page)

@@ -10,7 +10,7 @@ use Rattle.numa_space.specs.Pages.{page_in}
 use Rattle.numa_space.specs.Policies.{allowed_nodes}
 use Rattle.numa_space.specs.Refusals.{PageMap, range_count_of}
 use Rattle.numa_space.specs.Same.{same_record}
-use Rattle.numa_space.specs.Steps.{rebound}
+use Rattle.numa_space.specs.Steps.{policy_after}
 use Rattle.numa_space.specs.declared.command.Command.{Command}
 use Rattle.numa_space.specs.declared.command.Command.TheVariants.{SetTask, SetWeight, SetMems}
 use Rattle.numa_space.proofs.Pages.{pages-next}
@@ -76,7 +76,7 @@ count-weight machine history node weight =
 
 pub count-mems : (machine : Hardware) (history : List Command) (mask : ℕ) → range_count_of machine (SetMems mask ∷ history) ≤ range_count_of machine history
 count-mems machine history mask =
-    let change : Option PolicyRecord → Option PolicyRecord = rebound (allowed_nodes machine history) (both mask machine.memory) in
+    let change : Option PolicyRecord → Option PolicyRecord = policy_after (allowed_nodes machine history) (both mask machine.memory) in
     let moved : page_in machine (SetMems mask ∷ history) ≡ (λ page. changed_page change (page_in machine history page)) = λ i page. pages-next machine history (SetMems mask) page tt i in
     let fewer : range_count same_record (λ page. changed_page change (page_in machine history page)) ≤ range_count same_record (page_in machine history) = count-changed change (page_in machine history) in
     omega (arith, fewer, ap (λ at. range_count same_record at) moved)

@@ -6,7 +6,7 @@ use Rattle.numa_mode.specs.Policy.{Specification, PolicyRecord}
 use Rattle.numa_mode.specs.declared.modes.Mode.TheVariants.{Default, Bind, Interleave}
 use Rattle.numa_mode.specs.declared.modes.NodeFlag.TheVariants.{Plain}
 use Rattle.numa_ranges.specs.Runs.{page_at, AreApart}
-use Rattle.numa_ranges.specs.Edits.{edited, edited_span, joined, HasRoom}
+use Rattle.numa_ranges.specs.Edits.{edit_of, edited_span, maximal_runs, HasRoom}
 use Rattle.numa_ranges.specs.Maps.{any_page, with_span}
 use Rattle.numa_ranges.specs.declared.run.Run.{Run}
 use Rattle.numa_ranges.proofs.Cut.{apart-edited, page_at-edited}
@@ -18,7 +18,7 @@ use Rattle.numa_space.specs.Policies.{allowed_nodes}
 use Rattle.numa_space.specs.Pages.{page_in}
 use Rattle.numa_space.specs.Same.{same_record}
 use Rattle.numa_space.specs.Refusals.{when, refusal_of, range_count_of}
-use Rattle.numa_space.specs.Steps.{record_now, homed}
+use Rattle.numa_space.specs.Steps.{record_now, policy_with_home}
 use Rattle.numa_space.specs.declared.command.Command.{Command}
 use Rattle.numa_space.specs.declared.command.Command.TheVariants.{Map, Unmap, Mbind, SetTask, SetHome}
 use Rattle.numa_space.specs.declared.refusal.Refusal.TheVariants.{TooManyRanges}
@@ -41,7 +41,7 @@ record Shows (machine : Hardware) (history : List Command) (runs : Runs) : Type 
   pages : (page : ℕ) → page_at runs page ≡ page_in machine history page
 
 -- joined, they are the ranges
-counted : (machine : Hardware) (history : List Command) (runs : Runs) → Shows machine history runs → range_count_of machine history ≡ length (joined same_record runs)
+counted : (machine : Hardware) (history : List Command) (runs : Runs) → Shows machine history runs → range_count_of machine history ≡ length (maximal_runs same_record runs)
 counted machine history runs shows = count-joined same_record same_record-exact same_record-refl runs (page_in machine history) shows.apart shows.pages
 
 -- a first map
@@ -50,7 +50,7 @@ shows-first machine start bytes offset apart = record { apart = apart; pages = �
 
 shows-edited : (machine : Hardware) (history : List Command) (command : Command) (first pages : ℕ) (edit : Option PolicyRecord → Option (Option PolicyRecord)) (runs : Runs) → Shows machine history runs
     → ((page : ℕ) → page_in machine (command ∷ history) page ≡ edited_span first pages edit (page_in machine history) page)
-    → Shows machine (command ∷ history) (edited first (first + pages) edit runs)
+    → Shows machine (command ∷ history) (edit_of first (first + pages) edit runs)
 shows-edited machine history command first pages edit runs shows step =
     let whole : page_at runs ≡ page_in machine history = λ i page. shows.pages page i in
     record {
@@ -59,19 +59,19 @@ shows-edited machine history command first pages edit runs shows step =
     }
 
 shows-bound : (machine : Hardware) (history : List Command) (start bytes : ℕ) (spec : Specification) (runs : Runs) → Shows machine history runs → any_page (λ page. not (is_some (page_in machine history page))) (page_of start) (page_count bytes) ≡ false
-    → Shows machine (Mbind start bytes spec ∷ history) (edited (page_of start) (page_of start + page_count bytes) (λ old. Some (record_now (allowed_nodes machine history) spec)) runs)
+    → Shows machine (Mbind start bytes spec ∷ history) (edit_of (page_of start) (page_of start + page_count bytes) (λ old. Some (record_now (allowed_nodes machine history) spec)) runs)
 shows-bound machine history start bytes spec runs shows whole =
     shows-edited machine history (Mbind start bytes spec) (page_of start) (page_count bytes) (λ old. Some (record_now (allowed_nodes machine history) spec)) runs shows
     (λ page. pages-next machine history (Mbind start bytes spec) page (λ p inside. mapped-from_page machine history p (span-mapped (page_in machine history) start bytes whole p inside))
     ∙ ap (λ at. at page) (sym (changed-is (page_of start) (page_count bytes) (λ old. record_now (allowed_nodes machine history) spec) (page_in machine history))))
 
 shows-homed : (machine : Hardware) (history : List Command) (start bytes node : ℕ) (runs : Runs) → Shows machine history runs
-    → Shows machine (SetHome start bytes node ∷ history) (edited (page_of start) (page_of start + page_count bytes) (λ old. Some (homed node old)) runs)
+    → Shows machine (SetHome start bytes node ∷ history) (edit_of (page_of start) (page_of start + page_count bytes) (λ old. Some (policy_with_home node old)) runs)
 shows-homed machine history start bytes node runs shows =
-    shows-edited machine history (SetHome start bytes node) (page_of start) (page_count bytes) (λ old. Some (homed node old)) runs shows
-    (λ page. pages-next machine history (SetHome start bytes node) page tt ∙ ap (λ at. at page) (sym (changed-is (page_of start) (page_count bytes) (homed node) (page_in machine history))))
+    shows-edited machine history (SetHome start bytes node) (page_of start) (page_count bytes) (λ old. Some (policy_with_home node old)) runs shows
+    (λ page. pages-next machine history (SetHome start bytes node) page tt ∙ ap (λ at. at page) (sym (changed-is (page_of start) (page_count bytes) (policy_with_home node) (page_in machine history))))
 
-shows-unmapped : (machine : Hardware) (history : List Command) (start bytes : ℕ) (runs : Runs) → Shows machine history runs → Shows machine (Unmap start bytes ∷ history) (edited (page_of start) (page_of start + page_count bytes) (λ old. None) runs)
+shows-unmapped : (machine : Hardware) (history : List Command) (start bytes : ℕ) (runs : Runs) → Shows machine history runs → Shows machine (Unmap start bytes ∷ history) (edit_of (page_of start) (page_of start + page_count bytes) (λ old. None) runs)
 shows-unmapped machine history start bytes runs shows =
     shows-edited machine history (Unmap start bytes) (page_of start) (page_count bytes) (λ old. None) runs shows
     (λ page. pages-next machine history (Unmap start bytes) page tt ∙ ap (λ at. at page) (sym (without-is (page_of start) (page_count bytes) (page_in machine history))))
@@ -117,7 +117,7 @@ home_run : List Command
 home_run = SetHome 0x11000 0x1000 2 ∷ Mbind 0x12000 0x1000 spread ∷ Mbind 0x10000 0x2000 bind_low ∷ Map 0x10000 0x4000 0 ∷ []
 
 home_runs : Runs
-home_runs = edited 17 18 (λ old. Some (homed 2 old)) (edited 18 19 (λ old. Some (record_now 7 spread)) (edited 16 18 (λ old. Some (record_now 7 bind_low)) (plain 16 4 0 ∷ [])))
+home_runs = edit_of 17 18 (λ old. Some (policy_with_home 2 old)) (edit_of 18 19 (λ old. Some (record_now 7 spread)) (edit_of 16 18 (λ old. Some (record_now 7 bind_low)) (plain 16 4 0 ∷ [])))
 
 shows-home_run : Shows in_a_row home_run home_runs
 unfolding members any_page home_run home_runs spread bind_low

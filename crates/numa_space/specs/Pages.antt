@@ -8,7 +8,7 @@ use Rattle.numa_mode.specs.Policy.{PolicyRecord, takes_home}
 use Rattle.numa_space.specs.declared.command.Command.{Command}
 use Rattle.numa_space.specs.declared.command.Command.TheVariants.{Map, Unmap, Mbind, SetHome}
 use Rattle.numa_space.specs.History.{Place, last_where, page_of, in_span}
-use Rattle.numa_space.specs.Policies.{record_set, resolved, task_record}
+use Rattle.numa_space.specs.Policies.{record_set, policy_that_counts, task_record}
 
 -- ---- the cover of a page
 
@@ -78,5 +78,5 @@ page_in machine history page = if is_mapped history page
 
 -- the live policy of a page for a task; none is local allocation
 abbrev pub resolved_policy : Hardware → List Command → ℕ → ℕ → Option PolicyRecord
-resolved_policy machine history task page = resolved (range_record machine history page)
+resolved_policy machine history task page = policy_that_counts (range_record machine history page)
     (task_record machine history task)

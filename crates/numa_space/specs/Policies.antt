@@ -25,12 +25,12 @@ allowed_nodes machine (_ ∷ history) = allowed_nodes machine history
 
 -- a set that stood right after the commands `before`, moved by each later change of the allowed
 -- nodes in turn
-abbrev pub followed : Hardware → List Command → List Command → ℕ → ℕ
-followed machine before [] set = set
-followed machine before (SetMems mask ∷ later) set =
-    remap_set (followed machine before later set) (allowed_nodes machine (later ++ before))
+abbrev pub followed_set : Hardware → List Command → List Command → ℕ → ℕ
+followed_set machine before [] set = set
+followed_set machine before (SetMems mask ∷ later) set =
+    remap_set (followed_set machine before later set) (allowed_nodes machine (later ++ before))
     (allowed_nodes machine (SetMems mask ∷ later ++ before))
-followed machine before (_ ∷ later) set = followed machine before later set
+followed_set machine before (_ ∷ later) set = followed_set machine before later set
 
 -- the effective set of a policy that was set right after the commands `before`, once the commands
 -- `later` came too: with a flag it is worked out from the user's mask and the nodes that are
@@ -41,7 +41,7 @@ effective_set machine before later spec = by_flag spec.flag
     by_flag : NodeFlag → ℕ
     by_flag Static = effect_when_set spec (allowed_nodes machine (later ++ before))
     by_flag Relative = effect_when_set spec (allowed_nodes machine (later ++ before))
-    by_flag Plain = followed machine before later
+    by_flag Plain = followed_set machine before later
         (effect_when_set spec (allowed_nodes machine before))
 
 -- the record that a command at a place set, where its specification isn't DEFAULT; it has no home
@@ -94,8 +94,8 @@ where_live (Some r) = if is_live r then Some r else None
 
 -- the range's policy where there is one and it is live, else the task's where there is one and it
 -- is live, else none
-abbrev pub resolved : Option PolicyRecord → Option PolicyRecord → Option PolicyRecord
-resolved range task = first_of (where_live range)
+abbrev pub policy_that_counts : Option PolicyRecord → Option PolicyRecord → Option PolicyRecord
+policy_that_counts range task = first_of (where_live range)
   where
     first_of : Option PolicyRecord → Option PolicyRecord
     first_of None = where_live task

@@ -6,7 +6,7 @@ use Rattle.numa_space.specs.declared.command.Command.{Command}
 use Rattle.numa_space.specs.declared.command.Command.TheVariants.{Map, Unmap, Mbind, SetTask}
 use Rattle.numa_space.specs.declared.command.Command.TheVariants.{SetHome, SetWeight, SetMems}
 use Rattle.numa_space.specs.History.{page_of, page_count}
-use Rattle.numa_space.specs.Steps.{record_now, homed}
+use Rattle.numa_space.specs.Steps.{record_now, policy_with_home}
 
 -- the first page of a command's span
 abbrev pub span_first : Command → ℕ
@@ -59,6 +59,6 @@ span_edit allowed (Map start bytes offset) policy = Some policy
 span_edit allowed (Unmap start bytes) policy = None
 span_edit allowed (Mbind start bytes spec) policy = Some (record_now allowed spec)
 span_edit allowed (SetTask task spec) policy = Some policy
-span_edit allowed (SetHome start bytes node) policy = Some (homed node policy)
+span_edit allowed (SetHome start bytes node) policy = Some (policy_with_home node policy)
 span_edit allowed (SetWeight node weight) policy = Some policy
 span_edit allowed (SetMems mask) policy = Some policy

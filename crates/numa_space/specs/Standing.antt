@@ -14,7 +14,8 @@ use Rattle.numa_space.specs.Limited.{Bounds}
 use Rattle.numa_space.specs.declared.command.Command.{Command}
 use Rattle.numa_space.specs.declared.refusal.PlaceRefusal.{PlaceRefusal}
 use Rattle.numa_space.specs.declared.refusal.PlaceRefusal.TheVariants.{BadCpu, Unmapped}
-use Rattle.numa_space.specs.Policies.{allowed_nodes, task_record, tasks_of, node_weight, resolved}
+use Rattle.numa_space.specs.Policies.{allowed_nodes, task_record, tasks_of, node_weight}
+use Rattle.numa_space.specs.Policies.{policy_that_counts}
 use Rattle.numa_space.specs.Pages.{page_in, is_mapped}
 use Rattle.numa_space.specs.Lists.{Setting, list_for}
 use Rattle.numa_space.specs.Refusals.{refusal_of}
@@ -66,7 +67,8 @@ setting_in space = record {
 
 -- the live policy of a page for a task
 abbrev pub policy_in : SpaceState → ℕ → ℕ → Option PolicyRecord
-policy_in space task page = resolved (option_and_then (λ at. at.1) (page_at space.ranges page))
+policy_in space task page =
+    policy_that_counts (option_and_then (λ at. at.1) (page_at space.ranges page))
     (record_of space.tasks task)
 
 -- the node list of a page

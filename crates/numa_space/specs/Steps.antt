@@ -25,12 +25,12 @@ abbrev pub record_now : ℕ → Specification → Option PolicyRecord
 record_now allowed spec = if is_default spec then None else Some (record_when_set spec allowed)
 
 -- a record with a home, for the modes that have one
-abbrev pub homed : ℕ → Option PolicyRecord → Option PolicyRecord
-homed node = option_map (λ r. if takes_home r then with_home r node else r)
+abbrev pub policy_with_home : ℕ → Option PolicyRecord → Option PolicyRecord
+policy_with_home node = option_map (λ r. if takes_home r then with_home r node else r)
 
 -- a record, once the allowed nodes changed
-abbrev pub rebound : ℕ → ℕ → Option PolicyRecord → Option PolicyRecord
-rebound old new = option_map (λ r. record_after r old new)
+abbrev pub policy_after : ℕ → ℕ → Option PolicyRecord → Option PolicyRecord
+policy_after old new = option_map (λ r. record_after r old new)
 
 abbrev pub allowed_next : Hardware → ℕ → Command → ℕ
 allowed_next machine allowed (SetMems mask) = both mask machine.memory
@@ -44,16 +44,16 @@ pages_next machine allowed pages (Unmap start bytes) page =
 pages_next machine allowed pages (Mbind start bytes spec) page =
     changed_span (page_of start) (page_count bytes) (λ old. record_now allowed spec) pages page
 pages_next machine allowed pages (SetHome start bytes node) page =
-    changed_span (page_of start) (page_count bytes) (homed node) pages page
+    changed_span (page_of start) (page_count bytes) (policy_with_home node) pages page
 pages_next machine allowed pages (SetMems mask) page =
-    changed_page (rebound allowed (both mask machine.memory)) (pages page)
+    changed_page (policy_after allowed (both mask machine.memory)) (pages page)
 pages_next machine allowed pages _ page = pages page
 
 abbrev pub task_next : Hardware → ℕ → (ℕ → Option PolicyRecord) → Command → ℕ → Option PolicyRecord
 task_next machine allowed tasks (SetTask task spec) other =
     if task == other then record_now allowed spec else tasks other
 task_next machine allowed tasks (SetMems mask) other =
-    rebound allowed (both mask machine.memory) (tasks other)
+    policy_after allowed (both mask machine.memory) (tasks other)
 task_next machine allowed tasks _ other = tasks other
 
 abbrev pub task_count_next : (ℕ → Option PolicyRecord) → ℕ → Command → ℕ

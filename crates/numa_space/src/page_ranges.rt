@@ -13,7 +13,7 @@ ghost use Rattle.numa_space.specs.Edits.{IsEdit, too_many, overlap_cause, hole_c
 ghost use Rattle.numa_space.specs.Edits.{refuses};
 ghost use Rattle.numa_space.specs.Refusals.{first_of};
 ghost use Rattle.numa_space.specs.Same.{same_record};
-ghost use Rattle.numa_space.specs.Steps.{homed, rebound};
+ghost use Rattle.numa_space.specs.Steps.{policy_with_home, policy_after};
 ghost use Rattle.numa_space.specs.Refusals.{takes_no_home};
 
 use crate::range_record::RangeRecord;
@@ -163,13 +163,14 @@ impl Pages {
         requires some { 0 < pages }
         requires span { first + pages ≤ 2 ^ 35 }
         ensures edit { IsEdit (too_many self.old.limit
-            (changed_span first pages (homed node) (page_at self.old.runs)))
-            (changed_span first pages (homed node) (page_at self.old.runs)) self.old result
+            (changed_span first pages (policy_with_home node) (page_at self.old.runs)))
+            (changed_span first pages (policy_with_home node) (page_at self.old.runs)) self.old
+            result
             self.new }
         ensures limit { self.new.limit ≡ self.old.limit }
     {
         let at_home = |value: &RangeRecord| -> RangeRecord
-            ensures { result ≡ homed node value.now }
+            ensures { result ≡ policy_with_home node value.now }
         { value.homed(node) };
         answered(self.map.update_span(first, pages, at_home))
     }
@@ -178,13 +179,13 @@ impl Pages {
     pub(crate) fn rebind(&mut self, old: &NodeMask, new: &NodeMask)
         requires some { new.now ≢ 0 }
         ensures pages { (page : ℕ) → page_at self.new.runs page
-            ≡ changed_page (rebound old.now new.now) (page_at self.old.runs page) }
+            ≡ changed_page (policy_after old.now new.now) (page_at self.old.runs page) }
         ensures limit { self.new.limit ≡ self.old.limit }
     {
         let (from, to) = (*old, *new);
         let moved = |value: &RangeRecord| -> RangeRecord
             requires { to ≢ 0 }
-            ensures { result ≡ rebound from to value.now }
+            ensures { result ≡ policy_after from to value.now }
         { value.rebound(&from, &to) };
         self.map.update_all(moved);
     }

@@ -1,6 +1,6 @@
 //! The policy of a range of pages.
 ghost use Rattle.std.specs.Prelude.{◌≡◌, ◌≢◌, Some};
-ghost use Rattle.numa_space.specs.Steps.{homed, rebound};
+ghost use Rattle.numa_space.specs.Steps.{policy_with_home, policy_after};
 ghost use Rattle.numa_space.specs.Refusals.{takes_no_home};
 
 use numa_mask::NodeMask;
@@ -38,7 +38,7 @@ impl RangeRecord {
 
     /// The same with a home node, where the policy takes one.
     pub(crate) fn homed(&self, node: u8) -> RangeRecord
-        ensures { result ≡ homed node self.now }
+        ensures { result ≡ policy_with_home node self.now }
     {
         let policy = match self.policy {
             None => None,
@@ -50,7 +50,7 @@ impl RangeRecord {
     /// The same, once the allowed nodes changed.
     pub(crate) fn rebound(&self, old: &NodeMask, new: &NodeMask) -> RangeRecord
         requires { new.now ≢ 0 }
-        ensures { result ≡ rebound old.now new.now self.now }
+        ensures { result ≡ policy_after old.now new.now self.now }
     {
         let policy = match &self.policy {
             None => None,

@@ -3,7 +3,7 @@ ghost use Rattle.std.specs.Prelude.{◌≡◌, ◌≢◌, ◌+◌, ◌==◌, ◌
 ghost use Rattle.std.specs.Prelude.{IsOk, [], length, is_some, slice_get, if◌then◌else◌, AllPairs};
 ghost use Rattle.std.specs.Prelude.{IfSome};
 ghost use Rattle.numa_space.specs.Standing.{record_of};
-ghost use Rattle.numa_space.specs.Steps.{rebound};
+ghost use Rattle.numa_space.specs.Steps.{policy_after};
 
 use indexmap::IndexMap;
 use numa_mask::NodeMask;
@@ -99,7 +99,7 @@ impl Tasks {
     pub(crate) fn rebind(&mut self, old: &NodeMask, new: &NodeMask)
         requires some { new.now ≢ 0 }
         ensures records { (task : ℕ) → record_of self.new task
-            ≡ rebound old.now new.now (record_of self.old task) }
+            ≡ policy_after old.now new.now (record_of self.old task) }
         ensures count { length self.new ≡ length self.old }
     {
         for k in 0..self.records.len() {

@@ -9,16 +9,16 @@ use lib.ListN.{get_elem?}
 use Rattle.atomic_table.proofs.Lists.{set_here, set_else, at_longer, at_snoc}
 use Rattle.atomic_table.specs.Table.{State}
 use Rattle.std.specs.Option.{option_map_or}
-use Rattle.numa_core.specs.World.{Setup, World, opening, hunt_of, last_of, owner_of, missed, is_frame}
+use Rattle.numa_core.specs.World.{Setup, World, opening, hunt_of, last_of, owner_of, hunt_past, is_frame}
 use Rattle.numa_core.specs.Steps.{effect_of, going_on, with_owner, with_worker}
 use Rattle.numa_space.specs.declared.event.Event.{Event}
 use Rattle.numa_space.specs.declared.event.Event.TheVariants.{Accept, Publish, Begin, Look, Try, Give}
 use Rattle.numa_pool.specs.declared.view.View.{View}
 use Rattle.numa_pool.specs.Frames.{times}
 use Rattle.numa_pool.specs.Rule.{Counted, holdings}
-use Rattle.numa_pool.specs.Steps.{newcomer, divided, poured}
+use Rattle.numa_pool.specs.Steps.{newcomer, after_split, after_join}
 use Rattle.numa_pool.proofs.StepLemmas.{splits, joins, times_append, is_frame-same}
-use Rattle.numa_tie.specs.Moments.{handed, passed_on}
+use Rattle.numa_tie.specs.Moments.{world_after_handover, passed_on}
 use Rattle.numa_tie.specs.Moves.{PoolState, IsOpening, Splits, Joins}
 use Rattle.numa_tie.specs.Tie.{OwnsWhatIsHeld, IsTied}
 use Rattle.numa_tie.proofs.Keeping.{owners-stay}
@@ -44,9 +44,9 @@ table-of state = record { words = state.words; homes = []; views = state.views }
 pub split-ties : (s : Setup) (world : World) (old new : PoolState) (id : ℕ) → IsTied s world old → length old.views < s.workers → Splits id old new → IsTied s world new
 split-ties s world old new id tied room m =
     let counts = splits s.machine.frames id m.view (table-of old) tied.rule m.shown in
-    let owns = owners-snoc world (set old.views id (divided m.view)) (owners-stay world old.views id m.view (divided m.view) m.shown refl tied.owners) in
-    let count = ap length m.views ∙ length-append (set old.views id (divided m.view)) (newcomer ∷ []) in
-    let same = length-set old.views id (divided m.view) in
+    let owns = owners-snoc world (set old.views id (after_split m.view)) (owners-stay world old.views id m.view (after_split m.view) m.shown refl tied.owners) in
+    let count = ap length m.views ∙ length-append (set old.views id (after_split m.view)) (newcomer ∷ []) in
+    let same = length-set old.views id (after_split m.view) in
     record {
       few = tied.few;
       rule = subst (λ (p : List ℕ × List View). Counted s.machine.frames p.0 p.1) (λ i. (sym m.words i, sym m.views i)) counts;
@@ -59,7 +59,7 @@ passed-none from to j e = absurd (cc)
 
 module _ (s : Setup) (world : World) (old new : PoolState) (id other : ℕ) (tied : IsTied s world old) (m : Joins id other old new) where
   abbrev both : View
-  both = poured m.first m.second
+  both = after_join m.first m.second
 
   abbrev views : List View
   views = set (set old.views id both) other newcomer
@@ -142,7 +142,7 @@ module _ (s : Setup) (world : World) (old new : PoolState) (id other : ℕ) (tie
           let own = owned-by n k other (m.second, m.second_shown, omega arith) in
           ap (passed_on other id) own ∙ ap (λ b. if b then Some id else Some other) (eq-eqb other other refl) ∙ ap Some (sym f)
 
-  pub join-ties : IsTied s (handed world other id) new
+  pub join-ties : IsTied s (world_after_handover world other id) new
   join-ties =
       let counts = joins s.machine.frames id m.first other m.second (table-of old) tied.rule m.first_shown m.apart there in
       let count = ap length m.views ∙ length-set (set old.views id both) other newcomer ∙ length-set old.views id both in
@@ -150,7 +150,7 @@ module _ (s : Setup) (world : World) (old new : PoolState) (id other : ℕ) (tie
       record {
         few = tied.few;
         rule = subst (λ (p : List ℕ × List View). Counted s.machine.frames p.0 p.1) (λ i. (sym m.words i, sym m.views i)) counts;
-        owners = subst (OwnsWhatIsHeld (handed world other id)) (sym m.views) (λ n k j. ((λ o. forth n k j (world.owner n k) refl o), (λ h. back n k j h (ℕ_discrete j other) (ℕ_discrete j id))));
+        owners = subst (OwnsWhatIsHeld (world_after_handover world other id)) (sym m.views) (λ n k j. ((λ o. forth n k j (world.owner n k) refl o), (λ h. back n k j h (ℕ_discrete j other) (ℕ_discrete j id))));
         workers = omega arith;
       }
 
@@ -207,7 +207,7 @@ no-passing s world version (Try w frame) n k id other e f = by (owner_of world f
         absurd (cc)
 
     by : (o : Option ℕ) → owner_of world frame ≡ o
-        → (if is_some o then with_worker world w (last_of world w) (option_map_or (λ hunt. going_on s (missed frame hunt)) (hunt_of world w) None)
+        → (if is_some o then with_worker world w (last_of world w) (option_map_or (λ hunt. going_on s (hunt_past frame hunt)) (hunt_of world w) None)
         else with_worker (with_owner world frame (Some w)) w (last_of world w) None).owner n k ≡ Some id → id ≡ other
     by (Some j) own h = apart-owner (world.owner n k) id other e h
     by None own h = taken own (is_frame frame n k) refl h

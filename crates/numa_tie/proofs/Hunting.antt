@@ -4,7 +4,7 @@ use Rattle.std.specs.Prelude.{slice_get, ◌||◌}
 use Rattle.numa_machine.specs.declared.frame.Frame.{Frame}
 use Rattle.numa_space.specs.declared.request.Request.{Request}
 use Rattle.numa_core.specs.Seats.{fresh}
-use Rattle.numa_core.specs.World.{Setup, World, Hunt, hunt_of, last_of, list_at, looked, look_finds, missed, is_frame}
+use Rattle.numa_core.specs.World.{Setup, World, Hunt, hunt_of, last_of, list_at, hunt_after_look, look_finds, hunt_past, is_frame}
 use Rattle.numa_core.specs.Steps.{effect_of, goes_on, going_on, placement_of, with_owner, with_worker}
 use Rattle.numa_space.specs.declared.event.Event.TheVariants.{Begin}
 use Rattle.numa_space.specs.declared.event.CoreReply.{CoreReply}
@@ -60,7 +60,7 @@ module _ (s : Setup) (id version : ℕ) (request : Request) (nodes : List ℕ) w
         (λ i k. look_finds s world w hunt i k || seen i k),
         (
           look-meets s world id 0 hunt es before after tied busy met n w x m next,
-          ap (λ v. hunt_of v id) (look-effect s world 0 id there hunt busy w) ∙ own-hunt world id (last_of world id) (going_on s (looked s world w hunt)),
+          ap (λ v. hunt_of v id) (look-effect s world 0 id there hunt busy w) ∙ own-hunt world id (last_of world id) (going_on s (hunt_after_look s world w hunt)),
         ),
         look-moment s world id 0 hunt es before after tied busy met n w x m next,
       )
@@ -71,7 +71,7 @@ module _ (s : Setup) (id version : ℕ) (request : Request) (nodes : List ℕ) w
         (λ i k. is_frame f i k || seen i k),
         (
           misses_alike hunt es f met,
-          ap (λ v. hunt_of v id) (lost-effect s world 0 id there hunt busy f owner.0 owner.1) ∙ own-hunt world id (last_of world id) (going_on s (missed f hunt)),
+          ap (λ v. hunt_of v id) (lost-effect s world 0 id there hunt busy f owner.0 owner.1) ∙ own-hunt world id (last_of world id) (going_on s (hunt_past f hunt)),
         ),
         lost-moment s world id 0 hunt es before after tied busy met f m h.1,
       )

@@ -7,7 +7,7 @@ use native.Mathlib.Decide.{ℕ_discrete}
 use lib.ListN.{get_elem?}
 use Rattle.atomic_table.proofs.Lists.{at_set, set_here, set_else}
 use Rattle.numa_machine.specs.declared.frame.Frame.{Frame}
-use Rattle.numa_core.specs.World.{Setup, World, Hunt, hunt_of, owner_of, last_of, current_rank, looked, missed}
+use Rattle.numa_core.specs.World.{Setup, World, Hunt, hunt_of, owner_of, last_of, current_rank, hunt_after_look, hunt_past}
 use Rattle.numa_core.specs.Steps.{effect_of, goes_on, going_on, placement_of, put, with_owner, with_worker}
 use Rattle.numa_space.specs.declared.event.CoreReply.TheVariants.{Won as replied_won, Given}
 use Rattle.numa_space.specs.declared.event.Event.TheVariants.{Look, Try, Give}
@@ -160,44 +160,44 @@ module _ (s : Setup) (world : World) (old new : PoolState) (id : ℕ) (tied : Is
 -- ---- moments
 
 module _ (s : Setup) (world : World) (id version : ℕ) (hunt : Hunt) (es : List Entry) (old new : PoolState) (tied : IsTied s world old) (busy : hunt_of world id ≡ Some hunt) (met : HasMet hunt es) where
-  pub look-moment : (n w x : ℕ) → Makes (Load n w x) id old new → MayCome s.machine.frames hunt.nodes es (Load n w x) → IsMoment s world version (Look id w) (goes_on s (looked s world w hunt))
+  pub look-moment : (n w x : ℕ) → Makes (Load n w x) id old new → MayCome s.machine.frames hunt.nodes es (Load n w x) → IsMoment s world version (Look id w) (goes_on s (hunt_after_look s world w hunt))
   look-moment n w x m next = (tt, look-answer s world version id (there-of s world old new id tied m.2.before m.2.shown) hunt busy w (may_look-current s hunt es met n w next.0 next.1))
 
   pub won-moment : (f : Frame) → Makes (Won f) id old new → IsNext s.machine.frames es hunt.nodes f → IsMoment s world version (Try id f) (replied_won (placement_of s hunt f))
   won-moment f m next = (tt, won-answer s world version id (there-of s world old new id tied m.1.before m.1.shown) hunt busy f (may_try-next s hunt es met f next) (free-of s world old new id tied f next.1 m.0))
 
-  pub lost-moment : (f : Frame) → Makes (Lost f) id old new → IsNext s.machine.frames es hunt.nodes f → IsMoment s world version (Try id f) (goes_on s (missed f hunt))
+  pub lost-moment : (f : Frame) → Makes (Lost f) id old new → IsNext s.machine.frames es hunt.nodes f → IsMoment s world version (Try id f) (goes_on s (hunt_past f hunt))
   lost-moment f m next =
       let owner = owner-of s world old new id tied f next.1 m.0 in
       (tt, lost-answer s world version id (there-of s world old new id tied m.1.before m.1.shown) hunt busy f owner.0 (may_try-next s hunt es met f next) owner.1)
 
   pub step-ties : (e : Entry) → Makes e id old new → MayCome s.machine.frames hunt.nodes es e → IsTied s (effect_of s world version (event_of id e)) new
-  step-ties (Load n w x) m next = subst (λ v. IsTied s v new) (sym (look-effect s world version id (there-of s world old new id tied m.2.before m.2.shown) hunt busy w)) (load-ties s world old new id tied n w m.2 m.0 (last_of world id) (going_on s (looked s world w hunt)))
+  step-ties (Load n w x) m next = subst (λ v. IsTied s v new) (sym (look-effect s world version id (there-of s world old new id tied m.2.before m.2.shown) hunt busy w)) (load-ties s world old new id tied n w m.2 m.0 (last_of world id) (going_on s (hunt_after_look s world w hunt)))
   step-ties (Won f) m next =
       subst (λ v. IsTied s v new) (sym (won-effect s world version id (there-of s world old new id tied m.1.before m.1.shown) f (free-of s world old new id tied f next.1 m.0)))
       (win-ties s world old new id tied f m.1 next.1 m.0 (last_of world id) None)
   step-ties (Lost f) m next =
       let owner = owner-of s world old new id tied f next.1 m.0 in
       subst (λ v. IsTied s v new) (sym (lost-effect s world version id (there-of s world old new id tied m.1.before m.1.shown) hunt busy f owner.0 owner.1))
-      (loss-ties s world old new id tied f m.1 next.1 m.0 (last_of world id) (going_on s (missed f hunt)))
+      (loss-ties s world old new id tied f m.1 next.1 m.0 (last_of world id) (going_on s (hunt_past f hunt)))
   step-ties (Gave f) m next = absurd next
 
   -- what the hunt has met after a step
-  pub look-meets : (n w x : ℕ) → Makes (Load n w x) id old new → MayCome s.machine.frames hunt.nodes es (Load n w x) → HasMet (looked s world w hunt) (Load n w x ∷ es)
-  look-meets n w x m next = subst (λ y. HasMet (looked s world w hunt) (Load n w y ∷ es)) (sym m.1)
+  pub look-meets : (n w x : ℕ) → Makes (Load n w x) id old new → MayCome s.machine.frames hunt.nodes es (Load n w x) → HasMet (hunt_after_look s world w hunt) (Load n w x ∷ es)
+  look-meets n w x m next = subst (λ y. HasMet (hunt_after_look s world w hunt) (Load n w y ∷ es)) (sym m.1)
       (looks_alike s world old.words old.views (rule-of s world old new id tied) tied.owners hunt es met n w m.0 next.0)
 
   pub step-meets : (since : ℕ → List Entry) → HaveMet world since → (e : Entry) → Makes e id old new → MayCome s.machine.frames hunt.nodes es e → HaveMet (effect_of s world version (event_of id e)) (put since id (e ∷ es))
   step-meets since all (Load n w x) m next =
       subst (λ v. HaveMet v (put since id (Load n w x ∷ es))) (sym (look-effect s world version id (there-of s world old new id tied m.2.before m.2.shown) hunt busy w))
-      (met-put world since all id (last_of world id) (going_on s (looked s world w hunt)) (Load n w x ∷ es) (λ h e. goes-on-as s (looked s world w hunt) h (Load n w x ∷ es) (look-meets n w x m next) e))
+      (met-put world since all id (last_of world id) (going_on s (hunt_after_look s world w hunt)) (Load n w x ∷ es) (λ h e. goes-on-as s (hunt_after_look s world w hunt) h (Load n w x ∷ es) (look-meets n w x m next) e))
   step-meets since all (Won f) m next =
       subst (λ v. HaveMet v (put since id (Won f ∷ es))) (sym (won-effect s world version id (there-of s world old new id tied m.1.before m.1.shown) f (free-of s world old new id tied f next.1 m.0)))
       (met-put (with_owner world f (Some id)) since all id (last_of world id) None (Won f ∷ es) (λ h e. absurd (cc)))
   step-meets since all (Lost f) m next =
       let owner = owner-of s world old new id tied f next.1 m.0 in
       subst (λ v. HaveMet v (put since id (Lost f ∷ es))) (sym (lost-effect s world version id (there-of s world old new id tied m.1.before m.1.shown) hunt busy f owner.0 owner.1))
-      (met-put world since all id (last_of world id) (going_on s (missed f hunt)) (Lost f ∷ es) (λ h e. goes-on-as s (missed f hunt) h (Lost f ∷ es) (misses_alike hunt es f met) e))
+      (met-put world since all id (last_of world id) (going_on s (hunt_past f hunt)) (Lost f ∷ es) (λ h e. goes-on-as s (hunt_past f hunt) h (Lost f ∷ es) (misses_alike hunt es f met) e))
   step-meets since all (Gave f) m next = absurd next
 
 -- a return, by a worker that is idle

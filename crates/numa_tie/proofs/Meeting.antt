@@ -3,7 +3,7 @@ use Rattle.std.proofs.Common.{◌≡◌, ℕ, ◌+◌, ◌*◌, ◌/◌, ◌%◌
 use Rattle.std.specs.Prelude.{slice_index, ◌==◌, ◌&&◌, ◌||◌}
 use Rattle.std.specs.Int.{bit_at}
 use native.Mathlib.Decide.{ℕ_discrete}
-use Rattle.numa_core.specs.World.{Setup, World, Hunt, looked, missed}
+use Rattle.numa_core.specs.World.{Setup, World, Hunt, hunt_after_look, hunt_past}
 use Rattle.numa_machine.specs.declared.frame.Frame.{Frame}
 use Rattle.numa_pool.specs.declared.view.Entry.{Entry}
 use Rattle.numa_pool.specs.declared.view.Entry.TheVariants.{Load, Lost}
@@ -28,7 +28,7 @@ module _ (s : Setup) (world : World) (words : List ℕ) (views : List View) (rul
 
   -- a load of a word of the current node is a Look at it: it meets the same frames
   pub looks_alike : (hunt : Hunt) (es : List Entry) → HasMet hunt es → (n w : ℕ) → w < 64 → IsCurrent s.machine.frames es hunt.nodes n
-      → HasMet (looked s world w hunt) (Load n w (slice_index words (64 * n + w)) ∷ es)
+      → HasMet (hunt_after_look s world w hunt) (Load n w (slice_index words (64 * n + w)) ∷ es)
   looks_alike hunt es same n w low h m k =
       ap (λ b. b || hunt.met m k) (ap (λ b. b && ((k / 64 == w) && is_some (world.owner m k))) (current s hunt es same (λ j. m == j) n h) ∙ found (ℕ_discrete n m) (ℕ_discrete w (k / 64)))
       ∙ ap (λ b. shows (Load n w (slice_index words (64 * n + w))) m k || b) (same m k)
@@ -69,7 +69,7 @@ eq_turned a b = by (ℕ_discrete a b)
     by (no d) = ne_eqb a b d ∙ sym (ne_eqb b a (λ e. d (sym e)))
 
 -- a lost try is a Try that finds the frame with an owner: it meets the same frame
-pub misses_alike : (hunt : Hunt) (es : List Entry) (f : Frame) → HasMet hunt es → HasMet (missed f hunt) (Lost f ∷ es)
+pub misses_alike : (hunt : Hunt) (es : List Entry) (f : Frame) → HasMet hunt es → HasMet (hunt_past f hunt) (Lost f ∷ es)
 misses_alike hunt es f same n k =
     ap (λ (p : Bool × Bool). (p.0 && p.1) || hunt.met n k) (λ i. (eq_turned n f.node i, eq_turned k f.number i))
     ∙ ap (λ b. is_frame f n k || b) (same n k)

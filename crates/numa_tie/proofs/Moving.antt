@@ -10,7 +10,7 @@ use Rattle.numa_pool.specs.declared.view.Entry.TheVariants.{Load}
 use Rattle.numa_pool.specs.declared.view.View.{View}
 use Rattle.numa_pool.specs.Frames.{frame_of, bit_in, times}
 use Rattle.numa_pool.specs.Rule.{Counted}
-use Rattle.numa_pool.specs.Steps.{frame_at, logged, tried, gave}
+use Rattle.numa_pool.specs.Steps.{frame_at, with_entry, after_try, after_give}
 use Rattle.numa_pool.proofs.StepLemmas.{frame_at-is, node_of_word, word_of_word, stays, wins, loses, gives_up}
 use Rattle.numa_tie.specs.Moves.{PoolState, Loads, Tries, Clears, word_of, mask_of}
 
@@ -26,16 +26,16 @@ frame-is f low =
     frame_at-is f.node (f.number / 64) (f.number % 64) (omega arith) ∙ ap (frame_of f.node) number
 
 -- what a seat shows after a load
-pub loaded : (n w id : ℕ) (old new : PoolState) (m : Loads n w id old new) → w < 64 → m.after ≡ logged m.before (Load n w (slice_index old.words (64 * n + w)))
-loaded n w id old new m low = ap (λ t. t.0) m.told ∙ λ i. logged m.before (Load (node_of_word n w low i) (word_of_word n w low i) (slice_index old.words (64 * n + w)))
+pub loaded : (n w id : ℕ) (old new : PoolState) (m : Loads n w id old new) → w < 64 → m.after ≡ with_entry m.before (Load n w (slice_index old.words (64 * n + w)))
+loaded n w id old new m low = ap (λ t. t.0) m.told ∙ λ i. with_entry m.before (Load (node_of_word n w low i) (word_of_word n w low i) (slice_index old.words (64 * n + w)))
 
 -- after a try
-pub tried-is : (f : Frame) (id : ℕ) (old new : PoolState) (m : Tries f id old new) → f.number < 4096 → (won : Bool) → (bit_in old.words f.node f.number == 0) ≡ won → m.after ≡ tried m.before f won
-tried-is f id old new m low won e = ap (λ t. t.0) (m.told (f.number % 64) (omega arith) refl).0 ∙ λ i. tried m.before (frame-is f low i) (e i)
+pub tried-is : (f : Frame) (id : ℕ) (old new : PoolState) (m : Tries f id old new) → f.number < 4096 → (won : Bool) → (bit_in old.words f.node f.number == 0) ≡ won → m.after ≡ after_try m.before f won
+tried-is f id old new m low won e = ap (λ t. t.0) (m.told (f.number % 64) (omega arith) refl).0 ∙ λ i. after_try m.before (frame-is f low i) (e i)
 
 -- after a return
-pub gave-is : (f : Frame) (id : ℕ) (old new : PoolState) (m : Clears f id old new) → f.number < 4096 → m.after ≡ gave m.before f
-gave-is f id old new m low = ap (λ t. t.0) (m.told (f.number % 64) (omega arith) refl) ∙ λ i. gave m.before (frame-is f low i)
+pub gave-is : (f : Frame) (id : ℕ) (old new : PoolState) (m : Clears f id old new) → f.number < 4096 → m.after ≡ after_give m.before f
+gave-is f id old new m low = ap (λ t. t.0) (m.told (f.number % 64) (omega arith) refl) ∙ λ i. after_give m.before (frame-is f low i)
 
 module _ (frames : List ℕ) (old new : PoolState) (id : ℕ) (rule : Counted frames old.words old.views) where
   -- the rule, of the state that a step leaves
@@ -71,7 +71,7 @@ module _ (frames : List ℕ) (old new : PoolState) (id : ℕ) (rule : Counted fr
         let now = wins frames old.words old.views id m.before m.shown rule at bit here small (bit_or found (1 * 2 ^ bit % 2 ^ 64)) clear (bit_at_set_same w64 found bit small) (λ j l d. bit_at_set_other w64 found bit small j d) there in
         arrives at (bit_or found (mask_of f)) m.after m.words m.views
         (subst (λ (p : ℕ × View). Counted frames (set old.words at (bit_or found p.0)) (set old.views id p.1))
-        (λ j. (mask-is j, ((λ k. tried m.before (frame-is f low k) true) ∙ sym (tried-is f id old new m low true (eq-eqb (bit_in old.words f.node f.number) 0 clear))) j)) now)
+        (λ j. (mask-is j, ((λ k. after_try m.before (frame-is f low k) true) ∙ sym (tried-is f id old new m low true (eq-eqb (bit_in old.words f.node f.number) 0 clear))) j)) now)
 
     pub loss-keeps : (m : Tries f id old new) → bit_in old.words f.node f.number ≢ 0 → Counted frames new.words new.views
     loss-keeps m set_already =
@@ -81,7 +81,7 @@ module _ (frames : List ℕ) (old new : PoolState) (id : ℕ) (rule : Counted fr
         let now = loses frames old.words old.views id m.before m.shown rule at bit here small (bit_or found (1 * 2 ^ bit % 2 ^ 64)) (bit_at_set_same w64 found bit small ∙ sym one) (λ j l d. bit_at_set_other w64 found bit small j d) in
         arrives at (bit_or found (mask_of f)) m.after m.words m.views
         (subst (λ (p : ℕ × View). Counted frames (set old.words at (bit_or found p.0)) (set old.views id p.1))
-        (λ j. (mask-is j, ((λ k. tried m.before (frame-is f low k) false) ∙ sym (tried-is f id old new m low false (ne_eqb (bit_in old.words f.node f.number) 0 set_already))) j)) now)
+        (λ j. (mask-is j, ((λ k. after_try m.before (frame-is f low k) false) ∙ sym (tried-is f id old new m low false (ne_eqb (bit_in old.words f.node f.number) 0 set_already))) j)) now)
 
     pub return-keeps : (m : Clears f id old new) → 0 < times f.node f.number m.before.held → Counted frames new.words new.views
     return-keeps m mine =
@@ -90,4 +90,4 @@ module _ (frames : List ℕ) (old new : PoolState) (id : ℕ) (rule : Counted fr
         let now = gives_up frames old.words old.views id m.before m.shown rule at bit here small (bit_and found (bit_not w64 (1 * 2 ^ bit % 2 ^ 64))) mine_here (bit_at_clear_same w64 found bit small) (λ j l d. bit_at_clear_other w64 found bit small j l d) in
         arrives at (bit_and found (bit_not w64 (mask_of f))) m.after m.words m.views
         (subst (λ (p : ℕ × View). Counted frames (set old.words at (bit_and found (bit_not w64 p.0))) (set old.views id p.1))
-        (λ j. (mask-is j, ((λ k. gave m.before (frame-is f low k)) ∙ sym (gave-is f id old new m low)) j)) now)
+        (λ j. (mask-is j, ((λ k. after_give m.before (frame-is f low k)) ∙ sym (gave-is f id old new m low)) j)) now)

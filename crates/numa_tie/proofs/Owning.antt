@@ -11,7 +11,7 @@ use Rattle.numa_machine.specs.declared.frame.Frame.{Frame}
 use Rattle.numa_pool.specs.declared.view.View.{View}
 use Rattle.numa_pool.specs.Frames.{is_frame, times, one_if, without}
 use Rattle.numa_pool.specs.Rule.{PoolRule}
-use Rattle.numa_pool.specs.Steps.{tried, gave}
+use Rattle.numa_pool.specs.Steps.{after_try, after_give}
 use Rattle.numa_pool.proofs.StepLemmas.{is_frame-same, times_without-here, times_without-else}
 use Rattle.numa_tie.proofs.Meeting.{eq_turned}
 use Rattle.numa_tie.specs.Tie.{OwnsWhatIsHeld}
@@ -26,11 +26,11 @@ at_bound (x ∷ xs) (suc id) v e = let r = at_bound xs id v e in omega arith
 
 module _ (world : World) (views : List View) (id : ℕ) (v : View) (at : get_elem? views id ≡ some v) (ties : OwnsWhatIsHeld world views) where
   -- a won try is a Try that finds the frame without an owner: then the worker owns it
-  pub wins_alike : (f : Frame) → world.owner f.node f.number ≡ None → OwnsWhatIsHeld (with_owner world f (Some id)) (set views id (tried v f true))
+  pub wins_alike : (f : Frame) → world.owner f.node f.number ≡ None → OwnsWhatIsHeld (with_owner world f (Some id)) (set views id (after_try v f true))
   wins_alike f free n k j = by (is_frame f n k) refl
     where
       new : View
-      new = tried v f true
+      new = after_try v f true
 
       Held : Type 0
       Held = (w : View) × (get_elem? (set views id new) j ≡ some w) × (0 < times n k w.held)
@@ -75,11 +75,11 @@ module _ (world : World) (views : List View) (id : ℕ) (v : View) (at : get_ele
               (ties n k j).1 (v, ap (get_elem? views) e.0 ∙ at, omega arith)
 
   -- a fetch_and is a Give by the worker that owns the frame: then nobody owns it
-  pub gives_alike : (frames words : List ℕ) → PoolRule frames words views → (f : Frame) → 0 < times f.node f.number v.held → OwnsWhatIsHeld (with_owner world f None) (set views id (gave v f))
+  pub gives_alike : (frames words : List ℕ) → PoolRule frames words views → (f : Frame) → 0 < times f.node f.number v.held → OwnsWhatIsHeld (with_owner world f None) (set views id (after_give v f))
   gives_alike frames words rule f mine n k j = by (is_frame f n k) refl
     where
       new : View
-      new = gave v f
+      new = after_give v f
 
       Held : Type 0
       Held = (w : View) × (get_elem? (set views id new) j ≡ some w) × (0 < times n k w.held)

@@ -1,7 +1,7 @@
 -- An interleaving of seats and workers is an execution of the core.
 use Rattle.std.proofs.Common.{◌≡◌, ℕ, ◌<◌, ◌≤◌, List, [], ◌∷◌, Some, is_ok, refl, sym, ap, subst, inl}
 use Rattle.std.specs.Prelude.{slice_index}
-use Rattle.numa_core.specs.World.{Setup, World, Hunt, begun, hunt_of}
+use Rattle.numa_core.specs.World.{Setup, World, Hunt, new_hunt, hunt_of}
 use Rattle.numa_core.specs.Steps.{answer_of, effect_of, going_on, world_after}
 use Rattle.numa_core.specs.Executions.{Moment, IsExecution, world_of}
 use Rattle.numa_space.specs.declared.event.Event.{Event}
@@ -9,7 +9,7 @@ use Rattle.numa_space.specs.declared.event.Event.TheVariants.{Accept, Publish, B
 use Rattle.numa_space.specs.declared.event.CoreReply.{CoreReply}
 use Rattle.numa_space.specs.declared.event.CoreReply.TheVariants.{Won as replied_won, Given}
 use Rattle.numa_core.specs.Steps.{goes_on, placement_of}
-use Rattle.numa_core.specs.World.{looked, missed}
+use Rattle.numa_core.specs.World.{hunt_after_look, hunt_past}
 use Rattle.numa_pool.specs.declared.view.Entry.{Entry}
 use Rattle.numa_pool.specs.declared.view.Entry.TheVariants.{Load, Won, Lost, Gave}
 use Rattle.numa_tie.specs.Moments.{IsMoment, MayCome, event_of}
@@ -53,7 +53,7 @@ module _ (s : Setup) where
   apart-meets world since version (Accept command) h met = met
   apart-meets world since version Publish h met = met
   apart-meets world since version (Begin w request) h met =
-      met-put world since met w version (going_on s (begun s world version request)) [] (λ hunt e. goes-on-as s (begun s world version request) hunt [] (λ n k. refl) e)
+      met-put world since met w version (going_on s (new_hunt s world version request)) [] (λ hunt e. goes-on-as s (new_hunt s world version request) hunt [] (λ n k. refl) e)
   apart-meets world since version (Look w word) h met = absurd h
   apart-meets world since version (Try w frame) h met = absurd h
   apart-meets world since version (Give w frame) h met = absurd h
@@ -73,7 +73,7 @@ module _ (s : Setup) where
     steps : (id : ℕ) (e : Entry) → MayStep s world since id e → Makes e id old new → Stands (with_event s 0 (event_of id e) past) new (noted since id e)
     steps id (Load n w x) may m =
         let met = h.met id may.0 may.1 in
-        walks id (Load n w x) may.0 (goes_on s (looked s world w may.0)) may.1 may.2 m
+        walks id (Load n w x) may.0 (goes_on s (hunt_after_look s world w may.0)) may.1 may.2 m
         (look-moment s world id 0 may.0 (since id) old new h.tied may.1 met n w x m may.2)
     steps id (Won f) may m =
         let met = h.met id may.0 may.1 in
@@ -81,7 +81,7 @@ module _ (s : Setup) where
         (won-moment s world id 0 may.0 (since id) old new h.tied may.1 met f m may.2)
     steps id (Lost f) may m =
         let met = h.met id may.0 may.1 in
-        walks id (Lost f) may.0 (goes_on s (missed f may.0)) may.1 may.2 m
+        walks id (Lost f) may.0 (goes_on s (hunt_past f may.0)) may.1 may.2 m
         (lost-moment s world id 0 may.0 (since id) old new h.tied may.1 met f m may.2)
     steps id (Gave f) may m =
         more past old new since (noted since id (Gave f)) 0 (Give id f) Given h

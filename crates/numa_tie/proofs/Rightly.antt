@@ -3,7 +3,7 @@ use Rattle.std.proofs.Common.{◌≡◌, ℕ, ◌<◌, ◌≤◌, List, ◌∷�
 use Rattle.std.specs.Prelude.{slice_index}
 use Rattle.numa_machine.specs.declared.frame.Frame.{Frame}
 use Rattle.numa_space.specs.declared.placement.Placement.{Placement}
-use Rattle.numa_core.specs.World.{Setup, World, Hunt, hunt_of, looked, missed}
+use Rattle.numa_core.specs.World.{Setup, World, Hunt, hunt_of, hunt_after_look, hunt_past}
 use Rattle.numa_core.specs.Steps.{answer_of, placement_of}
 use Rattle.numa_core.specs.Executions.{Moment, IsRightPlacement, IsExhausted, world_of, worker_of}
 use Rattle.numa_space.specs.declared.event.Event.{Event}
@@ -90,13 +90,13 @@ module _ (s : Setup) (few : (n : ℕ) → slice_index s.machine.frames n ≤ 409
       let next = subst (λ (a : Hunt). MayCome s.machine.frames a.nodes es (Load n w x)) (same-hunt h.1.0.0 hunt h.1.0.1 busy) h.1.0.2 in
       let moment = look-moment s world id 0 hunt es old pools tied busy has n w x h.1.1 next in
       let meets = look-meets s world id 0 hunt es old pools tied busy has n w x h.1.1 next in
-      over-right (Load n w x) hunt h busy full (moment.1 ∙ ap Ok (over s (looked s world w hunt) (Load n w x ∷ es) meets full).0, refl)
+      over-right (Load n w x) hunt h busy full (moment.1 ∙ ap Ok (over s (hunt_after_look s world w hunt) (Load n w x ∷ es) meets full).0, refl)
   end-right (Lost f) hunt h busy full =
       let tied = (start (Lost f) hunt h busy full).tied in
       let has = met (Lost f) hunt h busy full in
       let next = subst (λ (a : Hunt). MayCome s.machine.frames a.nodes es (Lost f)) (same-hunt h.1.0.0 hunt h.1.0.1 busy) h.1.0.2 in
       let moment = lost-moment s world id 0 hunt es old pools tied busy has f h.1.1 next in
-      over-right (Lost f) hunt h busy full (moment.1 ∙ ap Ok (over s (missed f hunt) (Lost f ∷ es) (misses_alike hunt es f has) full).0, refl)
+      over-right (Lost f) hunt h busy full (moment.1 ∙ ap Ok (over s (hunt_past f hunt) (Lost f ∷ es) (misses_alike hunt es f has) full).0, refl)
   end-right (Won f) hunt h busy full =
       let has = met (Won f) hunt h busy full in
       let next = subst (λ (a : Hunt). MayCome s.machine.frames a.nodes es (Won f)) (same-hunt h.1.0.0 hunt h.1.0.1 busy) h.1.0.2 in

@@ -64,8 +64,8 @@ passed_on from to None = None
 passed_on from to (Some id) = if id == from then Some to else Some id
 
 -- the world, once what one worker owned is another's
-abbrev pub handed : World → ℕ → ℕ → World
-handed world from to = record {
+abbrev pub world_after_handover : World → ℕ → ℕ → World
+world_after_handover world from to = record {
   history = world.history;
   published = world.published;
   worker = world.worker;

@@ -11,7 +11,7 @@ use Rattle.numa_pool.specs.declared.view.Entry.{Entry}
 use Rattle.numa_pool.specs.declared.view.Entry.TheVariants.{Load, Won, Lost, Gave}
 use Rattle.numa_pool.specs.declared.view.View.{View}
 use Rattle.numa_pool.specs.Frames.{Holds, bit_in}
-use Rattle.numa_pool.specs.Steps.{newcomer, divided, poured, looked, attempted, returned}
+use Rattle.numa_pool.specs.Steps.{newcomer, after_split, after_join, IsLook, IsAttempt, IsReturn}
 
 -- a state of the pools: the frame words, and what each seat shows
 pub record PoolState : Type 0 where
@@ -43,16 +43,16 @@ mask_of f = 2 ^ (f.number % 64)
 
 -- a load of a word of a node
 abbrev pub Loads : ℕ → ℕ → ℕ → PoolState → PoolState → Type 0
-Loads n w = Moves looked (64 * n + w) 0 (λ x. x)
+Loads n w = Moves IsLook (64 * n + w) 0 (λ x. x)
 
 -- a fetch_or of the bit of a frame
 abbrev pub Tries : Frame → ℕ → PoolState → PoolState → Type 0
-Tries f = Moves attempted (word_of f) (mask_of f) (λ x. bit_or x (mask_of f))
+Tries f = Moves IsAttempt (word_of f) (mask_of f) (λ x. bit_or x (mask_of f))
 
 -- a fetch_and of all bits but that of a frame
 abbrev pub Clears : Frame → ℕ → PoolState → PoolState → Type 0
 Clears f =
-    Moves returned (word_of f) (bit_not w64 (mask_of f)) (λ x. bit_and x (bit_not w64 (mask_of f)))
+    Moves IsReturn (word_of f) (bit_not w64 (mask_of f)) (λ x. bit_and x (bit_not w64 (mask_of f)))
 
 -- seat id holds the frame
 abbrev pub SeatHolds : Frame → ℕ → PoolState → Type 0
@@ -79,7 +79,7 @@ pub record Splits (id : ℕ) (old new : PoolState) : Type 0 where
   pub view : View
   pub shown : get_elem? old.views id ≡ some view
   pub words : new.words ≡ old.words
-  pub views : new.views ≡ slice_set old.views id (divided view) ++ newcomer ∷ []
+  pub views : new.views ≡ slice_set old.views id (after_split view) ++ newcomer ∷ []
 
 -- seat `other` is joined into seat id, and is spent
 pub record Joins (id other : ℕ) (old new : PoolState) : Type 0 where
@@ -89,4 +89,4 @@ pub record Joins (id other : ℕ) (old new : PoolState) : Type 0 where
   pub first_shown : get_elem? old.views id ≡ some first
   pub second_shown : get_elem? old.views other ≡ some second
   pub words : new.words ≡ old.words
-  pub views : new.views ≡ slice_set (slice_set old.views id (poured first second)) other newcomer
+  pub views : new.views ≡ slice_set (slice_set old.views id (after_join first second)) other newcomer

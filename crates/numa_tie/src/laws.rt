@@ -7,14 +7,14 @@ ghost use Rattle.numa_core.specs.Executions.{Moment, IsExhausted, IsExecution};
 ghost use Rattle.numa_core.specs.Executions.{IsRightPlacement, world_of};
 ghost use Rattle.numa_core.specs.Steps.{effect_of, goes_on, going_on, placement_of};
 ghost use Rattle.numa_core.specs.Steps.{put, with_owner};
-ghost use Rattle.numa_core.specs.World.{Setup, World, Hunt, opening, hunt_of, looked};
-ghost use Rattle.numa_core.specs.World.{may_look, may_try, missed, owner_of};
+ghost use Rattle.numa_core.specs.World.{Setup, World, Hunt, opening, hunt_of, hunt_after_look};
+ghost use Rattle.numa_core.specs.World.{may_look, may_try, hunt_past, owner_of};
 ghost use Rattle.numa_space.specs.declared.event.Event.{Event};
 ghost use Rattle.numa_space.specs.declared.event.CoreReply.{CoreReply};
 ghost use Rattle.numa_machine.specs.declared.frame.Frame.{Frame};
 ghost use Rattle.numa_pool.specs.Frames.{Holds};
 ghost use Rattle.numa_pool.specs.Rule.{PoolRule};
-ghost use Rattle.numa_pool.specs.Steps.{tried, gave};
+ghost use Rattle.numa_pool.specs.Steps.{after_try, after_give};
 ghost use Rattle.numa_pool.specs.Walk.{IsCurrent, IsNext, IsWalk, AllFull};
 ghost use Rattle.numa_pool.specs.declared.view.Entry.{Entry};
 ghost use Rattle.numa_pool.specs.declared.view.View.{View};
@@ -22,7 +22,8 @@ ghost use Rattle.numa_space.specs.declared.placement.Placement.{Placement};
 ghost use Rattle.numa_space.specs.declared.request.Request.{Request};
 ghost use Rattle.numa_core.specs.Seats.{fresh};
 ghost use Rattle.numa_tie.specs.Hunts.{IsHunt, TakesTurns, Tells, Turn, steps_of, world_left};
-ghost use Rattle.numa_tie.specs.Moments.{IsMoment, MayBegin, WalksOn, event_of, handed, told};
+ghost use Rattle.numa_tie.specs.Moments.{IsMoment, MayBegin, WalksOn, event_of, told};
+ghost use Rattle.numa_tie.specs.Moments.{world_after_handover};
 ghost use Rattle.numa_tie.specs.Moves.{PoolState, IsOpening, Joins, Makes, SeatHolds, Splits};
 ghost use Rattle.numa_tie.specs.Plays.{Done, IsPlay, NoneRefused, by_seat};
 ghost use Rattle.numa_tie.specs.Plays.{pools_of, execution_of, since_of};
@@ -55,10 +56,10 @@ pub fn steps_meet_alike()
         (es : List Entry) (n w : ℕ) → PoolRule s.machine.frames words views
         → OwnsWhatIsHeld world views → HasMet hunt es
         → w < 64 → IsCurrent s.machine.frames es hunt.nodes n
-        → HasMet (looked s world w hunt)
+        → HasMet (hunt_after_look s world w hunt)
         (Entry.Load n w (slice_index words (64 * n + w)) ∷ es) }
     ensures lost { (hunt : Hunt) (es : List Entry) (f : Frame) → HasMet hunt es
-        → HasMet (missed f hunt) (Entry.Lost f ∷ es) }
+        → HasMet (hunt_past f hunt) (Entry.Lost f ∷ es) }
 {}
 
 /// Each frame's owner stays the seat that holds it: a try that won makes the seat the owner of a
@@ -66,11 +67,11 @@ pub fn steps_meet_alike()
 pub fn owners_stay_holders()
     ensures won { (world : World) (views : List View) (id : ℕ) (v : View) (f : Frame)
         → get_elem? views id ≡ some v → OwnsWhatIsHeld world views → owner_of world f ≡ None
-        → OwnsWhatIsHeld (with_owner world f (Some id)) (slice_set views id (tried v f true)) }
+        → OwnsWhatIsHeld (with_owner world f (Some id)) (slice_set views id (after_try v f true)) }
     ensures gave { (world : World) (frames words : List ℕ) (views : List View) (id : ℕ) (v : View)
         (f : Frame) → PoolRule frames words views
         → get_elem? views id ≡ some v → OwnsWhatIsHeld world views → Holds v.held f
-        → OwnsWhatIsHeld (with_owner world f None) (slice_set views id (gave v f)) }
+        → OwnsWhatIsHeld (with_owner world f None) (slice_set views id (after_give v f)) }
 {}
 
 /// A moment makes an execution one longer, and leads to the world that the core's law says.
@@ -87,7 +88,7 @@ pub fn load_is_a_look()
     ensures { (s : Setup) (world : World) (since : ℕ → List Entry) (old new : PoolState)
         (id version n w x : ℕ) (hunt : Hunt)
         → WalksOn s world since id hunt (Entry.Load n w x) old new
-        → IsMoment s world version (Event.Look id w) (goes_on s (looked s world w hunt)) }
+        → IsMoment s world version (Event.Look id w) (goes_on s (hunt_after_look s world w hunt)) }
 {}
 
 /// A try of a frame that may come next is a Try of the worker, and is answered as the seat found
@@ -100,7 +101,7 @@ pub fn try_is_a_try()
     ensures lost { (s : Setup) (world : World) (since : ℕ → List Entry) (old new : PoolState)
         (id version : ℕ) (f : Frame) (hunt : Hunt)
         → WalksOn s world since id hunt (Entry.Lost f) old new
-        → IsMoment s world version (Event.Try id f) (goes_on s (missed f hunt)) }
+        → IsMoment s world version (Event.Try id f) (goes_on s (hunt_past f hunt)) }
 {}
 
 /// After a load or a try the world is tied to the pools as before, and each hunt has met what the
@@ -156,7 +157,8 @@ pub fn seats_come_and_go()
     ensures split { (s : Setup) (world : World) (old new : PoolState) (id : ℕ) → IsTied s world old
         → length old.views < s.workers → Splits id old new → IsTied s world new }
     ensures join { (s : Setup) (world : World) (old new : PoolState) (id other : ℕ)
-        → IsTied s world old → Joins id other old new → IsTied s (handed world other id) new }
+        → IsTied s world old → Joins id other old new
+        → IsTied s (world_after_handover world other id) new }
     ensures ended { (s : Setup) (world : World) (old new : PoolState) (id other : ℕ) (f : Frame)
         → IsTied s world old → Joins id other old new → SeatHolds f other old
         → ¬ (IsTied s world new) }

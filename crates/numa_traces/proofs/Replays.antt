@@ -7,7 +7,7 @@ use Rattle.numa_machine.specs.Machine.{Hardware}
 use Rattle.numa_plan.specs.Meaning.{PlanData, place_refusal, planned_list}
 use Rattle.numa_space.specs.declared.refusal.PlaceRefusal.{PlaceRefusal}
 use Rattle.numa_space.specs.declared.refusal.PlaceRefusal.TheVariants.{Unmapped}
-use Rattle.numa_traces.specs.Placing.{Frames, node_of, touched}
+use Rattle.numa_traces.specs.Placing.{Frames, node_of, frames_with_page}
 use Rattle.numa_traces.specs.Replaying.{EndsReplay, Replayed, IsReplay, frames_after, is_first, way_from}
 use Rattle.numa_traces.specs.Tallies.{Counts, IsFull, IsRoomFault, Way, is_way, with_accesses}
 use Rattle.numa_traces.specs.declared.access.Access.{Access}
@@ -44,15 +44,15 @@ placed-way plan frames access node lies = ap (λ (n : Option ℕ). (access.task,
 
 -- and of one whose page is placed by it
 pub touched-way : (plan : PlanData) (old new : Frames) (access : Access) (nodes : List ℕ) (place : Option ℕ) → planned_list plan access.task access.page access.cpu ≡ Some nodes
-    → new ≡ touched old access.page nodes → node_of new.pages access.page ≡ place → way_from plan old access ≡ (access.task, access.cpu, place)
+    → new ≡ frames_with_page old access.page nodes → node_of new.pages access.page ≡ place → way_from plan old access ≡ (access.task, access.cpu, place)
 touched-way plan old new access nodes place planned touches lies =
     let list : unwrap_or (planned_list plan access.task access.page access.cpu) [] ≡ nodes = ap (λ (o : Option (List ℕ)). unwrap_or o []) planned in
     ap (λ (n : Option ℕ). (access.task, access.cpu, n))
-    (ap (λ (nodes : List ℕ). node_of (touched old access.page nodes).pages access.page) list ∙ ap (λ (f : Frames). node_of f.pages access.page) (sym touches) ∙ lies)
+    (ap (λ (nodes : List ℕ). node_of (frames_with_page old access.page nodes).pages access.page) list ∙ ap (λ (f : Frames). node_of f.pages access.page) (sym touches) ∙ lies)
 
 pub replayed : (machine : Hardware) (plan : PlanData) (trace : List Access) (access : Access) (old new : Replayed) (nodes : List ℕ)
     → planned_list plan access.task access.page access.cpu ≡ Some nodes
-    → new.frames ≡ touched old.frames access.page nodes
+    → new.frames ≡ frames_with_page old.frames access.page nodes
     → Counts old.tallies (access.task, access.cpu, node_of new.frames.pages access.page) access.count (not (is_some (node_of old.frames.pages access.page))) new.tallies
     → IsReplay machine plan trace old → IsReplay machine plan (access ∷ trace) new
 replayed machine plan trace access old new nodes planned touches counts was = record {
@@ -66,4 +66,4 @@ replayed machine plan trace access old new nodes planned touches counts was = re
     list = sym (ap (λ o. unwrap_or o []) planned)
 
     after : new.frames ≡ frames_after plan was.start (access ∷ trace)
-    after = touches ∙ (λ i. touched (was.frames i) access.page (list i))
+    after = touches ∙ (λ i. frames_with_page (was.frames i) access.page (list i))

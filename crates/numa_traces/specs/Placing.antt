@@ -29,8 +29,8 @@ placed_on frames page (Some node) = record {
 }
 
 -- the frames once a page was touched whose list has these nodes: where it lies already, unchanged
-abbrev pub touched : Frames → ℕ → List ℕ → Frames
-touched frames page nodes = by_place (node_of frames.pages page)
+abbrev pub frames_with_page : Frames → ℕ → List ℕ → Frames
+frames_with_page frames page nodes = by_place (node_of frames.pages page)
   where
     by_place : Option ℕ → Frames
     by_place (Some node) = frames

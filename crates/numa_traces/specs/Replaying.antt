@@ -4,7 +4,7 @@ use Rattle.std.specs.Prelude.{◌≡◌, ℕ, ◌<◌, Bool, not, is_some, Some,
 use Rattle.std.specs.Prelude.{slice_index, unwrap_or, if◌then◌else◌}
 use Rattle.numa_machine.specs.Machine.{Hardware, frames_of}
 use Rattle.numa_plan.specs.Meaning.{PlanData, place_refusal, planned_list}
-use Rattle.numa_traces.specs.Placing.{Frames, node_of, touched}
+use Rattle.numa_traces.specs.Placing.{Frames, node_of, frames_with_page}
 use Rattle.numa_traces.specs.Tallies.{IsFull, Way, is_way, no_accesses, tally_at, with_accesses}
 use Rattle.numa_traces.specs.declared.access.Access.{Access}
 use Rattle.numa_traces.specs.declared.fault.ReplayFault.{ReplayFault}
@@ -22,7 +22,7 @@ pub record IsFresh (machine : Hardware) (frames : Frames) : Type 0 where
 abbrev pub frames_after : PlanData → Frames → List Access → Frames
 frames_after plan start [] = start
 frames_after plan start (access ∷ trace) =
-    touched (frames_after plan start trace) access.page
+    frames_with_page (frames_after plan start trace) access.page
     (unwrap_or (planned_list plan access.task access.page access.cpu) [])
 
 -- whether an access is a fault: its page isn't placed
@@ -34,7 +34,7 @@ abbrev pub way_from : PlanData → Frames → Access → Way
 way_from plan frames access = (
   access.task,
   access.cpu,
-  node_of (touched frames access.page
+  node_of (frames_with_page frames access.page
       (unwrap_or (planned_list plan access.task access.page access.cpu) [])).pages access.page,
 )
 

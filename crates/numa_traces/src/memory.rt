@@ -1,7 +1,7 @@
 //! The frames of a machine, and the pages that lie in them.
 ghost use Rattle.std.specs.Prelude.{◌≡◌, ◌<◌, ℕ, IfOk, OnOk, OnErr, None, [], slice_index};
 ghost use Rattle.numa_machine.specs.Machine.{frames_of};
-ghost use Rattle.numa_traces.specs.Placing.{first_free, node_of, touched};
+ghost use Rattle.numa_traces.specs.Placing.{first_free, node_of, frames_with_page};
 
 use numa_machine::Machine;
 use std::alloc::{AllocError, Global};
@@ -82,7 +82,7 @@ impl Memory {
         requires { node_of self.old.pages page ≡ None }
         ensures node { IfOk result (λ node. node ≡ first_free self.old.free nodes.now) }
         ensures lies { IfOk result (λ node. node_of self.new.pages page ≡ node) }
-        ensures placed { OnOk result (self.new ≡ touched self.old page nodes.now) }
+        ensures placed { OnOk result (self.new ≡ frames_with_page self.old page nodes.now) }
         ensures unchanged { OnErr result (self.new ≡ self.old) }
     {
         let Some(node) = self.first_free(nodes) else {

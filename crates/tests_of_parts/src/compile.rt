@@ -3,7 +3,7 @@
 use crate::played::Step::{List, NoList, Ranges, Version};
 use crate::played::{ask_plan, plan_of};
 use crate::same::same;
-use numa_examples::Asked::{Map, Mbind};
+use numa_examples::ShortCommand::{Map, Mbind};
 use numa_plan::Plan;
 use numa_space::PlaceRefusal;
 use std::alloc::Global;

@@ -1,7 +1,7 @@
 //! Random commands, the same for the same seed.
 ghost use Rattle.std.specs.Prelude.{◌<◌};
 
-use numa_examples::Asked::{Home, Map, Mbind, Mems, Task, Unmap, Weight};
+use numa_examples::ShortCommand::{Home, Map, Mbind, Mems, Task, Unmap, Weight};
 use numa_examples::{command_of, machine_of};
 use numa_machine::Machine;
 use numa_space::{Command, Limits, Space};

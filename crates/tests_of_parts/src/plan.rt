@@ -3,7 +3,7 @@ ghost use Rattle.std.specs.Prelude.{◌<◌};
 
 use crate::played::plan_of;
 use crate::same::same;
-use numa_examples::Asked::{Map, Mbind, Task, Weight};
+use numa_examples::ShortCommand::{Map, Mbind, Task, Weight};
 use numa_mode::Record;
 use numa_plan::{Plan, Rule, Steps};
 use numa_ranges::Run;

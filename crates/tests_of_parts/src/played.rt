@@ -5,7 +5,7 @@ use crate::planned::plan_along;
 use crate::recompiling::follow;
 use crate::same::same;
 use numa_compile::{compile, compile_commands};
-use numa_examples::{Asked, command_of, commands_of, flat_machine, limits};
+use numa_examples::{ShortCommand, command_of, commands_of, flat_machine, limits};
 use numa_machine::Machine;
 use numa_plan::{Plan, Steps};
 use numa_space::{Limits, PlaceRefusal, Refusal, Space};
@@ -16,9 +16,9 @@ use std::process::Abort;
 #[derive(Clone, Copy)]
 pub enum Step<'a> {
     /// The command is accepted.
-    Does(Asked<'a>),
+    Does(ShortCommand<'a>),
     /// The command is refused so.
-    Refuses(Asked<'a>, Refusal),
+    Refuses(ShortCommand<'a>, Refusal),
     /// The node list of a task and a page, for a fault on a node.
     List(u32, u64, u32, &'a [u8]),
     /// The same question, refused so.
@@ -37,7 +37,7 @@ use Step::{Does, Firsts, List, NoList, Ranges, Refuses, Version};
 fn apply(
     rt: &impl Abort,
     space: &mut Space,
-    asked: &Asked,
+    asked: &ShortCommand,
     want: Result<(), Refusal>,
     line: usize,
 ) {
@@ -181,7 +181,7 @@ pub fn play_flat(rt: &impl Abort, alloc: Global, nodes: usize, steps: &[Step]) {
 }
 
 /// The plan of a list of commands on a machine of four nodes, 20 apart, all with memory.
-pub fn plan_of(rt: &impl Abort, alloc: Global, asked: &[Asked]) -> Plan {
+pub fn plan_of(rt: &impl Abort, alloc: Global, asked: &[ShortCommand]) -> Plan {
     let machine = flat_machine(alloc, &[8, 8, 8, 8]).expect(rt, "a machine");
     let commands = commands_of(alloc, asked).expect(rt, "commands");
     compile_commands(alloc, machine, limits(), &commands).expect(rt, "a plan")

@@ -7,7 +7,7 @@ use crate::dice::{ACCEPTED, COMMANDS, Dice, SEEDS, rough_space};
 use crate::played::Step::{Does, List, Ranges, Version};
 use crate::played::{Step, play_flat, play_new};
 use numa_compile::{compile, recompile};
-use numa_examples::Asked::{Home, Map, Mbind, Mems, Task, Unmap, Weight};
+use numa_examples::ShortCommand::{Home, Map, Mbind, Mems, Task, Unmap, Weight};
 use numa_examples::{command_of, flat_machine, limits};
 use numa_plan::{Plan, Steps};
 use numa_space::{Command, Space};

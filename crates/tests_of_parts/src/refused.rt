@@ -6,7 +6,7 @@ use crate::played::Step::{Does, List, Ranges, Version};
 use crate::played::{Step, ask_plan, ask_space, play};
 use crate::same::same;
 use numa_compile::compile;
-use numa_examples::Asked::{Map, Mbind, Task};
+use numa_examples::ShortCommand::{Map, Mbind, Task};
 use numa_examples::{flat_machine, flat_space, made, set_of};
 use numa_lanes::{Cycle, fill_cycle};
 use numa_machine::{Frame, Machine, Weights};

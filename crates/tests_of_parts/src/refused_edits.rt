@@ -9,8 +9,8 @@ use crate::played::play;
 use crate::recompiling::{edit, expect_compiled};
 use crate::refused::mark;
 use numa_compile::{compile, recompile};
-use numa_examples::Asked::{Home, Map, Mbind, Mems, Task, Unmap, Weight};
-use numa_examples::{Asked, command_of, flat_space};
+use numa_examples::ShortCommand::{Home, Map, Mbind, Mems, Task, Unmap, Weight};
+use numa_examples::{ShortCommand, command_of, flat_space};
 use numa_plan::{Plan, Steps};
 use numa_space::{Command, Space};
 use std::alloc::Global;
@@ -82,7 +82,7 @@ fn edit_after(
 }
 
 /// Edits the plan of those policies by a command.
-fn edit_by(rt: &impl Abort, alloc: Global, asked: &Asked) {
+fn edit_by(rt: &impl Abort, alloc: Global, asked: &ShortCommand) {
     let command = command_of(asked).expect(rt, "a command");
     let before = policies(rt, alloc);
     let mut space = before.copy(alloc).expect(rt, "a copy");

@@ -4,7 +4,7 @@
 use crate::played::Step::{Does, Firsts, List, NoList, Ranges, Refuses, Version};
 use crate::played::{Step, play, play_flat, play_new};
 use crate::same::same;
-use numa_examples::Asked::{Home, Map, Mbind, Mems, Task, Unmap, Weight};
+use numa_examples::ShortCommand::{Home, Map, Mbind, Mems, Task, Unmap, Weight};
 use numa_examples::{commands_of, flat_machine, flat_space, limits, machine_of, set_of};
 use numa_mask::NodeMask;
 use numa_mode::Record;

@@ -4,8 +4,8 @@ ghost use Rattle.std.specs.Prelude.{◌≤◌};
 
 use crate::same::same;
 use numa_core::{Core, CoreRefusal, CoreReply, Event, Frame, Request};
-use numa_examples::Asked::{Map, Task};
-use numa_examples::{Asked, command_of, flat_machine, limits};
+use numa_examples::ShortCommand::{Map, Task};
+use numa_examples::{ShortCommand, command_of, flat_machine, limits};
 use numa_space::Refusal;
 use std::alloc::Global;
 use std::process::Abort;
@@ -44,7 +44,7 @@ fn answer_of(reply: Result<CoreReply, CoreRefusal>) -> Answer {
 /// What is asked of the core. Numbers of workers come first.
 #[derive(Clone, Copy)]
 enum Call<'a> {
-    Does(Asked<'a>),
+    Does(ShortCommand<'a>),
     Publish,
     /// The worker, the task, the page and the faulting node.
     Begin(u32, u32, u64, u32),

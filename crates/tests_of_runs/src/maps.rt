@@ -1,7 +1,7 @@
 //! Worked listings, in the form of numa_maps (numa(7)).
 use crate::same::same;
-use numa_examples::Asked::{Map, Mbind, Task};
-use numa_examples::{Asked, command_of, flat_space};
+use numa_examples::ShortCommand::{Map, Mbind, Task};
+use numa_examples::{ShortCommand, command_of, flat_space};
 use numa_machine::Frame;
 use numa_maps::{RecordRefusal, Resident, Watched, write_maps};
 use numa_space::{Placement, Space};
@@ -9,7 +9,7 @@ use std::alloc::Global;
 use std::process::Abort;
 
 /// A space of four nodes after these commands.
-pub fn space_after(rt: &impl Abort, alloc: Global, asked: &[Asked]) -> Space {
+pub fn space_after(rt: &impl Abort, alloc: Global, asked: &[ShortCommand]) -> Space {
     let mut space = flat_space(alloc, 4).expect(rt, "a space");
     for one in asked {
         let command = command_of(one).expect(rt, "a command");
@@ -31,7 +31,7 @@ fn placement(page: u64, node: u8, number: u16) -> Placement {
 
 /// Ten pages that task 1 interleaves over four nodes, but for three of them that are bound to node
 /// 2.
-pub const THREE_RANGES: [Asked<'static>; 3] = [
+pub const THREE_RANGES: [ShortCommand<'static>; 3] = [
     Map(0x10000, 0xa000, 0),
     Task(1, 3, &[0, 1, 2, 3]),
     Mbind(0x13000, 0x3000, 2, &[2]),

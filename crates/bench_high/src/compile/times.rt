@@ -1,6 +1,6 @@
 //! How long a compile and a prediction of all ranges take.
 use numa_compile::compile;
-use numa_examples::many::{POLICIES, RANGES, Row, rows_of};
+use numa_examples::many::{FlatRow, POLICIES, RANGES, rows_of};
 use numa_examples::times::{best_of_making, print_ratio};
 use numa_plan::{NoMemory, Plan};
 use numa_reports::{Format, ReportFault, prediction_text};
@@ -41,7 +41,7 @@ fn number_of(numbers: &mut HashMap<u64, u64>, policy: u64) -> Result<u64, AllocE
 }
 
 /// Copies the rows, each with the number of its policy in the place of the policy.
-fn copied(alloc: Global, rows: &[Row]) -> Result<Vec<Row>, AllocError> {
+fn copied(alloc: Global, rows: &[FlatRow]) -> Result<Vec<FlatRow>, AllocError> {
     let mut numbers: HashMap<u64, u64> = HashMap::new(alloc);
     let mut copies = Vec::new(alloc);
     for row in rows {
@@ -52,7 +52,7 @@ fn copied(alloc: Global, rows: &[Row]) -> Result<Vec<Row>, AllocError> {
 }
 
 /// How many rows were copied.
-fn rows_in(copies: Result<Vec<Row>, AllocError>) -> u64 {
+fn rows_in(copies: Result<Vec<FlatRow>, AllocError>) -> u64 {
     match copies {
         Ok(rows) => rows.len() as u64,
         Err(_) => 0,

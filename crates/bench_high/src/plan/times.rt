@@ -1,6 +1,6 @@
 //! How long the answers of a plan take.
 use crate::plan::plans::WEIGHED;
-use numa_examples::many::{RANGES, ROUND, Row, page_of, places_in, rows_of};
+use numa_examples::many::{FlatRow, RANGES, ROUND, page_of, places_in, rows_of};
 use numa_examples::times::{best_of, nanos, print_ratio};
 use numa_lanes::{Cycle, fill_cycle, fill_one};
 use numa_plan::{Plan, Steps};
@@ -48,7 +48,7 @@ fn firsts_of(alloc: Global) -> Result<Vec<u64>, AllocError> {
 /// Prints the ratios of so long a round of `choice` to rounds in plain vectors.
 fn print_points<R: Clock + Print>(
     rt: &R,
-    rows: &[Row],
+    rows: &[FlatRow],
     firsts: &[u64],
     choices: u64,
 ) -> io::Result<()> {

@@ -3,7 +3,7 @@ ghost use Rattle.std.specs.Prelude.{◌≡◌, ◌+◌, ◌-◌, ℕ, Some, fals
 ghost use Rattle.std.specs.Prelude.{OnErr};
 ghost use Rattle.std.specs.List.{slice_range};
 ghost use Rattle.std.specs.Option.{ForSome};
-ghost use Rattle.numa_ranges.specs.Windows.{begins_in, begun};
+ghost use Rattle.numa_ranges.specs.Windows.{begins_in, starts_in};
 ghost use Rattle.numa_space.specs.Policies.{where_live};
 ghost use Rattle.numa_space.specs.Standing.{IsInForce, SpaceState};
 ghost use Rattle.numa_space.specs.declared.command.Command.{Command};
@@ -96,7 +96,7 @@ fn gather_homes(
     ensures copies { OnOk result (AreCopies (policy_in plan.new.slots)
         (slice_range space.now.ranges window.now.from window.now.to_now) runs.new.items) }
     ensures added { WereAdded space.now plan.old added.new.items plan.new }
-    ensures few { WritesRules (begun window.now.first window.now.end space.now.ranges)
+    ensures few { WritesRules (starts_in window.now.first window.now.end space.now.ranges)
         steps.old steps.new }
 {
     for k in window.from..window.to_now {
@@ -126,7 +126,7 @@ fn rewrite_homes(
     ensures tasks { plan.new.tasks ≡ plan.old.tasks }
     ensures added { OnErr result (WereAdded space.now plan.old added.new.items plan.new) }
     ensures few { WritesBoth (window.now.to_now - window.now.from)
-        (begun window.now.first window.now.end space.now.ranges) steps.old steps.new }
+        (starts_in window.now.first window.now.end space.now.ranges) steps.old steps.new }
 {
     survey(space);
     let mut runs = Vec::new(alloc);

@@ -3,7 +3,7 @@ ghost use Rattle.std.specs.Prelude.{◌≡◌, ◌+◌, ◌-◌, ◌<◌, ◌≤
 ghost use Rattle.std.specs.Prelude.{IfSome, OnSome, IfNone};
 ghost use Rattle.numa_mode.specs.Policy.{PolicyRecord};
 ghost use Rattle.numa_ranges.specs.Runs.{AreApart, AreMaximal};
-ghost use Rattle.numa_ranges.specs.Windows.{IsWindow, begins_in, begun};
+ghost use Rattle.numa_ranges.specs.Windows.{IsWindow, begins_in, starts_in};
 ghost use Rattle.numa_ranges.specs.declared.run.Run.{Run};
 ghost use Rattle.numa_space.specs.History.{page_of, page_count};
 ghost use Rattle.numa_compile.specs.Follows.{Follows};
@@ -68,7 +68,7 @@ pub(crate) fn open_window(plan: &mut Plan, space: &Space, start: u64, bytes: u64
     ensures few { IfSome result (λ window.
         window.to_now - window.from ≤ met_by start bytes plan.old + 2) }
     ensures begun { IfSome result (λ window.
-        begun window.first window.end space.now.ranges ≤ met_by start bytes plan.old) }
+        starts_in window.first window.end space.now.ranges ≤ met_by start bytes plan.old) }
     ensures same { OnSome result (plan.new ≡ plan.old) }
     ensures follows { IfNone result (Follows space.now plan.new) }
     ensures tasks { plan.new.tasks ≡ plan.old.tasks }

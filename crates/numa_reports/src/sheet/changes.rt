@@ -10,7 +10,7 @@ ghost use Rattle.numa_reports.specs.Mapped.{IsOutlook};
 
 use crate::fault::ReportFault;
 use crate::moves::{ENTRIES, empty_table, span_moves};
-use crate::outlook::{Outlook, Span, common_spans};
+use crate::outlook::{Outlook, PageSpan, common_spans};
 use crate::sheet::fields::address;
 use numa_plan::Plan;
 use numa_space::PlaceRefusal;
@@ -65,7 +65,12 @@ fn moved(table: &[u64], nodes: u32) -> u64 {
 }
 
 /// The line of a span; nothing where none of its pages goes to another node.
-fn span_line(alloc: Global, span: Span, table: &[u64], nodes: u32) -> Result<String, AllocError> {
+fn span_line(
+    alloc: Global,
+    span: PageSpan,
+    table: &[u64],
+    nodes: u32,
+) -> Result<String, AllocError> {
     let mut text = String::new(alloc);
     let moved = moved(table, nodes);
     if moved == 0 {
@@ -109,7 +114,7 @@ fn push_span(
     nodes: u32,
     task: u32,
     cpu: u32,
-    span: Span,
+    span: PageSpan,
     text: &mut Vec<u8>,
     total: &mut Vec<u64>,
 ) -> Result<(), ReportFault>

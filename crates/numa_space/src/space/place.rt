@@ -8,7 +8,7 @@ ghost use Rattle.numa_ranges.specs.Runs.{page_at};
 ghost use Rattle.numa_space.specs.declared.command.Command.{Command};
 ghost use Rattle.numa_space.specs.Lists.{list_by_mode, list_for, near, node_list, within};
 ghost use Rattle.numa_space.specs.Pages.{resolved_policy};
-ghost use Rattle.numa_space.specs.Policies.{resolved, where_live};
+ghost use Rattle.numa_space.specs.Policies.{policy_that_counts, where_live};
 ghost use Rattle.numa_space.specs.Standing.{IsInForce, IsNodeList, StandsFor, list_in};
 ghost use Rattle.numa_space.specs.Standing.{place_refusal_in, place_refusal_of, policy_in};
 ghost use Rattle.numa_space.specs.Standing.{setting_in};
@@ -32,7 +32,7 @@ fn where_live(policy: Option<Record>) -> Option<Record>
 
 /// The range's policy where it has one that is live, else the task's.
 fn resolved(range: Option<Record>, task: Option<Record>) -> Option<Record>
-    ensures { result ≡ resolved range task }
+    ensures { result ≡ policy_that_counts range task }
 {
     match where_live(range) {
         Some(policy) => Some(policy),

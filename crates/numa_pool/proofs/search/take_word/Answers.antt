@@ -8,7 +8,7 @@ use mir.Syntax.{w64}
 use Rattle.numa_pool.specs.declared.view.Entry.{Entry}
 use Rattle.numa_machine.specs.declared.frame.Frame.{Frame}
 use Rattle.numa_pool.specs.Frames.{frame_of, times}
-use Rattle.numa_pool.specs.Steps.{tried}
+use Rattle.numa_pool.specs.Steps.{after_try}
 use Rattle.numa_pool.specs.Search.{Within, WonSince}
 use Rattle.numa_pool.proofs.Searching.{loads, misses, gains, done_word, lowest_clear, ones_up_to}
 use Rattle.numa_pool.proofs.search.take_word.Goals as goal
@@ -36,7 +36,7 @@ returns-then-attempt-clause-held c =
     let i = c.loop-taken.invariant in
     let bit = c.trailing_ones-bit.result in
     let f : Frame = frame_of c.args.node (64 * c.args.word + bit) in
-    let now : c.attempt.new.token.view ≡ tried c.loop-taken.token.view f true = c.attempt.ensures.step.1 ∙ ap (tried c.loop-taken.token.view f) c.if-attempt.true in (
+    let now : c.attempt.new.token.view ≡ after_try c.loop-taken.token.view f true = c.attempt.ensures.step.1 ∙ ap (after_try c.loop-taken.token.view f) c.if-attempt.true in (
       omega arith,
       ap (λ v. v.held) now ∙ ap (λ fs. f ∷ fs) i.held,
       subst (λ (fs : List Frame). times c.args.node (64 * c.args.word + bit) fs ≡ 0) i.held (c.attempt.ensures.free c.if-attempt.true),
@@ -48,7 +48,7 @@ returns-then-attempt-clause-steps c base reached =
     let w = c.requires.word in
     let bit = c.trailing_ones-bit.result in
     let f : Frame = frame_of c.args.node (64 * c.args.word + bit) in
-    let now : c.attempt.new.token.view ≡ tried c.loop-taken.token.view f true = c.attempt.ensures.step.1 ∙ ap (tried c.loop-taken.token.view f) c.if-attempt.true in
+    let now : c.attempt.new.token.view ≡ after_try c.loop-taken.token.view f true = c.attempt.ensures.step.1 ∙ ap (after_try c.loop-taken.token.view f) c.if-attempt.true in
     let low = lowest_clear c.loop-taken.taken bit (omega arith) c.loop-taken-test.true c.trailing_ones-bit.ensures in
     subst (λ (l : List Entry). WonSince c.args.words.now.frames c.args.node f base l) (sym (ap (λ v. v.log) now))
     (gains c.args.words.now.frames c.args.node c.args.word base c.loop-taken.token.view.log bit c.loop-taken.taken low.0 low.1 (omega arith) (i.steps base reached))
@@ -59,7 +59,7 @@ loop-taken-preserved c =
     let bit = c.trailing_ones-bit.result in
     let e = c.attempt.ensures.step in
     let f : Frame = frame_of c.args.node (64 * c.args.word + bit) in
-    let now : c.attempt.new.token.view ≡ tried c.loop-taken.token.view f false = e.1 ∙ ap (tried c.loop-taken.token.view f) c.if-attempt.false in
+    let now : c.attempt.new.token.view ≡ after_try c.loop-taken.token.view f false = e.1 ∙ ap (after_try c.loop-taken.token.view f) c.if-attempt.false in
     let low = lowest_clear c.loop-taken.taken bit (omega arith) c.loop-taken-test.true c.trailing_ones-bit.ensures in
     let w = c.requires.word in
     let more = bit_or c.loop-taken.taken (1 * 2 ^ bit % 2 ^ 64) in

@@ -6,7 +6,7 @@ use Rattle.std.proofs.lemmas.Nat.Bits.{shr_and_one}
 use Rattle.numa_machine.specs.declared.frame.Frame.{Frame}
 use Rattle.numa_pool.specs.declared.view.View.{View}
 use Rattle.numa_pool.specs.Frames.{times}
-use Rattle.numa_pool.specs.Steps.{tried}
+use Rattle.numa_pool.specs.Steps.{after_try}
 use Rattle.numa_pool.proofs.StepLemmas.{tries, frame_at-is}
 use Rattle.numa_pool.proofs.steps.attempt.Goals as goal
 
@@ -26,7 +26,7 @@ returns-clause-step c =
     let x = c.fetch_or-found.result in (
       e.0 ∙ ap (λ t. t.table) c.token.view_is,
       ap (λ m. m.0) (e.2 c.args.bit p.2 (one_shl c.args.bit 64 p.2)).0
-          ∙ λ i. tried (c.token.view_is i).view (frame_at-is c.args.node c.args.word c.args.bit p.1 i) (sym (shr_and_one x c.args.bit) i == 0),
+          ∙ λ i. after_try (c.token.view_is i).view (frame_at-is c.args.node c.args.word c.args.bit p.1 i) (sym (shr_and_one x c.args.bit) i == 0),
     )
 
 pub returns-clause-free : goal.returns-clause-free

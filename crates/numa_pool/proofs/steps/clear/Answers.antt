@@ -4,7 +4,7 @@ use Rattle.std.proofs.lemmas.Nat.{one_shl}
 use Rattle.numa_machine.specs.declared.frame.Frame.{Frame}
 use Rattle.numa_pool.specs.declared.view.View.{View}
 use Rattle.numa_pool.specs.Frames.{times}
-use Rattle.numa_pool.specs.Steps.{gave}
+use Rattle.numa_pool.specs.Steps.{after_give}
 use Rattle.numa_pool.proofs.StepLemmas.{gives, frame_at-is}
 use Rattle.numa_pool.proofs.steps.clear.Goals as goal
 
@@ -21,4 +21,4 @@ pub returns : goal.returns
 returns c =
     let e = c.fetch_and.ensures in
     let p = c.requires.place in
-    (e.0 ∙ ap (λ t. t.table) c.token.view_is, ap (λ m. m.0) (e.2 c.args.bit p.2 (ap (bit_not w64) (one_shl c.args.bit 64 p.2))) ∙ λ i. gave (c.token.view_is i).view (frame_at-is c.args.node c.args.word c.args.bit p.1 i))
+    (e.0 ∙ ap (λ t. t.table) c.token.view_is, ap (λ m. m.0) (e.2 c.args.bit p.2 (ap (bit_not w64) (one_shl c.args.bit 64 p.2))) ∙ λ i. after_give (c.token.view_is i).view (frame_at-is c.args.node c.args.word c.args.bit p.1 i))

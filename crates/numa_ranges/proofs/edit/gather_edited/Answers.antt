@@ -2,7 +2,7 @@
 use Rattle.std.proofs.Common.{◌≡◌, List, length, take, ap, sym, subst, arith}
 use Rattle.std.proofs.lemmas.List.{length-drop}
 use Rattle.numa_ranges.specs.declared.run.Run.{Run}
-use Rattle.numa_ranges.specs.Edits.{IsInRange, edited}
+use Rattle.numa_ranges.specs.Edits.{IsInRange, edit_of}
 use Rattle.numa_ranges.specs.Gathered.{Gathered}
 use Rattle.numa_ranges.proofs.Walked.{step-short, step-read, step-left, step-all}
 use Rattle.numa_ranges.proofs.Window.{edited-more}
@@ -19,7 +19,7 @@ add_parts-requires-clause-in_range g c =
 pub returns-clause-gathered : goal.returns-clause-gathered
 returns-clause-gathered g c change gives =
     let all : c.loop-k.k ≡ c.args.count = omega arith in
-    subst (λ n. Gathered g.T.PartialEq.eq c.loop-k.pieces (edited c.args.first c.args.end change (take n c.args.rest.now))) all (c.loop-k.invariant.gathered change gives)
+    subst (λ n. Gathered g.T.PartialEq.eq c.loop-k.pieces (edit_of c.args.first c.args.end change (take n c.args.rest.now))) all (c.loop-k.invariant.gathered change gives)
 
 pub loop-k-preserved : goal.loop-k-preserved
 loop-k-preserved g c =

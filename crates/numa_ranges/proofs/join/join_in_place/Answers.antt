@@ -4,7 +4,7 @@ use Rattle.std.proofs.lemmas.Bool.{eqb-true}
 use Rattle.std.proofs.lemmas.List.{drop-set-lt}
 use Rattle.std.proofs.lemmas.Grind.{drop_more_same}
 use Rattle.numa_ranges.specs.Runs.{Continues}
-use Rattle.numa_ranges.specs.Edits.{joined, joined_from}
+use Rattle.numa_ranges.specs.Edits.{maximal_runs, joined_from}
 use Rattle.numa_ranges.specs.Numbered.{runs_of}
 use Rattle.numa_ranges.proofs.InPlace.{first-open, closed-last, next-run, step-joins, step-closes, in-range-next, in-range-grown}
 use Rattle.numa_ranges.proofs.Numbered.{length-runs, no-runs}
@@ -17,7 +17,7 @@ some-rows (suc n) is = omega arith
 pub returns-then-is_empty-clause-joined : goal.returns-then-is_empty-clause-joined
 returns-then-is_empty-clause-joined g c =
     let none : runs_of c.args.values.now c.args.rows.now ≡ [] = no-runs c.args.values.now c.args.rows.now (eqb-true (length c.args.rows.now) 0 (sym c.if-is_empty.ensures)) in
-    none ∙ ap (joined g.T.PartialEq.eq) (sym none)
+    none ∙ ap (maximal_runs g.T.PartialEq.eq) (sym none)
 
 pub loop-i-init : goal.loop-i-init
 loop-i-init g c =
@@ -65,7 +65,7 @@ loop-i-preserved-then-continues g c =
       numbered = inv.numbered;
       number = inv.number;
       ahead = drop_more_same now whole c.loop-i.i inv.ahead;
-      so_far = step-joins g.T.PartialEq.eq g.met.T.Exact.exact g.met.T.Eq.laws.refl (take c.loop-i.kept now) (drop (c.loop-i.i + 1) whole) (joined g.T.PartialEq.eq whole) c.loop-i.last run (ap (λ l. take c.loop-i.kept now ++ joined_from g.T.PartialEq.eq l c.loop-i.last) (sym opens) ∙ inv.so_far) goes;
+      so_far = step-joins g.T.PartialEq.eq g.met.T.Exact.exact g.met.T.Eq.laws.refl (take c.loop-i.kept now) (drop (c.loop-i.i + 1) whole) (maximal_runs g.T.PartialEq.eq whole) c.loop-i.last run (ap (λ l. take c.loop-i.kept now ++ joined_from g.T.PartialEq.eq l c.loop-i.last) (sym opens) ∙ inv.so_far) goes;
       in_range = in-range-grown c.loop-i.last run inv.in_range fits goes;
     }
 
@@ -87,7 +87,7 @@ loop-i-preserved g c =
       number = c.run_at-seen.ensures.number;
       ahead = ap (drop (c.loop-i.i + 1)) c.put_run.ensures.runs ∙ (drop-set-lt (c.loop-i.i + 1) now c.loop-i.kept c.loop-i.last (omega (arith, inv.behind)) ∙ drop_more_same now whole c.loop-i.i inv.ahead);
       so_far = ap (λ l. take (c.loop-i.kept + 1) l ++ joined_from g.T.PartialEq.eq (drop (c.loop-i.i + 1) whole) run) c.put_run.ensures.runs
-          ∙ step-closes g.T.PartialEq.eq g.met.T.Exact.exact g.met.T.Eq.laws.refl now (drop (c.loop-i.i + 1) whole) (joined g.T.PartialEq.eq whole) c.loop-i.kept c.loop-i.last run (omega (arith, inv.behind, here)) (ap (λ l. take c.loop-i.kept now ++ joined_from g.T.PartialEq.eq l c.loop-i.last) (sym opens) ∙ inv.so_far) (λ k. let odd : false ≡ true = c.if-continues.ensures.1 k in cc);
+          ∙ step-closes g.T.PartialEq.eq g.met.T.Exact.exact g.met.T.Eq.laws.refl now (drop (c.loop-i.i + 1) whole) (maximal_runs g.T.PartialEq.eq whole) c.loop-i.kept c.loop-i.last run (omega (arith, inv.behind, here)) (ap (λ l. take c.loop-i.kept now ++ joined_from g.T.PartialEq.eq l c.loop-i.last) (sym opens) ∙ inv.so_far) (λ k. let odd : false ≡ true = c.if-continues.ensures.1 k in cc);
       in_range = fits;
     }
 

@@ -1,7 +1,7 @@
 -- The kept runs, then the open one joined with those ahead, are the joined form of all.
 use Rattle.std.proofs.Common.{◌≡◌, ◌<◌, ◌++◌, Some, take, drop, length}
 use Rattle.std.specs.Prelude.{slice_get}
-use Rattle.numa_ranges.specs.Edits.{IsInRange, joined, joined_from}
+use Rattle.numa_ranges.specs.Edits.{IsInRange, maximal_runs, joined_from}
 use Rattle.numa_ranges.specs.Numbered.{AreNumbered, runs_of}
 use Rattle.numa_ranges.proofs.join.join_in_place.Given as goal
 
@@ -13,6 +13,6 @@ invariant-loop-i g l = record {
   numbered : AreNumbered l.values l.rows;
   number : slice_get l.values l.number ≡ Some l.last.value;
   ahead : drop l.i (runs_of l.values l.rows) ≡ drop l.i (runs_of l.values l.initial.rows);
-  so_far : take l.kept (runs_of l.values l.rows) ++ joined_from g.T.PartialEq.eq (drop l.i (runs_of l.values l.initial.rows)) l.last ≡ joined g.T.PartialEq.eq (runs_of l.values l.initial.rows);
+  so_far : take l.kept (runs_of l.values l.rows) ++ joined_from g.T.PartialEq.eq (drop l.i (runs_of l.values l.initial.rows)) l.last ≡ maximal_runs g.T.PartialEq.eq (runs_of l.values l.initial.rows);
   in_range : IsInRange l.last;
 }

@@ -2,7 +2,7 @@
 use Rattle.std.proofs.Common.{ap, ◌∙◌, arith}
 use Rattle.std.proofs.lemmas.List.{take_all}
 use Rattle.std.proofs.lemmas.Option.{slice_get_within}
-use Rattle.numa_ranges.specs.Numbered.{valued, runs_of}
+use Rattle.numa_ranges.specs.Numbered.{run_of_row, runs_of}
 use Rattle.numa_ranges.specs.declared.row.Row.{Row}
 use Rattle.numa_ranges.proofs.Numbered.{longer-both, runs-more, numbered-more}
 use Rattle.numa_ranges.proofs.runs.numbered.Goals as goal
@@ -17,7 +17,7 @@ loop-i-preserved g c =
       longer = longer-both c.args.values.now c.loop-i.values c.add.new.self inv.longer c.add.ensures.longer;
       numbered = rw c.in_ok-push.ensures.items (numbered-more c.loop-i.values c.add.new.self c.loop-i.rows.items row c.add.ensures.longer inv.numbered within);
       so_far = ap (runs_of c.add.new.self) c.in_ok-push.ensures.items
-          ∙ runs-more c.loop-i.values c.add.new.self c.loop-i.rows.items c.args.runs.now row run c.loop-i.i c.add.ensures.longer inv.numbered inv.so_far (omega arith) c.index-runs-i.is (ap (valued row) c.in_ok-number.ensures.number);
+          ∙ runs-more c.loop-i.values c.add.new.self c.loop-i.rows.items c.args.runs.now row run c.loop-i.i c.add.ensures.longer inv.numbered inv.so_far (omega arith) c.index-runs-i.is (ap (run_of_row row) c.in_ok-number.ensures.number);
     }
 
 pub returns-clause-runs : goal.returns-clause-runs

@@ -1,7 +1,7 @@
 use Rattle.std.proofs.Common.{◌∙◌, ap, List}
 use Rattle.std.proofs.lemmas.Result.{err_from_is_err_and}
 use Rattle.numa_reports.specs.Common.{has_page}
-use Rattle.numa_reports.specs.declared.outlook.Span.{Span}
+use Rattle.numa_reports.specs.declared.outlook.PageSpan.{PageSpan}
 use Rattle.numa_reports.proofs.Refusing.{range-mapped, spans-pages}
 use Rattle.numa_reports.proofs.outlook.outlook_of.Goals as goal
 
@@ -19,5 +19,5 @@ pub returns-clause-outlook : goal.returns-clause-outlook
 returns-clause-outlook c history stands = record {
   plan = c.in_ok-plan.ensures.stands history stands;
   rising = c.in_ok-spans.ensures.rising;
-  pages = λ page. ap (λ (spans : List Span). has_page spans page) c.in_ok-spans.ensures.spans ∙ spans-pages c.args.space.now.ranges page ∙ range-mapped c.args.space.now history page stands;
+  pages = λ page. ap (λ (spans : List PageSpan). has_page spans page) c.in_ok-spans.ensures.spans ∙ spans-pages c.args.space.now.ranges page ∙ range-mapped c.args.space.now history page stands;
 }

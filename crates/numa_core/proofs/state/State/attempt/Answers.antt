@@ -1,6 +1,6 @@
 use Rattle.std.proofs.Common.{◌≡◌, ◌<◌, Some, slice_set, true, false, is_some, length, arith, sym, ap, ◌∙◌, rules}
 use Rattle.numa_core.specs.Standing.{setup_of, owner_at}
-use Rattle.numa_core.specs.Kept.{shown}
+use Rattle.numa_core.specs.Kept.{core_state}
 use Rattle.numa_core.specs.Seats.{SeatFits}
 use Rattle.numa_core.proofs.InARow.{owner_read, place-some}
 use Rattle.std.proofs.lemmas.Result.{on_err_weaker}
@@ -26,7 +26,7 @@ returns-then-is_some c = record {
       let within : c.in-Some.place < length c.args.self.now.owners.items = omega (arith, c.in-Some.ensures.within, c.requires.kept.owners, c.args.self.now.owners.ok.0) in
       let owned : is_some (owner_at c.args.self.now.owners.items (Some c.in-Some.place)) ≡ true = ap is_some (owner_read c.args.self.now.owners.items c.in-Some.place c.index-2.result.now within c.index-2.ensures) ∙ sym c.is_some.ensures ∙ c.if-is_some.true in
       owned-follows c.args.self.now.space c.args.self.now.plan c.args.self.now.places c.args.self.now.seats.items c.args.self.now.owners.items world c.requires.kept.places stands c.args.worker c.index_mut.result.now low there c.args.frame c.in-Some.place c.attempt.new.self c.attempt.result (sym c.place.ensures.place ∙ c.in-Some.is) owned c.attempt.ensures.unchanged
-      (c.attempt.ensures.tries (setup_of (shown c.args.self.now)) c.requires.kept.places);
+      (c.attempt.ensures.tries (setup_of (core_state c.args.self.now)) c.requires.kept.places);
   unchanged = on_err_weaker c.attempt.result (λ same. shown-again c.args.self.now.space c.args.self.now.plan c.args.self.now.seats.items c.args.self.now.owners.items c.args.worker c.index_mut.result.now c.attempt.new.self (there_at c.args.self.now.seats.items c.args.worker c.index_mut.result.now (omega (arith, c.in_ok-seated.ensures.ok, c.args.self.now.seats.ok.0)) c.index_mut.ensures.value) same) c.attempt.ensures.unchanged;
   setup = setup-set c.args.self.now.space c.args.self.now.plan c.args.self.now.seats.items c.args.self.now.owners.items c.args.worker c.attempt.new.self;
 }
@@ -48,7 +48,7 @@ returns-in-Err c = record {
       let within : c.in-Some.place < length c.args.self.now.owners.items = omega (arith, c.in-Some.ensures.within, c.requires.kept.owners, c.args.self.now.owners.ok.0) in
       let owned : is_some (owner_at c.args.self.now.owners.items (Some c.in-Some.place)) ≡ false = ap is_some (owner_read c.args.self.now.owners.items c.in-Some.place c.index-2.result.now within c.index-2.ensures) ∙ sym c.is_some.ensures ∙ c.if-is_some.false in
       refused-follows c.args.self.now.space c.args.self.now.plan c.args.self.now.places c.args.self.now.seats.items c.args.self.now.owners.items world c.requires.kept.places stands c.args.worker c.index_mut-2.result.now low there c.args.frame c.in-Some.place c.in-Err.refusal c.attempt-2.new.self (sym c.place.ensures.place ∙ c.in-Some.is) owned c.in-Err.ensures.unchanged
-      (c.in-Err.ensures.tries (setup_of (shown c.args.self.now)) c.requires.kept.places);
+      (c.in-Err.ensures.tries (setup_of (core_state c.args.self.now)) c.requires.kept.places);
   unchanged = shown-again c.args.self.now.space c.args.self.now.plan c.args.self.now.seats.items c.args.self.now.owners.items c.args.worker c.index_mut-2.result.now c.attempt-2.new.self (there_at c.args.self.now.seats.items c.args.worker c.index_mut-2.result.now (omega (arith, c.in_ok-seated.ensures.ok, c.args.self.now.seats.ok.0)) c.index_mut-2.ensures.value) c.in-Err.ensures.unchanged;
   setup = setup-set c.args.self.now.space c.args.self.now.plan c.args.self.now.seats.items c.args.self.now.owners.items c.args.worker c.attempt-2.new.self;
 }
@@ -70,7 +70,7 @@ returns c = record {
       let within : c.in-Some.place < length c.args.self.now.owners.items = omega (arith, c.in-Some.ensures.within, c.requires.kept.owners, c.args.self.now.owners.ok.0) in
       let owned : is_some (owner_at c.args.self.now.owners.items (Some c.in-Some.place)) ≡ false = ap is_some (owner_read c.args.self.now.owners.items c.in-Some.place c.index-2.result.now within c.index-2.ensures) ∙ sym c.is_some.ensures ∙ c.if-is_some.false in
       won-follows c.args.self.now.space c.args.self.now.plan c.args.self.now.places c.args.self.now.seats.items c.args.self.now.owners.items world c.requires.kept.places stands c.args.worker c.index_mut-2.result.now low there c.args.frame c.in-Some.place c.in-Ok.reply c.attempt-2.new.self (sym c.place.ensures.place ∙ c.in-Some.is) within owned
-      (c.in-Ok.ensures.tries (setup_of (shown c.args.self.now)) c.requires.kept.places);
+      (c.in-Ok.ensures.tries (setup_of (core_state c.args.self.now)) c.requires.kept.places);
   unchanged = search rules;
   setup = setup-set c.args.self.now.space c.args.self.now.plan c.args.self.now.seats.items c.args.self.now.owners.items c.args.worker c.attempt-2.new.self;
 }

@@ -1,6 +1,6 @@
 use Rattle.std.proofs.Common.{◌<◌, length, arith, rules}
 use Rattle.std.proofs.lemmas.Result.{err_from_is_err_and}
-use Rattle.numa_core.specs.Kept.{shown}
+use Rattle.numa_core.specs.Kept.{core_state}
 use Rattle.numa_core.specs.Seats.{SeatFits}
 use Rattle.numa_core.proofs.CoreSteps.{setup-set, there_at, each-set, refused-begin, begin-follows}
 use Rattle.numa_core.proofs.state.State.begin.Goals as goal
@@ -9,7 +9,7 @@ pub returns-in_err-row : goal.returns-in_err-row
 returns-in_err-row c = record {
   kept = search rules;
   follows = let exit = err_from_is_err_and c.from_residual.result c.from_residual.ensures.1 in
-      rw (exit.1, exit.2) (refused-begin (shown c.args.self.now) c.args.worker c.args.request c.in_err-row.field-0.0 (c.in_err-row.ensures.refused c.args.self.now.space c.args.self.now.owners.items));
+      rw (exit.1, exit.2) (refused-begin (core_state c.args.self.now) c.args.worker c.args.request c.in_err-row.field-0.0 (c.in_err-row.ensures.refused c.args.self.now.space c.args.self.now.owners.items));
   unchanged = search rules;
   setup = search rules;
 }

@@ -1,7 +1,7 @@
 use Rattle.std.proofs.Common.{List, ap, sym, subst, ◌∙◌}
 use Rattle.numa_plan.specs.Meaning.{PlanData}
 use Rattle.numa_plan.specs.Slots.{kept_in}
-use Rattle.numa_plan.specs.Editing.{all_unused}
+use Rattle.numa_plan.specs.Editing.{with_uses_less}
 use Rattle.numa_plan.specs.declared.slots.Slot.{Slot}
 use Rattle.numa_plan.proofs.EditLemmas.{AreThere, keeps_spliced, window-used, kept_in-spliced}
 use Rattle.numa_plan.proofs.plan.Plan.replace_runs.Goals as goal
@@ -20,6 +20,6 @@ invariant_of-self-2 c =
 
 pub returns-clause-kept : goal.returns-clause-kept
 returns-clause-kept c k =
-    ap (λ (l : List Slot). kept_in l k) (c.leave_all.ensures ∙ ap (λ (l : List Slot). all_unused l c.deref.result.now) c.use_all.ensures)
+    ap (λ (l : List Slot). kept_in l k) (c.leave_all.ensures ∙ ap (λ (l : List Slot). with_uses_less l c.deref.result.now) c.use_all.ensures)
     ∙ kept_in-spliced c.self.inside.slots.items c.args.runs.now c.deref.result.now k
     ∙ ap (λ (p : PlanData). kept_in p.slots k) c.self.view_is

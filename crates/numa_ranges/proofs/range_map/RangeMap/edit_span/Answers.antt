@@ -5,7 +5,7 @@ use Rattle.std.proofs.lemmas.Result.{err_from_is_err_and}
 use Rattle.numa_ranges.specs.Runs.{page_at}
 use Rattle.numa_ranges.specs.declared.run.Run.{Run}
 use Rattle.numa_ranges.specs.Gathered.{Gathered}
-use Rattle.numa_ranges.specs.Edits.{edited, edited_span}
+use Rattle.numa_ranges.specs.Edits.{edit_of, edited_span}
 use Rattle.numa_ranges.proofs.Cut.{page_at-edited, apart-edited}
 use Rattle.numa_ranges.proofs.Spans.{in-range-window, stands-joined, refused-joined, window-put, window-refused}
 use Rattle.numa_ranges.proofs.range_map.RangeMap.edit_span.Goals as goal
@@ -23,23 +23,23 @@ pub invariant_of-self-2 : goal.invariant_of-self-2
 invariant_of-self-2 g c =
     let change = c.requires.function.0 in
     let runs = ap (λ v. v.runs) c.self.view_is in
-    let put = window-put g.T.PartialEq.eq g.met.T.Exact.exact g.met.T.Eq.laws.refl c.args.self.now.runs c.self.inside.runs c.self.inside.runs c.put.new.runs c.gather_edited-pieces.result c.window-from.result.0 c.window-from.result.1 c.args.first (c.args.first + c.args.pages) c.self.inside.max_ranges change runs refl (subst (λ (l : List (Run g.row.T.Denot)). Gathered g.T.PartialEq.eq c.gather_edited-pieces.result (edited c.args.first (c.args.first + c.args.pages) change (take (c.window-from.result.1 - c.window-from.result.0) l))) c.iter_near-rest.ensures (c.gather_edited-pieces.ensures.gathered change c.requires.function.1)) (c.window-from.ensures.whole change) c.in_ok-put.ensures.ok in
-    let all = stands-joined g.T.PartialEq.eq g.met.T.Exact.exact g.met.T.Eq.laws.refl c.self.inside.runs (edited c.args.first (c.args.first + c.args.pages) change c.args.self.now.runs) c.put.new.runs (edited_span c.args.first c.args.pages change (page_at c.args.self.now.runs)) c.self.inside.max_ranges
+    let put = window-put g.T.PartialEq.eq g.met.T.Exact.exact g.met.T.Eq.laws.refl c.args.self.now.runs c.self.inside.runs c.self.inside.runs c.put.new.runs c.gather_edited-pieces.result c.window-from.result.0 c.window-from.result.1 c.args.first (c.args.first + c.args.pages) c.self.inside.max_ranges change runs refl (subst (λ (l : List (Run g.row.T.Denot)). Gathered g.T.PartialEq.eq c.gather_edited-pieces.result (edit_of c.args.first (c.args.first + c.args.pages) change (take (c.window-from.result.1 - c.window-from.result.0) l))) c.iter_near-rest.ensures (c.gather_edited-pieces.ensures.gathered change c.requires.function.1)) (c.window-from.ensures.whole change) c.in_ok-put.ensures.ok in
+    let all = stands-joined g.T.PartialEq.eq g.met.T.Exact.exact g.met.T.Eq.laws.refl c.self.inside.runs (edit_of c.args.first (c.args.first + c.args.pages) change c.args.self.now.runs) c.put.new.runs (edited_span c.args.first c.args.pages change (page_at c.args.self.now.runs)) c.self.inside.max_ranges
     (apart-edited 0 c.args.first (c.args.first + c.args.pages) change c.args.self.now.runs (omega arith) (rw (← runs) c.self.invariant.0)) (λ page. page_at-edited 0 c.args.first c.args.pages change c.args.self.now.runs page (rw (← runs) c.self.invariant.0)) put.0 put.1 in
     (all.apart, all.maximal, all.size)
 
 pub returns-clause-ok : goal.returns-clause-ok
 returns-clause-ok g c change gives =
     let runs = ap (λ v. v.runs) c.self.view_is in
-    let put = window-put g.T.PartialEq.eq g.met.T.Exact.exact g.met.T.Eq.laws.refl c.args.self.now.runs c.self.inside.runs c.self.inside.runs c.put.new.runs c.gather_edited-pieces.result c.window-from.result.0 c.window-from.result.1 c.args.first (c.args.first + c.args.pages) c.self.inside.max_ranges change runs refl (subst (λ (l : List (Run g.row.T.Denot)). Gathered g.T.PartialEq.eq c.gather_edited-pieces.result (edited c.args.first (c.args.first + c.args.pages) change (take (c.window-from.result.1 - c.window-from.result.0) l))) c.iter_near-rest.ensures (c.gather_edited-pieces.ensures.gathered change gives)) (c.window-from.ensures.whole change) c.in_ok-put.ensures.ok in
-    let all = stands-joined g.T.PartialEq.eq g.met.T.Exact.exact g.met.T.Eq.laws.refl c.self.inside.runs (edited c.args.first (c.args.first + c.args.pages) change c.args.self.now.runs) c.put.new.runs (edited_span c.args.first c.args.pages change (page_at c.args.self.now.runs)) c.self.inside.max_ranges
+    let put = window-put g.T.PartialEq.eq g.met.T.Exact.exact g.met.T.Eq.laws.refl c.args.self.now.runs c.self.inside.runs c.self.inside.runs c.put.new.runs c.gather_edited-pieces.result c.window-from.result.0 c.window-from.result.1 c.args.first (c.args.first + c.args.pages) c.self.inside.max_ranges change runs refl (subst (λ (l : List (Run g.row.T.Denot)). Gathered g.T.PartialEq.eq c.gather_edited-pieces.result (edit_of c.args.first (c.args.first + c.args.pages) change (take (c.window-from.result.1 - c.window-from.result.0) l))) c.iter_near-rest.ensures (c.gather_edited-pieces.ensures.gathered change gives)) (c.window-from.ensures.whole change) c.in_ok-put.ensures.ok in
+    let all = stands-joined g.T.PartialEq.eq g.met.T.Exact.exact g.met.T.Eq.laws.refl c.self.inside.runs (edit_of c.args.first (c.args.first + c.args.pages) change c.args.self.now.runs) c.put.new.runs (edited_span c.args.first c.args.pages change (page_at c.args.self.now.runs)) c.self.inside.max_ranges
     (apart-edited 0 c.args.first (c.args.first + c.args.pages) change c.args.self.now.runs (omega arith) (rw (← runs) c.self.invariant.0)) (λ page. page_at-edited 0 c.args.first c.args.pages change c.args.self.now.runs page (rw (← runs) c.self.invariant.0)) put.0 put.1 in
     record { shows = all.page; accepted = rw (← (ap (λ v. v.max_ranges) c.self.view_is)) all.accepted }
 
 pub returns-in_err-put-clause-err : goal.returns-in_err-put-clause-err
 returns-in_err-put-clause-err g c change gives =
     let runs = ap (λ v. v.runs) c.self.view_is in
-    let cause = window-refused g.T.PartialEq.eq g.met.T.Exact.exact g.met.T.Eq.laws.refl c.args.self.now.runs c.self.inside.runs c.self.inside.runs c.gather_edited-pieces.result c.window-from.result.0 c.window-from.result.1 c.args.first (c.args.first + c.args.pages) c.self.inside.max_ranges c.in_err-put.field-0.0 change runs refl (subst (λ (l : List (Run g.row.T.Denot)). Gathered g.T.PartialEq.eq c.gather_edited-pieces.result (edited c.args.first (c.args.first + c.args.pages) change (take (c.window-from.result.1 - c.window-from.result.0) l))) c.iter_near-rest.ensures (c.gather_edited-pieces.ensures.gathered change gives)) (c.window-from.ensures.whole change) c.in_err-put.ensures.err in
+    let cause = window-refused g.T.PartialEq.eq g.met.T.Exact.exact g.met.T.Eq.laws.refl c.args.self.now.runs c.self.inside.runs c.self.inside.runs c.gather_edited-pieces.result c.window-from.result.0 c.window-from.result.1 c.args.first (c.args.first + c.args.pages) c.self.inside.max_ranges c.in_err-put.field-0.0 change runs refl (subst (λ (l : List (Run g.row.T.Denot)). Gathered g.T.PartialEq.eq c.gather_edited-pieces.result (edit_of c.args.first (c.args.first + c.args.pages) change (take (c.window-from.result.1 - c.window-from.result.0) l))) c.iter_near-rest.ensures (c.gather_edited-pieces.ensures.gathered change gives)) (c.window-from.ensures.whole change) c.in_err-put.ensures.err in
     let exit = err_from_is_err_and c.from_residual.result c.from_residual.ensures.1 in
-    rw (exit.1, exit.2, ← (ap (λ v. v.max_ranges) c.self.view_is)) (refused-joined g.T.PartialEq.eq g.met.T.Exact.exact g.met.T.Eq.laws.refl (edited c.args.first (c.args.first + c.args.pages) change c.args.self.now.runs) _ (edited_span c.args.first c.args.pages change (page_at c.args.self.now.runs)) c.self.inside.max_ranges c.in_err-put.field-0.0
+    rw (exit.1, exit.2, ← (ap (λ v. v.max_ranges) c.self.view_is)) (refused-joined g.T.PartialEq.eq g.met.T.Exact.exact g.met.T.Eq.laws.refl (edit_of c.args.first (c.args.first + c.args.pages) change c.args.self.now.runs) _ (edited_span c.args.first c.args.pages change (page_at c.args.self.now.runs)) c.self.inside.max_ranges c.in_err-put.field-0.0
     (apart-edited 0 c.args.first (c.args.first + c.args.pages) change c.args.self.now.runs (omega arith) (rw (← runs) c.self.invariant.0)) (λ page. page_at-edited 0 c.args.first c.args.pages change c.args.self.now.runs page (rw (← runs) c.self.invariant.0)) refl cause)

@@ -4,7 +4,7 @@ use Rattle.std.proofs.lemmas.List.{length-drop}
 use Rattle.std.proofs.lemmas.Result.{err_from_is_err_and}
 use Rattle.numa_ranges.specs.Runs.{page_at}
 use Rattle.numa_ranges.specs.Maps.{with_span}
-use Rattle.numa_ranges.specs.Edits.{inserted}
+use Rattle.numa_ranges.specs.Edits.{runs_with}
 use Rattle.numa_ranges.specs.Gathered.{Gathered}
 use Rattle.numa_ranges.proofs.Walked.{left-of, both-seen}
 use Rattle.numa_ranges.proofs.Placed.{apart-placed, page_at-placed, placed-put, placed-refused}
@@ -43,7 +43,7 @@ returns-in_err-put-clause-err g c =
     let says = page_at-placed now c.args.place run room in
     let cause = placed-refused g.T.PartialEq.eq g.met.T.Exact.exact g.met.T.Eq.laws.refl now c.self.inside.runs c.self.inside.runs c.self.inside.runs c.add_all-2.new.pieces run c.args.place c.saturating_sub-from.result c.min-to.result c.self.inside.max_ranges c.in_err-put.field-0.0 runs refl refl from to room gathered c.in_err-put.ensures.err in
     let exit = err_from_is_err_and c.from_residual.result c.from_residual.ensures.1 in
-    rw (exit.1, exit.2, ← (ap (λ v. v.max_ranges) c.self.view_is)) (refused-joined g.T.PartialEq.eq g.met.T.Exact.exact g.met.T.Eq.laws.refl (inserted c.args.place run now) _ (with_span run.first run.pages run.index run.value (page_at now)) c.self.inside.max_ranges c.in_err-put.field-0.0 apart says refl cause)
+    rw (exit.1, exit.2, ← (ap (λ v. v.max_ranges) c.self.view_is)) (refused-joined g.T.PartialEq.eq g.met.T.Exact.exact g.met.T.Eq.laws.refl (runs_with c.args.place run now) _ (with_span run.first run.pages run.index run.value (page_at now)) c.self.inside.max_ranges c.in_err-put.field-0.0 apart says refl cause)
 
 pub invariant_of-self-2 : goal.invariant_of-self-2
 invariant_of-self-2 g c =
@@ -59,7 +59,7 @@ invariant_of-self-2 g c =
     let apart = apart-placed now c.args.place run room c.requires.some c.requires.span c.requires.index in
     let says = page_at-placed now c.args.place run room in
     let put = placed-put g.T.PartialEq.eq g.met.T.Exact.exact g.met.T.Eq.laws.refl now c.self.inside.runs c.self.inside.runs c.self.inside.runs c.put.new.runs c.add_all-2.new.pieces run c.args.place c.saturating_sub-from.result c.min-to.result c.self.inside.max_ranges runs refl refl from to room gathered c.in_ok-put.ensures.ok in
-    let all = stands-joined g.T.PartialEq.eq g.met.T.Exact.exact g.met.T.Eq.laws.refl now (inserted c.args.place run now) c.put.new.runs (with_span run.first run.pages run.index run.value (page_at now)) c.self.inside.max_ranges apart says put.0 put.1 in
+    let all = stands-joined g.T.PartialEq.eq g.met.T.Exact.exact g.met.T.Eq.laws.refl now (runs_with c.args.place run now) c.put.new.runs (with_span run.first run.pages run.index run.value (page_at now)) c.self.inside.max_ranges apart says put.0 put.1 in
     (all.apart, all.maximal, all.size)
 
 pub returns-clause-ok : goal.returns-clause-ok
@@ -76,7 +76,7 @@ returns-clause-ok g c =
     let apart = apart-placed now c.args.place run room c.requires.some c.requires.span c.requires.index in
     let says = page_at-placed now c.args.place run room in
     let put = placed-put g.T.PartialEq.eq g.met.T.Exact.exact g.met.T.Eq.laws.refl now c.self.inside.runs c.self.inside.runs c.self.inside.runs c.put.new.runs c.add_all-2.new.pieces run c.args.place c.saturating_sub-from.result c.min-to.result c.self.inside.max_ranges runs refl refl from to room gathered c.in_ok-put.ensures.ok in
-    let all = stands-joined g.T.PartialEq.eq g.met.T.Exact.exact g.met.T.Eq.laws.refl now (inserted c.args.place run now) c.put.new.runs (with_span run.first run.pages run.index run.value (page_at now)) c.self.inside.max_ranges apart says put.0 put.1 in
+    let all = stands-joined g.T.PartialEq.eq g.met.T.Exact.exact g.met.T.Eq.laws.refl now (runs_with c.args.place run now) c.put.new.runs (with_span run.first run.pages run.index run.value (page_at now)) c.self.inside.max_ranges apart says put.0 put.1 in
     record { shows = all.page; accepted = rw (← (ap (λ v. v.max_ranges) c.self.view_is)) all.accepted }
 
 pub add_all-requires-clause-room : goal.add_all-requires-clause-room

@@ -1,6 +1,6 @@
 -- The rows stay, and each number means the changed value.
 use Rattle.std.proofs.Common.{ap, sym, ◌∙◌, length, map}
-use Rattle.numa_ranges.specs.Edits.{revalued}
+use Rattle.numa_ranges.specs.Edits.{with_new_value}
 use Rattle.numa_ranges.specs.Numbered.{runs_of}
 use Rattle.numa_ranges.proofs.Numbered.{length-runs, numbered-changed, runs-changed}
 use Rattle.numa_ranges.proofs.runs.Runs.update_all.Goals as goal
@@ -16,4 +16,4 @@ returns-clause-size g c =
 pub returns-clause-made : goal.returns-clause-made
 returns-clause-made g c change gives =
     ap (λ v. runs_of v c.self.inside.rows) (c.change_all.ensures.made change gives)
-    ∙ (runs-changed change c.self.inside.values c.self.inside.rows c.self.invariant ∙ ap (map (revalued change)) c.self.view_is)
+    ∙ (runs-changed change c.self.inside.values c.self.inside.rows c.self.invariant ∙ ap (map (with_new_value change)) c.self.view_is)
