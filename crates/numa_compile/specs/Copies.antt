@@ -46,7 +46,8 @@ HasTasks at tasks plan = (task : ℕ) → IsNumber at (where_live (record_of tas
 
 -- there are as many slots as records, the policy in the slot of each place is the record there, and
 -- its rule serves it
-pub record Serves (space : SpaceState) (plan : PlanData) (records : List PolicyRecord) : Type 0 where
+pub record Serves (space : SpaceState) (plan : PlanData)
+    (records : List PolicyRecord) : Type 0 where
   pub as_many : length plan.slots ≡ length records
   pub policies : (number : ℕ) → policy_in plan.slots number ≡ slice_get records number
   pub serving : AreServing space plan.slots

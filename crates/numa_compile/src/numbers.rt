@@ -77,8 +77,8 @@ pub(crate) fn number_for(
     Ok(Some(number))
 }
 
-/// The number of the rule of the policy under a number of the space's records, and none for one that
-/// isn't live or isn't there. What was found once under a number is known from then on.
+/// The number of the rule of the policy under a number of the space's records, and none for one
+/// that isn't live or isn't there. What was found once under a number is known from then on.
 pub(crate) fn number_for_range(
     alloc: Global,
     space: &Space,

@@ -72,8 +72,8 @@ fn edit(
 }
 
 /// Edits a plan in place, so that it follows its space once more, which has accepted a command
-/// since the plan followed it last. It writes as few runs and rules as the command wants, and leaves
-/// all else as it was.
+/// since the plan followed it last. It writes as few runs and rules as the command wants, and
+/// leaves all else as it was.
 ///
 /// A command of a span writes a run at most for each run that it meets, and for two beside it;
 /// mbind(2) one rule at most, a home one for each of these runs. A task's policy takes one rule, a

@@ -32,8 +32,8 @@ Follows old event answer new = (world : World) → CoreStandsFor old world →
     IsAnswer (setup_of old) world (newest_published world) event answer
     × CoreStandsFor new (world_after (setup_of old) world (newest_published world) event answer)
 
--- the core performs an event: it stays in order, answers as the world does and follows it, and where
--- the event is refused nothing changes
+-- the core performs an event: it stays in order, answers as the world does and follows it, and
+-- where the event is refused nothing changes
 pub record Performs (old : State) (event : Event) (answer : Result CoreReply CoreRefusal)
     (new : State) : Type 0 where
   pub kept : IsKept new

@@ -25,8 +25,8 @@ use std::collections::BTreeMap;
 use std::marker::Model;
 
 /// The lists of nodes of a space's pages: runs of pages, each with the number of its rule or none,
-/// rules in numbered slots, each beside its policy, the number of a rule for some tasks, and a local
-/// rule.
+/// rules in numbered slots, each beside its policy, the number of a rule for some tasks, and a
+/// local rule.
 ///
 /// The list of a page, for a task and a faulting node, is the row that the key of a rule picks by
 /// the node and the page's index: of the rule of the run that has the page; where the run has none,

@@ -146,7 +146,8 @@ impl Rule {
     pub(crate) fn fill(&self, cpu: u32, index: u64, out: &mut [u8])
         requires rows { (k : ℕ) → HasRow self.now (row_number self.now cpu k) }
         requires index { index < 2 ^ 36 }
-        ensures { EachIndex out.new (λ k. slice_index out.new k ≡ first_of self.now cpu (index + k)) }
+        ensures { EachIndex out.new (λ k.
+            slice_index out.new k ≡ first_of self.now cpu (index + k)) }
     {
         match &self.body {
             Body::Turns { firsts, .. } => fill_cycle(firsts, index, out),

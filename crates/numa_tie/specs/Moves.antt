@@ -89,4 +89,5 @@ pub record Joins (id other : ℕ) (old new : PoolState) : Type 0 where
   pub first_shown : get_elem? old.views id ≡ some first
   pub second_shown : get_elem? old.views other ≡ some second
   pub words : new.words ≡ old.words
-  pub views : new.views ≡ slice_set (slice_set old.views id (after_join first second)) other newcomer
+  pub views : new.views
+      ≡ slice_set (slice_set old.views id (after_join first second)) other newcomer

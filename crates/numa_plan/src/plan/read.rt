@@ -87,9 +87,9 @@ impl Plan {
         self.runs.window(first, end, steps)
     }
 
-    /// The window of a span, as [`Plan::window`] finds it, and a guess at the chunk of its runs. It is
-    /// looked for beside a guess at its place before it is sought: nothing depends on the guess but
-    /// time, which a good one makes short.
+    /// The window of a span, as [`Plan::window`] finds it, and a guess at the chunk of its runs. It
+    /// is looked for beside a guess at its place before it is sought: nothing depends on the guess
+    /// but time, which a good one makes short.
     pub fn window_near(&self, first: u64, end: u64, guess: usize) -> (usize, usize, usize)
         ensures { first ≤ end → IsWindow self.now.runs first end result.0 result.1 }
     {
