@@ -89,189 +89,205 @@ fn core_of(rt: &impl Abort, alloc: Global, frames: &[u32], workers: u32) -> Core
     Core::new(alloc, machine, limits(), workers).expect(rt, "a core")
 }
 
-#[test]
-fn versions(rt: HostRuntime) {
-    let mut core = core_of(&rt, rt.alloc(), &[8, 8], 1);
-    let steps = [
-        (Does(Map(0x10000, 0x1000, 0)), Accepted(1)),
-        (
-            Does(Map(0x10000, 0x1000, 0)),
-            Refused(CoreRefusal::Command(Refusal::Overlap)),
-        ),
-        (Does(Task(1, 1, &[1])), Accepted(2)),
-        (Begin(0, 1, 16, 0), Refused(CoreRefusal::Unmapped(0))),
-        (Begin(0, 1, 16, 2), Refused(CoreRefusal::BadCpu)),
-        (Publish, Published(2)),
-        (Publish, Published(2)),
-        (Begin(0, 1, 16, 2), Refused(CoreRefusal::BadCpu)),
-        (Begin(0, 1, 16, 0), Still),
-        (Try(0, 0, 0), Refused(CoreRefusal::BadTry)),
-        (Try(0, 1, 0), Won(2, 1, 0, 0)),
-    ];
-    play(&rt, &mut core, &steps);
-    same(&rt, &(core.published(), core.space().version()), &(2, 2));
+/// Plays an example on a new core, which ends with it.
+fn play_new(rt: &impl Abort, alloc: Global, frames: &[u32], workers: u32, steps: &[(Call, Answer)])
+    requires some { 1 ≤ workers }
+    requires few { workers ≤ 16 }
+{
+    let mut core = core_of(rt, alloc, frames, workers);
+    play(rt, &mut core, steps);
     drop(core);
 }
 
+/// The version that is published, and that of the space.
+fn expect_versions(rt: &impl Abort, core: &Core, published: u64, accepted: u64) {
+    let found = (core.published(), core.space().version());
+    same(rt, &found, &(published, accepted));
+}
+
+static VERSIONS_STEPS: [(Call<'static>, Answer); 11] = [
+    (Does(Map(0x10000, 0x1000, 0)), Accepted(1)),
+    (
+        Does(Map(0x10000, 0x1000, 0)),
+        Refused(CoreRefusal::Command(Refusal::Overlap)),
+    ),
+    (Does(Task(1, 1, &[1])), Accepted(2)),
+    (Begin(0, 1, 16, 0), Refused(CoreRefusal::Unmapped(0))),
+    (Begin(0, 1, 16, 2), Refused(CoreRefusal::BadCpu)),
+    (Publish, Published(2)),
+    (Publish, Published(2)),
+    (Begin(0, 1, 16, 2), Refused(CoreRefusal::BadCpu)),
+    (Begin(0, 1, 16, 0), Still),
+    (Try(0, 0, 0), Refused(CoreRefusal::BadTry)),
+    (Try(0, 1, 0), Won(2, 1, 0, 0)),
+];
+
 #[test]
-fn touches(rt: HostRuntime) {
-    let mut core = core_of(&rt, rt.alloc(), &[1, 1], 2);
-    let steps = [
-        (Does(Map(0x10000, 0x3000, 0)), Accepted(1)),
-        (Does(Task(1, 2, &[0])), Accepted(2)),
-        (Does(Task(2, 5, &[0])), Accepted(3)),
-        (Publish, Published(3)),
-        (Begin(1, 1, 16, 0), Still),
-        (Begin(2, 1, 16, 0), Refused(CoreRefusal::NoSuchWorker)),
-        (Touch(1, 1, 16, 0), Refused(CoreRefusal::Busy)),
-        (Touch(0, 1, 16, 0), Won(3, 0, 0, 0)),
-        (Touch(0, 1, 17, 0), Exhausted(3)),
-        (Touch(0, 2, 17, 1), Won(3, 1, 0, 1)),
-        (Touch(0, 2, 18, 0), Exhausted(3)),
-        (Touch(0, 2, 19, 0), Refused(CoreRefusal::Unmapped(3))),
-        (Touch(0, 2, 19, 2), Refused(CoreRefusal::BadCpu)),
-        (Touch(2, 2, 18, 0), Refused(CoreRefusal::NoSuchWorker)),
-        (Touch(2, 2, 19, 2), Refused(CoreRefusal::NoSuchWorker)),
-    ];
-    play(&rt, &mut core, &steps);
+fn versions(rt: HostRuntime) {
+    let mut core = core_of(&rt, rt.alloc(), &[8, 8], 1);
+    play(&rt, &mut core, &VERSIONS_STEPS);
+    expect_versions(&rt, &core, 2, 2);
     drop(core);
 }
+
+static TOUCHES_STEPS: [(Call<'static>, Answer); 15] = [
+    (Does(Map(0x10000, 0x3000, 0)), Accepted(1)),
+    (Does(Task(1, 2, &[0])), Accepted(2)),
+    (Does(Task(2, 5, &[0])), Accepted(3)),
+    (Publish, Published(3)),
+    (Begin(1, 1, 16, 0), Still),
+    (Begin(2, 1, 16, 0), Refused(CoreRefusal::NoSuchWorker)),
+    (Touch(1, 1, 16, 0), Refused(CoreRefusal::Busy)),
+    (Touch(0, 1, 16, 0), Won(3, 0, 0, 0)),
+    (Touch(0, 1, 17, 0), Exhausted(3)),
+    (Touch(0, 2, 17, 1), Won(3, 1, 0, 1)),
+    (Touch(0, 2, 18, 0), Exhausted(3)),
+    (Touch(0, 2, 19, 0), Refused(CoreRefusal::Unmapped(3))),
+    (Touch(0, 2, 19, 2), Refused(CoreRefusal::BadCpu)),
+    (Touch(2, 2, 18, 0), Refused(CoreRefusal::NoSuchWorker)),
+    (Touch(2, 2, 19, 2), Refused(CoreRefusal::NoSuchWorker)),
+];
+
+#[test]
+fn touches(rt: HostRuntime) {
+    play_new(&rt, rt.alloc(), &[1, 1], 2, &TOUCHES_STEPS);
+}
+
+static BEGUN_CORE_STEPS: [(Call<'static>, Answer); 6] = [
+    (Does(Map(0x10000, 0x2000, 0)), Accepted(1)),
+    (Publish, Published(1)),
+    (Does(Task(1, 2, &[1])), Accepted(2)),
+    (Touch(0, 1, 16, 0), Won(1, 0, 0, 0)),
+    (Begin(1, 1, 17, 0), Still),
+    (Look(1, 0), Still),
+];
 
 /// A core whose first worker owns a frame, and whose second looks for one with that frame met.
 pub fn begun_core(rt: &impl Abort, alloc: Global) -> Core {
     let mut core = core_of(rt, alloc, &[2, 1], 2);
-    let steps = [
-        (Does(Map(0x10000, 0x2000, 0)), Accepted(1)),
-        (Publish, Published(1)),
-        (Does(Task(1, 2, &[1])), Accepted(2)),
-        (Touch(0, 1, 16, 0), Won(1, 0, 0, 0)),
-        (Begin(1, 1, 17, 0), Still),
-        (Look(1, 0), Still),
-    ];
-    play(rt, &mut core, &steps);
+    play(rt, &mut core, &BEGUN_CORE_STEPS);
     core
 }
 
+static GO_ON_STEPS: [(Call<'static>, Answer); 6] = [
+    (Begin(1, 1, 17, 0), Refused(CoreRefusal::Busy)),
+    (Try(1, 0, 0), Refused(CoreRefusal::BadTry)),
+    (Touch(0, 1, 16, 0), Won(1, 0, 1, 0)),
+    (Try(1, 0, 1), Still),
+    (Try(1, 1, 0), Won(1, 1, 0, 1)),
+    (Publish, Published(2)),
+];
+
 /// What a core that `begun_core` made goes on with.
 pub fn go_on(rt: &impl Abort, core: &mut Core) {
-    let steps = [
-        (Begin(1, 1, 17, 0), Refused(CoreRefusal::Busy)),
-        (Try(1, 0, 0), Refused(CoreRefusal::BadTry)),
-        (Touch(0, 1, 16, 0), Won(1, 0, 1, 0)),
-        (Try(1, 0, 1), Still),
-        (Try(1, 1, 0), Won(1, 1, 0, 1)),
-        (Publish, Published(2)),
-    ];
-    play(rt, core, &steps);
+    play(rt, core, &GO_ON_STEPS);
 }
+
+static COPY_THERE: [(Call<'static>, Answer); 6] = [
+    (Try(1, 0, 0), Refused(CoreRefusal::BadTry)),
+    (Try(1, 0, 1), Won(1, 0, 1, 0)),
+    (Publish, Published(2)),
+    (Touch(1, 1, 17, 0), Won(2, 1, 0, 0)),
+    (Touch(1, 1, 17, 0), Exhausted(2)),
+    (Give(0, 0, 0), Given),
+];
+
+static COPY_HERE: [(Call<'static>, Answer); 6] = [
+    (Begin(1, 1, 17, 0), Refused(CoreRefusal::Busy)),
+    (Touch(0, 1, 16, 0), Won(1, 0, 1, 0)),
+    (Try(1, 0, 1), Still),
+    (Try(1, 1, 0), Won(1, 1, 0, 1)),
+    (Does(Map(0x20000, 0x1000, 0)), Accepted(3)),
+    (Touch(0, 1, 32, 0), Refused(CoreRefusal::Unmapped(1))),
+];
 
 #[test]
 fn a_copy_and_its_original_go_different_ways(rt: HostRuntime) {
     let mut core = begun_core(&rt, rt.alloc());
     let mut copy = core.copy().expect(&rt, "a copy");
-    let there = [
-        (Try(1, 0, 0), Refused(CoreRefusal::BadTry)),
-        (Try(1, 0, 1), Won(1, 0, 1, 0)),
-        (Publish, Published(2)),
-        (Touch(1, 1, 17, 0), Won(2, 1, 0, 0)),
-        (Touch(1, 1, 17, 0), Exhausted(2)),
-        (Give(0, 0, 0), Given),
-    ];
-    play(&rt, &mut copy, &there);
-    let here = [
-        (Begin(1, 1, 17, 0), Refused(CoreRefusal::Busy)),
-        (Touch(0, 1, 16, 0), Won(1, 0, 1, 0)),
-        (Try(1, 0, 1), Still),
-        (Try(1, 1, 0), Won(1, 1, 0, 1)),
-        (Does(Map(0x20000, 0x1000, 0)), Accepted(3)),
-        (Touch(0, 1, 32, 0), Refused(CoreRefusal::Unmapped(1))),
-    ];
-    play(&rt, &mut core, &here);
+    play(&rt, &mut copy, &COPY_THERE);
+    play(&rt, &mut core, &COPY_HERE);
     same(&rt, &(copy.published(), core.published()), &(2, 1));
     drop(copy);
     drop(core);
 }
 
+static EXHAUSTED_STEPS: [(Call<'static>, Answer); 14] = [
+    (Does(Map(0x10000, 0x3000, 0)), Accepted(1)),
+    (Does(Task(1, 2, &[0])), Accepted(2)),
+    (Does(Task(2, 5, &[0])), Accepted(3)),
+    (Publish, Published(3)),
+    (Begin(0, 1, 16, 0), Still),
+    (Try(0, 0, 0), Won(3, 0, 0, 0)),
+    (Begin(0, 1, 17, 0), Still),
+    (Try(0, 0, 0), Exhausted(3)),
+    (Begin(0, 2, 17, 0), Still),
+    (Try(0, 0, 0), Still),
+    (Try(0, 1, 0), Won(3, 1, 0, 1)),
+    (Begin(0, 2, 18, 0), Still),
+    (Look(0, 0), Still),
+    (Look(0, 0), Exhausted(3)),
+];
+
 #[test]
 fn exhausted(rt: HostRuntime) {
-    let mut core = core_of(&rt, rt.alloc(), &[1, 1], 1);
-    let steps = [
-        (Does(Map(0x10000, 0x3000, 0)), Accepted(1)),
-        (Does(Task(1, 2, &[0])), Accepted(2)),
-        (Does(Task(2, 5, &[0])), Accepted(3)),
-        (Publish, Published(3)),
-        (Begin(0, 1, 16, 0), Still),
-        (Try(0, 0, 0), Won(3, 0, 0, 0)),
-        (Begin(0, 1, 17, 0), Still),
-        (Try(0, 0, 0), Exhausted(3)),
-        (Begin(0, 2, 17, 0), Still),
-        (Try(0, 0, 0), Still),
-        (Try(0, 1, 0), Won(3, 1, 0, 1)),
-        (Begin(0, 2, 18, 0), Still),
-        (Look(0, 0), Still),
-        (Look(0, 0), Exhausted(3)),
-    ];
-    play(&rt, &mut core, &steps);
-    drop(core);
+    play_new(&rt, rt.alloc(), &[1, 1], 1, &EXHAUSTED_STEPS);
 }
+
+static ONE_FRAME_TWO_WORKERS_STEPS: [(Call<'static>, Answer); 14] = [
+    (Does(Map(0x10000, 0x2000, 0)), Accepted(1)),
+    (Publish, Published(1)),
+    (Begin(0, 1, 16, 0), Still),
+    (Begin(1, 1, 17, 0), Still),
+    (Look(0, 0), Still),
+    (Look(1, 0), Still),
+    (Try(0, 0, 0), Won(1, 0, 0, 0)),
+    (Try(1, 0, 0), Still),
+    (Try(1, 0, 0), Refused(CoreRefusal::BadTry)),
+    (Try(1, 1, 0), Won(1, 1, 0, 1)),
+    (Give(0, 1, 0), Refused(CoreRefusal::NotOwned)),
+    (Give(0, 0, 0), Given),
+    (Look(0, 0), Refused(CoreRefusal::Idle)),
+    (Begin(4, 1, 16, 0), Refused(CoreRefusal::NoSuchWorker)),
+];
 
 #[test]
 fn one_frame_two_workers(rt: HostRuntime) {
-    let mut core = core_of(&rt, rt.alloc(), &[1, 1], 4);
-    let steps = [
-        (Does(Map(0x10000, 0x2000, 0)), Accepted(1)),
-        (Publish, Published(1)),
-        (Begin(0, 1, 16, 0), Still),
-        (Begin(1, 1, 17, 0), Still),
-        (Look(0, 0), Still),
-        (Look(1, 0), Still),
-        (Try(0, 0, 0), Won(1, 0, 0, 0)),
-        (Try(1, 0, 0), Still),
-        (Try(1, 0, 0), Refused(CoreRefusal::BadTry)),
-        (Try(1, 1, 0), Won(1, 1, 0, 1)),
-        (Give(0, 1, 0), Refused(CoreRefusal::NotOwned)),
-        (Give(0, 0, 0), Given),
-        (Look(0, 0), Refused(CoreRefusal::Idle)),
-        (Begin(4, 1, 16, 0), Refused(CoreRefusal::NoSuchWorker)),
-    ];
-    play(&rt, &mut core, &steps);
-    drop(core);
+    play_new(&rt, rt.alloc(), &[1, 1], 4, &ONE_FRAME_TWO_WORKERS_STEPS);
 }
+
+static WORD_BORDERS_STEPS: [(Call<'static>, Answer); 11] = [
+    (Does(Map(0x10000, 0x1000, 0)), Accepted(1)),
+    (Publish, Published(1)),
+    (Begin(0, 1, 16, 0), Still),
+    (Look(0, 2), Refused(CoreRefusal::BadTry)),
+    (Try(0, 0, 65), Refused(CoreRefusal::BadTry)),
+    (Try(0, 0, 64), Won(1, 0, 64, 0)),
+    (Begin(1, 1, 16, 0), Still),
+    (Look(1, 1), Still),
+    (Try(1, 0, 64), Refused(CoreRefusal::BadTry)),
+    (Begin(1, 1, 16, 0), Refused(CoreRefusal::Busy)),
+    (Try(1, 0, 63), Won(1, 0, 63, 0)),
+];
 
 #[test]
 fn word_borders(rt: HostRuntime) {
-    let mut core = core_of(&rt, rt.alloc(), &[65], 2);
-    let steps = [
-        (Does(Map(0x10000, 0x1000, 0)), Accepted(1)),
-        (Publish, Published(1)),
-        (Begin(0, 1, 16, 0), Still),
-        (Look(0, 2), Refused(CoreRefusal::BadTry)),
-        (Try(0, 0, 65), Refused(CoreRefusal::BadTry)),
-        (Try(0, 0, 64), Won(1, 0, 64, 0)),
-        (Begin(1, 1, 16, 0), Still),
-        (Look(1, 1), Still),
-        (Try(1, 0, 64), Refused(CoreRefusal::BadTry)),
-        (Begin(1, 1, 16, 0), Refused(CoreRefusal::Busy)),
-        (Try(1, 0, 63), Won(1, 0, 63, 0)),
-    ];
-    play(&rt, &mut core, &steps);
-    drop(core);
+    play_new(&rt, rt.alloc(), &[65], 2, &WORD_BORDERS_STEPS);
 }
+
+static NODES_WITHOUT_FRAMES_STEPS: [(Call<'static>, Answer); 7] = [
+    (Does(Map(0x10000, 0x1000, 0)), Accepted(1)),
+    (Does(Task(2, 2, &[0, 2])), Accepted(2)),
+    (Publish, Published(2)),
+    (Begin(0, 1, 16, 0), Still),
+    (Try(0, 1, 0), Won(2, 1, 0, 1)),
+    (Begin(0, 2, 16, 0), Exhausted(2)),
+    (Give(0, 1, 0), Given),
+];
 
 #[test]
 fn nodes_without_frames(rt: HostRuntime) {
-    let mut core = core_of(&rt, rt.alloc(), &[0, 1, 0], 1);
-    let steps = [
-        (Does(Map(0x10000, 0x1000, 0)), Accepted(1)),
-        (Does(Task(2, 2, &[0, 2])), Accepted(2)),
-        (Publish, Published(2)),
-        (Begin(0, 1, 16, 0), Still),
-        (Try(0, 1, 0), Won(2, 1, 0, 1)),
-        (Begin(0, 2, 16, 0), Exhausted(2)),
-        (Give(0, 1, 0), Given),
-    ];
-    play(&rt, &mut core, &steps);
-    drop(core);
+    play_new(&rt, rt.alloc(), &[0, 1, 0], 1, &NODES_WITHOUT_FRAMES_STEPS);
 }
 
 fn begin_all(rt: &impl Abort, core: &mut Core) {
@@ -305,50 +321,51 @@ fn win_node_1(rt: &impl Abort, core: &mut Core) {
     }
 }
 
+static SIXTEEN_WORKERS_OPENS: [(Call<'static>, Answer); 2] = [
+    (Does(Map(0x10000, 0x1000, 0)), Accepted(1)),
+    (Publish, Published(1)),
+];
+
+static SIXTEEN_WORKERS_ENDS: [(Call<'static>, Answer); 6] = [
+    (Try(15, 1, 7), Won(1, 1, 7, 1)),
+    (Begin(0, 1, 16, 0), Still),
+    (Look(0, 0), Still),
+    (Look(0, 0), Exhausted(1)),
+    (Give(14, 1, 7), Refused(CoreRefusal::NotOwned)),
+    (Give(15, 1, 7), Given),
+];
+
 #[test]
 fn sixteen_workers(rt: HostRuntime) {
     let mut core = core_of(&rt, rt.alloc(), &[8, 8], 16);
-    let opens = [
-        (Does(Map(0x10000, 0x1000, 0)), Accepted(1)),
-        (Publish, Published(1)),
-    ];
-    play(&rt, &mut core, &opens);
+    play(&rt, &mut core, &SIXTEEN_WORKERS_OPENS);
     begin_all(&rt, &mut core);
     win_node_0(&rt, &mut core);
     win_node_1(&rt, &mut core);
-    let ends = [
-        (Try(15, 1, 7), Won(1, 1, 7, 1)),
-        (Begin(0, 1, 16, 0), Still),
-        (Look(0, 0), Still),
-        (Look(0, 0), Exhausted(1)),
-        (Give(14, 1, 7), Refused(CoreRefusal::NotOwned)),
-        (Give(15, 1, 7), Given),
-    ];
-    play(&rt, &mut core, &ends);
+    play(&rt, &mut core, &SIXTEEN_WORKERS_ENDS);
     drop(core);
 }
 
+static ALL_FRAMES_STEPS: [(Call<'static>, Answer); 14] = [
+    (Does(Map(0x10000, 0x1000, 0)), Accepted(1)),
+    (Does(Task(1, 2, &[14, 15])), Accepted(2)),
+    (Publish, Published(2)),
+    (Begin(0, 1, 16, 0), Still),
+    (Try(0, 15, 4_095), Refused(CoreRefusal::BadTry)),
+    (Look(0, 63), Still),
+    (Look(0, 64), Refused(CoreRefusal::BadTry)),
+    (Try(0, 14, 4_096), Refused(CoreRefusal::BadTry)),
+    (Try(0, 14, 4_095), Won(2, 14, 4_095, 0)),
+    (Begin(1, 1, 16, 0), Still),
+    (Look(1, 63), Still),
+    (Try(1, 14, 4_095), Refused(CoreRefusal::BadTry)),
+    (Try(1, 14, 4_032), Won(2, 14, 4_032, 0)),
+    (Give(1, 15, 0), Refused(CoreRefusal::NotOwned)),
+];
+
 #[test]
 fn as_many_frames_as_a_machine_has(rt: HostRuntime) {
-    let mut core = core_of(&rt, rt.alloc(), &[4_096; 16], 2);
-    let steps = [
-        (Does(Map(0x10000, 0x1000, 0)), Accepted(1)),
-        (Does(Task(1, 2, &[14, 15])), Accepted(2)),
-        (Publish, Published(2)),
-        (Begin(0, 1, 16, 0), Still),
-        (Try(0, 15, 4_095), Refused(CoreRefusal::BadTry)),
-        (Look(0, 63), Still),
-        (Look(0, 64), Refused(CoreRefusal::BadTry)),
-        (Try(0, 14, 4_096), Refused(CoreRefusal::BadTry)),
-        (Try(0, 14, 4_095), Won(2, 14, 4_095, 0)),
-        (Begin(1, 1, 16, 0), Still),
-        (Look(1, 63), Still),
-        (Try(1, 14, 4_095), Refused(CoreRefusal::BadTry)),
-        (Try(1, 14, 4_032), Won(2, 14, 4_032, 0)),
-        (Give(1, 15, 0), Refused(CoreRefusal::NotOwned)),
-    ];
-    play(&rt, &mut core, &steps);
-    drop(core);
+    play_new(&rt, rt.alloc(), &[4_096; 16], 2, &ALL_FRAMES_STEPS);
 }
 
 /// Worker 0 wins each frame of node 15, the last node.
@@ -369,24 +386,26 @@ fn look_at_63_words(rt: &impl Abort, core: &mut Core) {
     }
 }
 
+static LAST_FRAME_OPENS: [(Call<'static>, Answer); 3] = [
+    (Does(Map(0x10000, 0x1000, 0)), Accepted(1)),
+    (Does(Task(1, 2, &[15])), Accepted(2)),
+    (Publish, Published(2)),
+];
+
+static LAST_FRAME_ENDS: [(Call<'static>, Answer); 4] = [
+    (Look(1, 63), Exhausted(2)),
+    (Give(0, 15, 4_095), Given),
+    (Begin(1, 1, 16, 0), Still),
+    (Try(1, 15, 4_095), Won(2, 15, 4_095, 0)),
+];
+
 #[test]
 fn the_last_of_all_frames(rt: HostRuntime) {
     let mut core = core_of(&rt, rt.alloc(), &[4_096; 16], 2);
-    let opens = [
-        (Does(Map(0x10000, 0x1000, 0)), Accepted(1)),
-        (Does(Task(1, 2, &[15])), Accepted(2)),
-        (Publish, Published(2)),
-    ];
-    play(&rt, &mut core, &opens);
+    play(&rt, &mut core, &LAST_FRAME_OPENS);
     win_node_15(&rt, &mut core);
     play(&rt, &mut core, &[(Begin(1, 1, 16, 0), Still)]);
     look_at_63_words(&rt, &mut core);
-    let ends = [
-        (Look(1, 63), Exhausted(2)),
-        (Give(0, 15, 4_095), Given),
-        (Begin(1, 1, 16, 0), Still),
-        (Try(1, 15, 4_095), Won(2, 15, 4_095, 0)),
-    ];
-    play(&rt, &mut core, &ends);
+    play(&rt, &mut core, &LAST_FRAME_ENDS);
     drop(core);
 }

@@ -4,30 +4,31 @@ use numa_examples::set_of;
 use numa_script::line::parse;
 use numa_script::{Line, MachineLine, RunFault};
 use std::alloc::{AllocError, Global};
+use std::fmt::Debug;
 use std::process::Abort;
 
-// What a line says, by its kind, and by its fault or its numbers.
+/// A value as its derived text.
+fn derived<T: Debug>(alloc: Global, value: &T) -> Result<String, AllocError> {
+    format!(in alloc; "{value:?}")
+}
+
+/// What a line says: limits by their numbers, a machine by how many nodes it has and by the fault of
+/// its memory, `maps` by its task, and others as their derived texts.
 fn shown(alloc: Global, line: &[u8]) -> Result<String, AllocError> {
     match parse(line) {
-        Line::Silent => format!(in alloc; "silent"),
-        Line::Malformed => format!(in alloc; "bad words"),
+        Line::Silent => String::from_str(alloc, "silent"),
+        Line::Malformed => String::from_str(alloc, "bad words"),
         Line::Limits {
             ranges,
             tasks,
             commands,
-        } => format!(in alloc; "limits {ranges} {tasks} {commands}"),
-        Line::Machine(machine) => {
-            let nodes = machine.nodes;
-            match &machine.memory {
-                Ok(_) => format!(in alloc; "machine {nodes}"),
-                Err(fault) => format!(in alloc; "machine {nodes} {fault:?}"),
-            }
-        }
-        Line::Command(Ok(command)) => format!(in alloc; "{command:?}"),
-        Line::Command(Err(fault)) => format!(in alloc; "{fault:?}"),
-        Line::Question(question) => format!(in alloc; "{question:?}"),
-        Line::Maps(task) => format!(in alloc; "maps {task}"),
-        Line::Work(work) => format!(in alloc; "{work:?}"),
+        } => derived(alloc, &(ranges, tasks, commands)),
+        Line::Machine(machine) => derived(alloc, &(machine.nodes, machine.memory.err())),
+        Line::Command(Ok(command)) => derived(alloc, &command),
+        Line::Command(Err(fault)) => derived(alloc, &fault),
+        Line::Question(question) => derived(alloc, &question),
+        Line::Maps(task) => derived(alloc, &task),
+        Line::Work(work) => derived(alloc, &work),
     }
 }
 
@@ -44,7 +45,7 @@ fn expect_within(rt: &impl Abort, alloc: Global, line: &str, want: &str) {
 }
 
 /// Lines that set up a machine, and lines that say nothing.
-const SETTINGS: [(&str, &str); 20] = [
+static SETTINGS: [(&str, &str); 20] = [
     ("", "silent"),
     ("# map 1 2 3", "silent"),
     ("\r", "bad words"),
@@ -53,12 +54,12 @@ const SETTINGS: [(&str, &str); 20] = [
     ("ranges ", "bad words"),
     (" ranges", "bad words"),
     ("Ranges", "bad words"),
-    ("limits 65537 1 0x10", "limits 65537 1 16"),
+    ("limits 65537 1 0x10", "(65537, 1, 16)"),
     ("limits 4294967296 1 1", "bad words"),
     ("limits 1 1", "bad words"),
-    ("machine 0x2 0-1 8 flat", "machine 2"),
-    ("machine 2 0-1 8,0 10,20;20,10", "machine 2"),
-    ("machine 2 0-x 8 flat", "machine 2 BadDigit"),
+    ("machine 0x2 0-1 8 flat", "(2, None)"),
+    ("machine 2 0-1 8,0 10,20;20,10", "(2, None)"),
+    ("machine 2 0-x 8 flat", "(2, Some(BadDigit))"),
     ("machine 2 0-x 8 10,256", "bad words"),
     ("machine 2 0-1 8, flat", "bad words"),
     ("machine 2 0-1 0x8 flat", "bad words"),
@@ -68,7 +69,7 @@ const SETTINGS: [(&str, &str); 20] = [
 ];
 
 /// Lines of commands.
-const COMMANDS: [(&str, &str); 19] = [
+static COMMANDS: [(&str, &str); 19] = [
     (
         "map 0x10000 0x2000 0",
         "Map { start: 65536, length: 8192, offset: 0 }",
@@ -103,7 +104,7 @@ const COMMANDS: [(&str, &str); 19] = [
 ];
 
 /// Lines with a word that has no byte.
-const EMPTY_WORDS: [(&str, &str); 12] = [
+static EMPTY_WORDS: [(&str, &str); 12] = [
     ("mems ", "bad words"),
     ("mems  0", "bad words"),
     (" mems 0", "bad words"),
@@ -118,31 +119,33 @@ const EMPTY_WORDS: [(&str, &str); 12] = [
     ("  #", "bad words"),
 ];
 
+/// Parts of what lines of policies say.
+static POLICY_LINES: [(&str, &str); 17] = [
+    ("task 1 default", "mode: Default, flag: Plain"),
+    (
+        "task 1 prefer=relative:1",
+        "mode: Preferred, flag: Relative",
+    ),
+    ("task 1 prefer", "mode: Local, flag: Plain"),
+    ("task 1 bind=static:0", "mode: Bind, flag: Static"),
+    ("task 1 interleave:0-1", "mode: Interleave, flag: Plain"),
+    ("task 1 local", "mode: Local, flag: Plain"),
+    ("task 1 many:0", "mode: PreferredMany, flag: Plain"),
+    ("task 1 weighted:0", "mode: WeightedInterleave, flag: Plain"),
+    ("task 1 local:", "List(Empty)"),
+    ("task 1 local:0", "Policy(NodesForbidden)"),
+    ("task 1 local=static", "Policy(FlagsForbidden)"),
+    ("task 1 bind", "Policy(NodesMissing)"),
+    ("task 1 bind=static=relative:x", "List(BadDigit)"),
+    ("task 1 local=static=relative:0", "Policy(BothFlags)"),
+    ("task 1 bind=relative=static:0", "Policy(UnknownMode)"),
+    ("task 1 bind=static=static:0", "Policy(UnknownMode)"),
+    ("task 1 local\r", "Policy(UnknownMode)"),
+];
+
 #[test]
 fn policies(rt: HostRuntime) {
-    let rows: [(&str, &str); 17] = [
-        ("task 1 default", "mode: Default, flag: Plain"),
-        (
-            "task 1 prefer=relative:1",
-            "mode: Preferred, flag: Relative",
-        ),
-        ("task 1 prefer", "mode: Local, flag: Plain"),
-        ("task 1 bind=static:0", "mode: Bind, flag: Static"),
-        ("task 1 interleave:0-1", "mode: Interleave, flag: Plain"),
-        ("task 1 local", "mode: Local, flag: Plain"),
-        ("task 1 many:0", "mode: PreferredMany, flag: Plain"),
-        ("task 1 weighted:0", "mode: WeightedInterleave, flag: Plain"),
-        ("task 1 local:", "List(Empty)"),
-        ("task 1 local:0", "Policy(NodesForbidden)"),
-        ("task 1 local=static", "Policy(FlagsForbidden)"),
-        ("task 1 bind", "Policy(NodesMissing)"),
-        ("task 1 bind=static=relative:x", "List(BadDigit)"),
-        ("task 1 local=static=relative:0", "Policy(BothFlags)"),
-        ("task 1 bind=relative=static:0", "Policy(UnknownMode)"),
-        ("task 1 bind=static=static:0", "Policy(UnknownMode)"),
-        ("task 1 local\r", "Policy(UnknownMode)"),
-    ];
-    for (line, want) in rows {
+    for (line, want) in &POLICY_LINES {
         expect_within(&rt, rt.alloc(), line, want);
     }
 }
@@ -160,7 +163,7 @@ fn long_line(alloc: Global, bytes: usize) -> Result<Vec<u8>, AllocError> {
 
 #[test]
 fn long_lines(rt: HostRuntime) {
-    for (bytes, want) in [(4096, "machine 1"), (4098, "bad words")] {
+    for (bytes, want) in [(4096, "(1, None)"), (4098, "bad words")] {
         let line = long_line(rt.alloc(), bytes).expect(&rt, "memory");
         same(&rt, &line.len(), &bytes);
         expect_shown(&rt, rt.alloc(), &line, want);
@@ -176,7 +179,7 @@ fn long_comments(rt: HostRuntime) {
 }
 
 /// Lines that ask.
-const QUESTIONS: [(&str, &str); 13] = [
+static QUESTIONS: [(&str, &str); 13] = [
     (
         "place 1 0x10000 0",
         "Place { task: 1, address: 65536, cpu: 0 }",
@@ -198,14 +201,14 @@ const QUESTIONS: [(&str, &str); 13] = [
     ),
     ("counts 1 0 18446744073709551616 0", "bad words"),
     ("counts 1 0 0 4294967296", "bad words"),
-    ("maps 1", "maps 1"),
+    ("maps 1", "1"),
     ("maps", "bad words"),
     ("maps 4294967296", "bad words"),
     ("maps 1 1", "bad words"),
 ];
 
 /// Lines of workers.
-const WORK: [(&str, &str); 11] = [
+static WORK: [(&str, &str); 11] = [
     ("publish", "Event(Publish)"),
     ("publish ", "bad words"),
     ("publish 1", "bad words"),
@@ -226,7 +229,7 @@ const WORK: [(&str, &str); 11] = [
 ];
 
 /// Lines of frames.
-const FRAMES: [(&str, &str); 13] = [
+static FRAMES: [(&str, &str); 13] = [
     (
         "try 1 0 65535",
         "Event(Try(1, Frame { node: 0, number: 65535 }))",
@@ -283,15 +286,17 @@ fn expect_machine(
     same(rt, &got.expect(rt, "memory").as_slice(), &distances);
 }
 
+/// Lines of machines, with their frames and distances.
+static MACHINE_LINES: [(&str, &[u32], &[u8]); 4] = [
+    ("machine 2 0-1 8 flat", &[8, 0], &[10, 20, 20, 10]),
+    ("machine 2 0-1 8,9 10;20,30;10", &[8, 9], &[10, 20, 30, 10]),
+    ("machine 2 0-1 1,2,3 255", &[1, 2, 3], &[255]),
+    ("machine 1 0 0000000007 10", &[7, 0], &[10]),
+];
+
 #[test]
 fn machines(rt: HostRuntime) {
-    let rows: [(&str, &[u32], &[u8]); 4] = [
-        ("machine 2 0-1 8 flat", &[8, 0], &[10, 20, 20, 10]),
-        ("machine 2 0-1 8,9 10;20,30;10", &[8, 9], &[10, 20, 30, 10]),
-        ("machine 2 0-1 1,2,3 255", &[1, 2, 3], &[255]),
-        ("machine 1 0 0000000007 10", &[7, 0], &[10]),
-    ];
-    for (line, frames, distances) in rows {
+    for (line, frames, distances) in &MACHINE_LINES {
         match parse(line.as_bytes()) {
             Line::Machine(machine) => {
                 expect_machine(&rt, rt.alloc(), &machine, frames, distances);

@@ -31,7 +31,7 @@ fn placement(page: u64, node: u8, number: u16) -> Placement {
 
 /// Ten pages that task 1 interleaves over four nodes, but for three of them that are bound to node
 /// 2.
-pub const THREE_RANGES: [ShortCommand<'static>; 3] = [
+pub static THREE_RANGES: [ShortCommand<'static>; 3] = [
     Map(0x10000, 0xa000, 0),
     Task(1, 3, &[0, 1, 2, 3]),
     Mbind(0x13000, 0x3000, 2, &[2]),
@@ -68,27 +68,31 @@ fn placed_pages(rt: HostRuntime) {
     drop(space);
 }
 
+/// The last page, and the policies of four tasks.
+static FOUR_POLICIES: [ShortCommand<'static>; 5] = [
+    Map(0x7fff_ffff_f000, 0x1000, 0),
+    Task(1, 6, &[0, 1]),
+    Task(2, 0x8005, &[0]),
+    Task(3, 1, &[]),
+    Task(4, 1, &[0, 1]),
+];
+
+/// What each task's listing is there.
+static LISTINGS: [(u32, &str); 5] = [
+    (1, "7ffffffff000 weighted interleave:0-1\n"),
+    (2, "7ffffffff000 prefer (many)=static:0\n"),
+    (3, "7ffffffff000 local\n"),
+    (4, "7ffffffff000 prefer:0\n"),
+    (5, "7ffffffff000 default\n"),
+];
+
 #[test]
 fn policy_texts(rt: HostRuntime) {
     let alloc = rt.alloc();
     let resident = Resident::new(alloc);
-    let asked = [
-        Map(0x7fff_ffff_f000, 0x1000, 0),
-        Task(1, 6, &[0, 1]),
-        Task(2, 0x8005, &[0]),
-        Task(3, 1, &[]),
-        Task(4, 1, &[0, 1]),
-    ];
-    let space = space_after(&rt, alloc, &asked);
-    let rows = [
-        (1, "7ffffffff000 weighted interleave:0-1\n"),
-        (2, "7ffffffff000 prefer (many)=static:0\n"),
-        (3, "7ffffffff000 local\n"),
-        (4, "7ffffffff000 prefer:0\n"),
-        (5, "7ffffffff000 default\n"),
-    ];
-    for (task, want) in rows {
-        expect_listing(&rt, alloc, &space, task, &resident, want);
+    let space = space_after(&rt, alloc, &FOUR_POLICIES);
+    for (task, want) in &LISTINGS {
+        expect_listing(&rt, alloc, &space, *task, &resident, want);
     }
     drop(space);
     let bare = space_after(&rt, alloc, &[]);

@@ -23,13 +23,14 @@ fn new_core(alloc: Global) -> Option<Core> {
 }
 
 /// Whether a new core publishes nothing, at version 0.
-fn publishes_nothing(mut core: Core) -> bool {
+fn publishes_nothing(core: &mut Core) -> bool {
     core.step(Event::Publish).is_ok() && core.published() == 0
 }
 
 #[test]
 fn new_cores(rt: HostRuntime) {
     let core = made(rt.alloc(), &|| new_core(rt.alloc()));
-    let core = core.expect(&rt, "a core");
-    assert!(&rt; publishes_nothing(core));
+    let mut core = core.expect(&rt, "a core");
+    assert!(rt; publishes_nothing(&mut core));
+    drop(core);
 }
