@@ -8,7 +8,7 @@ use Rattle.numa_space.specs.Refusals.{refusal_of as command_refusal}
 use Rattle.numa_space.specs.declared.command.Command.{Command}
 use Rattle.numa_space.specs.declared.refusal.Refusal.{Refusal}
 use Rattle.numa_publish.specs.Batches.{Extends}
-use Rattle.numa_publish.specs.Shown.{DeskState, Refuses, ViewState, accepted, and_newest}
+use Rattle.numa_publish.specs.Shown.{DeskState, Refuses, ViewState, accepted_commands, and_newest}
 use Rattle.numa_core.specs.World.{Setup, World, first_commands, is_published, opening, owner_of}
 use Rattle.numa_core.specs.Steps.{because, refused_or, effect_of, world_after}
 use Rattle.numa_core.specs.Executions.{worker_of}
@@ -32,7 +32,7 @@ opens s desk new = record {
 
 -- what refuses the world's Accept is what refuses the desk's command
 same-refusal : (s : Setup) (world : World) (desk : DeskState) (command : Command) → IsDeskOf s world desk
-    → command_refusal s.machine s.bounds world.history command ≡ command_refusal desk.desk.machine desk.bounds (accepted desk) command
+    → command_refusal s.machine s.bounds world.history command ≡ command_refusal desk.desk.machine desk.bounds (accepted_commands desk) command
 same-refusal s world desk command is = λ i. command_refusal (sym is.machine i) (sym is.bounds i) (is.history i) command
 
 pub accepts : (s : Setup) (world : World) (before after : DeskState) (command : Command) (version : ℕ) → IsDeskOf s world before → Accepts before command version after
@@ -67,9 +67,9 @@ newest-count [] version versions some = absurd (some refl)
 newest-count (command ∷ commands) version versions some = refl
 
 pub publishes : (s : Setup) (world : World) (before after : DeskState) → IsDeskOf s world before → Publishes before after → before.pending ≢ []
-    → LeadsTo s world (moment_of Publish (Ok (Published (length (accepted before))))) after
+    → LeadsTo s world (moment_of Publish (Ok (Published (length (accepted_commands before))))) after
 publishes s world before after is call some =
-    let one : after.versions ≡ length (accepted before) ∷ before.versions = call.versions ∙ newest-count before.pending (length (accepted before)) before.versions some in (
+    let one : after.versions ≡ length (accepted_commands before) ∷ before.versions = call.versions ∙ newest-count before.pending (length (accepted_commands before)) before.versions some in (
       (tt, inl (ap (λ (h : List Command). Ok (Published (length h))) (sym is.history))),
       record {
         machine = ap (λ (d : _). d.machine) call.desk ∙ is.machine;
@@ -85,7 +85,7 @@ idle before after call none = λ i. record {
   desk = call.desk i;
   bounds = call.bounds i;
   published = (call.published ∙ ap (λ (pending : List Command). pending ++ before.published) none) i;
-  versions = (call.versions ∙ ap (λ (pending : List Command). and_newest pending (length (accepted before)) before.versions) none) i;
+  versions = (call.versions ∙ ap (λ (pending : List Command). and_newest pending (length (accepted_commands before)) before.versions) none) i;
   pending = (call.pending ∙ sym none) i;
 }
 

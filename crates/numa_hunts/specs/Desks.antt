@@ -4,7 +4,7 @@ use Rattle.numa_machine.specs.Machine.{Hardware}
 use Rattle.numa_space.specs.Limited.{Bounds}
 use Rattle.numa_space.specs.Refusals.{refusal_of}
 use Rattle.numa_space.specs.declared.command.Command.{Command}
-use Rattle.numa_publish.specs.Shown.{DeskState, accepted, versions_after}
+use Rattle.numa_publish.specs.Shown.{DeskState, accepted_commands, versions_after}
 use Rattle.numa_core.specs.World.{Setup, World}
 use Rattle.numa_core.specs.Executions.{Moment}
 use Rattle.numa_hunts.specs.Moments.{IsLegal, after_moment}
@@ -21,15 +21,15 @@ pub record IsNew (machine : Hardware) (bounds : Bounds) (desk : DeskState) : Typ
 pub record Accepts (before : DeskState) (command : Command) (version : ℕ) (after : DeskState)
     : Type 0 where
   pub allowed :
-      refusal_of before.desk.machine before.bounds (accepted before) command ≡ None
-  pub version_is : version ≡ length (accepted before) + 1
+      refusal_of before.desk.machine before.bounds (accepted_commands before) command ≡ None
+  pub version_is : version ≡ length (accepted_commands before) + 1
   pub added : after ≡ record before { pending = command ∷ before.pending }
 
 -- `publish` was Ok
 pub record Publishes (before after : DeskState) : Type 0 where
   pub desk : after.desk ≡ before.desk
   pub bounds : after.bounds ≡ before.bounds
-  pub published : after.published ≡ accepted before
+  pub published : after.published ≡ accepted_commands before
   pub pending : after.pending ≡ []
   pub versions : after.versions ≡ versions_after before
 
@@ -39,7 +39,7 @@ pub record Publishes (before after : DeskState) : Type 0 where
 pub record IsDeskOf (s : Setup) (world : World) (desk : DeskState) : Type 0 where
   pub machine : desk.desk.machine ≡ s.machine
   pub bounds : desk.bounds ≡ s.bounds
-  pub history : world.history ≡ accepted desk
+  pub history : world.history ≡ accepted_commands desk
   pub versions : world.published ≡ desk.versions
   pub newest : slice_get desk.versions 0 ≡ Some (length desk.published)
 

@@ -1,7 +1,7 @@
 //! The calls of a desk beside the core's world. Each function hands its call on; its clauses say
 //! which moment of the world the call is.
 ghost use Rattle.std.specs.Prelude.{◌≡◌, ◌≢◌, ◌≤◌, [], length, Ok, Err, IfOk, IfErr, OnOk, OnErr};
-ghost use Rattle.numa_publish.specs.Shown.{accepted};
+ghost use Rattle.numa_publish.specs.Shown.{accepted_commands};
 ghost use Rattle.numa_core.specs.World.{Setup, World, opening};
 ghost use Rattle.numa_space.specs.declared.event.CoreRefusal.{CoreRefusal};
 ghost use Rattle.numa_space.specs.declared.event.Event.{Event};
@@ -58,7 +58,7 @@ pub fn publish<R: Wait>(desk: &mut Desk, rt: &R) -> Result<Receipt, NoMemory>
     ensures ok { OnOk result ((s : Setup) (world : World) → IsDeskOf s world desk.old
         → desk.old.pending ≢ []
         → LeadsTo s world
-        (moment_of Event.Publish (Ok (CoreReply.Published (length (accepted desk.old)))))
+        (moment_of Event.Publish (Ok (CoreReply.Published (length (accepted_commands desk.old)))))
         desk.new) }
     ensures idle { OnOk result (desk.old.pending ≡ [] → desk.new ≡ desk.old) }
     ensures err { OnErr result ((s : Setup) (world : World) → IsDeskOf s world desk.old

@@ -11,7 +11,7 @@ ghost use Rattle.numa_fault.specs.Fault.{IsServed, list_of, refusal_of};
 ghost use Rattle.numa_fault.specs.declared.refusal.FaultRefusal.{FaultRefusal};
 ghost use Rattle.numa_pool.specs.Seats.{SeatView};
 ghost use Rattle.numa_publish.specs.Batches.{Extends};
-ghost use Rattle.numa_publish.specs.Shown.{DeskState, Refuses, ViewState, accepted};
+ghost use Rattle.numa_publish.specs.Shown.{DeskState, Refuses, ViewState, accepted_commands};
 ghost use Rattle.numa_space.specs.declared.command.Command.{Command};
 ghost use Rattle.numa_space.specs.declared.placement.Placement.{Placement};
 ghost use Rattle.numa_space.specs.declared.refusal.Refusal.{Refusal};
@@ -46,7 +46,8 @@ pub fn a_desk_is_the_worlds()
     ensures publishes { (s : Setup) (world : World) (before after : DeskState)
         → IsDeskOf s world before → Publishes before after → before.pending ≢ []
         → LeadsTo s world
-        (moment_of Event.Publish (Ok (CoreReply.Published (length (accepted before))))) after }
+        (moment_of Event.Publish (Ok (CoreReply.Published
+        (length (accepted_commands before))))) after }
     ensures unpublished { (s : Setup) (world : World) (desk : DeskState) → IsDeskOf s world desk
         → LeadsTo s world (moment_of Event.Publish (Err CoreRefusal.NoMemory)) desk }
     ensures idle { (before after : DeskState) → Publishes before after → before.pending ≡ []

@@ -11,6 +11,7 @@ ghost use Rattle.numa_plan.specs.Counted.{one_comparison, one_run, more_runs, Fi
 ghost use Rattle.numa_plan.specs.Counted.{FindsTwice};
 ghost use Rattle.numa_plan.specs.Found.{IsAt, IsFound, IsPartOf, IsMapped, IsSplit, HasHole};
 
+use crate::guess::{LOOKED_AT, chunk_of, start_before};
 use crate::steps::Steps;
 use numa_machine::NoMemory;
 use numa_ranges::Run;
@@ -34,12 +35,6 @@ pub(crate) struct Seen {
     place: usize,
     chunk: usize,
 }
-
-/// So many places before a guess a window is looked for.
-const BEFORE: usize = 3;
-
-/// At so many runs a look for a window beside a guess looks, before it is sought.
-const LOOKED_AT: usize = 16;
 
 /// A span's window: its first place and the one behind its last, and a guess at its chunk.
 #[derive(Clone, Copy, Debug)]
@@ -125,18 +120,6 @@ fn split_rows(
         }
     }
     (low, far, below)
-}
-
-/// A place from which on a window is looked for, some places before a guess at its first.
-fn start_before(guess: usize, runs: usize) -> usize
-    ensures { result ≤ runs }
-{
-    guess.min(runs).saturating_sub(BEFORE)
-}
-
-/// A guess at the chunk of a place, as if all chunks had as many runs.
-fn chunk_of(place: usize, chunks: usize, runs: usize) -> usize {
-    place.saturating_mul(chunks) / runs.max(1)
 }
 
 /// Whether a run begins behind a page.

@@ -8,7 +8,7 @@ use Rattle.std.specs.Arc.{arc_value}
 use Rattle.numa_publish.specs.declared.issue.Issue.{Issue}
 use Rattle.numa_publish.specs.declared.issue.Shown.{Shown}
 use Rattle.numa_publish.specs.declared.rule.Knows.{Knows}
-use Rattle.numa_publish.specs.Knowing.{IsEarlier, KnowsThePast, Sees, MayShow, ShowsOrKeeps, told, told_by, newcomer, introduced}
+use Rattle.numa_publish.specs.Knowing.{IsEarlier, KnowsThePast, Sees, MayShow, ShowsOrKeeps, told, told_by, newcomer, knowledge_of_desk}
 use Rattle.numa_publish.proofs.Lists.{prefix_self, prefix_trans, extends_self, extends_trans}
 use Rattle.std.proofs.lemmas.List.{append-nil}
 
@@ -41,12 +41,12 @@ sees seat v x y up views h at = (
 pub forks : (seat : ℕ) (v : Knows) → Forks KnowsThePast seat v v v
 forks seat v x views h at j u e = ⊎_elim (set_keeps x views seat v h (h seat v at) j u) (λ (same : v ≡ u). subst (λ (z : Knows). IsEarlier z (told x)) same (h seat v at)) (at_snoc (set views seat v) v u j e)
 
-pub merges : (seat : ℕ) (v : Knows) (other : ℕ) (w : Knows) → Merges KnowsThePast seat v other w (introduced v w) newcomer
+pub merges : (seat : ℕ) (v : Knows) (other : ℕ) (w : Knows) → Merges KnowsThePast seat v other w (knowledge_of_desk v w) newcomer
 merges seat v other w x views h at apart there =
-    let b : IsEarlier w (told x) = ⊎_elim (λ (t : (other ≡ seat) × (introduced v w ≡ w)). absurd (apart t.0)) (λ (t : (other ≢ seat) × (get_elem? views other ≡ some w)). h other w t.1) (at_set views seat other (introduced v w) w there) in
+    let b : IsEarlier w (told x) = ⊎_elim (λ (t : (other ≡ seat) × (knowledge_of_desk v w ≡ w)). absurd (apart t.0)) (λ (t : (other ≢ seat) × (get_elem? views other ≡ some w)). h other w t.1) (at_set views seat other (knowledge_of_desk v w) w there) in
     let fresh = earlier_new (told x) in
-    let n : IsEarlier (introduced v w) (told x) = record { log = fresh.log; versions = fresh.versions; desk = b.desk } in
-    set_keeps x (set views seat (introduced v w)) other newcomer (set_keeps x views seat (introduced v w) h n) fresh
+    let n : IsEarlier (knowledge_of_desk v w) (told x) = record { log = fresh.log; versions = fresh.versions; desk = b.desk } in
+    set_keeps x (set views seat (knowledge_of_desk v w)) other newcomer (set_keeps x views seat (knowledge_of_desk v w) h n) fresh
 
 -- what a publishing leaves, put together
 pub shown_result : {A E : Type 0} (X Y : Type 0) (r : Result A E) (s s' : Shown) (k k' : Knows) (i : Issue)

@@ -78,8 +78,8 @@ ShowsOrKeeps result issue before after knew knows =
     (λ _. (after ≡ before) × (knows ≡ knew))
 
 -- a reader takes in which desk it is of, by a note of the writer, and nothing of what was published
-abbrev pub introduced : Knows → Knows → Knows
-introduced known note = record {
+abbrev pub knowledge_of_desk : Knows → Knows → Knows
+knowledge_of_desk known note = record {
   named = note.named;
   machine = note.machine;
   front = record {

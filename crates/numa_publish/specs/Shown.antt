@@ -43,14 +43,14 @@ pub record ViewState : Type 0 where
   pub refused : ℕ
 
 -- the history of all accepted commands
-abbrev pub accepted : DeskState → List Command
-accepted desk = desk.pending ++ desk.published
+abbrev pub accepted_commands : DeskState → List Command
+accepted_commands desk = desk.pending ++ desk.published
 
 -- a desk refuses a command: for lack of memory, or as the accepted history does
 abbrev pub Refuses : DeskState → Command → Refusal → Type 0
 Refuses desk command refusal =
     (refusal ≡ Refusal.NoMemory)
-    ⊎ (refusal_of desk.desk.machine desk.bounds (accepted desk) command ≡ Some refusal)
+    ⊎ (refusal_of desk.desk.machine desk.bounds (accepted_commands desk) command ≡ Some refusal)
 
 -- the versions with one more, where commands are pending
 abbrev pub and_newest : List Command → ℕ → List ℕ → List ℕ
@@ -59,7 +59,7 @@ and_newest (command ∷ commands) version versions = version ∷ versions
 
 -- the versions once all that was accepted is published
 abbrev pub versions_after : DeskState → List ℕ
-versions_after desk = and_newest desk.pending (length (accepted desk)) desk.versions
+versions_after desk = and_newest desk.pending (length (accepted_commands desk)) desk.versions
 
 -- a reader of this desk that has seen nothing but version 0 and never entered
 abbrev pub new_reader : DeskIdentity → ReaderState

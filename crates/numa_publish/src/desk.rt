@@ -5,7 +5,7 @@ ghost use Rattle.std.specs.Arc.{arc_value};
 ghost use Rattle.left_right.specs.Sides.{view as place_view};
 ghost use Rattle.numa_space.specs.Refusals.{refusal_of};
 ghost use Rattle.numa_space.specs.Standing.{StandsFor};
-ghost use Rattle.numa_publish.specs.Shown.{Refuses, accepted, new_reader, versions_after};
+ghost use Rattle.numa_publish.specs.Shown.{Refuses, accepted_commands, new_reader, versions_after};
 ghost use Rattle.numa_publish.specs.Submits.{LeavesAfter};
 
 use crate::issue::Issue;
@@ -125,7 +125,7 @@ impl Desk {
 
     /// The space of all accepted commands.
     pub fn space(&self) -> &Space
-        ensures stands { StandsFor result.now (accepted self.now) }
+        ensures stands { StandsFor result.now (accepted_commands self.now) }
         ensures machine { result.now.machine ≡ self.now.desk.machine }
         ensures bounds { result.now.bounds ≡ self.now.bounds }
     {
@@ -141,8 +141,9 @@ impl Desk {
     /// looked at.
     pub fn accept(&mut self, command: &Command) -> Result<u64, Refusal>
         ensures allowed { OnOk result (refusal_of self.old.desk.machine self.old.bounds
-            (accepted self.old) command.now ≡ None) }
-        ensures version { IfOk result (λ version. version ≡ length (accepted self.old) + 1) }
+            (accepted_commands self.old) command.now ≡ None) }
+        ensures version { IfOk result (λ version. version ≡
+            length (accepted_commands self.old) + 1) }
         ensures added { OnOk result
             (self.new ≡ record self.old { pending = command.now ∷ self.old.pending }) }
         ensures err { IfErr result (λ refusal. Refuses self.old command.now refusal) }
@@ -182,7 +183,7 @@ impl Desk {
     /// takes the same.
     pub fn publish<R: Wait>(&mut self, rt: &R) -> Result<Receipt, NoMemory>
         ensures ok { OnOk result
-            ((self.new.published ≡ accepted self.old) × (self.new.pending ≡ [])) }
+            ((self.new.published ≡ accepted_commands self.old) × (self.new.pending ≡ [])) }
         ensures receipt { IfOk result (λ r.
             (r.desk ≡ self.new.desk) × (r.history ≡ self.new.published)) }
         ensures versions { OnOk result (self.new.versions ≡ versions_after self.old) }
@@ -220,9 +221,9 @@ impl Desk {
         command: &Command,
     ) -> Result<Receipt, SubmitRefusal>
         ensures receipt { IfOk result (λ r. (r.desk ≡ self.new.desk)
-            × (r.history ≡ command.now ∷ accepted self.old)) }
-        ensures published { OnOk result ((self.new.published ≡ command.now ∷ accepted self.old)
-            × (self.new.pending ≡ [])) }
+            × (r.history ≡ command.now ∷ accepted_commands self.old)) }
+        ensures published { OnOk result ((self.new.published ≡
+            command.now ∷ accepted_commands self.old) × (self.new.pending ≡ [])) }
         ensures err { IfErr result (λ refusal. LeavesAfter self.old self.new command.now refusal) }
         ensures desk { (self.new.desk ≡ self.old.desk) × (self.new.bounds ≡ self.old.bounds) }
     {

@@ -48,9 +48,9 @@ impl Split<Knows> for Introduces {
 }
 
 impl Join<Knows> for Introduces {
-    ghost use Rattle.numa_publish.specs.Knowing.{introduced, newcomer};
+    ghost use Rattle.numa_publish.specs.Knowing.{knowledge_of_desk, newcomer};
 
-    ghost both = { introduced };
+    ghost both = { knowledge_of_desk };
 
     ghost spent = { newcomer };
 }

@@ -9,8 +9,8 @@ use Rattle.numa_space.specs.declared.command.Command.{Command}
 use Rattle.numa_compile.specs.Spans.{first_node}
 
 -- a table of 256 rows of 256: the pages from a node to another
-abbrev pub moved : List ℕ → ℕ → ℕ → ℕ
-moved table from to = slice_index table (from * 256 + to)
+abbrev pub moves_in : List ℕ → ℕ → ℕ → ℕ
+moves_in table from to = slice_index table (from * 256 + to)
 
 -- in how many places the first list has the one node, and the second the other
 abbrev pub pairs : List ℕ → List ℕ → ℕ → ℕ → ℕ
@@ -38,15 +38,15 @@ meant_moves machine before after task cpu first pages from to =
 -- each entry of the table has so many pages more
 abbrev pub AddsMoves : List ℕ → List ℕ → (ℕ → ℕ → ℕ) → Type 0
 AddsMoves old new more = (from to : ℕ) → from < 256 → to < 256
-    → moved new from to ≡ moved old from to + more from to
+    → moves_in new from to ≡ moves_in old from to + more from to
 
 -- a table, each entry with room for so many pages more
 pub record HasRoomFor (table : List ℕ) (pages : ℕ) : Type 0 where
   pub entries : length table ≡ 65536
-  pub room : (from to : ℕ) → from < 256 → to < 256 → moved table from to + pages < 2 ^ 64
+  pub room : (from to : ℕ) → from < 256 → to < 256 → moves_in table from to + pages < 2 ^ 64
 
 -- the table has the pages of a span, for each two nodes
 abbrev pub AreMoves : Hardware → List Command → List Command → ℕ → ℕ → ℕ → ℕ → List ℕ → Type 0
 AreMoves machine before after task cpu first pages table =
     (from to : ℕ) → from < 256 → to < 256
-    → moved table from to ≡ meant_moves machine before after task cpu first pages from to
+    → moves_in table from to ≡ meant_moves machine before after task cpu first pages from to

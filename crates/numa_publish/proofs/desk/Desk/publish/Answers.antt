@@ -7,7 +7,7 @@ use Rattle.numa_publish.specs.declared.issue.Shown.{Shown}
 use Rattle.numa_publish.specs.Batches.{history_of}
 use Rattle.numa_publish.specs.Kept.{IsDeskKept, IsNextIssue}
 use Rattle.numa_publish.specs.Knowing.{told_by}
-use Rattle.numa_publish.specs.Shown.{accepted, versions_after}
+use Rattle.numa_publish.specs.Shown.{accepted_commands, versions_after}
 use Rattle.numa_publish.proofs.Lists.{no_length}
 use Rattle.numa_publish.proofs.Desks.{newest_in}
 use Rattle.numa_publish.proofs.desk.Desk.publish.Goals as goal
@@ -79,7 +79,7 @@ returns g c =
     let some : 0 < length c.self.inside.pending.commands.items = search (tests, rules) in
     record {
       ok = (
-        ap (λ (i : Issue). history_of i.front.log) done.0 ∙ (next.whole ∙ ap accepted c.self.view_is),
+        ap (λ (i : Issue). history_of i.front.log) done.0 ∙ (next.whole ∙ ap accepted_commands c.self.view_is),
         ap (λ (w : List Command). reverse w) c.clear.ensures.items,
       );
       receipt = c.receipt-2.ensures;
