@@ -46,8 +46,10 @@ ends_of item = ends_at item (position (λ b. b == 45) item)
 -- the ends of a range, judged: the first may not be above the last, and both are nodes
 abbrev pub ends_or_fault : Option (ℕ × ℕ) → Result (ℕ × ℕ) ListFault
 ends_or_fault None = Err BadDigit
-ends_or_fault (Some (first, last)) = if nat_lt last first then Err BackRange else if nat_le 256 first
-    || nat_le 256 last then Err NodeTooHigh else Ok (first, last)
+ends_or_fault (Some (first, last)) =
+    if nat_lt last first then Err BackRange
+    else if nat_le 256 first || nat_le 256 last then Err NodeTooHigh
+    else Ok (first, last)
 
 -- what an item is: the first and the last of its nodes, or its first fault
 unfoldable pub item_of : List ℕ → Result (ℕ × ℕ) ListFault

@@ -1,5 +1,6 @@
 -- Runs whose values stand in a list of their own, each under a number, which is its place there.
-use Rattle.std.specs.Prelude.{◌≡◌, ℕ, ◌<◌, ◌≤◌, Option, Some, None, List, [], ◌∷◌, length, slice_get}
+use Rattle.std.specs.Prelude.{◌≡◌, ℕ, ◌<◌, ◌≤◌, Option, Some, None}
+use Rattle.std.specs.Prelude.{List, [], ◌∷◌, length, slice_get}
 use Rattle.std.specs.List.{flat_map}
 use Rattle.numa_ranges.specs.declared.run.Run.{Run}
 use Rattle.numa_ranges.specs.declared.row.Row.{Row}

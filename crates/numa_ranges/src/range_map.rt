@@ -120,8 +120,8 @@ impl<T: Exact> RangeMap<T> {
         self.runs.iter()
     }
 
-    /// The ranges in rising order with numbers in the place of their values, and the values, each at
-    /// the place that is its number: so what follows from a value can be found once for all ranges
+    /// The ranges in rising order with numbers in the place of their values, and the values, each
+    /// at the place that is its number: so what follows from a value can be found once for all ranges
     /// that have its number. Equal numbers are equal values; equal values can have several numbers,
     /// and there can be values that no range has.
     pub fn rows(&self) -> (Iter<'_, Row, Owned<Row>>, &[T])

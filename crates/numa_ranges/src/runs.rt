@@ -115,8 +115,8 @@ impl<T: Exact> Runs<T> {
     }
 
     /// How many runs start at the page or before it, looked for as if they were spread evenly, and
-    /// then sought from a chunk on; `chunk` is afterwards where the search ended. Any number will do
-    /// for it.
+    /// then sought from a chunk on; `chunk` is afterwards where the search ended. Any number will
+    /// do for it.
     pub(crate) fn starts_near(&self, page: u64, chunk: &mut usize) -> usize
         requires { AreApart 0 self.now }
         ensures within { result ≤ length self.now }

@@ -224,8 +224,8 @@ impl Space {
     }
 
     /// The ranges, rising, with numbers in the place of their records, and the records, each at the
-    /// place that is its number: so what follows from a record can be found once for all ranges that
-    /// have its number. Equal records can have several numbers, and there can be records that no
+    /// place that is its number: so what follows from a record can be found once for all ranges
+    /// that have its number. Equal records can have several numbers, and there can be records that no
     /// range has.
     pub fn range_rows(&self) -> (Iter<'_, Row, Owned<Row>>, &[RangeRecord])
         ensures numbered { AreNumbered result.1.now result.0 }

@@ -1,6 +1,6 @@
 //! Examples as tables of steps, and how they are played. Each question is put to the space, and to
-//! a plan that is compiled just for it; and each accepted command edits a plan that is compared with
-//! one that is compiled anew.
+//! a plan that is compiled just for it; and each accepted command edits a plan that is compared
+//! with one that is compiled anew.
 use crate::planned::plan_along;
 use crate::recompiling::follow;
 use crate::same::same;

@@ -12,8 +12,8 @@ fn derived<T: Debug>(alloc: Global, value: &T) -> Result<String, AllocError> {
     format!(in alloc; "{value:?}")
 }
 
-/// What a line says: limits by their numbers, a machine by how many nodes it has and by the fault of
-/// its memory, `maps` by its task, and others as their derived texts.
+/// What a line says: limits by their numbers, a machine by how many nodes it has and by the fault
+/// of its memory, `maps` by its task, and others as their derived texts.
 fn shown(alloc: Global, line: &[u8]) -> Result<String, AllocError> {
     match parse(line) {
         Line::Silent => String::from_str(alloc, "silent"),
