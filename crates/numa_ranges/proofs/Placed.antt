@@ -11,6 +11,8 @@ use Rattle.numa_ranges.specs.declared.pieces.Pieces.{Pieces}
 use Rattle.numa_ranges.specs.declared.fault.RangeFault.{RangeFault}
 use Rattle.numa_ranges.specs.declared.fault.RangeFault.TheVariants.{TooManyRanges, NoMemory}
 use Rattle.numa_ranges.specs.Edits.{runs_with}
+use Rattle.numa_ranges.specs.Maps.{IsRefusal, count_refusal}
+use Rattle.numa_ranges.proofs.Spans.{Stands, stands-joined, refused-joined}
 use Rattle.numa_ranges.proofs.Insert.{inserted-window, apart-inserted, page_at-inserted}
 
 module _ {T : Type 0} where
@@ -26,25 +28,25 @@ module _ {T : Type 0} where
   page_at-placed runs place run room page = page_at-inserted place run runs page room.before
 
 module _ {T : Type 0} (same : T → T → Bool) (exact : (a b : T) → same a b ≡ true → a ≡ b) (itself : (a : T) → same a a ≡ true) where
-  pub placed-put : (now inside seen other new : List (Run T)) (pieces : Pieces T) (run : Run T) (place from to limit : ℕ) → inside ≡ now → seen ≡ inside → other ≡ inside → from ≡ place - 1 → to ≡ min (length now) (place + 1)
-      → HasRoom now place run.first (run.first + (run.pages - 1))
-      → Gathered same pieces (([] ++ slice_range seen from place ++ run ∷ []) ++ slice_range other place to)
+  pub placed-stands : (now inside new : List (Run T)) (pieces : Pieces T) (run : Run T) (place from to limit : ℕ) → inside ≡ now → from ≡ place - 1 → to ≡ min (length now) (place + 1)
+      → HasRoom now place run.first (run.first + (run.pages - 1)) → 0 < run.pages → end_of run ≤ 2 ^ 35 → run.index < 2 ^ 35
+      → Gathered same pieces ((slice_range inside from place ++ run ∷ []) ++ slice_range inside place to)
       → ((added : List (Run T)) → Gathered same pieces added → (new ≡ splice inside from to (maximal_runs same added)) × (length (splice inside from to (maximal_runs same added)) ≤ limit))
-      → (new ≡ maximal_runs same (runs_with place run now)) × (length new ≤ limit)
-  placed-put now inside seen other new pieces run place from to limit a b b' e f room gathered put =
-      let M = ([] ++ slice_range seen from place ++ run ∷ []) ++ slice_range other place to in
+      → Stands same exact itself now new (with_span run.first run.pages run.index run.value (page_at now)) limit
+  placed-stands now inside new pieces run place from to limit a e f room some top index gathered put =
+      let M = (slice_range inside from place ++ run ∷ []) ++ slice_range inside place to in
       let done = put M gathered in
       let here : splice inside from to (maximal_runs same M) ≡ maximal_runs same (runs_with place run now) =
-      rw (b, b', a, e, f) (inserted-window same exact itself run now place room.maximal room.within) in
-      (done.0 ∙ here, omega (arith, done.1, ap length done.0))
+      rw (a, e, f) (inserted-window same exact itself run now place room.maximal room.within) in
+      stands-joined same exact itself now (runs_with place run now) new (with_span run.first run.pages run.index run.value (page_at now)) limit (apart-placed now place run room some top index) (page_at-placed now place run room) (done.0 ∙ here) (omega (arith, done.1, ap length done.0))
 
-  pub placed-refused : (now inside seen other : List (Run T)) (pieces : Pieces T) (run : Run T) (place from to limit : ℕ) (refusal : RangeFault) → inside ≡ now → seen ≡ inside → other ≡ inside → from ≡ place - 1 → to ≡ min (length now) (place + 1)
-      → HasRoom now place run.first (run.first + (run.pages - 1))
-      → Gathered same pieces (([] ++ slice_range seen from place ++ run ∷ []) ++ slice_range other place to)
+  pub placed-refused : (now inside : List (Run T)) (pieces : Pieces T) (run : Run T) (place from to limit : ℕ) (refusal : RangeFault) → inside ≡ now → from ≡ place - 1 → to ≡ min (length now) (place + 1)
+      → HasRoom now place run.first (run.first + (run.pages - 1)) → 0 < run.pages → end_of run ≤ 2 ^ 35 → run.index < 2 ^ 35
+      → Gathered same pieces ((slice_range inside from place ++ run ∷ []) ++ slice_range inside place to)
       → ((added : List (Run T)) → Gathered same pieces added → refusal ≡ (if nat_lt limit (length (splice inside from to (maximal_runs same added))) then TooManyRanges else NoMemory))
-      → refusal ≡ (if nat_lt limit (length (maximal_runs same (runs_with place run now))) then TooManyRanges else NoMemory)
-  placed-refused now inside seen other pieces run place from to limit refusal a b b' e f room gathered put =
-      let M = ([] ++ slice_range seen from place ++ run ∷ []) ++ slice_range other place to in
+      → IsRefusal (count_refusal same limit (with_span run.first run.pages run.index run.value (page_at now))) refusal
+  placed-refused now inside pieces run place from to limit refusal a e f room some top index gathered put =
+      let M = (slice_range inside from place ++ run ∷ []) ++ slice_range inside place to in
       let here : splice inside from to (maximal_runs same M) ≡ maximal_runs same (runs_with place run now) =
-      rw (b, b', a, e, f) (inserted-window same exact itself run now place room.maximal room.within) in
-      put M gathered ∙ ap (λ l. if nat_lt limit (length l) then TooManyRanges else NoMemory) here
+      rw (a, e, f) (inserted-window same exact itself run now place room.maximal room.within) in
+      refused-joined same exact itself (runs_with place run now) (splice inside from to (maximal_runs same M)) (with_span run.first run.pages run.index run.value (page_at now)) limit refusal (apart-placed now place run room some top index) (page_at-placed now place run room) here (put M gathered)

@@ -1,7 +1,7 @@
 -- A span that is edited: the runs afterwards, and how many they are.
-use Rattle.std.proofs.Common.{◌≡◌, ℕ, ◌+◌, ◌-◌, ◌≤◌, Bool, true, Option, Some, None, List, [], ◌∷◌, length, length-take, drop, get_or, refl, sym, ap, subst, ◌∙◌, arith}
+use Rattle.std.proofs.Common.{◌≡◌, ℕ, ◌+◌, ◌-◌, ◌<◌, ◌≤◌, Bool, true, Option, Some, None, List, [], ◌∷◌, length, length-take, drop, get_or, refl, sym, ap, subst, ◌∙◌, arith}
 use Rattle.std.specs.Prelude.{All, nat_lt, if◌then◌else◌, false, OnOk, Result, Ok, Err}
-use Rattle.std.proofs.lemmas.Bool.{le-ltb}
+use Rattle.std.proofs.lemmas.Bool.{le-ltb, lt-ltb}
 use Rattle.numa_ranges.specs.Gathered.{Gathered}
 use Rattle.numa_ranges.specs.declared.pieces.Pieces.{Pieces}
 use Rattle.numa_ranges.specs.declared.fault.RangeFault.{RangeFault}
@@ -111,3 +111,10 @@ module _ {T : Type 0} where
 pub on_ok : {A E P Q : Type 0} (r : Result A E) → (P → Q) → OnOk r P → OnOk r Q
 on_ok (Ok x) f h = f h
 on_ok (Err e) f h = tt
+
+-- the cause by a count
+pub no-memory : (limit n : ℕ) → n ≤ limit → NoMemory ≡ (if nat_lt limit n then TooManyRanges else NoMemory)
+no-memory limit n few = rw (le-ltb limit n few) refl
+
+pub too-many : (limit n : ℕ) → limit < n → TooManyRanges ≡ (if nat_lt limit n then TooManyRanges else NoMemory)
+too-many limit n many = rw (lt-ltb limit n many) refl

@@ -1,7 +1,10 @@
 //! Runs, cut at the ends of a span and edited inside.
-ghost use Rattle.std.specs.Prelude.{◌≡◌, ◌+◌, ◌*◌, ◌<◌, ◌≤◌, ◌^◌, List, ◌++◌, length, take, drop};
+ghost use Rattle.std.specs.Prelude.{◌≡◌, ◌+◌, ◌*◌, ◌<◌, ◌≤◌, ◌^◌, List, [], ◌∷◌, ◌++◌, length};
+ghost use Rattle.std.specs.Prelude.{take, drop};
+ghost use Rattle.std.specs.List.{slice_range};
 ghost use Rattle.std.specs.Prelude.{Option, All};
 ghost use Rattle.numa_rows.specs.Changes.{Makes};
+ghost use Rattle.numa_ranges.specs.Runs.{AreApart};
 ghost use Rattle.numa_ranges.specs.Edits.{IsInRange, part_before, part_within, part_from, parts};
 ghost use Rattle.numa_ranges.specs.Edits.{edit_of};
 ghost use Rattle.numa_ranges.specs.Gathered.{Gathered};
@@ -10,6 +13,7 @@ use crate::exact::Exact;
 use crate::pieces::Pieces;
 use crate::range_iter::RangeIter;
 use crate::run::Run;
+use crate::runs::Runs;
 use std::alloc::Global;
 
 /// Gathers the next runs, so many, with those pages edited that lie in the span.
@@ -39,8 +43,38 @@ pub(crate) fn gather_edited<T: Exact, F: Fn(&T) -> Option<T>>(
     pieces
 }
 
+/// Gathers the runs from one rank to another, with a run put in at a place between them. `near` is
+/// a guess at the chunk of the first.
+#[inline]
+pub(crate) fn gather_with<T: Exact>(
+    alloc: Global,
+    runs: &Runs<T>,
+    from: usize,
+    place: usize,
+    to: usize,
+    run: Run<T>,
+    near: usize,
+) -> Pieces<T>
+    requires apart { AreApart 0 runs.now }
+    requires rises { from ≤ place }
+    requires reaches { place ≤ to }
+    requires within { to ≤ length runs.now }
+    requires few { to ≤ from + 2 }
+    requires run { IsInRange run }
+    ensures gathered { Gathered T.eq result ((slice_range runs.now from place ++ run ∷ [])
+        ++ slice_range runs.now place to) }
+    ensures count { result.count ≤ 3 }
+{
+    let mut pieces = Pieces::new(alloc, to - from + 1);
+    let mut rest = runs.iter_near(from, near);
+    add_all(&mut pieces, &mut rest, place - from);
+    pieces.add(run);
+    add_all(&mut pieces, &mut rest, to - place);
+    pieces
+}
+
 /// Adds the next runs, so many, as they are.
-pub(crate) fn add_all<T: Exact>(pieces: &mut Pieces<T>, rest: &mut RangeIter<'_, T>, count: usize)
+fn add_all<T: Exact>(pieces: &mut Pieces<T>, rest: &mut RangeIter<'_, T>, count: usize)
     requires within { count ≤ length rest.old }
     requires len { count ≤ 2 ^ 32 }
     requires in_range { All IsInRange (take count rest.old) }

@@ -14,6 +14,12 @@ fn even_rank(rows: &Rows<Row, Owned<Row>>, page: u64) -> Option<usize> {
     let mut chunk = rows.chunk_count();
     let top = rows.get_near(last, &mut chunk).first;
     let low = rows.get_near(0, &mut 0).first;
+    rank_between(page, low, top, last)
+}
+
+/// The rank of a page between the first page of the first row and that of the last.
+#[inline]
+fn rank_between(page: u64, low: u64, top: u64, last: usize) -> Option<usize> {
     let whole = top.saturating_sub(low).max(1);
     let product = page.checked_sub(low)?.checked_mul(last as u64)?;
     Some((product / whole) as usize)
@@ -34,7 +40,7 @@ pub(crate) fn starts_beside(
         → page < (slice_index_or rows.now count d).first) }
 {
     let start = even_rank(rows, page)?.saturating_sub(1);
-    let mut near = start.checked_mul(rows.chunk_count())? / rows.len().max(1);
+    let mut near = start.saturating_mul(rows.chunk_count()) / rows.len().max(1);
     for place in start..rows.len().min(start.saturating_add(LOOKED_AT)) {
         let row = rows.get_near(place, &mut near);
         if page < row.first {

@@ -14,7 +14,7 @@ ghost use Rattle.numa_ranges.specs.Edits.{StartsAround, maximal_runs, edit_of, H
 ghost use Rattle.numa_ranges.specs.Edits.{Becomes, edited_span};
 ghost use Rattle.numa_ranges.specs.Numbered.{AreNumbered, runs_of};
 
-use crate::edit::{add_all, gather_edited};
+use crate::edit::{gather_edited, gather_with};
 use crate::exact::Exact;
 use crate::fault::RangeFault;
 use crate::pieces::Pieces;
@@ -223,11 +223,7 @@ impl<T: Exact> RangeMap<T> {
     {
         let from = place.saturating_sub(1);
         let to = self.runs.len().min(place + 1);
-        let mut pieces = Pieces::new(self.alloc, to - from + 1);
-        let mut rest = self.runs.iter_near(from, near);
-        add_all(&mut pieces, &mut rest, place - from);
-        pieces.add(run);
-        add_all(&mut pieces, &mut rest, to - place);
+        let pieces = gather_with(self.alloc, &self.runs, from, place, to, run, near);
         pieces.put(&mut self.runs, from, to, self.max_ranges, near)?;
         self.near = near;
         self.edited = place;

@@ -266,12 +266,12 @@ fn numbered<T: Exact>(
     for i in 0..runs.len() {
         let run = runs[i];
         let number = values.add(run.value)?;
-        rows.push(Row {
+        rows.push_reserved(Row {
             first: run.first,
             pages: run.pages,
             index: run.index,
             number,
-        })?;
+        });
     }
     Ok(rows)
 }
@@ -282,7 +282,7 @@ fn gathered<T: Exact>(alloc: Global, runs: &Runs<T>) -> Result<Vec<Run<T>>, Allo
 {
     let mut all = Vec::with_capacity(alloc, runs.len())?;
     for run in runs.iter() {
-        all.push(run)?;
+        all.push_reserved(run);
     }
     Ok(all)
 }

@@ -1,5 +1,5 @@
 -- One more run has its row.
-use Rattle.std.proofs.Common.{ap, ◌∙◌, arith}
+use Rattle.std.proofs.Common.{◌+◌, ap, ◌∙◌, arith}
 use Rattle.std.proofs.lemmas.List.{take_all}
 use Rattle.std.proofs.lemmas.Option.{slice_get_within}
 use Rattle.numa_ranges.specs.Numbered.{run_of_row, runs_of}
@@ -15,10 +15,15 @@ loop-i-preserved g c =
     let within = slice_get_within c.add.new.self c.in_ok-number.number run.value c.in_ok-number.ensures.number in
     record {
       longer = longer-both c.args.values.now c.loop-i.values c.add.new.self inv.longer c.add.ensures.longer;
-      numbered = rw c.in_ok-push.ensures.items (numbered-more c.loop-i.values c.add.new.self c.loop-i.rows.items row c.add.ensures.longer inv.numbered within);
-      so_far = ap (runs_of c.add.new.self) c.in_ok-push.ensures.items
+      numbered = rw c.push_reserved.ensures.items (numbered-more c.loop-i.values c.add.new.self c.loop-i.rows.items row c.add.ensures.longer inv.numbered within);
+      so_far = ap (runs_of c.add.new.self) c.push_reserved.ensures.items
           ∙ runs-more c.loop-i.values c.add.new.self c.loop-i.rows.items c.args.runs.now row run c.loop-i.i c.add.ensures.longer inv.numbered inv.so_far (omega arith) c.index-runs-i.is (ap (run_of_row row) c.in_ok-number.ensures.number);
+      size = c.push_reserved.ensures.len ∙ ap (λ n. n + 1) inv.size;
+      room = omega (arith, c.push_reserved.ensures.capacity, inv.room);
     }
+
+pub push_reserved-requires : goal.push_reserved-requires
+push_reserved-requires g c = omega (arith, c.loop-i.invariant.size, c.loop-i.invariant.room)
 
 pub returns-clause-runs : goal.returns-clause-runs
 returns-clause-runs g c = c.loop-i.invariant.so_far ∙ take_all c.loop-i.i c.args.runs.now (omega arith)

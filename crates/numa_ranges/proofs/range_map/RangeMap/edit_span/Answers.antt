@@ -43,3 +43,27 @@ returns-in_err-put-clause-err g c change gives =
     let exit = err_from_is_err_and c.from_residual.result c.from_residual.ensures.1 in
     rw (exit.1, exit.2, ← (ap (λ v. v.max_ranges) c.self.view_is)) (refused-joined g.T.PartialEq.eq g.met.T.Exact.exact g.met.T.Eq.laws.refl (edit_of c.args.first (c.args.first + c.args.pages) change c.args.self.now.runs) _ (edited_span c.args.first c.args.pages change (page_at c.args.self.now.runs)) c.self.inside.max_ranges c.in_err-put.field-0.0
     (apart-edited 0 c.args.first (c.args.first + c.args.pages) change c.args.self.now.runs (omega arith) (rw (← runs) c.self.invariant.0)) (λ page. page_at-edited 0 c.args.first c.args.pages change c.args.self.now.runs page (rw (← runs) c.self.invariant.0)) refl cause)
+
+pub window-from-requires-clause-within : goal.window-from-requires-clause-within
+window-from-requires-clause-within g c = c.requires.within
+
+pub window-from-requires-clause-parts : goal.window-from-requires-clause-parts
+window-from-requires-clause-parts g c = c.requires.parts
+
+pub gather_edited-pieces-requires-clause-callable : goal.gather_edited-pieces-requires-clause-callable
+gather_edited-pieces-requires-clause-callable g c = c.requires.callable
+
+pub put-requires-clause-window : goal.put-requires-clause-window
+put-requires-clause-window g c = (c.window-from.ensures.rises, omega (arith, c.window-from.ensures.within, ap (λ v. length v.runs) c.self.view_is))
+
+pub returns-clause-err : goal.returns-clause-err
+returns-clause-err g c change gives = tt
+
+pub returns-clause-unchanged : goal.returns-clause-unchanged
+returns-clause-unchanged g c = tt
+
+pub returns-clause-max_ranges : goal.returns-clause-max_ranges
+returns-clause-max_ranges g c = ap (λ v. v.max_ranges) c.self.view_is
+
+pub returns-in_err-put-clause-max_ranges : goal.returns-in_err-put-clause-max_ranges
+returns-in_err-put-clause-max_ranges g c = ap (λ v. v.max_ranges) c.self.view_is

@@ -37,3 +37,30 @@ returns-clause-err g c =
     rw whole
     (subst (λ (at : ℕ → Option (ℕ × g.row.T.Denot)). IfErr c.edit_span.result (IsRefusal (count_refusal g.T.PartialEq.eq c.args.self.now.max_ranges at))) same
     (c.edit_span.ensures.err (λ x. Some c.args.value) (λ x r h. search rules)))
+
+pub lacks_page-requires-clause-apart : goal.lacks_page-requires-clause-apart
+lacks_page-requires-clause-apart g c = c.self.invariant.0
+
+pub lacks_page-requires-clause-span : goal.lacks_page-requires-clause-span
+lacks_page-requires-clause-span g c = c.requires.span
+
+pub edit_span-requires-clause-within : goal.edit_span-requires-clause-within
+edit_span-requires-clause-within g c = c.starts_near-place.ensures.within
+
+pub edit_span-requires-clause-parts : goal.edit_span-requires-clause-parts
+edit_span-requires-clause-parts g c = c.starts_near-place.ensures.parts
+
+pub edit_span-requires-clause-span : goal.edit_span-requires-clause-span
+edit_span-requires-clause-span g c = c.requires.span
+
+pub returns-then-lacks_page-clause-ok : goal.returns-then-lacks_page-clause-ok
+returns-then-lacks_page-clause-ok g c = tt
+
+pub returns-then-lacks_page-clause-accepted : goal.returns-then-lacks_page-clause-accepted
+returns-then-lacks_page-clause-accepted g c = tt
+
+pub returns-clause-max_ranges : goal.returns-clause-max_ranges
+returns-clause-max_ranges g c = c.edit_span.ensures.max_ranges
+
+pub returns-clause-unchanged : goal.returns-clause-unchanged
+returns-clause-unchanged g c = c.edit_span.ensures.unchanged
