@@ -25,3 +25,45 @@ stays-requires-clause-count g c = c.requires.table.count ∙ ap (λ l. length (f
 
 pub put_in_chunk-requires-clause-stays : goal.put_in_chunk-requires-clause-stays
 put_in_chunk-requires-clause-stays g c = subst (λ (l : List (List g.row.T.Denot)). StaysPart 256 l c.place_of-first.result.chunk c.place_of-first.result.start c.args.from c.args.to (length c.args.rows.now)) c.deref-3.ensures.value (c.stays.ensures c.if-stays.true)
+
+pub place_of-first-requires-clause-rank : goal.place_of-first-requires-clause-rank
+place_of-first-requires-clause-rank g c = omega (arith, c.requires.some)
+
+pub stays-requires-clause-from : goal.stays-requires-clause-from
+stays-requires-clause-from g c = omega arith
+
+pub stays-requires-clause-rises : goal.stays-requires-clause-rises
+stays-requires-clause-rises g c = c.requires.rises
+
+pub stays-requires-clause-small : goal.stays-requires-clause-small
+stays-requires-clause-small g c = c.requires.table.small
+
+pub stays-requires-clause-few : goal.stays-requires-clause-few
+stays-requires-clause-few g c = c.requires.few
+
+pub put_in_chunk-requires-clause-table : goal.put_in_chunk-requires-clause-table
+put_in_chunk-requires-clause-table g c = c.requires.table
+
+pub put_in_chunk-requires-clause-few : goal.put_in_chunk-requires-clause-few
+put_in_chunk-requires-clause-few g c = c.requires.few
+
+pub returns-then-stays-clause-ok : goal.returns-then-stays-clause-ok
+returns-then-stays-clause-ok g c = c.put_in_chunk.ensures.ok
+
+pub returns-then-stays-clause-unchanged : goal.returns-then-stays-clause-unchanged
+returns-then-stays-clause-unchanged g c = c.put_in_chunk.ensures.unchanged
+
+pub place_of-last-requires-clause-rank : goal.place_of-last-requires-clause-rank
+place_of-last-requires-clause-rank g c = omega (arith, c.requires.some)
+
+pub repack-requires-clause-table : goal.repack-requires-clause-table
+repack-requires-clause-table g c = c.requires.table
+
+pub repack-requires-clause-few : goal.repack-requires-clause-few
+repack-requires-clause-few g c = c.requires.few
+
+pub returns-clause-ok : goal.returns-clause-ok
+returns-clause-ok g c = c.repack.ensures.ok
+
+pub returns-clause-unchanged : goal.returns-clause-unchanged
+returns-clause-unchanged g c = c.repack.ensures.unchanged

@@ -16,3 +16,18 @@ returns-clause-within g c = omega (arith, c.requires.within, c.ask.ensures.withi
 
 pub returns-clause-narrowed : goal.returns-clause-narrowed
 returns-clause-narrowed g c p gives parted so = c.ask.ensures.narrowed p gives parted so
+
+pub part_of-part-requires-clause-table : goal.part_of-part-requires-clause-table
+part_of-part-requires-clause-table g c = c.requires.table
+
+pub ask-requires-clause-callable : goal.ask-requires-clause-callable
+ask-requires-clause-callable g c = c.requires.callable
+
+pub ask-requires-clause-part : goal.ask-requires-clause-part
+ask-requires-clause-part g c = c.part_of-part.ensures.part
+
+pub ask-requires-clause-has : goal.ask-requires-clause-has
+ask-requires-clause-has g c = c.part_of-part.ensures.has
+
+pub returns-then-not-has-clause-within : goal.returns-then-not-has-clause-within
+returns-then-not-has-clause-within g c = c.requires.within

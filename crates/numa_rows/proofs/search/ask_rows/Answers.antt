@@ -21,3 +21,21 @@ pub returns-clause-narrowed : goal.returns-clause-narrowed
 returns-clause-narrowed g c p gives parted so =
     let none : c.loop-left.left.size ≡ 0 = omega (arith, c.loop-left-test.false) in
     subst (λ n. IsNarrowed p (flat c.args.chunks.now) c.loop-left.left.base n) none (c.loop-left.invariant.narrowed p gives parted so)
+
+pub part_of-part-requires-clause-table : goal.part_of-part-requires-clause-table
+part_of-part-requires-clause-table g c = c.requires.table
+
+pub part_of-part-requires-clause-part : goal.part_of-part-requires-clause-part
+part_of-part-requires-clause-part g c = c.loop-left.invariant.stands
+
+pub ask-left-requires-clause-callable : goal.ask-left-requires-clause-callable
+ask-left-requires-clause-callable g c = c.requires.callable
+
+pub ask-left-requires-clause-part : goal.ask-left-requires-clause-part
+ask-left-requires-clause-part g c = c.part_of-part.ensures.part
+
+pub ask-left-requires-clause-has : goal.ask-left-requires-clause-has
+ask-left-requires-clause-has g c = c.part_of-part.ensures.has
+
+pub returns-clause-within : goal.returns-clause-within
+returns-clause-within g c = omega (arith, c.loop-left.invariant.within)
