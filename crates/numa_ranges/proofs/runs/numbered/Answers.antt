@@ -4,7 +4,7 @@ use Rattle.std.proofs.lemmas.List.{take_all}
 use Rattle.std.proofs.lemmas.Option.{slice_get_within}
 use Rattle.numa_ranges.specs.Numbered.{run_of_row, runs_of}
 use Rattle.numa_ranges.specs.declared.row.Row.{Row}
-use Rattle.numa_ranges.proofs.Numbered.{longer-both, runs-more, numbered-more}
+use Rattle.numa_ranges.proofs.Numbered.{longer-same, longer-both, runs-more, numbered-more}
 use Rattle.numa_ranges.proofs.runs.numbered.Goals as goal
 
 pub loop-i-preserved : goal.loop-i-preserved
@@ -27,3 +27,24 @@ push_reserved-requires g c = omega (arith, c.loop-i.invariant.size, c.loop-i.inv
 
 pub returns-clause-runs : goal.returns-clause-runs
 returns-clause-runs g c = c.loop-i.invariant.so_far ∙ take_all c.loop-i.i c.args.runs.now (omega arith)
+
+pub loop-i-init : goal.loop-i-init
+loop-i-init g c = record {
+  longer = longer-same c.args.values.now;
+  numbered = rw c.in_ok-rows.ensures.items tt;
+  so_far = ap (runs_of c.args.values.now) c.in_ok-rows.ensures.items;
+  size = c.in_ok-rows.ensures.len;
+  room = c.in_ok-rows.ensures.capacity;
+}
+
+pub returns-clause-longer : goal.returns-clause-longer
+returns-clause-longer g c = c.loop-i.invariant.longer
+
+pub returns-clause-numbered : goal.returns-clause-numbered
+returns-clause-numbered g c = c.loop-i.invariant.numbered
+
+pub returns-in_err-number-clause-longer : goal.returns-in_err-number-clause-longer
+returns-in_err-number-clause-longer g c = longer-both c.args.values.now c.loop-i.values c.add.new.self c.loop-i.invariant.longer c.add.ensures.longer
+
+pub returns-in_err-rows-clause-longer : goal.returns-in_err-rows-clause-longer
+returns-in_err-rows-clause-longer g c = longer-same c.args.values.now

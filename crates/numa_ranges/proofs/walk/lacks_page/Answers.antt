@@ -1,6 +1,6 @@
 -- The walk stops at a page that is not mapped, behind the span, or behind the last run.
 use Rattle.std.proofs.Common.{sym, ◌∙◌, arith}
-use Rattle.numa_ranges.proofs.Walked.{walk-begins, walk-lacks, walk-whole, walk-ends}
+use Rattle.numa_ranges.proofs.Walked.{walk-begins, walk-fits, walk-on, walk-lacks, walk-whole, walk-ends}
 use Rattle.numa_ranges.proofs.walk.lacks_page.Goals as goal
 
 pub loop-run-init : goal.loop-run-init
@@ -16,3 +16,12 @@ returns-then-page-run g c =
 
 pub returns : goal.returns
 returns g c = walk-ends c.args.runs.now c.loop-run.run-iterator c.args.first c.args.pages c.loop-run.page c.loop-run.invariant c.in-None.ensures.steps.0
+
+pub loop-run-preserved : goal.loop-run-preserved
+loop-run-preserved g c = walk-on c.args.runs.now c.loop-run.run-iterator c.next.new.self c.in-Some.run' c.args.first c.loop-run.page c.max-page.result c.loop-run.invariant c.in-Some.ensures.steps (omega arith) (omega arith)
+
+pub overflow_add-end : goal.overflow_add-end
+overflow_add-end g c = omega (arith, c.requires.span)
+
+pub overflow_add-run : goal.overflow_add-run
+overflow_add-run g c = omega (arith, walk-fits c.args.runs.now c.loop-run.run-iterator c.next.new.self c.in-Some.run' c.args.first c.loop-run.page c.loop-run.invariant c.in-Some.ensures.steps)

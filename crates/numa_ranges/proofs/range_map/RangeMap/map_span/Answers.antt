@@ -17,3 +17,30 @@ pub returns-clause-err : goal.returns-clause-err
 returns-clause-err g c =
     let free : any_page (λ page. is_some (page_at c.args.self.now.runs page)) c.args.first c.args.pages ≡ false = c.in-Some.ensures.free in
     rw free c.insert_run.ensures.err
+
+pub place_between-requires-clause-some : goal.place_between-requires-clause-some
+place_between-requires-clause-some g c = c.requires.some
+
+pub place_between-requires-clause-span : goal.place_between-requires-clause-span
+place_between-requires-clause-span g c = c.requires.span
+
+pub insert_run-requires-clause-some : goal.insert_run-requires-clause-some
+insert_run-requires-clause-some g c = c.requires.some
+
+pub insert_run-requires-clause-span : goal.insert_run-requires-clause-span
+insert_run-requires-clause-span g c = c.requires.span
+
+pub insert_run-requires-clause-index : goal.insert_run-requires-clause-index
+insert_run-requires-clause-index g c = c.requires.index
+
+pub returns-clause-max_ranges : goal.returns-clause-max_ranges
+returns-clause-max_ranges g c = c.insert_run.ensures.max_ranges
+
+pub returns-clause-unchanged : goal.returns-clause-unchanged
+returns-clause-unchanged g c = c.insert_run.ensures.unchanged
+
+pub returns-in_default-clause-ok : goal.returns-in_default-clause-ok
+returns-in_default-clause-ok g c = tt
+
+pub returns-in_default-clause-accepted : goal.returns-in_default-clause-accepted
+returns-in_default-clause-accepted g c = tt

@@ -22,3 +22,18 @@ pub returns-clause-err : goal.returns-clause-err
 returns-clause-err g c =
     let same = without-is c.args.first c.args.pages (page_at c.args.self.now.runs) in
     subst (λ (at : ℕ → Option (ℕ × g.row.T.Denot)). IfErr c.edit_span.result (IsRefusal (count_refusal g.T.PartialEq.eq c.args.self.now.max_ranges at))) same (c.edit_span.ensures.err (λ x. None) (λ x r h. search rules))
+
+pub edit_span-requires-clause-within : goal.edit_span-requires-clause-within
+edit_span-requires-clause-within g c = c.starts_near-place.ensures.within
+
+pub edit_span-requires-clause-parts : goal.edit_span-requires-clause-parts
+edit_span-requires-clause-parts g c = c.starts_near-place.ensures.parts
+
+pub edit_span-requires-clause-span : goal.edit_span-requires-clause-span
+edit_span-requires-clause-span g c = c.requires.span
+
+pub returns-clause-max_ranges : goal.returns-clause-max_ranges
+returns-clause-max_ranges g c = c.edit_span.ensures.max_ranges
+
+pub returns-clause-unchanged : goal.returns-clause-unchanged
+returns-clause-unchanged g c = c.edit_span.ensures.unchanged

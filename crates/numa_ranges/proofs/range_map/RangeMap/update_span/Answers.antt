@@ -26,3 +26,18 @@ returns-clause-err g c change gives =
     let same = changed-is c.args.first c.args.pages change (page_at c.args.self.now.runs) in
     subst (λ (at : ℕ → Option (ℕ × g.row.T.Denot)). IfErr c.edit_span.result (IsRefusal (count_refusal g.T.PartialEq.eq c.args.self.now.max_ranges at))) same
     (c.edit_span.ensures.err (λ x. Some (change x)) (λ x r h. search (rules, gives)))
+
+pub edit_span-requires-clause-within : goal.edit_span-requires-clause-within
+edit_span-requires-clause-within g c = c.starts_near-place.ensures.within
+
+pub edit_span-requires-clause-parts : goal.edit_span-requires-clause-parts
+edit_span-requires-clause-parts g c = c.starts_near-place.ensures.parts
+
+pub edit_span-requires-clause-span : goal.edit_span-requires-clause-span
+edit_span-requires-clause-span g c = c.requires.span
+
+pub returns-clause-max_ranges : goal.returns-clause-max_ranges
+returns-clause-max_ranges g c = c.edit_span.ensures.max_ranges
+
+pub returns-clause-unchanged : goal.returns-clause-unchanged
+returns-clause-unchanged g c = c.edit_span.ensures.unchanged
