@@ -15,3 +15,25 @@ loop-low-preserved g c = record {
   within = c.ask_left-left.ensures.within;
   narrowed = λ p gives parted so. c.ask_left-left.ensures.narrowed p gives parted (c.loop-low.invariant.narrowed p gives parted so);
 }
+
+pub loop-low-init : goal.loop-low-init
+loop-low-init g c = record {
+  places = c.requires.places;
+  within = c.requires.within;
+  narrowed = λ p gives parted so. so;
+}
+
+pub ask_left-left-requires-clause-callable : goal.ask_left-left-requires-clause-callable
+ask_left-left-requires-clause-callable g c = c.requires.callable
+
+pub ask_left-left-requires-clause-table : goal.ask_left-left-requires-clause-table
+ask_left-left-requires-clause-table g c = c.requires.table
+
+pub ask_left-left-requires-clause-within : goal.ask_left-left-requires-clause-within
+ask_left-left-requires-clause-within g c = c.loop-low.invariant.within
+
+pub returns-clause-within : goal.returns-clause-within
+returns-clause-within g c = c.loop-low.invariant.within
+
+pub returns-clause-narrowed : goal.returns-clause-narrowed
+returns-clause-narrowed g c = c.loop-low.invariant.narrowed

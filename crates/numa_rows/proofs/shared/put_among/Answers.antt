@@ -20,3 +20,27 @@ put-requires-2-clause-inside g c = omega (arith, c.requires.inside, ap (λ b. le
 
 pub put-requires-2-clause-fits : goal.put-requires-2-clause-fits
 put-requires-2-clause-fits g c = omega (arith, c.requires.fits, ap (λ b. length (g.B.Block.items_of b)) c.deref.ensures)
+
+pub put-requires-clause-rises : goal.put-requires-clause-rises
+put-requires-clause-rises g c = c.requires.rises
+
+pub put-requires-clause-within : goal.put-requires-clause-within
+put-requires-clause-within g c = c.requires.within
+
+pub put-requires-2-clause-rises : goal.put-requires-2-clause-rises
+put-requires-2-clause-rises g c = c.requires.rises
+
+pub put-requires-2-clause-within : goal.put-requires-2-clause-within
+put-requires-2-clause-within g c = c.requires.within
+
+pub returns-in-Some-clause-unchanged : goal.returns-in-Some-clause-unchanged
+returns-in-Some-clause-unchanged g c = tt
+
+pub returns-clause-unchanged : goal.returns-clause-unchanged
+returns-clause-unchanged g c = tt
+
+pub returns-in_default-ok-clause-room : goal.returns-in_default-ok-clause-room
+returns-in_default-ok-clause-room g c = tt
+
+pub returns-in_default-ok-clause-rows : goal.returns-in_default-ok-clause-rows
+returns-in_default-ok-clause-rows g c = tt
