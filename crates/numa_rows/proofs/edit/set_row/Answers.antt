@@ -2,7 +2,8 @@
 use Rattle.std.proofs.Common.{◌≡◌, ◌-◌, List, set, subst, refl}
 use Rattle.numa_rows.specs.Parts.{HasRank}
 use Rattle.std.proofs.lemmas.Result.{on_ok_weaker, on_err_weaker}
-use Rattle.numa_rows.proofs.Windows.{part-back}
+use Rattle.numa_rows.proofs.Windows.{part-back, table-same}
+use Rattle.numa_rows.proofs.InParts.{row-inside}
 use Rattle.numa_rows.proofs.Ranked.{set-one, set-table}
 use Rattle.numa_rows.proofs.edit.set_row.Goals as goal
 
@@ -20,3 +21,15 @@ pub returns-clause-unchanged : goal.returns-clause-unchanged
 returns-clause-unchanged g c =
     let chunk = c.index_mut.result.now in
     on_err_weaker c.set.result (λ (so : c.set.new.self ≡ chunk). part-back 256 c.args.chunks.now.items _ c.args.starts.now c.args.len c.place_of-place.result.chunk chunk c.set.new.self c.index_mut.ensures.value refl so c.requires.table) c.set.ensures.unchanged
+
+pub place_of-place-requires-clause-rank : goal.place_of-place-requires-clause-rank
+place_of-place-requires-clause-rank g c = c.requires.rank
+
+pub place_of-place-requires-clause-table : goal.place_of-place-requires-clause-table
+place_of-place-requires-clause-table g c = table-same 256 c.args.chunks.now.items c.deref.result.now c.args.starts.now c.args.starts.now c.args.len c.deref.ensures.value refl c.requires.table
+
+pub set-requires : goal.set-requires
+set-requires g c =
+    let place = c.place_of-place.result in
+    let has = subst (λ (l : List (List g.row.T.Denot)). HasRank l place.chunk place.start c.args.rank) c.deref.ensures.value c.place_of-place.ensures in
+    row-inside c.args.chunks.now.items place.chunk place.start c.args.rank c.index_mut.result.now c.index_mut.result.now has c.index_mut.ensures.value refl
