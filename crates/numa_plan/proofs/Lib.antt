@@ -2,6 +2,7 @@ pub mod BuildLemmas
 pub mod CountLemmas
 pub mod EditLemmas
 pub mod FillLemmas
+pub mod ListSteps
 pub mod NearWindows
 pub mod RowLemmas
 pub mod RuleLemmas

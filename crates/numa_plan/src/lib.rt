@@ -13,6 +13,7 @@
 //! `specs/Rows.antt`, and what the building calls make of the data in `specs/Building.antt`.
 #![tactic(auto)]
 
+mod chunks;
 mod guess;
 mod numbers;
 mod plan;

@@ -65,6 +65,23 @@ impl Model for Plan {
         IsPlan a.nodes a.runs a.slots.items a.lowest_free a.tasks.entries a.local };
 }
 
+/// The same tasks and the same local rule once more.
+fn copied(
+    alloc: Global,
+    tasks: &BTreeMap<u32, u32>,
+    local: &Rule,
+) -> Result<(BTreeMap<u32, u32>, Rule), NoMemory>
+    ensures tasks { IfOk result (λ copy. copy.0.entries ≡ tasks.now.entries) }
+    ensures local { IfOk result (λ copy. copy.1 ≡ local.now) }
+{
+    let tasks = tasks.clone()?;
+    let Ok(local) = local.copy(alloc) else {
+        drop(tasks);
+        return Err(NoMemory);
+    };
+    Ok((tasks, local))
+}
+
 impl Plan {
     /// The same plan once more, with its version, runs, rules and tasks. The two share the chunks
     /// of their runs and the rules in slots, until one of them is edited.
@@ -75,10 +92,17 @@ impl Plan {
     pub fn copy(&self, alloc: Global) -> Result<Plan, NoMemory>
         ensures { IfOk result (λ copy. copy ≡ self.now) }
     {
-        let runs = self.runs.copy()?;
         let slots = copies(alloc, &self.slots)?;
-        let tasks = self.tasks.clone()?;
-        let local = self.local.copy(alloc)?;
+        let Ok((tasks, local)) = copied(alloc, &self.tasks, &self.local) else {
+            drop(slots);
+            return Err(NoMemory);
+        };
+        let Ok(runs) = self.runs.copy() else {
+            drop(local);
+            drop(tasks);
+            drop(slots);
+            return Err(NoMemory);
+        };
         Ok(Plan {
             alloc,
             version: self.version,

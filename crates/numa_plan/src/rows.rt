@@ -25,6 +25,17 @@ pub(crate) fn first_at(rows: &[u8], width: u32, number: u8) -> u8
         .unwrap_or(0)
 }
 
+/// The first nodes of the rows that stand in a cycle.
+fn first_list(alloc: Global, width: u32, rows: &[u8], cycle: &[u8]) -> Result<Vec<u8>, NoMemory>
+    ensures { IfOk result (λ firsts. firsts.items ≡ first_nodes rows.now width cycle.now) }
+{
+    let mut firsts = Vec::with_capacity(alloc, cycle.len())?;
+    for number in cycle {
+        firsts.push_reserved(first_at(rows, width, *number));
+    }
+    Ok(firsts)
+}
+
 /// The cycle of the first nodes of the rows that stand in a cycle.
 pub(crate) fn first_cycle(
     alloc: Global,
@@ -35,10 +46,7 @@ pub(crate) fn first_cycle(
     requires { 0 < length cycle.now }
     ensures { IfOk result (λ firsts. firsts ≡ first_nodes rows.now width cycle.now) }
 {
-    let mut firsts = Vec::with_capacity(alloc, cycle.len())?;
-    for number in cycle {
-        firsts.push(first_at(rows, width, *number))?;
-    }
-    let firsts = Cycle::new(alloc, &firsts)?;
-    Ok(firsts)
+    let firsts = first_list(alloc, width, rows, cycle)?;
+    let made = Cycle::new(alloc, &firsts)?;
+    Ok(made)
 }

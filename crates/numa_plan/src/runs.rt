@@ -11,6 +11,7 @@ ghost use Rattle.numa_plan.specs.Counted.{one_comparison, one_run, more_runs, Fi
 ghost use Rattle.numa_plan.specs.Counted.{FindsTwice};
 ghost use Rattle.numa_plan.specs.Found.{IsAt, IsFound, IsPartOf, IsMapped, IsSplit, HasHole};
 
+use crate::chunks::{chunks_of, gathered, run_count, run_near};
 use crate::guess::{LOOKED_AT, chunk_of, start_before};
 use crate::steps::Steps;
 use numa_machine::NoMemory;
@@ -99,23 +100,24 @@ fn split_rows(
 {
     let mut part = items.no_part();
     let mut low = 0usize;
-    let mut high = items.len();
+    let mut high = run_count(items);
     let mut far = 0u64;
     let mut below = 0usize;
-    let mut above = items.chunk_count();
+    let mut above = chunks_of(items);
     while low < high {
         let middle = low + (high - low) / 2;
         part = items.part_with(part, middle, below / 2 + above / 2);
         let run = items.row_in(&part, middle);
+        let chunk = part.chunk();
         match compared(run, page, steps) {
             Some(distance) => {
                 far = distance;
                 low = middle + 1;
-                below = part.chunk();
+                below = chunk;
             }
             None => {
                 high = middle;
-                above = part.chunk();
+                above = chunk;
             }
         }
     }
@@ -174,8 +176,8 @@ fn window_from(
     let mut chunk = guess;
     let mut from = start;
     let mut to = start;
-    while to < items.len() {
-        let run = items.get_near(to, &mut chunk);
+    while to < run_count(items) {
+        let run = run_near(items, to, &mut chunk);
         if begins_behind(run, end) {
             return seen_window(start, from, to, chunk);
         }
@@ -186,27 +188,6 @@ fn window_from(
         from = behind_ended(run, first, from, to);
     }
     seen_window(start, from, to, chunk)
-}
-
-/// The runs from one place to another, in a vector of their own. `near` is a guess at the chunk of
-/// the first.
-fn gathered(
-    alloc: Global,
-    items: &Rows<Run<Option<u32>>, Shared<Run<Option<u32>>>>,
-    from: usize,
-    to: usize,
-    near: usize,
-) -> Result<Vec<Run<Option<u32>>>, AllocError>
-    requires rises { from ≤ to }
-    requires within { to ≤ length items.now }
-    ensures { IfOk result (λ runs. runs.items ≡ slice_range items.now from to) }
-{
-    let mut runs = Vec::with_capacity(alloc, to - from)?;
-    let mut chunk = near;
-    for place in from..to {
-        runs.push(*items.get_near(place, &mut chunk))?;
-    }
-    Ok(runs)
 }
 
 /// Runs of pages, in rising order and apart, each with the number of its rule or none. They stand
@@ -251,7 +232,7 @@ impl Runs {
         ensures count { result ≡ length self.now }
         ensures apart { AreApart 0 self.now }
     {
-        self.items.len()
+        run_count(&self.items)
     }
 
     /// The place behind the last run that begins at a page or before it, how far the page lies
@@ -272,7 +253,7 @@ impl Runs {
             MatchOption result ((slice_index_or self.now place d).pages ≤ far)
             (λ found. IsPartOf (slice_index_or self.now place d) far found) }
     {
-        let run = self.items.get_near(place, chunk);
+        let run = run_near(&self.items, place, chunk);
         found_in(run, far)
     }
 
@@ -312,9 +293,16 @@ impl Runs {
         }
         // The search works on a copy, so that a walk that needs none keeps its own in registers.
         let mut sought = *seen;
-        let found = self.find_first(page, &mut sought, &mut Steps::new());
+        let found = self.find_uncounted(page, &mut sought);
         *seen = sought;
         found
+    }
+
+    /// What the runs say of a page, by a search that counts nothing; `seen` is where it ended.
+    fn find_uncounted(&self, page: u64, seen: &mut Seen) -> Option<Found>
+        ensures found { IsFound self.now page result }
+    {
+        self.find_first(page, seen, &mut Steps::new())
     }
 
     /// What the next run says of a page; none where it doesn't have the page.
@@ -326,7 +314,7 @@ impl Runs {
         if place >= self.len() {
             return None;
         }
-        let run = self.items.get_near(place, &mut seen.chunk);
+        let run = run_near(&self.items, place, &mut seen.chunk);
         let far = behind_first(run, page)?;
         let found = found_in(run, far)?;
         seen.place = place + 1;
@@ -392,18 +380,21 @@ impl Runs {
     pub(crate) fn window_near(&self, first: u64, end: u64, guess: usize) -> Beside
         ensures { first ≤ end → IsWindow self.now first end result.from result.to }
     {
-        let runs = self.items.len();
+        let runs = run_count(&self.items);
         let start = start_before(guess, runs);
-        let chunk = chunk_of(start, self.items.chunk_count(), runs);
+        let chunk = chunk_of(start, chunks_of(&self.items), runs);
         if let Some(found) = window_from(&self.items, first, end, start, chunk) {
             return found;
         }
+        self.window_sought(first, end, chunk)
+    }
+
+    /// The same places, sought; `near` is a guess at their chunk.
+    fn window_sought(&self, first: u64, end: u64, near: usize) -> Beside
+        ensures { first ≤ end → IsWindow self.now first end result.from result.to }
+    {
         let (from, to) = self.window(first, end, &mut Steps::new());
-        Beside {
-            from,
-            to,
-            near: chunk,
-        }
+        Beside { from, to, near }
     }
 
     /// What the runs say of a page, which the run at a place, that stands in a chunk or near it, is
@@ -419,7 +410,7 @@ impl Runs {
     pub(crate) fn at(&self, place: usize) -> Option<Run<Option<u32>>>
         ensures { result ≡ slice_get self.now place }
     {
-        if place < self.items.len() {
+        if place < run_count(&self.items) {
             Some(*self.items.get(place))
         } else {
             None

@@ -43,7 +43,7 @@ pub(crate) fn copies(alloc: Global, slots: &[Slot]) -> Result<Vec<Slot>, NoMemor
 {
     let mut others = Vec::with_capacity(alloc, slots.len())?;
     for slot in slots {
-        others.push(slot_copy(slot)?)?;
+        others.push_reserved(slot_copy(slot)?);
     }
     Ok(others)
 }

@@ -14,7 +14,7 @@ use crate::plan::Plan;
 use crate::rule::Rule;
 use crate::runs::Runs;
 use crate::shared_rule::SharedRule;
-use crate::slots::{leave_named, lowest_free, put_rule, use_named, use_rule};
+use crate::slots::{leave_named, lowest_free, put_rule, use_named, use_rule, uses_at};
 use crate::steps::Steps;
 use numa_machine::NoMemory;
 use numa_mode::Record;
@@ -140,7 +140,7 @@ impl Plan {
         ensures sized { OnOk result (length self.new.tasks ≤ length self.old.tasks + 1) }
         ensures err { OnErr result (self.new ≡ self.old) }
     {
-        if self.uses(number) == u32::MAX {
+        if uses_at(&self.slots, number) == u32::MAX {
             return Err(NoMemory);
         }
         let had = self.tasks.insert(task, number)?;
