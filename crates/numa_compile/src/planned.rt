@@ -1,6 +1,6 @@
 //! A space with the plan that is kept beside it.
 ghost use Rattle.std.specs.Prelude.{◌≡◌, ℕ, ◌<◌, ◌∷◌, None, MatchOption, IfOk, IfErr, OnOk, OnErr};
-ghost use Rattle.std.specs.Prelude.{IfSome, List, []};
+ghost use Rattle.std.specs.Prelude.{IfSome, List, [], Some};
 ghost use Rattle.std.specs.Bool.{OnTrue};
 ghost use Rattle.std.specs.Option.{ForSome};
 ghost use Rattle.numa_space.specs.declared.command.Command.{Command};
@@ -96,6 +96,32 @@ fn prepare(alloc: Global, plan: &mut Option<Plan>, space: &Space) -> Result<(), 
         mem::forget(plan.replace(made));
     }
     Ok(())
+}
+
+/// A copy of the plan that is there.
+///
+/// # Errors
+/// `NoMemory` where there is none for it, or no plan.
+fn copy_there(alloc: Global, plan: &Option<Plan>) -> Result<Plan, NoMemory>
+    ensures { IfOk result (λ copy. plan.now ≡ Some copy) }
+{
+    match plan {
+        Some(plan) => plan.copy(alloc),
+        None => Err(NoMemory),
+    }
+}
+
+/// A copy of the plan of a space, which is made first where there is none yet.
+///
+/// # Errors
+/// `NoMemory` where there is none for the plan or for its copy.
+fn made_copy(alloc: Global, plan: &mut Option<Plan>, space: &Space) -> Result<Plan, NoMemory>
+    requires { ForSome plan.old (Follows space.now) }
+    ensures plan { ForSome plan.new (Follows space.now) }
+    ensures copy { IfOk result (Follows space.now) }
+{
+    prepare(alloc, plan, space)?;
+    copy_there(alloc, plan)
 }
 
 /// The plan of a space. A function of its own, so that a question about a space with a plan takes
@@ -208,10 +234,7 @@ impl PlannedSpace {
         ensures sound { IfOk result (λ plan. (task page cpu : ℕ) → cpu < plan.nodes
             → ForSome (planned_list plan task page cpu) (IsNodeList self.old.allowed)) }
     {
-        self.prepare(alloc)?;
-        match self.plan() {
-            Some(plan) => plan.copy(alloc),
-            None => Err(NoMemory),
-        }
+        survey(&self.space);
+        made_copy(alloc, &mut self.plan, &self.space)
     }
 }
