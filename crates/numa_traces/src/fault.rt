@@ -1,9 +1,6 @@
 //! Why a trace can't be replayed.
-ghost use Rattle.std.specs.Prelude.{◌≡◌};
-ghost use Rattle.numa_traces.specs.declared.fault.ReplayFault.TheVariants as fault;
 
 use numa_space::PlaceRefusal;
-use std::alloc::{AllocError, AllocFailed};
 
 /// Why a line says no access.
 #[derive(Clone, Copy, Debug, PartialEq, Eq)]
@@ -60,21 +57,5 @@ impl ReplayFault {
             ReplayFault::TooMany => "too many accesses: 2^64 or more of one kind",
             ReplayFault::NoMemory => "out of memory",
         }
-    }
-}
-
-impl From<AllocError> for ReplayFault {
-    fn from(_error: AllocError) -> ReplayFault
-        ensures { result ≡ fault.NoMemory }
-    {
-        ReplayFault::NoMemory
-    }
-}
-
-impl<T: Drop> From<AllocFailed<T>> for ReplayFault {
-    fn from(_failed: AllocFailed<T>) -> ReplayFault
-        ensures { result ≡ fault.NoMemory }
-    {
-        ReplayFault::NoMemory
     }
 }
