@@ -2,12 +2,15 @@
 use Rattle.std.specs.Prelude.{ℕ, ◌≡◌, ◌≤◌, true, List, [], ◌∷◌, ◌++◌, length, reverse}
 use mathlib.Core.List.{IsPrefix}
 use Rattle.logbook.specs.Pages.{Book}
+use Rattle.numa_machine.specs.Machine.{Hardware}
 use Rattle.numa_space.specs.declared.command.Command.{Command}
 use Rattle.numa_space.specs.Standing.{SpaceState, StandsFor}
 use Rattle.numa_publish.specs.declared.issue.Issue.{Issue}
+use Rattle.numa_publish.specs.declared.past.Past.{Past}
 use Rattle.numa_publish.specs.declared.rule.Knows.{Knows}
 use Rattle.numa_publish.specs.Batches.{history_of, not_logged}
 use Rattle.numa_publish.specs.Knowing.{IsEarlier, told_by}
+use Rattle.numa_publish.specs.Shown.{ReaderState, ViewState}
 
 -- a desk with this space, which shows this issue: `commands` are pending, the oldest first, and the
 -- log of this book has the first `logged` of them
@@ -39,16 +42,33 @@ pub record IsNextIssue (space : SpaceState) (shown next : Issue) (log : List (Li
   pub whole : history_of next.front.log ≡ reverse commands ++ history_of shown.front.log
   pub versions : next.versions ≡ length (history_of next.front.log) ∷ shown.versions
 
--- a reader that has seen this beginning of the log of this book, and knows so much
-pub record IsReaderKept (version : ℕ) (log : List (List Command)) (book : Book)
-    (known : Knows) : Type 0 where
-  pub version_is : version ≡ length (history_of log)
+-- a reader with this past, which knows so much
+pub record IsReaderKept (past : Past) (known : Knows) : Type 0 where
+  pub version_is : past.version ≡ length (history_of past.front.log)
   pub named : known.named ≡ true
-  pub book_is : known.front.book ≡ book
+  pub book_is : known.front.book ≡ past.front.book
 
 -- a view, by such a reader, of this issue
-pub record IsViewKept (version : ℕ) (log : List (List Command)) (book : Book) (known : Knows)
-    (issue : Issue) : Type 0 where
-  pub reader : IsReaderKept version log book known
-  pub log_is : log ≡ issue.front.log
+pub record IsViewKept (past : Past) (known : Knows) (issue : Issue) : Type 0 where
+  pub reader : IsReaderKept past known
+  pub log_is : past.front.log ≡ issue.front.log
   pub machine_is : known.machine ≡ issue.machine
+
+-- what clauses see of a reader with this past, of a desk of this machine
+abbrev pub reader_shown : Past → Hardware → ReaderState
+reader_shown past machine = record {
+  desk = record { book = past.front.book; machine = machine };
+  history = history_of past.front.log;
+  enters = past.enters;
+  refused = past.refused;
+}
+
+-- and of a view, by such a reader, of this issue
+abbrev pub view_shown : Past → Hardware → Issue → ViewState
+view_shown past machine issue = record {
+  desk = record { book = past.front.book; machine = machine };
+  history = history_of past.front.log;
+  versions = issue.versions;
+  enters = past.enters;
+  refused = past.refused;
+}

@@ -10,6 +10,7 @@ pub mod desk;
 mod ghosts;
 mod issue;
 mod log;
+mod past;
 mod publishing;
 pub mod reader;
 pub mod receipt;

@@ -1,16 +1,16 @@
 //! Readers that aren't looking.
 ghost use Rattle.std.specs.Prelude.{◌≡◌, ◌+◌, [], true, length, slice_index, IfOk, MatchResult};
 ghost use Rattle.left_right.specs.Sides.{view as place_view};
-ghost use Rattle.numa_publish.specs.Batches.{Extends, history_of};
-ghost use Rattle.numa_publish.specs.Kept.{IsReaderKept};
-ghost use Rattle.numa_publish.specs.Shown.{IsOneOf};
+ghost use Rattle.numa_publish.specs.Batches.{Extends};
+ghost use Rattle.numa_publish.specs.Kept.{IsReaderKept, reader_shown};
+ghost use Rattle.numa_publish.specs.Shown.{IsOneOf, new_reader};
 
 use crate::issue::Issue;
 use crate::log::Front;
+use crate::past::Past;
 use crate::receipt::Receipt;
 use crate::rule::{Look, ShownReader};
 use crate::view::PlanView;
-use numa_count::Count;
 use std::marker::Model;
 
 /// A reader of one desk, with a place of its own among the desk's readers until it is dropped. It
@@ -22,29 +22,19 @@ use std::marker::Model;
 #[derive(Drop)]
 pub struct PlanReader {
     reader: ShownReader,
-    front: Front,
-    version: u64,
-    enters: Count,
-    refused: Count,
+    past: Past,
 }
 
 impl Model for PlanReader {
     ghost use Rattle.left_right.specs.Sides.{view as place_view};
-    ghost use Rattle.numa_publish.specs.Batches.{history_of};
-    ghost use Rattle.numa_publish.specs.Kept.{IsReaderKept};
+    ghost use Rattle.numa_publish.specs.Kept.{IsReaderKept, reader_shown};
     ghost use Rattle.numa_publish.specs.Shown.{ReaderState};
 
     ghost Value = { ReaderState };
 
-    ghost view = { λ r. record {
-      desk = record { book = r.front.book; machine = (place_view r.reader.place).machine };
-      history = history_of r.front.log;
-      enters = r.enters;
-      refused = r.refused;
-    } };
+    ghost view = { λ r. reader_shown r.past (place_view r.reader.place).machine };
 
-    ghost invariant = { λ r.
-        IsReaderKept r.version r.front.log r.front.book (place_view r.reader.place) };
+    ghost invariant = { λ r. IsReaderKept r.past (place_view r.reader.place) };
 }
 
 impl PlanReader {
@@ -53,45 +43,21 @@ impl PlanReader {
         requires named { (place_view reader.place).named ≡ true }
         requires book { (place_view reader.place).front.book ≡ front.book }
         requires empty { front.log ≡ [] }
-        ensures { result ≡ record {
-          desk = record { book = front.book; machine = (place_view reader.place).machine };
-          history = [];
-          enters = 0;
-          refused = 0;
-        } }
+        ensures { result ≡ new_reader
+            (record { book = front.book; machine = (place_view reader.place).machine }) }
     {
         PlanReader {
             reader,
-            front,
-            version: 0,
-            enters: Count::zero(),
-            refused: Count::zero(),
+            past: Past::none(front),
         }
     }
 
-    /// A reader that has seen this beginning of the log, after so many enters.
-    pub(crate) fn back(
-        reader: ShownReader,
-        front: Front,
-        version: u64,
-        enters: Count,
-        refused: Count,
-    ) -> PlanReader
-        requires { IsReaderKept version front.log front.book (place_view reader.place) }
-        ensures { result ≡ record {
-          desk = record { book = front.book; machine = (place_view reader.place).machine };
-          history = history_of front.log;
-          enters = enters;
-          refused = refused;
-        } }
+    /// A reader at a place, with this past.
+    pub(crate) fn back(reader: ShownReader, past: Past) -> PlanReader
+        requires { IsReaderKept past (place_view reader.place) }
+        ensures { result ≡ reader_shown past (place_view reader.place).machine }
     {
-        PlanReader {
-            reader,
-            front,
-            version,
-            enters,
-            refused,
-        }
+        PlanReader { reader, past }
     }
 
     /// The reader, which has seen the longer of what it had seen and what the receipt shows. It
@@ -104,21 +70,16 @@ impl PlanReader {
         ensures told { Extends receipt.now.history result.history }
         ensures counts { (result.enters ≡ self.enters) × (result.refused ≡ self.refused) }
     {
-        let PlanReader {
-            reader,
-            front,
-            version,
-            enters,
-            refused,
-        } = self;
+        let PlanReader { reader, mut past } = self;
         let told = receipt.version();
-        let mut both = front.again();
+        let mut both = past.front.again();
         both.learn(&receipt.front);
-        if version < told {
-            PlanReader::back(reader, receipt.front.again(), told, enters, refused)
-        } else {
-            PlanReader::back(reader, front, version, enters, refused)
+        if past.version < told {
+            past.front = receipt.front.again();
+            past.version = told;
+            return PlanReader::back(reader, past);
         }
+        PlanReader::back(reader, past)
     }
 
     /// Looks at the version that is published now: a view of it, which is no earlier than what was
@@ -137,31 +98,29 @@ impl PlanReader {
         ensures refused { MatchResult result
             (λ v. v.refused ≡ self.refused) (λ r. r.refused ≡ self.refused + 1) }
     {
-        let PlanReader {
-            reader,
-            front,
-            version,
-            enters,
-            refused,
-        } = self;
-        let enters = enters.next();
+        let PlanReader { reader, mut past } = self;
+        past.enters = past.enters.next();
         let reading = match reader.enter_as::<Look>() {
             Ok(reading) => reading,
             Err(reader) => {
-                return Err(PlanReader::back(reader, front, version, enters, refused.next()));
+                past.refused = past.refused.next();
+                return Err(PlanReader::back(reader, past));
             }
         };
         let issue: &Issue = &reading.get().issue;
         let shown = issue.plan.version();
         let next = issue.front.again();
-        let mut both = front.again();
+        let mut both = past.front.again();
         both.learn(&next);
         // A receipt is made once its version is published, so what is shown is never older: no
         // proof can see this.
-        if shown < version {
+        if shown < past.version {
             let reader = reading.leave();
-            return Err(PlanReader::back(reader, front, version, enters, refused.next()));
+            past.refused = past.refused.next();
+            return Err(PlanReader::back(reader, past));
         }
-        Ok(PlanView::new(reading, next, shown, enters, refused))
+        past.front = next;
+        past.version = shown;
+        Ok(PlanView::new(reading, past))
     }
 }

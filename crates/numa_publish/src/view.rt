@@ -10,16 +10,14 @@ ghost use Rattle.numa_space.specs.Policies.{allowed_nodes};
 ghost use Rattle.numa_space.specs.Refusals.{range_count_of};
 ghost use Rattle.numa_space.specs.Standing.{IsNodeList, place_refusal_of};
 ghost use Rattle.numa_compile.specs.Spans.{first_node, meant_count, SpanIsRefused};
-ghost use Rattle.numa_publish.specs.Batches.{history_of};
-ghost use Rattle.numa_publish.specs.Kept.{IsViewKept};
+ghost use Rattle.numa_publish.specs.Kept.{IsViewKept, view_shown};
 ghost use Rattle.numa_publish.specs.Spans.{SpanStands};
 
 use crate::issue::Issue;
-use crate::log::Front;
+use crate::past::Past;
 use crate::reader::PlanReader;
 use crate::rule::ShownReading;
 use numa_compile::every_plan;
-use numa_count::Count;
 use numa_plan::Steps;
 use numa_space::PlaceRefusal;
 use std::marker::Model;
@@ -32,66 +30,40 @@ use std::marker::Model;
 /// up to it, and the reader's numbers of enters and of refused enters.
 pub struct PlanView {
     reading: ShownReading,
-    front: Front,
-    version: u64,
-    enters: Count,
-    refused: Count,
+    past: Past,
 }
 
 impl Model for PlanView {
     ghost use Rattle.std.specs.Arc.{arc_value};
     ghost use Rattle.left_right.specs.Sides.{view as place_view};
-    ghost use Rattle.numa_publish.specs.Batches.{history_of};
-    ghost use Rattle.numa_publish.specs.Kept.{IsViewKept};
+    ghost use Rattle.numa_publish.specs.Kept.{IsViewKept, view_shown};
     ghost use Rattle.numa_publish.specs.Shown.{ViewState};
 
     ghost Value = { ViewState };
 
-    ghost view = { λ r. record {
-      desk = record { book = r.front.book; machine = (place_view r.reading.place).machine };
-      history = history_of r.front.log;
-      versions = (arc_value r.reading.part.value.issue).versions;
-      enters = r.enters;
-      refused = r.refused;
-    } };
+    ghost view = { λ r. view_shown r.past (place_view r.reading.place).machine
+        (arc_value r.reading.part.value.issue) };
 
-    ghost invariant = { λ r. IsViewKept r.version r.front.log r.front.book
-        (place_view r.reading.place) (arc_value r.reading.part.value.issue) };
+    ghost invariant = { λ r. IsViewKept r.past (place_view r.reading.place)
+        (arc_value r.reading.part.value.issue) };
 }
 
 impl PlanView {
-    /// A view of what this place reads.
-    pub(crate) fn new(
-        reading: ShownReading,
-        front: Front,
-        version: u64,
-        enters: Count,
-        refused: Count,
-    ) -> PlanView
-        requires { IsViewKept version front.log front.book
-            (place_view reading.place) (arc_value reading.part.value.issue) }
-        ensures { result ≡ record {
-          desk = record { book = front.book; machine = (place_view reading.place).machine };
-          history = history_of front.log;
-          versions = (arc_value reading.part.value.issue).versions;
-          enters = enters;
-          refused = refused;
-        } }
+    /// A view of what this place reads, by a reader that has seen it.
+    pub(crate) fn new(reading: ShownReading, past: Past) -> PlanView
+        requires { IsViewKept past (place_view reading.place)
+            (arc_value reading.part.value.issue) }
+        ensures { result ≡ view_shown past (place_view reading.place).machine
+            (arc_value reading.part.value.issue) }
     {
-        PlanView {
-            reading,
-            front,
-            version,
-            enters,
-            refused,
-        }
+        PlanView { reading, past }
     }
 
     /// The version: how many commands were accepted up to it.
     pub fn version(&self) -> u64
         ensures { result ≡ length self.now.history }
     {
-        self.version
+        self.past.version
     }
 
     /// The list of nodes of a page, for a task and a fault on the node `cpu`, lent by the view:
@@ -188,13 +160,7 @@ impl PlanView {
         ensures history { result.history ≡ self.history }
         ensures counts { (result.enters ≡ self.enters) × (result.refused ≡ self.refused) }
     {
-        let PlanView {
-            reading,
-            front,
-            version,
-            enters,
-            refused,
-        } = self;
-        PlanReader::back(reading.leave(), front, version, enters, refused)
+        let PlanView { reading, past } = self;
+        PlanReader::back(reading.leave(), past)
     }
 }

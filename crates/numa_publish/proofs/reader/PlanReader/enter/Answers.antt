@@ -14,15 +14,17 @@ pub enter_as-requires : goal.enter_as-requires
 enter_as-requires c x = sees _ _ x x (earlier_self _)
 
 pub back-requires : goal.back-requires
-back-requires c = rw c.in-Err.ensures.1 c.self.invariant
+back-requires c =
+    let kept = c.self.invariant in
+    rw c.in-Err.ensures.1 (record { version_is = kept.version_is; named = kept.named; book_is = kept.book_is })
 
 pub returns-in-Err : goal.returns-in-Err
 returns-in-Err c = record {
   desk = rw (c.back.ensures, c.in-Err.ensures.1, ← c.self.view_is) refl;
   seen = rw (c.back.ensures, ← c.self.view_is) refl;
   published = tt;
-  enters = rw (c.back.ensures, ← c.self.view_is) c.next-enters.ensures;
-  refused = rw (c.back.ensures, ← c.self.view_is) c.next.ensures;
+  enters = rw (c.back.ensures, ← c.self.view_is) c.next.ensures;
+  refused = rw (c.back.ensures, ← c.self.view_is) c.next-in-Err.ensures;
 }
 
 pub learn-requires : goal.learn-requires
@@ -31,8 +33,8 @@ learn-requires c =
     let known = (c.in-Ok.ensures.1.0).desk c.self.invariant.named in
     ap (λ s. s.book) c.again-next.ensures ∙ (ap (λ (i : Issue). i.front.book) is ∙ (sym (ap (λ (d : DeskIdentity). d.book) known) ∙ (c.self.invariant.book_is ∙ sym (ap (λ s. s.book) c.again-both.ensures))))
 
-pub back-requires-then-shown-version : goal.back-requires-then-shown-version
-back-requires-then-shown-version c =
+pub back-requires-then-shown-past : goal.back-requires-then-shown-past
+back-requires-then-shown-past c =
     let known = (c.in-Ok.ensures.1.0).desk c.self.invariant.named in
     let now = c.leave-reader.ensures.1 ∙ c.in-Ok.ensures.1.1 in
     record {
@@ -58,6 +60,6 @@ new-requires c =
 pub returns-clause-seen : goal.returns-clause-seen
 returns-clause-seen c =
     let both = c.learn.new.self.log in
-    let mine : IsPrefix c.self.inside.front.log both = subst (λ (l : List (List Command)). IsPrefix l both) (ap (λ s. s.log) c.again-both.ensures) c.learn.ensures.2 in
-    let less : length (history_of c.self.inside.front.log) ≤ length (history_of c.again-next.result.log) = omega (arith, c.self.invariant.version_is, c.if-shown-version.false, c.version-shown.ensures, c.deref-issue.result.now.stands.version, ap (λ s. length (history_of s.log)) c.again-next.ensures) in
-    rw (← c.self.view_is, ap (λ v. v.history) c.new.ensures) (history_shorter c.self.inside.front.log c.again-next.result.log both mine c.learn.ensures.3 less)
+    let mine : IsPrefix c.self.inside.past.front.log both = subst (λ (l : List (List Command)). IsPrefix l both) (ap (λ s. s.log) c.again-both.ensures) c.learn.ensures.2 in
+    let less : length (history_of c.self.inside.past.front.log) ≤ length (history_of c.again-next.result.log) = omega (arith, c.self.invariant.version_is, c.if-shown-past.false, c.version-shown.ensures, c.deref-issue.result.now.stands.version, ap (λ s. length (history_of s.log)) c.again-next.ensures) in
+    rw (← c.self.view_is, ap (λ v. v.history) c.new.ensures) (history_shorter c.self.inside.past.front.log c.again-next.result.log both mine c.learn.ensures.3 less)
