@@ -15,6 +15,7 @@ ghost use Rattle.numa_reports.specs.Told.{IsFilling, IsTaken, LacksOne, ToldEach
 
 use crate::fault::ReportFault;
 use crate::prediction::{TakeRange, policy_of};
+use crate::touch::Touch;
 use numa_plan::{Plan, Steps};
 use numa_space::{PlaceRefusal, RangeRecord, Run, Space};
 
@@ -63,19 +64,18 @@ fn take_first(nodes: &[u8], free: &mut [u64; 256]) -> Option<u8>
 /// Takes a free page for each page of a span, the lowest first.
 pub(crate) fn fill_span(
     plan: &Plan,
-    task: u32,
-    cpu: u32,
+    touch: Touch,
     first: u64,
     pages: u64,
     free: &mut [u64; 256],
 ) -> Result<(), PlaceRefusal>
     requires { first + pages < 2 ^ 64 }
     ensures free { OnOk result (free.new
-        ≡ free_behind (planned_nodes plan.now task cpu) free.old first pages) }
-    ensures err { IfErr result (RefusesSpan plan.now first pages cpu) }
+        ≡ free_behind (planned_nodes plan.now touch.task touch.cpu) free.old first pages) }
+    ensures err { IfErr result (RefusesSpan plan.now first pages touch.cpu) }
 {
     for page in first..first + pages {
-        let nodes = plan.choice(task, page, cpu, &mut Steps::new())?;
+        let nodes = plan.choice(touch.task, page, touch.cpu, &mut Steps::new())?;
         take_first(nodes, free);
     }
     Ok(())
@@ -85,19 +85,18 @@ pub(crate) fn fill_span(
 /// no node has one has the number 0.
 pub(crate) fn fill_few(
     plan: &Plan,
-    task: u32,
-    cpu: u32,
+    touch: Touch,
     first: u64,
     nodes: &mut [u8],
     free: &mut [u64; 256],
 ) -> Result<(), PlaceRefusal>
     requires { first + length nodes.old < 2 ^ 64 }
-    ensures free { OnOk result (free.new
-        ≡ free_behind (planned_nodes plan.now task cpu) free.old first (length nodes.old)) }
-    ensures err { IfErr result (RefusesSpan plan.now first (length nodes.old) cpu) }
+    ensures free { OnOk result (free.new ≡ free_behind
+        (planned_nodes plan.now touch.task touch.cpu) free.old first (length nodes.old)) }
+    ensures err { IfErr result (RefusesSpan plan.now first (length nodes.old) touch.cpu) }
 {
     for k in 0..nodes.len() {
-        let list = plan.choice(task, first + k as u64, cpu, &mut Steps::new())?;
+        let list = plan.choice(touch.task, first + k as u64, touch.cpu, &mut Steps::new())?;
         nodes[k] = take_first(list, free).unwrap_or(0);
     }
     Ok(())
@@ -119,8 +118,7 @@ pub(crate) fn taken(before: &[u64; 256], after: &[u64; 256]) -> [u64; 256]
 fn fill_next<T: TakeRange>(
     space: &Space,
     plan: &Plan,
-    task: u32,
-    cpu: u32,
+    touch: Touch,
     range: &Run<RangeRecord>,
     free: &mut [u64; 256],
     taker: &mut T,
@@ -128,19 +126,19 @@ fn fill_next<T: TakeRange>(
     requires own { option_and_then (λ at. at.1) (page_at space.now.ranges range.now.first)
         ≡ range.now.value }
     requires small { range.now.first + range.now.pages < 2 ^ 64 }
-    ensures free { OnOk result (free.new
-        ≡ free_behind (planned_nodes plan.now task cpu) free.old range.now.first range.now.pages) }
+    ensures free { OnOk result (free.new ≡ free_behind
+        (planned_nodes plan.now touch.task touch.cpu) free.old range.now.first range.now.pages) }
     ensures told { (history : List Command) → StandsFor space.now history → OnOk result
-        (ToldOne T.told (IsTaken space.now.machine history task free.old free.new)
+        (ToldOne T.told (IsTaken space.now.machine history touch.task free.old free.new)
         range.now taker.old taker.new) }
     ensures err { IfErr result
-        (FailsBy (RefusesSpan plan.now range.now.first range.now.pages cpu)) }
+        (FailsBy (RefusesSpan plan.now range.now.first range.now.pages touch.cpu)) }
     ensures lack { IfErr result (λ why. why ≡ Memory → T.lacks taker.old range.now) }
 {
     let before = *free;
-    fill_span(plan, task, cpu, range.first, range.pages, free)?;
+    fill_span(plan, touch, range.first, range.pages, free)?;
     let counts = taken(&before, free);
-    taker.take(range, policy_of(space, task, range), &counts)?;
+    taker.take(range, policy_of(space, touch.task, range), &counts)?;
     Ok(())
 }
 
@@ -175,8 +173,9 @@ pub fn fill_all<T: TakeRange>(
     if cpu >= space.machine().nodes() {
         return Err(ReportFault::Refused(PlaceRefusal::BadCpu));
     }
+    let touch = Touch { task, cpu };
     for range in space.range_iter() {
-        fill_next(space, plan, task, cpu, &range, free, taker)?;
+        fill_next(space, plan, touch, &range, free, taker)?;
     }
     Ok(())
 }

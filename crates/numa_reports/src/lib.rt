@@ -11,6 +11,7 @@ mod outlook;
 mod prediction;
 pub mod sheet;
 mod tally;
+mod touch;
 
 pub use fault::ReportFault;
 pub use filling::{FreePages, fill_all};

@@ -11,6 +11,7 @@ ghost use Rattle.numa_reports.specs.Moved.{AddsMoves, AreMoves, HasRoomFor};
 ghost use Rattle.numa_reports.specs.Moved.{meant_moves, pairs, planned_moves};
 
 use crate::fault::ReportFault;
+use crate::touch::Touch;
 use numa_plan::Plan;
 use numa_space::PlaceRefusal;
 use std::alloc::{AllocError, Global};
@@ -48,8 +49,7 @@ fn add_pairs(table: &mut Vec<u64>, before: &[u8], after: &[u8])
 fn add_filled(
     before: &Plan,
     after: &Plan,
-    task: u32,
-    cpu: u32,
+    touch: Touch,
     first: u64,
     old: &mut [u8],
     new: &mut [u8],
@@ -58,12 +58,13 @@ fn add_filled(
     requires same { length new.old ≡ length old.old }
     requires room { HasRoomFor table.old.items (length old.old) }
     ensures ok { OnOk result (AddsMoves table.old.items table.new.items
-        (planned_moves before.now after.now task cpu first (length old.old))) }
+        (planned_moves before.now after.now touch.task touch.cpu first (length old.old))) }
     ensures entries { length table.new.items ≡ 65536 }
-    ensures err { IfErr result (RefusesEither before.now after.now first (length old.old) cpu) }
+    ensures err { IfErr result
+        (RefusesEither before.now after.now first (length old.old) touch.cpu) }
 {
-    before.fill(task, cpu, first, old)?;
-    after.fill(task, cpu, first, new)?;
+    before.fill(touch.task, touch.cpu, first, old)?;
+    after.fill(touch.task, touch.cpu, first, new)?;
     add_pairs(table, old, new);
     Ok(())
 }
@@ -72,8 +73,7 @@ fn add_filled(
 fn add_block(
     before: &Plan,
     after: &Plan,
-    task: u32,
-    cpu: u32,
+    touch: Touch,
     first: u64,
     pages: usize,
     table: &mut Vec<u64>,
@@ -81,17 +81,16 @@ fn add_block(
     requires few { pages ≤ 4096 }
     requires room { HasRoomFor table.old.items pages }
     ensures ok { OnOk result (AddsMoves table.old.items table.new.items
-        (planned_moves before.now after.now task cpu first pages)) }
+        (planned_moves before.now after.now touch.task touch.cpu first pages)) }
     ensures entries { length table.new.items ≡ 65536 }
-    ensures err { IfErr result (RefusesEither before.now after.now first pages cpu) }
+    ensures err { IfErr result (RefusesEither before.now after.now first pages touch.cpu) }
 {
     let mut old = [0u8; BLOCK];
     let mut new = [0u8; BLOCK];
     add_filled(
         before,
         after,
-        task,
-        cpu,
+        touch,
         first,
         &mut old[..pages],
         &mut new[..pages],
@@ -103,20 +102,19 @@ fn add_block(
 fn add_moves(
     before: &Plan,
     after: &Plan,
-    task: u32,
-    cpu: u32,
+    touch: Touch,
     first: u64,
     pages: u64,
     table: &mut Vec<u64>,
 ) -> Result<(), PlaceRefusal>
-    requires known { cpu < before.now.nodes }
+    requires known { touch.cpu < before.now.nodes }
     requires room { HasRoomFor table.old.items pages }
     ensures ok { (machine : Hardware) (old new : List Command)
         → PlanStandsFor machine before.now old → PlanStandsFor machine after.now new
-        → cpu < machine.nodes → OnOk result (AddsMoves table.old.items table.new.items
-        (meant_moves machine old new task cpu first pages)) }
+        → touch.cpu < machine.nodes → OnOk result (AddsMoves table.old.items table.new.items
+        (meant_moves machine old new touch.task touch.cpu first pages)) }
     ensures entries { length table.new.items ≡ 65536 }
-    ensures err { IfErr result (RefusesEither before.now after.now first pages cpu) }
+    ensures err { IfErr result (RefusesEither before.now after.now first pages touch.cpu) }
 {
     // Tells the proof that no run has a page behind the last that can be mapped.
     let _ = before.run_count();
@@ -126,7 +124,7 @@ fn add_moves(
     let mut page = first;
     while page < end {
         let part = (end - page).min(BLOCK as u64);
-        add_block(before, after, task, cpu, page, part as usize, table)?;
+        add_block(before, after, touch, page, part as usize, table)?;
         page += part;
     }
     Ok(())
@@ -179,6 +177,6 @@ pub fn span_moves(
         return Err(ReportFault::Refused(PlaceRefusal::BadCpu));
     }
     let mut table = empty_table(alloc, ENTRIES)?;
-    add_moves(before, after, task, cpu, first, pages, &mut table)?;
+    add_moves(before, after, Touch { task, cpu }, first, pages, &mut table)?;
     Ok(table)
 }

@@ -19,6 +19,7 @@ ghost use Rattle.numa_reports.specs.Told.{LacksOne, ToldEach, ToldOne};
 
 use crate::fault::ReportFault;
 use crate::tally::add_span;
+use crate::touch::Touch;
 use numa_mode::Record;
 use numa_plan::Plan;
 use numa_space::{PlaceRefusal, RangeRecord, Run, Space};
@@ -122,29 +123,29 @@ pub(crate) fn policy_of(space: &Space, task: u32, range: &Run<RangeRecord>) -> O
 fn predict_next<T: TakeRange>(
     space: &Space,
     plan: &Plan,
-    task: u32,
-    cpu: u32,
+    touch: Touch,
     range: &Run<RangeRecord>,
     counts: &mut [u64; 256],
     taker: &mut T,
 ) -> Result<(), ReportFault>
     requires own { option_and_then (λ at. at.1) (page_at space.now.ranges range.now.first)
         ≡ range.now.value }
-    requires known { cpu < space.now.machine.nodes }
+    requires known { touch.cpu < space.now.machine.nodes }
     requires room { HasRoom counts.old
-        (planned_count plan.now task cpu range.now.first range.now.pages) }
-    ensures counts { OnOk result
-        (AddsSpan plan.now task cpu range.now.first range.now.pages counts.old counts.new) }
+        (planned_count plan.now touch.task touch.cpu range.now.first range.now.pages) }
+    ensures counts { OnOk result (AddsSpan plan.now touch.task touch.cpu
+        range.now.first range.now.pages counts.old counts.new) }
     ensures told { (history : List Command) → StandsFor space.now history
-        → PlanStandsFor space.now.machine plan.now history → OnOk result (ToldOne T.told
-        (IsPrediction space.now.machine history task cpu) range.now taker.old taker.new) }
+        → PlanStandsFor space.now.machine plan.now history → OnOk result
+        (ToldOne T.told (IsPrediction space.now.machine history touch.task touch.cpu)
+        range.now taker.old taker.new) }
     ensures err { IfErr result
-        (FailsBy (RefusesSpan plan.now range.now.first range.now.pages cpu)) }
+        (FailsBy (RefusesSpan plan.now range.now.first range.now.pages touch.cpu)) }
     ensures lack { IfErr result (λ why. why ≡ Memory → T.lacks taker.old range.now) }
 {
     let mut more = [0u64; 256];
-    add_span(plan, task, cpu, range.first, range.pages, &mut more, counts)?;
-    taker.take(range, policy_of(space, task, range), &more)?;
+    add_span(plan, touch, range.first, range.pages, &mut more, counts)?;
+    taker.take(range, policy_of(space, touch.task, range), &more)?;
     Ok(())
 }
 
@@ -177,8 +178,9 @@ pub fn predict_all<T: TakeRange>(
         return Err(ReportFault::Refused(PlaceRefusal::BadCpu));
     }
     let mut counts = [0u64; 256];
+    let touch = Touch { task, cpu };
     for range in space.range_iter() {
-        predict_next(space, plan, task, cpu, &range, &mut counts, taker)?;
+        predict_next(space, plan, touch, &range, &mut counts, taker)?;
     }
     Ok(counts)
 }

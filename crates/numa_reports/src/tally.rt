@@ -4,6 +4,7 @@ ghost use Rattle.numa_plan.specs.Meaning.{RefusesSpan, planned_count};
 ghost use Rattle.numa_plan.specs.Tally.{Adds, HasRoom};
 ghost use Rattle.numa_reports.specs.Predicted.{AddsSpan, places};
 
+use crate::touch::Touch;
 use numa_plan::Plan;
 use numa_space::PlaceRefusal;
 
@@ -33,68 +34,56 @@ fn add_nodes(counts: &mut [u64; 256], nodes: &[u8])
 /// Adds the pages of a span, as many as the list has places, to the counts of a range and of all.
 fn add_filled(
     plan: &Plan,
-    task: u32,
-    cpu: u32,
+    touch: Touch,
     first: u64,
     nodes: &mut [u8],
     counts: &mut [u64; 256],
     all: &mut [u64; 256],
 ) -> Result<(), PlaceRefusal>
-    requires room { HasRoom counts.old (planned_count plan.now task cpu first (length nodes.old)) }
-    requires room_all { HasRoom all.old (planned_count plan.now task cpu first (length nodes.old)) }
+    requires room { HasRoom counts.old
+        (planned_count plan.now touch.task touch.cpu first (length nodes.old)) }
+    requires room_all { HasRoom all.old
+        (planned_count plan.now touch.task touch.cpu first (length nodes.old)) }
     ensures counts { OnOk result
-        (AddsSpan plan.now task cpu first (length nodes.old) counts.old counts.new) }
+        (AddsSpan plan.now touch.task touch.cpu first (length nodes.old) counts.old counts.new) }
     ensures all { OnOk result
-        (AddsSpan plan.now task cpu first (length nodes.old) all.old all.new) }
-    ensures err { IfErr result (RefusesSpan plan.now first (length nodes.old) cpu) }
+        (AddsSpan plan.now touch.task touch.cpu first (length nodes.old) all.old all.new) }
+    ensures err { IfErr result (RefusesSpan plan.now first (length nodes.old) touch.cpu) }
 {
-    plan.fill(task, cpu, first, nodes)?;
+    plan.fill(touch.task, touch.cpu, first, nodes)?;
     add_nodes(counts, nodes);
     add_nodes(all, nodes);
     Ok(())
 }
 
-/// Adds the pages of a short span, looked at one by one.
-fn add_few(
-    plan: &Plan,
-    task: u32,
-    cpu: u32,
-    first: u64,
-    pages: usize,
-    counts: &mut [u64; 256],
-    all: &mut [u64; 256],
-) -> Result<(), PlaceRefusal>
-    requires few { pages ≤ 64 }
-    requires room { HasRoom counts.old (planned_count plan.now task cpu first pages) }
-    requires room_all { HasRoom all.old (planned_count plan.now task cpu first pages) }
-    ensures counts { OnOk result (AddsSpan plan.now task cpu first pages counts.old counts.new) }
-    ensures all { OnOk result (AddsSpan plan.now task cpu first pages all.old all.new) }
-    ensures err { IfErr result (RefusesSpan plan.now first pages cpu) }
-{
-    let mut nodes = [0u8; FEW];
-    add_filled(plan, task, cpu, first, &mut nodes[..pages], counts, all)
-}
-
 /// Adds the pages of a span to the counts of a range and of all.
 pub(crate) fn add_span(
     plan: &Plan,
-    task: u32,
-    cpu: u32,
+    touch: Touch,
     first: u64,
     pages: u64,
     counts: &mut [u64; 256],
     all: &mut [u64; 256],
 ) -> Result<(), PlaceRefusal>
-    requires room { HasRoom counts.old (planned_count plan.now task cpu first pages) }
-    requires room_all { HasRoom all.old (planned_count plan.now task cpu first pages) }
-    ensures counts { OnOk result (AddsSpan plan.now task cpu first pages counts.old counts.new) }
-    ensures all { OnOk result (AddsSpan plan.now task cpu first pages all.old all.new) }
-    ensures err { IfErr result (RefusesSpan plan.now first pages cpu) }
+    requires room { HasRoom counts.old (planned_count plan.now touch.task touch.cpu first pages) }
+    requires room_all { HasRoom all.old (planned_count plan.now touch.task touch.cpu first pages) }
+    ensures counts { OnOk result
+        (AddsSpan plan.now touch.task touch.cpu first pages counts.old counts.new) }
+    ensures all { OnOk result (AddsSpan plan.now touch.task touch.cpu first pages all.old all.new) }
+    ensures err { IfErr result (RefusesSpan plan.now first pages touch.cpu) }
 {
     if pages <= FEW as u64 {
-        return add_few(plan, task, cpu, first, pages as usize, counts, all);
+        let mut nodes = [0u8; FEW];
+        return add_filled(
+            plan,
+            touch,
+            first,
+            &mut nodes[..pages as usize],
+            counts,
+            all,
+        );
     }
-    let more = plan.counts(task, cpu, first, pages)?;
+    let more = plan.counts(touch.task, touch.cpu, first, pages)?;
     add_counts(counts, &more);
     add_counts(all, &more);
     Ok(())

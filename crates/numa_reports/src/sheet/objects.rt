@@ -2,6 +2,7 @@
 
 use crate::filling::FreePages;
 use crate::sheet::fields::{Placed, address, end};
+use crate::touch::Touch;
 use numa_space::{RangeRecord, Run};
 use serde_json::{Map, Value, json, put};
 use std::alloc::{AllocError, Global};
@@ -24,17 +25,12 @@ fn nodes(alloc: Global, counts: &[u64]) -> Result<Value, AllocError> {
 }
 
 /// The object begins, and its list of ranges.
-pub(crate) fn head(
-    alloc: Global,
-    version: u64,
-    task: u32,
-    cpu: u32,
-) -> Result<Vec<u8>, AllocError> {
+pub(crate) fn head(alloc: Global, version: u64, touch: Touch) -> Result<Vec<u8>, AllocError> {
     let mut text = String::new(alloc);
     write!(
         text,
         "{{\"version\":{},\"task\":{},\"cpu\":{},",
-        version, task, cpu
+        version, touch.task, touch.cpu
     )?;
     text.push_str("\"kernelpagesize_kB\":4,\"ranges\":[")?;
     Ok(text.into_bytes())

@@ -10,6 +10,7 @@ use crate::prediction::{TakeRange, predict_all};
 use crate::sheet::cells::{CELLS, first_cells};
 use crate::sheet::fields::{Placed, PolicyTexts, sum};
 use crate::sheet::{Format, lines, objects, pictures, records};
+use crate::touch::Touch;
 use numa_mode::Record;
 use numa_plan::Plan;
 use numa_space::{PlaceRefusal, RangeRecord, Run, Space};
@@ -118,20 +119,17 @@ impl TakeRange for Parts {
 /// What stands before the first range.
 fn head(
     alloc: Global,
-    space: &Space,
-    plan: &Plan,
-    task: u32,
-    cpu: u32,
+    version: u64,
+    touch: Touch,
     format: Format,
+    ranges: usize,
+    nodes: usize,
 ) -> Result<Vec<u8>, AllocError> {
     match format {
         Format::Text => Ok(Vec::new(alloc)),
-        Format::Json => objects::head(alloc, plan.version(), task, cpu),
+        Format::Json => objects::head(alloc, version, touch),
         Format::Csv => records::head(alloc),
-        Format::Svg => {
-            let nodes = space.machine().nodes() as usize;
-            pictures::head(alloc, plan.version(), task, cpu, space.ranges(), nodes)
-        }
+        Format::Svg => pictures::head(alloc, version, touch, ranges, nodes),
     }
 }
 
@@ -148,22 +146,22 @@ fn begin(
     alloc: Global,
     space: &Space,
     plan: &Plan,
-    task: u32,
-    cpu: u32,
+    touch: Touch,
     format: Format,
     free: &[FreePages],
 ) -> Result<Parts, ReportFault>
-    ensures err { FailsForNode space.now plan.now cpu result }
+    ensures err { FailsForNode space.now plan.now touch.cpu result }
 {
-    let text = head(alloc, space, plan, task, cpu, format)?;
+    let nodes = space.machine().nodes() as usize;
+    let text = head(alloc, plan.version(), touch, format, space.ranges(), nodes)?;
     let cells = match format {
-        Format::Svg => first_cells(alloc, space, plan, task, cpu, free_where_named(free))?,
+        Format::Svg => first_cells(alloc, space, plan, touch, free_where_named(free))?,
         _ => Vec::new(alloc),
     };
     Ok(Parts {
         alloc,
         format,
-        nodes: space.machine().nodes() as usize,
+        nodes,
         policies: PolicyTexts::new(alloc),
         fills: !free.is_empty(),
         ranges: 0,
@@ -171,32 +169,6 @@ fn begin(
         cells,
         text,
     })
-}
-
-/// Where all mapped pages would go, if the task touched each of them now on a CPU of node `cpu`:
-/// range by range, and in all. The plan is one of the space.
-///
-/// # Errors
-/// `Refused(BadCpu)` where the machine has no node `cpu`; `Refused(Unmapped)` only where the plan
-/// isn't one of the space; `Memory` where there was none for the text.
-pub fn prediction_text(
-    alloc: Global,
-    space: &Space,
-    plan: &Plan,
-    task: u32,
-    cpu: u32,
-    format: Format,
-) -> Result<Vec<u8>, ReportFault>
-    ensures err { FailsForNode space.now plan.now cpu result }
-    ensures bad_cpu { space.now.machine.nodes ≤ cpu → result ≡ Err (Refused BadCpu) }
-{
-    if cpu >= space.machine().nodes() {
-        return Err(ReportFault::Refused(PlaceRefusal::BadCpu));
-    }
-    let mut parts = begin(alloc, space, plan, task, cpu, format, &[])?;
-    let counts = predict_all(space, plan, task, cpu, &mut parts)?;
-    parts.push_total(&counts, &[])?;
-    Ok(parts.text)
 }
 
 /// What is left on the nodes that are named.
@@ -215,10 +187,34 @@ fn left_on(
     Ok(left)
 }
 
+/// Writes what is said of each range, and of all.
+fn write_all(
+    parts: &mut Parts,
+    space: &Space,
+    plan: &Plan,
+    touch: Touch,
+    free: &[FreePages],
+) -> Result<(), ReportFault>
+    ensures err { FailsForNode space.now plan.now touch.cpu result }
+{
+    if free.is_empty() {
+        let counts = predict_all(space, plan, touch.task, touch.cpu, parts)?;
+        parts.push_total(&counts, &[])?;
+        return Ok(());
+    }
+    let before = free_of(free);
+    let mut after = before;
+    fill_all(space, plan, touch.task, touch.cpu, &mut after, parts)?;
+    let left = left_on(parts.alloc, free, &after)?;
+    parts.push_total(&taken(&before, &after), &left)?;
+    Ok(())
+}
+
 /// Where all mapped pages would go, if the task touched each of them now on a CPU of node `cpu`,
 /// those of lower addresses first, and the named nodes had so many free pages; the others never run
 /// out. Tells how many pages find no node with a free page (`exhausted`), and what is left on the
-/// nodes that are named. The plan is one of the space. The time grows with the pages.
+/// nodes that are named. The plan is one of the space. The time grows with the pages where a node
+/// is named, and else with the ranges.
 ///
 /// # Errors
 /// `Refused(BadCpu)` where the machine has no node `cpu`; `Refused(Unmapped)` only where the plan
@@ -238,11 +234,27 @@ pub fn filling_text(
     if cpu >= space.machine().nodes() {
         return Err(ReportFault::Refused(PlaceRefusal::BadCpu));
     }
-    let mut parts = begin(alloc, space, plan, task, cpu, format, free)?;
-    let before = free_of(free);
-    let mut after = before;
-    fill_all(space, plan, task, cpu, &mut after, &mut parts)?;
-    let left = left_on(alloc, free, &after)?;
-    parts.push_total(&taken(&before, &after), &left)?;
+    let touch = Touch { task, cpu };
+    let mut parts = begin(alloc, space, plan, touch, format, free)?;
+    write_all(&mut parts, space, plan, touch, free)?;
     Ok(parts.text)
+}
+
+/// Where all mapped pages would go, as [`filling_text`] tells it where no node is named. The time
+/// grows with the ranges and not with their pages.
+///
+/// # Errors
+/// As [`filling_text`].
+pub fn prediction_text(
+    alloc: Global,
+    space: &Space,
+    plan: &Plan,
+    task: u32,
+    cpu: u32,
+    format: Format,
+) -> Result<Vec<u8>, ReportFault>
+    ensures err { FailsForNode space.now plan.now cpu result }
+    ensures bad_cpu { space.now.machine.nodes ≤ cpu → result ≡ Err (Refused BadCpu) }
+{
+    filling_text(alloc, space, plan, task, cpu, format, &[])
 }

@@ -5,6 +5,7 @@
 
 use crate::filling::FreePages;
 use crate::sheet::fields::{Placed, address, bytes, end};
+use crate::touch::Touch;
 use numa_space::{RangeRecord, Run};
 use std::alloc::{AllocError, Global};
 use std::fmt::Write;
@@ -59,8 +60,7 @@ fn push_cells(text: &mut String, nodes: usize) -> Result<(), AllocError> {
 pub(crate) fn head(
     alloc: Global,
     version: u64,
-    task: u32,
-    cpu: u32,
+    touch: Touch,
     ranges: usize,
     nodes: usize,
 ) -> Result<Vec<u8>, AllocError> {
@@ -82,7 +82,8 @@ pub(crate) fn head(
     )?;
     write!(
         text,
-        "task {task} touched on node {cpu} (version {version})</text>\n"
+        "task {} touched on node {} (version {})</text>\n",
+        touch.task, touch.cpu, version
     )?;
     Ok(text.into_bytes())
 }

@@ -7,22 +7,22 @@ use Rattle.numa_reports.proofs.filling.fill_few.Goals as goal
 
 pub loop-k-preserved : goal.loop-k-preserved
 loop-k-preserved c =
-    let nodes = planned_nodes c.args.plan.now c.args.task c.args.cpu in
+    let nodes = planned_nodes c.args.plan.now c.args.touch.task c.args.touch.cpu in
     let place : c.args.first + (c.loop-k.k + 1) ≡ c.args.first + c.loop-k.k + 1 = omega arith in
     record {
       long = length-set _ _ _ ∙ c.loop-k.invariant.long;
       left = ap (λ (page : ℕ). free_behind nodes c.take_first.new.free page (length c.args.nodes.now - (c.loop-k.k + 1))) place
-          ∙ free-next c.args.plan.now c.args.task c.args.cpu (c.args.first + c.loop-k.k) (length c.args.nodes.now - (c.loop-k.k + 1)) (length c.args.nodes.now - c.loop-k.k) c.in_ok-list.list.now c.loop-k.free c.take_first.new.free c.take_first.result c.in_ok-list.ensures.ok.1 c.take_first.ensures.node c.take_first.ensures.taken (omega (arith, c.loop-k-test.true, c.loop-k.invariant.long))
+          ∙ free-next c.args.plan.now c.args.touch.task c.args.touch.cpu (c.args.first + c.loop-k.k) (length c.args.nodes.now - (c.loop-k.k + 1)) (length c.args.nodes.now - c.loop-k.k) c.in_ok-list.list.now c.loop-k.free c.take_first.new.free c.take_first.result c.in_ok-list.ensures.ok.1 c.take_first.ensures.node c.take_first.ensures.taken (omega (arith, c.loop-k-test.true, c.loop-k.invariant.long))
           ∙ c.loop-k.invariant.left;
     }
 
 pub returns-clause-free : goal.returns-clause-free
 returns-clause-free c =
-    let nodes = planned_nodes c.args.plan.now c.args.task c.args.cpu in
+    let nodes = planned_nodes c.args.plan.now c.args.touch.task c.args.touch.cpu in
     let none : length c.args.nodes.now - c.loop-k.k ≡ 0 = omega (arith, c.loop-k-test.false, c.loop-k.invariant.long) in
     sym (free-start nodes c.loop-k.free (c.args.first + c.loop-k.k)) ∙ sym (ap (λ (k : ℕ). free_behind nodes c.loop-k.free (c.args.first + c.loop-k.k) k) none) ∙ c.loop-k.invariant.left
 
 pub returns-in_err-list-clause-err : goal.returns-in_err-list-clause-err
 returns-in_err-list-clause-err c =
     let exit = err_from_is_err_and c.from_residual.result c.from_residual.ensures.1 in
-    rw (exit.1, exit.2) (page-refused c.args.plan.now c.args.first (length c.args.nodes.now) (c.args.first + c.loop-k.k) c.args.cpu c.in_err-list.field-0.0 c.in_err-list.ensures.err (omega arith) (omega (arith, c.loop-k-test.true, c.loop-k.invariant.long)))
+    rw (exit.1, exit.2) (page-refused c.args.plan.now c.args.first (length c.args.nodes.now) (c.args.first + c.loop-k.k) c.args.touch.cpu c.in_err-list.field-0.0 c.in_err-list.ensures.err (omega arith) (omega (arith, c.loop-k-test.true, c.loop-k.invariant.long)))

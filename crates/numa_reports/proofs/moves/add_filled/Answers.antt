@@ -10,5 +10,5 @@ returns-clause-ok c from to f t =
     let test : ℕ → Bool = λ k. eqb (get_or old k 0) from && eqb (get_or new k 0) to in
     let whole : length old ≡ length c.args.old.now = omega arith in
     let whole' : length new ≡ length c.args.old.now = omega arith in
-    let all = filled-pairs c.args.before.now c.args.after.now c.args.task c.args.cpu c.args.first old new (length c.args.old.now) from to (λ k lt. c.in_ok-fill.ensures.ok.1 k (omega arith)) (λ k lt. c.in_ok-fill-2.ensures.ok.1 k (omega arith)) in
+    let all = filled-pairs c.args.before.now c.args.after.now c.args.touch.task c.args.touch.cpu c.args.first old new (length c.args.old.now) from to (λ k lt. c.in_ok-fill.ensures.ok.1 k (omega arith)) (λ k lt. c.in_ok-fill-2.ensures.ok.1 k (omega arith)) in
     omega (arith, c.add_pairs.ensures.pairs from to f t, all, ap (λ (n : ℕ). count_pages test 0 n) whole)

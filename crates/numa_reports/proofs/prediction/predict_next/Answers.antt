@@ -9,11 +9,11 @@ add_span-requires-clause-room g c node small = omega (arith, get_or-replicate {A
 
 pub returns-clause-told : goal.returns-clause-told
 returns-clause-told g c history stands planned =
-    let lt : c.args.cpu < c.args.plan.now.nodes = omega (arith, planned.nodes, c.requires.known) in (
+    let lt : c.args.touch.cpu < c.args.plan.now.nodes = omega (arith, planned.nodes, c.requires.known) in (
       record { policy = c.policy_of.result; counts = c.add_span.new.counts },
       record {
         policy = c.policy_of.ensures history stands;
-        counts = λ node small. omega (arith, get_or-replicate {A = ℕ} 256 node 0 0 small, c.in_ok-add_span.ensures.counts node small, counts-meant c.args.space.now.machine c.args.plan.now history planned c.args.task c.args.cpu c.args.range.now.first c.args.range.now.pages node lt);
+        counts = λ node small. omega (arith, get_or-replicate {A = ℕ} 256 node 0 0 small, c.in_ok-add_span.ensures.counts node small, counts-meant c.args.space.now.machine c.args.plan.now history planned c.args.touch.task c.args.touch.cpu c.args.range.now.first c.args.range.now.pages node lt);
       },
       c.in_ok-take.ensures.tells,
     )

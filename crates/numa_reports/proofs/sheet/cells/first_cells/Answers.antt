@@ -17,7 +17,7 @@ pub returns-in_err-nodes : goal.returns-in_err-nodes
 returns-in_err-nodes c = record {
   err = λ history stands planned.
       let exit = err_from_is_err_and c.from_residual.result c.from_residual.ensures.1 in
-      rw (exit.1, exit.2) (range-fails c.args.space.now c.args.plan.now history c.loop-range.range-iterator c.next.new.self c.in-Some.range c.args.cpu (Refused c.in_err-nodes.field-0.0) stands planned c.loop-range.invariant c.in-Some.ensures.steps c.in_err-nodes.ensures);
+      rw (exit.1, exit.2) (range-fails c.args.space.now c.args.plan.now history c.loop-range.range-iterator c.next.new.self c.in-Some.range c.args.touch.cpu (Refused c.in_err-nodes.field-0.0) stands planned c.loop-range.invariant c.in-Some.ensures.steps c.in_err-nodes.ensures);
 }
 
 pub returns-in_err-extend_from_slice : goal.returns-in_err-extend_from_slice

@@ -1,0 +1,8 @@
+//! Who touches pages.
+
+/// A task that touches pages on a CPU of the node `cpu`.
+#[derive(Clone, Copy, Debug)]
+pub struct Touch {
+    pub task: u32,
+    pub cpu: u32,
+}
