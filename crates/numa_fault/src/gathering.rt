@@ -28,35 +28,8 @@ pub(crate) fn make_room(
     Ok(())
 }
 
-/// Deals the workers' answers out in turn, into the order of the requests.
-fn deal(workers: &mut [FaultWorker], count: usize, answers: &mut Vec<Answer>)
-    requires workers { 0 < length workers.old }
-    requires room { (answers.old.items ≡ []) × (count ≤ vec_capacity answers.old) }
-    requires kept { (w : ℕ) (d : FaultWorker) → w < length workers.old
-        → length (slice_index_or workers.old w d).kept ≡ share (length workers.old) w count }
-    ensures same { SameParts workers.old workers.new }
-    ensures all { length answers.new.items ≡ count }
-    ensures each { (w : ℕ) (d : FaultWorker) → w < length workers.old
-        → column (length workers.old) w answers.new.items
-        ≡ reverse (slice_index_or workers.old w d).kept }
-{
-    let mut turn = 0;
-    for _ in 0..count {
-        let Some(answer) = workers[turn].hand_out() else {
-            unreachable!()
-        };
-        let Ok(()) = answers.push(answer) else {
-            unreachable!()
-        };
-        turn += 1;
-        if turn == workers.len() {
-            turn = 0;
-        }
-    }
-}
-
-/// Puts the workers' answers into the order of the requests. One worker has them so, and they
-/// aren't copied.
+/// Puts the workers' answers into the order of the requests: they are dealt out in turn. One worker
+/// has them so, and they aren't copied.
 pub(crate) fn gather(workers: &mut [FaultWorker], count: usize, answers: &mut Vec<Answer>)
     requires workers { 0 < length workers.old }
     requires room { (answers.old.items ≡ []) × (count ≤ vec_capacity answers.old) }
@@ -70,8 +43,20 @@ pub(crate) fn gather(workers: &mut [FaultWorker], count: usize, answers: &mut Ve
 {
     if workers.len() == 1 {
         workers[0].hand_over(answers);
-    } else {
-        deal(workers, count, answers);
+        return;
+    }
+    let mut turn = 0;
+    for _ in 0..count {
+        let Some(answer) = workers[turn].hand_out() else {
+            unreachable!()
+        };
+        let Ok(()) = answers.push(answer) else {
+            unreachable!()
+        };
+        turn += 1;
+        if turn == workers.len() {
+            turn = 0;
+        }
     }
 }
 

@@ -3,7 +3,7 @@ use Rattle.numa_fault.specs.Crew.{column}
 use Rattle.numa_fault.specs.Turns.{wait}
 use Rattle.numa_fault.specs.Worker.{parts_of}
 use Rattle.numa_fault.specs.declared.worker.FaultWorker.{FaultWorker}
-use Rattle.numa_fault.proofs.gathering.deal.Given as goal
+use Rattle.numa_fault.proofs.gathering.gather.Given as goal
 
 abbrev pub invariant-loop : goal.invariant-loop
 invariant-loop l = record {
