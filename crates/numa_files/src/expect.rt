@@ -1,5 +1,5 @@
 //! Worked scripts, compared with what their lines are answered as they are read.
-ghost use Rattle.std.specs.Prelude.{◌≤◌, length, IfOk};
+ghost use Rattle.std.specs.Prelude.{◌+◌, ◌≤◌, ◌<◌, length, IfOk};
 
 use crate::reading::{Stop, TakeText};
 use crate::worked::{HEAD, LineForm, read_form};
@@ -235,17 +235,26 @@ impl<A: Respond, W: Write> Expect<A, W> {
         Ok(())
     }
 
-    /// Ends the answer to the latest script line: what was given beyond what was wanted is told.
-    fn end_answer(&mut self) -> Result<(), Stop> {
-        let is_left = self.next < self.answer.len();
-        if is_left && self.is_wanted {
-            let place = self.place.saturating_sub(1);
-            let text = format!(in self.alloc; "{}:{place}: wanted no more", self.name)?;
-            self.tell(text.as_str().as_bytes())?;
-            self.tell_given()?;
-            self.counts.different = self.counts.different.saturating_add(1);
-        } else if is_left {
+    /// Counts what was given beyond what was wanted, and tells it where something was.
+    #[cold]
+    #[inline(never)]
+    fn count_rest(&mut self) -> Result<(), Stop> {
+        if !self.is_wanted {
             self.counts.uncompared = self.counts.uncompared.saturating_add(1);
+            return Ok(());
+        }
+        let place = self.place.saturating_sub(1);
+        let text = format!(in self.alloc; "{}:{place}: wanted no more", self.name)?;
+        self.tell(text.as_str().as_bytes())?;
+        self.tell_given()?;
+        self.counts.different = self.counts.different.saturating_add(1);
+        Ok(())
+    }
+
+    /// Ends the answer to the latest script line.
+    fn end_answer(&mut self) -> Result<(), Stop> {
+        if self.next < self.answer.len() {
+            self.count_rest()?;
         }
         self.answer.clear();
         self.next = 0;
@@ -285,13 +294,10 @@ impl<A: Respond, W: Write> Expect<A, W> {
         taken
     }
 
-    /// Takes the rest of the line at hand. A line that lies whole in its piece, and shows there
-    /// what it holds, isn't copied.
-    fn take_rest(&mut self, rest: &[u8]) -> Result<(), Stop> {
-        if self.reading == Reading::Head && self.head.is_empty() && rest.len() <= HEAD {
-            return self.take_head(rest);
-        }
-        self.feed(rest)
+    /// Goes on to the next line of the text.
+    fn open_next(&mut self) {
+        self.reading = Reading::Head;
+        self.place = self.place.saturating_add(1);
     }
 
     /// Ends the line at hand.
@@ -302,9 +308,42 @@ impl<A: Respond, W: Write> Expect<A, W> {
         if self.reading != Reading::Passed {
             self.end_wanted()?;
         }
-        self.reading = Reading::Head;
-        self.place = self.place.saturating_add(1);
+        self.open_next();
         Ok(())
+    }
+
+    /// Takes the script line before the mark in the line at hand, which ends there in a piece, and
+    /// what it is to be answered. Most answers are one line, and as wanted: nothing of such a one
+    /// is left.
+    fn take_answered(&mut self, piece: &[u8], mark: usize, end: usize) -> Result<(), Stop>
+        requires { (mark + 4 ≤ end) × (end < length piece.now) }
+    {
+        self.ask(&piece[..mark])?;
+        if self.answer.as_slice() == &piece[mark + 4..end + 1] {
+            self.counts.same = self.counts.same.saturating_add(1);
+            self.answer.clear();
+            self.open_next();
+            return Ok(());
+        }
+        self.want_from(&piece[mark + 4..end])?;
+        self.end_line()
+    }
+
+    /// Takes the rest of the line at hand, which ends there in a piece. A line that lies whole in
+    /// its piece, and shows there what it holds, isn't copied.
+    fn take_rest(&mut self, piece: &[u8], end: usize) -> Result<(), Stop>
+        requires { end < length piece.now }
+    {
+        let rest = &piece[..end];
+        if self.reading != Reading::Head || !self.head.is_empty() || end > HEAD {
+            self.feed(rest)?;
+            return self.end_line();
+        }
+        if let LineForm::Answered(mark) = read_form(rest) {
+            return self.take_answered(piece, mark, end);
+        }
+        self.take_head(rest)?;
+        self.end_line()
     }
 
     /// Takes the first bytes of the line at hand, up to those that show what it holds, and tells
@@ -360,8 +399,7 @@ impl<A: Respond, W: Write> TakeText for Expect<A, W> {
     fn take(&mut self, piece: &[u8]) -> Result<(), Stop> {
         let mut rest = piece;
         while let Some(end) = memchr(b'\n', rest) {
-            self.take_rest(&rest[..end])?;
-            self.end_line()?;
+            self.take_rest(rest, end)?;
             rest = &rest[end + 1..];
         }
         self.feed(rest)

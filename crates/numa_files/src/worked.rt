@@ -11,6 +11,8 @@
 ghost use Rattle.std.specs.Prelude.{◌≡◌, ◌+◌, ◌≤◌, ◌<◌, true, codes, drop, length, take, IfSome};
 ghost use Rattle.numa_files.specs.Worked.{begins_with, last_mark, form_of, IsWithin};
 
+use memchr::memrchr;
+
 /// How many bytes of a line are looked at: those that show that a script line is too long, and
 /// ` => `.
 pub const HEAD: usize = 4101;
@@ -29,29 +31,30 @@ pub enum LineForm {
     Answer,
 }
 
-/// Whether ` => ` begins there. Few bytes are spaces, so that most are passed over by one look.
+/// Whether ` => ` begins there.
 fn begins_mark(text: &[u8], place: usize) -> bool
     requires { place < length text.now }
     ensures value { result ≡ begins_with (codes " => ") (drop place text.now) }
     ensures within { result ≡ true → place + 4 ≤ length text.now }
 {
-    if text[place] != b' ' {
-        return false;
-    }
     text[place..].starts_with(MARK)
 }
 
-/// Where the last ` => ` of a text begins, sought from the end: answers are short.
+/// Where the last ` => ` of a text begins, sought from the end by its `>`: answers are short, and
+/// few bytes are that.
 fn last_mark(text: &[u8]) -> Option<usize>
     ensures value { result ≡ last_mark text.now }
     ensures within { IfSome result (λ place. place + 4 ≤ length text.now) }
 {
-    let mut place = text.len();
-    while place > 0 {
-        place -= 1;
-        if begins_mark(text, place) {
-            return Some(place);
+    let mut end = text.len();
+    while let Some(place) = memrchr(b'>', &text[..end]) {
+        if place < 2 {
+            return None;
         }
+        if begins_mark(text, place - 2) {
+            return Some(place - 2);
+        }
+        end = place;
     }
     None
 }
