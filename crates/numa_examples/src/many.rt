@@ -88,14 +88,22 @@ pub fn rows_of(alloc: Global, values: u64) -> Result<Vec<FlatRow>, AllocError>
     Ok(rows)
 }
 
-/// The sum of the places that a round of std's partition point finds in such rows.
-pub fn places_in(rows: &[FlatRow]) -> u64 {
+/// The sum of what look-ups of so many pages give.
+pub fn sum_of_looks<F: FnMut(u64) -> u64>(count: u64, mut look: F) -> u64
+    requires { F.IsAlwaysCallable look }
+{
     let mut sum = 0u64;
-    for i in 0..ROUND {
-        let page = black_box(page_of(i));
-        sum = sum.wrapping_add(rows.partition_point(|row| row[0] <= page) as u64);
+    for i in 0..count {
+        sum = sum.wrapping_add(look(black_box(page_of(i))));
     }
     sum
+}
+
+/// The sum of the places that a round of std's partition point finds in such rows.
+pub fn places_in(rows: &[FlatRow]) -> u64 {
+    sum_of_looks(ROUND, |page| {
+        rows.partition_point(|row| row[0] <= page) as u64
+    })
 }
 
 /// The sum so far with one number more, which nearly any other list of numbers would change.
