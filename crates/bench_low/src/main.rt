@@ -10,7 +10,8 @@ mod mask;
 mod ranges;
 mod rows;
 
-use numa_examples::wanted::{Wanted, read_wanted};
+use numa_examples::measured::{Measured, run};
+use std::alloc::Global;
 use std::io;
 use std::rt::Clock;
 
@@ -24,60 +25,46 @@ enum Part {
     Ranges,
 }
 
-/// The parts with their names.
-const PARTS: [(Part, &str); 5] = [
-    (Part::Mask, "mask"),
-    (Part::Lanes, "lanes"),
-    (Part::Machine, "machine"),
-    (Part::Rows, "rows"),
-    (Part::Ranges, "ranges"),
-];
-
-/// Prints the checksums of a part.
-fn checksums_of<R: Print + AllocGlobal>(rt: &R, part: Part) -> io::Result<()> {
-    match part {
-        Part::Mask => mask::checksums(rt),
-        Part::Lanes => lanes::checksums(rt, rt.alloc()),
-        Part::Machine => machine::checksums(rt),
-        Part::Rows => rows::checksums(rt, rt.alloc()),
-        Part::Ranges => ranges::checksums(rt, rt.alloc()),
-    }
-}
-
-/// Prints the checksums of each part.
-fn checksums<R: Print + AllocGlobal>(rt: &R) -> io::Result<()> {
-    for (part, name) in PARTS {
-        println!(rt; "== {name}")?;
-        checksums_of(rt, part)?;
-    }
-    Ok(())
-}
-
-/// Prints the ratios of a part.
-fn measure_part<R: Print + Clock + AllocGlobal>(rt: &R, part: Part) -> io::Result<()> {
-    match part {
-        Part::Mask => mask::measure(rt),
-        Part::Lanes => lanes::measure(rt, rt.alloc()),
-        Part::Machine => machine::measure(rt),
-        Part::Rows => rows::measure(rt, rt.alloc()),
-        Part::Ranges => ranges::measure(rt, rt.alloc()),
-    }
-}
-
-/// Prints the ratios of the part that is named, or of all.
-fn measure<R: Print + Clock + AllocGlobal>(rt: &R, wanted: &str) -> io::Result<()> {
-    for (part, name) in PARTS {
-        if wanted.is_empty() || wanted == name {
-            measure_part(rt, part)?;
+impl<R: Print + Clock> Measured<R> for Part {
+    fn name(self) -> &'static str {
+        match self {
+            Part::Mask => "mask",
+            Part::Lanes => "lanes",
+            Part::Machine => "machine",
+            Part::Rows => "rows",
+            Part::Ranges => "ranges",
         }
     }
-    Ok(())
+
+    fn checksums(self, rt: &R, alloc: Global) -> io::Result<()> {
+        match self {
+            Part::Mask => mask::checksums(rt),
+            Part::Lanes => lanes::checksums(rt, alloc),
+            Part::Machine => machine::checksums(rt, alloc),
+            Part::Rows => rows::checksums(rt, alloc),
+            Part::Ranges => ranges::checksums(rt, alloc),
+        }
+    }
+
+    fn measure(self, rt: &R, alloc: Global) -> io::Result<()> {
+        match self {
+            Part::Mask => mask::measure(rt),
+            Part::Lanes => lanes::measure(rt, alloc),
+            Part::Machine => machine::measure(rt, alloc),
+            Part::Rows => rows::measure(rt, alloc),
+            Part::Ranges => ranges::measure(rt, alloc),
+        }
+    }
 }
 
 fn main(rt: HostRuntime) -> io::Result<()> {
-    match read_wanted(&rt, "bench_low [measure [mask|lanes|machine|rows|ranges]]")? {
-        Wanted::Checksums => checksums(&rt),
-        Wanted::Ratios(part) => measure(&rt, part.as_str()),
-        Wanted::Nothing => Ok(()),
-    }
+    let parts = [
+        Part::Mask,
+        Part::Lanes,
+        Part::Machine,
+        Part::Rows,
+        Part::Ranges,
+    ];
+    let usage = "bench_low [measure [mask|lanes|machine|rows|ranges]]";
+    run(&rt, usage, &parts)
 }

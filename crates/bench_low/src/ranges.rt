@@ -2,7 +2,7 @@
 //!
 //! A figure of `measure` is a ratio: the best time of a call over the best time, in the same run,
 //! of the least that any sorted vector needs for it. Times alone say little about another machine.
-use numa_examples::many::{FlatRow, RANGES, ROUND, mixed, page_of, places_in, rows_of};
+use numa_examples::many::{FlatRow, RANGES, ROUND, mixed, places_in, rows_of, sum_of_looks};
 use numa_examples::times::{best_of, print_ratio};
 use numa_ranges::RangeMap;
 use std::alloc::Global;
@@ -121,13 +121,10 @@ fn time_moves<R: Clock>(rt: &R, rows: &mut Vec<FlatRow>) -> io::Result<u64> {
 
 /// The sum of what a round of `at` finds.
 fn found(map: &RangeMap<u64>) -> u64 {
-    let mut sum = 0u64;
-    for i in 0..ROUND {
-        if let Some((index, value)) = map.at(black_box(page_of(i))) {
-            sum = sum.wrapping_add(index).wrapping_add(value);
-        }
-    }
-    sum
+    sum_of_looks(ROUND, |page| {
+        map.at(page)
+            .map_or(0, |(index, value)| index.wrapping_add(value))
+    })
 }
 
 /// Prints the ratio of edits.

@@ -1,10 +1,9 @@
 //! Long lists of rows in chunks: the sum of the places that look-ups find, and with the argument
 //! `measure` how long they take beside those in one plain vector of the same rows.
-use numa_examples::many::{FlatRow, POLICIES, ROUND, page_of, places_in, rows_of};
+use numa_examples::many::{FlatRow, POLICIES, ROUND, places_in, rows_of, sum_of_looks};
 use numa_examples::times::{best_of, print_ratio};
 use numa_rows::{Keep, Owned, Rows, Shared};
 use std::alloc::{AllocError, Global};
-use std::hint::black_box;
 use std::io;
 use std::rt::Clock;
 
@@ -22,13 +21,9 @@ fn chunked<K: Keep<FlatRow>>(
 
 /// The sum of the places that a round finds.
 fn places<K: Keep<FlatRow>>(rows: &Rows<FlatRow, K>) -> u64 {
-    let mut sum = 0u64;
-    for i in 0..ROUND {
-        let page = black_box(page_of(i));
-        let place = rows.partition_point(&mut |row: &FlatRow| row[0] <= page);
-        sum = sum.wrapping_add(place as u64);
-    }
-    sum
+    sum_of_looks(ROUND, |page| {
+        rows.partition_point(&mut |row: &FlatRow| row[0] <= page) as u64
+    })
 }
 
 /// The sum that a round finds in such chunks.

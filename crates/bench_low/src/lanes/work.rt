@@ -1,5 +1,6 @@
 //! A kernel beside a plain form of the same work, and the times of both.
 
+use numa_examples::tallied;
 use numa_examples::times::nanos;
 use numa_lanes::{Cycle, count_all, count_in, count_node, fill_cycle, fill_one};
 use numa_mask::{NodeId, NodeMask};
@@ -35,6 +36,14 @@ pub struct Tools {
     pub answers: u64,
 }
 
+/// What is measured over: a span to count, one to fill, and what the calls take beside them.
+#[derive(Drop)]
+pub struct Bench {
+    pub span: Vec<u8>,
+    pub out: Vec<u8>,
+    pub tools: Tools,
+}
+
 /// The name of the kernel, and of the plain form that it stands beside.
 fn names(work: Work) -> (&'static str, &'static str) {
     match work {
@@ -56,16 +65,6 @@ fn kernel(work: Work, node: u8, span: &[u8], out: &mut [u8], tools: &mut Tools) 
         Work::CountIn => return count_in(span, &tools.set),
     }
     0
-}
-
-#[inline(never)]
-fn tallied(span: &[u8]) -> [u64; 256] {
-    let mut counts = [0u64; 256];
-    for entry in span {
-        let place = usize::from(*entry);
-        counts[place] = counts[place].wrapping_add(1);
-    }
-    counts
 }
 
 fn contains(set: &NodeMask, number: u8) -> bool {
@@ -152,21 +151,20 @@ fn print_times(
     println!(rt; "{kernel} {mix} {size}: {percent} % of {plain}, {picoseconds} ps a page")
 }
 
-/// Prints the time of a kernel over the first `size` pages of a span as a ratio to that of its
-/// plain form.
+/// Prints the time of a kernel over the first `size` pages as a ratio to that of its plain form.
 pub fn time_beside<R: Print + Clock>(
     rt: &R,
     work: Work,
     mix: &str,
     size: usize,
-    span: &[u8],
-    out: &mut [u8],
-    tools: &mut Tools,
+    bench: &mut Bench,
 ) -> io::Result<()> {
     let turns = (STRETCH / size.max(1)).max(1) as u64;
-    let (Some(span), Some(out)) = (span.get(..size), out.get_mut(..size)) else {
+    let span = bench.span.as_slice().get(..size);
+    let out = bench.out.as_mut_slice().get_mut(..size);
+    let (Some(span), Some(out)) = (span, out) else {
         return Ok(());
     };
-    let times = best_times(rt, work, turns, span, out, tools)?;
+    let times = best_times(rt, work, turns, span, out, &mut bench.tools)?;
     print_times(rt, work, mix, size, turns, times)
 }
