@@ -9,7 +9,8 @@ mod maps;
 mod plan;
 mod space;
 
-use numa_examples::wanted::{Wanted, read_wanted};
+use numa_examples::measured::{Measured, run};
+use std::alloc::Global;
 use std::io;
 use std::rt::Clock;
 
@@ -22,57 +23,39 @@ enum Part {
     Maps,
 }
 
-/// The parts with their names.
-const PARTS: [(Part, &str); 4] = [
-    (Part::Space, "space"),
-    (Part::Plan, "plan"),
-    (Part::Compile, "compile"),
-    (Part::Maps, "maps"),
-];
-
-/// Prints the checksums of a part.
-fn checksums_of<R: Print + AllocGlobal>(rt: &R, part: Part) -> io::Result<()> {
-    match part {
-        Part::Space => space::checksums(rt, rt.alloc()),
-        Part::Plan => plan::checksums(rt, rt.alloc()),
-        Part::Compile => compile::checksums(rt, rt.alloc()),
-        Part::Maps => maps::checksums(rt, rt.alloc()),
-    }
-}
-
-/// Prints the checksums of each part.
-fn checksums<R: Print + AllocGlobal>(rt: &R) -> io::Result<()> {
-    for (part, name) in PARTS {
-        println!(rt; "== {name}")?;
-        checksums_of(rt, part)?;
-    }
-    Ok(())
-}
-
-/// Prints the ratios of a part.
-fn measure_part<R: Print + Clock + AllocGlobal>(rt: &R, part: Part) -> io::Result<()> {
-    match part {
-        Part::Space => space::measure(rt, rt.alloc()),
-        Part::Plan => plan::measure(rt, rt.alloc()),
-        Part::Compile => compile::measure(rt, rt.alloc()),
-        Part::Maps => maps::measure(rt, rt.alloc()),
-    }
-}
-
-/// Prints the ratios of the part that is named, or of all.
-fn measure<R: Print + Clock + AllocGlobal>(rt: &R, wanted: &str) -> io::Result<()> {
-    for (part, name) in PARTS {
-        if wanted.is_empty() || wanted == name {
-            measure_part(rt, part)?;
+impl<R: Print + Clock> Measured<R> for Part {
+    fn name(self) -> &'static str {
+        match self {
+            Part::Space => "space",
+            Part::Plan => "plan",
+            Part::Compile => "compile",
+            Part::Maps => "maps",
         }
     }
-    Ok(())
+
+    fn checksums(self, rt: &R, alloc: Global) -> io::Result<()> {
+        match self {
+            Part::Space => space::checksums(rt, alloc),
+            Part::Plan => plan::checksums(rt, alloc),
+            Part::Compile => compile::checksums(rt, alloc),
+            Part::Maps => maps::checksums(rt, alloc),
+        }
+    }
+
+    fn measure(self, rt: &R, alloc: Global) -> io::Result<()> {
+        match self {
+            Part::Space => space::measure(rt, alloc),
+            Part::Plan => plan::measure(rt, alloc),
+            Part::Compile => compile::measure(rt, alloc),
+            Part::Maps => maps::measure(rt, alloc),
+        }
+    }
 }
 
 fn main(rt: HostRuntime) -> io::Result<()> {
-    match read_wanted(&rt, "bench_high [measure [space|plan|compile|maps]]")? {
-        Wanted::Checksums => checksums(&rt),
-        Wanted::Ratios(part) => measure(&rt, part.as_str()),
-        Wanted::Nothing => Ok(()),
-    }
+    run(
+        &rt,
+        "bench_high [measure [space|plan|compile|maps]]",
+        &[Part::Space, Part::Plan, Part::Compile, Part::Maps],
+    )
 }

@@ -4,6 +4,7 @@
 //! A figure of `measure` is a ratio of best times in the same run. Times alone say little about
 //! another machine.
 use numa_examples::many::{eight_nodes, spec_of_bits};
+use numa_examples::measured::with_made;
 use numa_examples::times::{best_of, print_ratio};
 use numa_machine::Frame;
 use numa_maps::{Resident, Watched, write_maps};
@@ -87,19 +88,37 @@ fn resident_of(alloc: Global, placements: u64, step: u64) -> Resident {
     resident
 }
 
+/// What is listed: how many ranges, how many pages each has, how many placements, and on every how
+/// manyth page from the first one on each of them is.
+type Case = (u64, u64, u64, u64);
+
+/// A space and its placements.
+#[derive(Drop)]
+struct Listed {
+    space: Space,
+    resident: Resident,
+}
+
+/// Those of a case.
+fn listed_of(alloc: Global, (ranges, pages, placements, step): Case) -> Option<Listed> {
+    let space = space_of(alloc, ranges, pages)?;
+    let resident = resident_of(alloc, placements, step);
+    Some(Listed { space, resident })
+}
+
 /// Lists once, and answers how many bytes went out and their checksum.
-fn list(space: &Space, resident: &Resident) -> (u64, u64) {
+fn list(listed: &Listed) -> (u64, u64) {
     let mut output = Watched::new(Sum {
         bytes: 0,
         sum: 14_695_981_039_346_656_037,
     });
-    let _ = write_maps(space, 1, resident, &mut output);
+    let _ = write_maps(&listed.space, 1, &listed.resident, &mut output);
     (output.inner.bytes, output.inner.sum)
 }
 
 /// A number that all that is written has part in.
-fn listed(space: &Space, resident: &Resident) -> u64 {
-    let (bytes, sum) = list(space, resident);
+fn written(listed: &Listed) -> u64 {
+    let (bytes, sum) = list(listed);
     bytes ^ sum
 }
 
@@ -121,30 +140,18 @@ fn sum_of(map: &BTreeMap<u64, u64>) -> u64 {
     sum
 }
 
-/// What is listed: so many ranges of so many pages each, and so many placements on every `step`th
-/// page.
-#[derive(Clone, Copy)]
-struct Case {
-    ranges: u64,
-    pages: u64,
-    placements: u64,
-    step: u64,
-}
-
 /// The best time of a listing.
-fn time_listing<R: Clock>(rt: &R, space: &Space, resident: &Resident) -> io::Result<u64> {
-    let (time, seen) = best_of(rt, 20, || listed(space, resident))?;
+fn time_listing<R: Clock>(rt: &R, listed: &Listed) -> io::Result<u64> {
+    let (time, seen) = best_of(rt, 20, || written(listed))?;
     Ok(time.wrapping_add(seen % 2))
 }
 
 /// The best time of a listing of this, 0 where there is no memory.
 fn time_case<R: Clock>(rt: &R, alloc: Global, case: Case) -> io::Result<u64> {
-    match space_of(alloc, case.ranges, case.pages) {
-        Some(space) => {
-            let resident = resident_of(alloc, case.placements, case.step);
-            let time = time_listing(rt, &space, &resident);
-            drop(resident);
-            drop(space);
+    match listed_of(alloc, case) {
+        Some(listed) => {
+            let time = time_listing(rt, &listed);
+            drop(listed);
             time
         }
         None => Ok(0),
@@ -184,42 +191,17 @@ fn compare_walk<R: Clock + Print>(rt: &R, alloc: Global, listing: u64) -> io::Re
 }
 
 /// A range of which each page has a placement.
-const NARROW: Case = Case {
-    ranges: 1,
-    pages: 20_000,
-    placements: 20_000,
-    step: 1,
-};
+const NARROW: Case = (1, 20_000, 20_000, 1);
 
 /// One of a million times the pages, with as many placements.
-const WIDE: Case = Case {
-    ranges: 1,
-    pages: 20_000_000_000,
-    placements: 20_000,
-    step: 1_000_000,
-};
+const WIDE: Case = (1, 20_000_000_000, 20_000, 1_000_000);
 
 /// Ranges without placements, ten times as many, and those with a placement in each.
-const SOME: Case = Case {
-    ranges: 2_000,
-    pages: 1,
-    placements: 0,
-    step: 1,
-};
+const SOME: Case = (2_000, 1, 0, 1);
 
-const MANY: Case = Case {
-    ranges: 20_000,
-    pages: 1,
-    placements: 0,
-    step: 1,
-};
+const MANY: Case = (20_000, 1, 0, 1);
 
-const PLACED: Case = Case {
-    ranges: 20_000,
-    pages: 1,
-    placements: 20_000,
-    step: 2,
-};
+const PLACED: Case = (20_000, 1, 20_000, 2);
 
 /// Prints how long the listing and the keeping of placements take.
 pub fn measure<R: Print + Clock>(rt: &R, alloc: Global) -> io::Result<()> {
@@ -237,40 +219,16 @@ pub fn measure<R: Print + Clock>(rt: &R, alloc: Global) -> io::Result<()> {
     Ok(())
 }
 
-fn tell(rt: &impl Print, what: &str, space: &Space, resident: &Resident) -> io::Result<()> {
-    let (bytes, sum) = list(space, resident);
+/// Prints the bytes and the checksum of a listing.
+fn tell(rt: &impl Print, what: &str, listed: &Listed) -> io::Result<()> {
+    let (bytes, sum) = list(listed);
     println!(rt; "{what}: {bytes} bytes, checksum {sum}")
 }
 
-/// Prints the bytes and the checksum of a listing.
-fn tell_case(rt: &impl Print, alloc: Global, what: &str, case: Case) -> io::Result<()> {
-    match space_of(alloc, case.ranges, case.pages) {
-        Some(space) => {
-            let resident = resident_of(alloc, case.placements, case.step);
-            let done = tell(rt, what, &space, &resident);
-            drop(resident);
-            drop(space);
-            done
-        }
-        None => println!(rt; "no space"),
-    }
-}
+/// Ranges of three pages without placements, and with two in each.
+const BARE: Case = (20_000, 3, 0, 1);
 
-/// Ranges of three pages without placements.
-const BARE: Case = Case {
-    ranges: 20_000,
-    pages: 3,
-    placements: 0,
-    step: 1,
-};
-
-/// The same with two placements in each.
-const FULL: Case = Case {
-    ranges: 20_000,
-    pages: 3,
-    placements: 40_000,
-    step: 2,
-};
+const FULL: Case = (20_000, 3, 40_000, 2);
 
 /// Prints the bytes and checksums of listings.
 pub fn checksums(rt: &impl Print, alloc: Global) -> io::Result<()> {
@@ -279,7 +237,7 @@ pub fn checksums(rt: &impl Print, alloc: Global) -> io::Result<()> {
         ("20,000 ranges, 40,000 placements", FULL),
         ("one range, 20,000 placements", WIDE),
     ] {
-        tell_case(rt, alloc, what, case)?;
+        with_made(rt, listed_of(alloc, case), |listed| tell(rt, what, listed))?;
     }
     Ok(())
 }

@@ -7,66 +7,27 @@ mod checks;
 mod plans;
 mod times;
 
+use numa_examples::measured::with_made;
 use std::alloc::Global;
 use std::io;
 use std::rt::Clock;
 
-/// Prints checksums of what the plan of many runs answers.
-fn check_spread(rt: &impl Print, alloc: Global) -> io::Result<()> {
-    match plans::spread(alloc) {
-        Some(plan) => {
-            let done = checks::print_spread(rt, &plan);
-            drop(plan);
-            done
-        }
-        None => println!(rt; "no memory"),
-    }
-}
-
-/// The same of the plan of one run.
-fn check_whole(rt: &impl Print, alloc: Global) -> io::Result<()> {
-    match plans::whole(alloc) {
-        Some(plan) => {
-            let done = checks::print_whole(rt, &plan);
-            drop(plan);
-            done
-        }
-        None => println!(rt; "no memory"),
-    }
-}
-
-/// Prints checksums of what two large plans answer.
+/// Prints checksums of what the plan of many runs and that of one run answer.
 pub fn checksums(rt: &impl Print, alloc: Global) -> io::Result<()> {
-    check_spread(rt, alloc)?;
-    check_whole(rt, alloc)
+    with_made(rt, plans::spread(alloc), |plan| {
+        checks::print_spread(rt, plan)
+    })?;
+    with_made(
+        rt,
+        plans::whole(alloc),
+        |plan| checks::print_whole(rt, plan),
+    )
 }
 
-/// Prints how long the calls of the plan of many runs take.
-fn measure_spread<R: Print + Clock>(rt: &R, alloc: Global) -> io::Result<()> {
-    match plans::spread(alloc) {
-        Some(plan) => {
-            let done = times::print_choice(rt, alloc, &plan);
-            drop(plan);
-            done
-        }
-        None => println!(rt; "no memory"),
-    }
-}
-
-/// The same of the plan of one run.
-fn measure_whole<R: Print + Clock>(rt: &R, alloc: Global) -> io::Result<()> {
-    match plans::whole(alloc) {
-        Some(plan) => {
-            let done = times::print_spans(rt, alloc, &plan);
-            drop(plan);
-            done
-        }
-        None => println!(rt; "no memory"),
-    }
-}
-
-/// Prints how long the calls take.
+/// Prints how long the calls of both take.
 pub fn measure<R: Print + Clock>(rt: &R, alloc: Global) -> io::Result<()> {
-    measure_spread(rt, alloc)?;
-    measure_whole(rt, alloc)
+    let spread = plans::spread(alloc);
+    with_made(rt, spread, |plan| times::print_choice(rt, alloc, plan))?;
+    let whole = plans::whole(alloc);
+    with_made(rt, whole, |plan| times::print_spans(rt, alloc, plan))
 }

@@ -4,6 +4,7 @@
 //! run, of moving a plain vector whose rows are as large as a range. Times alone say little about
 //! another machine.
 use numa_examples::many::{bind, bind_page, eight_nodes, map, mixed, spec_of_bits};
+use numa_examples::measured::with_made;
 use numa_examples::nodes_of;
 use numa_examples::times::{nanos, print_ratio};
 use numa_mode::PolicySpec;
@@ -35,6 +36,13 @@ const UPPER: u8 = 240;
 
 /// The policies of all ranges, and of the middle page.
 type Specs = (PolicySpec, PolicySpec);
+
+/// A space of all ranges, and those policies.
+#[derive(Drop)]
+struct LargeSpace {
+    space: Space,
+    specs: Specs,
+}
 
 /// Interleaving over all nodes, and bind for the last two.
 fn specs() -> Option<Specs> {
@@ -107,11 +115,11 @@ fn changes(specs: Specs) -> [(Command, &'static str); 4] {
 }
 
 /// Prints what a page's policy and changes of the allowed nodes leave.
-fn print_checksums(rt: &impl Print, space: &mut Space, specs: Specs) -> io::Result<()> {
-    tell(rt, "spread", space)?;
-    for (command, what) in changes(specs) {
-        let _ = space.apply(&command);
-        tell(rt, what, space)?;
+fn print_checksums(rt: &impl Print, large: &mut LargeSpace) -> io::Result<()> {
+    tell(rt, "spread", &large.space)?;
+    for (command, what) in changes(large.specs) {
+        let _ = large.space.apply(&command);
+        tell(rt, what, &large.space)?;
     }
     Ok(())
 }
@@ -124,12 +132,13 @@ fn time_command<R: Clock>(rt: &R, space: &mut Space, command: &Command) -> io::R
 }
 
 /// The best time of a split of the middle range, each undone before the next.
-fn time_splits<R: Clock>(rt: &R, space: &mut Space, specs: Specs) -> io::Result<u64> {
+fn time_splits<R: Clock>(rt: &R, large: &mut LargeSpace) -> io::Result<u64> {
+    let specs = large.specs;
     let (split, join) = (bind_page(MIDDLE, specs.1), bind_page(MIDDLE, specs.0));
     let mut best = u64::MAX;
     for _ in 0..100 {
-        best = best.min(time_command(rt, space, &split)?);
-        let _ = space.apply(&join);
+        best = best.min(time_command(rt, &mut large.space, &split)?);
+        let _ = large.space.apply(&join);
     }
     Ok(best)
 }
@@ -176,49 +185,37 @@ fn time_moves<R: Clock>(rt: &R, rows: &mut Vec<Row>) -> io::Result<u64> {
 }
 
 /// Prints the ratios to moves of half the vector.
-fn print_ratios<R: Clock + Print>(
-    rt: &R,
-    space: &mut Space,
-    specs: Specs,
-    moves: u64,
-) -> io::Result<()> {
-    let splits = time_splits(rt, space, specs)?;
+fn print_ratios<R: Clock + Print>(rt: &R, large: &mut LargeSpace, moves: u64) -> io::Result<()> {
+    let splits = time_splits(rt, large)?;
     print_ratio(
         rt,
         "Mbind of a middle page over a move of half the vector",
         splits,
         moves,
     )?;
-    let changes = time_changes(rt, space)?;
+    let changes = time_changes(rt, &mut large.space)?;
     print_ratio(rt, "SetMems over a move of half the vector", changes, moves)
 }
 
 fn measure_commands<R: Clock + Print>(
     rt: &R,
-    space: &mut Space,
-    specs: Specs,
+    large: &mut LargeSpace,
     moves: u64,
 ) -> io::Result<()> {
-    print_ratios(rt, space, specs, moves)?;
-    tell(rt, "left", space)
+    print_ratios(rt, large, moves)?;
+    tell(rt, "left", &large.space)
 }
 
 /// A space of all ranges, and the policies.
-fn setting(alloc: Global) -> Option<(Space, Specs)> {
+fn setting(alloc: Global) -> Option<LargeSpace> {
     let specs = specs()?;
-    Some((space_of(alloc, specs.0)?, specs))
+    let space = space_of(alloc, specs.0)?;
+    Some(LargeSpace { space, specs })
 }
 
 /// Prints checksums of what commands leave.
 pub fn checksums(rt: &impl Print, alloc: Global) -> io::Result<()> {
-    match setting(alloc) {
-        Some((mut space, specs)) => {
-            let done = print_checksums(rt, &mut space, specs);
-            drop(space);
-            done
-        }
-        None => println!(rt; "no space"),
-    }
+    with_made(rt, setting(alloc), |large| print_checksums(rt, large))
 }
 
 /// The best time of a move of half of as many rows.
@@ -231,12 +228,7 @@ fn time_baseline<R: Clock>(rt: &R, alloc: Global) -> io::Result<u64> {
 pub fn measure<R: Print + Clock>(rt: &R, alloc: Global) -> io::Result<()> {
     println!(rt; "a range takes {RANGE_BYTES} bytes")?;
     let moves = time_baseline(rt, alloc)?;
-    match setting(alloc) {
-        Some((mut space, specs)) => {
-            let done = measure_commands(rt, &mut space, specs, moves);
-            drop(space);
-            done
-        }
-        None => println!(rt; "no space"),
-    }
+    with_made(rt, setting(alloc), |large| {
+        measure_commands(rt, large, moves)
+    })
 }

@@ -129,20 +129,6 @@ fn print_edit<R: Clock + Print>(
     println!(rt; "accepted {accepted}")
 }
 
-/// Prints the ratios of a compile to commands of both kinds.
-fn print_edits<R: Clock + Print>(
-    rt: &R,
-    alloc: Global,
-    space: &mut PlannedSpace,
-    kinds: &[(Turns, &str); 2],
-    compiled: u64,
-) -> io::Result<()> {
-    for (turns, what) in kinds {
-        print_edit(rt, alloc, space, turns, what, compiled)?;
-    }
-    Ok(())
-}
-
 /// Both kinds of commands.
 fn kinds() -> Option<[(Turns, &'static str); 2]> {
     Some([
@@ -159,7 +145,9 @@ fn print_ratios<R: Clock + Print>(
     kinds: &[(Turns, &str); 2],
     compiled: u64,
 ) -> io::Result<()> {
-    print_edits(rt, alloc, space, kinds, compiled)?;
+    for (turns, what) in kinds {
+        print_edit(rt, alloc, space, turns, what, compiled)?;
+    }
     print_copies(rt, alloc, space, compiled)?;
     print_published(rt, alloc, space, &kinds[0].0, compiled)
 }

@@ -1,6 +1,7 @@
 //! How long a compile and a prediction of all ranges take.
 use numa_compile::compile;
 use numa_examples::many::{FlatRow, POLICIES, RANGES, rows_of};
+use numa_examples::measured::with_made;
 use numa_examples::times::{best_of_making, print_ratio};
 use numa_plan::{NoMemory, Plan};
 use numa_reports::{Format, ReportFault, prediction_text};
@@ -92,14 +93,9 @@ fn print_predictions<R: Clock + Print>(
     space: &Space,
     compiled: u64,
 ) -> io::Result<()> {
-    match compile(alloc, space) {
-        Ok(plan) => {
-            let done = print_prediction(rt, alloc, space, &plan, compiled);
-            drop(plan);
-            done
-        }
-        Err(_) => println!(rt; "no memory"),
-    }
+    with_made(rt, compile(alloc, space).ok(), |plan| {
+        print_prediction(rt, alloc, space, plan, compiled)
+    })
 }
 
 /// The best time of a plain copy with a look-up in a map for each range, and how many rows all had.

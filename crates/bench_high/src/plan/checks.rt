@@ -1,21 +1,8 @@
 //! Checksums of what the plans answer.
+use crate::compile::checks::choices;
 use numa_examples::many::mixed;
-use numa_plan::{Plan, Steps};
+use numa_plan::Plan;
 use std::io;
-
-/// What `choice` answers for every page of the runs and holes.
-fn choices(plan: &Plan) -> u64 {
-    let mut sum = 0u64;
-    for page in 0..262_145u64 {
-        sum = match plan.choice(1, page, 2, &mut Steps::new()) {
-            Ok(row) => row
-                .iter()
-                .fold(mixed(sum, 1), |sum, node| mixed(sum, u64::from(*node))),
-            Err(_) => mixed(sum, 2),
-        };
-    }
-    sum
-}
 
 /// What `fill` answers for a span of 10,000 pages.
 fn fills(plan: &Plan, task: u32, first: u64) -> u64 {
@@ -40,7 +27,7 @@ fn counts(plan: &Plan, task: u32, first: u64, pages: u64) -> u64 {
 
 fn print_choices(rt: &impl Print, spread: &Plan) -> io::Result<()> {
     let runs = spread.run_count();
-    let sum = choices(spread);
+    let sum = choices(spread, 2);
     println!(rt; "choice of each page, {runs} runs: {sum}")
 }
 

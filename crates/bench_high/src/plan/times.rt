@@ -1,6 +1,6 @@
 //! How long the answers of a plan take.
 use crate::plan::plans::WEIGHED;
-use numa_examples::many::{FlatRow, RANGES, ROUND, page_of, places_in, rows_of};
+use numa_examples::many::{FlatRow, RANGES, ROUND, places_in, rows_of, sum_of_looks};
 use numa_examples::times::{best_of, nanos, print_ratio};
 use numa_lanes::{Cycle, fill_cycle, fill_one};
 use numa_plan::{Plan, Steps};
@@ -15,25 +15,17 @@ const FILLED: usize = 1_048_576;
 
 /// The sum of how long the lists are that a round of `choice` finds.
 fn lists_of(plan: &Plan) -> u64 {
-    let mut sum = 0u64;
-    for i in 0..ROUND {
-        let page = black_box(page_of(i));
-        if let Ok(row) = plan.choice(1, page, 2, &mut Steps::new()) {
-            sum = sum.wrapping_add(row.len() as u64);
-        }
-    }
-    sum
+    sum_of_looks(ROUND, |page| {
+        plan.choice(1, page, 2, &mut Steps::new())
+            .map_or(0, |row| row.len() as u64)
+    })
 }
 
 /// The sum of the places that a round of std's partition point finds among first pages alone.
 fn places_of(firsts: &[u64]) -> u64 {
-    let mut sum = 0u64;
-    for i in 0..ROUND {
-        let page = black_box(page_of(i));
-        let place = firsts.partition_point(|first| *first <= page);
-        sum = sum.wrapping_add(place as u64);
-    }
-    sum
+    sum_of_looks(ROUND, |page| {
+        firsts.partition_point(|first| *first <= page) as u64
+    })
 }
 
 /// The first pages of the runs.
