@@ -3,7 +3,8 @@ mod serve;
 
 use crate::crew::serve::{by_crew, by_one};
 use crate::setting::{ON_NODE_0, desk_of, on_desk, request_of};
-use crate::times::{ROUNDS, Times, lacking};
+use crate::times::{ROUNDS, Times};
+use numa_examples::measured::lacking;
 use numa_publish::Desk;
 use numa_space::Request;
 use std::alloc::Global;

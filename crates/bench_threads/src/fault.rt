@@ -6,8 +6,8 @@ mod spans;
 use crate::placing::Placing;
 use crate::seated::Seated;
 use crate::setting::{desk_of, on_desk};
-use crate::times::lacking;
 use crate::workers::Workers;
+use numa_examples::measured::{lacking, with_made};
 use numa_publish::Desk;
 use std::alloc::Global;
 use std::io;
@@ -28,24 +28,7 @@ fn measure_parts<R: Print + Clock>(
     }
 }
 
-/// The same, beside takes of other pools.
-fn measure_beside<R: Print + Clock>(
-    rt: &R,
-    alloc: Global,
-    desk: &mut Desk,
-    placing: &mut Placing,
-) -> io::Result<()> {
-    match Seated::open(alloc) {
-        Some(mut seated) => {
-            let done = measure_parts(rt, desk, placing, &mut seated);
-            drop(seated);
-            done
-        }
-        None => lacking(rt),
-    }
-}
-
-/// Measures spans, and faults beside their parts.
+/// Measures spans, and faults beside their parts and takes of other pools.
 fn measure_placing<R: Print + Clock>(
     rt: &R,
     alloc: Global,
@@ -53,19 +36,16 @@ fn measure_placing<R: Print + Clock>(
     placing: &mut Placing,
 ) -> io::Result<()> {
     spans::measure(rt, alloc, placing)?;
-    measure_beside(rt, alloc, desk, placing)
+    with_made(rt, Seated::open(alloc), |seated| {
+        measure_parts(rt, desk, placing, seated)
+    })
 }
 
 /// Measures one worker.
 fn measure_alone<R: Print + Clock>(rt: &R, alloc: Global, desk: &mut Desk) -> io::Result<()> {
-    match Placing::open(alloc, desk) {
-        Some(mut placing) => {
-            let done = measure_placing(rt, alloc, desk, &mut placing);
-            drop(placing);
-            done
-        }
-        None => lacking(rt),
-    }
+    with_made(rt, Placing::open(alloc, desk), |placing| {
+        measure_placing(rt, alloc, desk, placing)
+    })
 }
 
 /// Measures one worker and several.
@@ -97,14 +77,9 @@ fn print_placed<R: Print + Threads + Sync>(
     alloc: Global,
     desk: &mut Desk,
 ) -> io::Result<()> {
-    match Workers::open(alloc, desk, 4) {
-        Some(mut workers) => {
-            let done = print_faults(rt, &mut workers);
-            drop(workers);
-            done
-        }
-        None => lacking(rt),
-    }
+    with_made(rt, Workers::open(alloc, desk, 4), |workers| {
+        print_faults(rt, workers)
+    })
 }
 
 /// Prints checksums.

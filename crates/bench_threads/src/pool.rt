@@ -6,7 +6,7 @@ mod lone;
 
 use crate::seated::Seated;
 use crate::setting::machine_of;
-use crate::times::lacking;
+use numa_examples::measured::{lacking, with_made};
 use numa_pool::Pools;
 use std::alloc::Global;
 use std::io;
@@ -26,14 +26,7 @@ pub fn checksums<R: Print + Threads + Sync>(rt: &R, alloc: Global) -> io::Result
 
 /// Prints the ratios of one thread.
 fn measure_lone<R: Print + Clock>(rt: &R, alloc: Global) -> io::Result<()> {
-    match Seated::open(alloc) {
-        Some(mut seated) => {
-            let done = lone::measure(rt, &mut seated);
-            drop(seated);
-            done
-        }
-        None => lacking(rt),
-    }
+    with_made(rt, Seated::open(alloc), |seated| lone::measure(rt, seated))
 }
 
 /// Prints the ratios, of one thread and of several.

@@ -1,5 +1,5 @@
 //! The machine, the published policies and the requests of faults and crews.
-use crate::times::lacking;
+use numa_examples::measured::lacking;
 use numa_examples::{flat_machine, spec_of};
 use numa_machine::Machine;
 use numa_publish::Desk;

@@ -105,8 +105,3 @@ impl Times {
         println!(rt; "{what}: {whole}.{part:02} ns")
     }
 }
-
-/// Prints that something couldn't be made, so that nothing is measured.
-pub fn lacking(rt: &impl Print) -> io::Result<()> {
-    println!(rt; "no memory")
-}

@@ -1,6 +1,7 @@
 //! Several workers, each in a thread.
-use crate::times::{ROUNDS, Times, Watch, lacking};
+use crate::times::{ROUNDS, Times, Watch};
 use crate::workers::Workers;
+use numa_examples::measured::with_made;
 use numa_publish::Desk;
 use std::alloc::Global;
 use std::io;
@@ -56,14 +57,9 @@ fn measure_beside<R: Print + Clock + Threads + Sync>(
     desk: &mut Desk,
     many: &mut Workers,
 ) -> io::Result<()> {
-    match Workers::open(alloc, desk, 1) {
-        Some(mut one) => {
-            let done = print_times(rt, &mut one, many);
-            drop(one);
-            done
-        }
-        None => lacking(rt),
-    }
+    with_made(rt, Workers::open(alloc, desk, 1), |one| {
+        print_times(rt, one, many)
+    })
 }
 
 /// The same of so many workers.
@@ -74,12 +70,7 @@ pub fn measure<R: Print + Clock + Threads + Sync>(
     count: u32,
 ) -> io::Result<()> {
     println!(rt; "{count} threads, faults a second over one thread's (its time over theirs):")?;
-    match Workers::open(alloc, desk, count) {
-        Some(mut many) => {
-            let done = measure_beside(rt, alloc, desk, &mut many);
-            drop(many);
-            done
-        }
-        None => lacking(rt),
-    }
+    with_made(rt, Workers::open(alloc, desk, count), |many| {
+        measure_beside(rt, alloc, desk, many)
+    })
 }

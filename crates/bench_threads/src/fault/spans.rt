@@ -1,6 +1,7 @@
 //! A fault on a span beside as many faults.
 use crate::placing::Placing;
-use crate::times::{ROUNDS, Times, Watch, lacking};
+use crate::times::{ROUNDS, Times, Watch};
+use numa_examples::measured::lacking;
 use numa_space::Placement;
 use std::alloc::Global;
 use std::io;

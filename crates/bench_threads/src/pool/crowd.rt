@@ -6,7 +6,8 @@ ghost use Rattle.numa_pool.specs.Seats.{SeatView};
 use crate::pool::bare::bare_by;
 use crate::seated::rounds;
 use crate::setting::machine_of;
-use crate::times::{ROUNDS, Times, Watch, lacking};
+use crate::times::{ROUNDS, Times, Watch};
+use numa_examples::measured::with_made;
 use numa_pool::{PoolSeat, Pools};
 use std::alloc::Global;
 use std::hint::black_box;
@@ -137,14 +138,9 @@ fn measure_seats<R: Print + Clock + Threads + Sync>(
     count: u32,
 ) -> io::Result<()> {
     measure_word(rt, seats, count)?;
-    match Seats::open(alloc, 1) {
-        Some(mut one) => {
-            let done = measure_apart(rt, &mut one, seats, count);
-            drop(one);
-            done
-        }
-        None => lacking(rt),
-    }
+    with_made(rt, Seats::open(alloc, 1), |one| {
+        measure_apart(rt, one, seats, count)
+    })
 }
 
 /// Prints the ratios of so many threads.
@@ -153,12 +149,7 @@ pub fn measure<R: Print + Clock + Threads + Sync>(
     alloc: Global,
     count: u32,
 ) -> io::Result<()> {
-    match Seats::open(alloc, count) {
-        Some(mut seats) => {
-            let done = measure_seats(rt, alloc, &mut seats, count);
-            drop(seats);
-            done
-        }
-        None => lacking(rt),
-    }
+    with_made(rt, Seats::open(alloc, count), |seats| {
+        measure_seats(rt, alloc, seats, count)
+    })
 }

@@ -1,8 +1,9 @@
 //! What a look and a publish take beside their parts, in one thread.
 use crate::publish::looks::{bare_looks, choices, looks, plan_choices};
 use crate::publish::spaces::change;
-use crate::times::{ROUNDS, Times, Watch, lacking};
+use crate::times::{ROUNDS, Times, Watch};
 use numa_compile::compile;
+use numa_examples::measured::{lacking, with_made};
 use numa_plan::Plan;
 use numa_publish::{Desk, PlanReader};
 use std::alloc::Global;
@@ -25,10 +26,14 @@ fn time_bare(rt: &impl Clock, epoch: &AtomicU64, side: &AtomicU64) -> u64 {
     watch.nanos(rt)
 }
 
-/// The time of looks.
-fn time_looks(rt: &impl Clock, reader: PlanReader) -> (PlanReader, u64) {
+/// The time of looks, each with the choice of a page or without.
+fn time_looks(rt: &impl Clock, reader: PlanReader, asks: bool) -> (PlanReader, u64) {
     let watch = Watch::start(rt);
-    let (reader, sum) = looks(reader, LOOKS);
+    let (reader, sum) = if asks {
+        choices(reader, LOOKS)
+    } else {
+        looks(reader, LOOKS)
+    };
     black_box(sum);
     (reader, watch.nanos(rt))
 }
@@ -38,14 +43,6 @@ fn time_plan(rt: &impl Clock, plan: &Plan) -> u64 {
     let watch = Watch::start(rt);
     black_box(plan_choices(plan, LOOKS));
     watch.nanos(rt)
-}
-
-/// The time of choices through a view.
-fn time_choices(rt: &impl Clock, reader: PlanReader) -> (PlanReader, u64) {
-    let watch = Watch::start(rt);
-    let (reader, sum) = choices(reader, LOOKS);
-    black_box(sum);
-    (reader, watch.nanos(rt))
 }
 
 /// Looks beside their atomic steps, and choices through a view beside looks and a plan's choices.
@@ -59,9 +56,9 @@ fn time_all<R: Clock>(
     let (epoch, side) = (AtomicU64::new(0), AtomicU64::new(0));
     for round in 0..ROUNDS {
         let bare = time_bare(rt, &epoch, &side);
-        let (back, look) = time_looks(rt, reader);
+        let (back, look) = time_looks(rt, reader, false);
         let found = time_plan(rt, plan);
-        let (back, choice) = time_choices(rt, back);
+        let (back, choice) = time_looks(rt, back, true);
         reader = back;
         of_looks.put(round, look, bare);
         of_choices.put(round, choice, look.saturating_add(found));
@@ -140,14 +137,9 @@ fn print_beside<R: Print + Clock>(rt: &R, desk: &mut Desk, plan: &Plan) -> io::R
 
 /// The same beside a plan of the space.
 fn print_looks<R: Print + Clock>(rt: &R, alloc: Global, desk: &mut Desk) -> io::Result<()> {
-    match compile(alloc, desk.space()) {
-        Ok(plan) => {
-            let done = print_beside(rt, desk, &plan);
-            drop(plan);
-            done
-        }
-        Err(_) => lacking(rt),
-    }
+    with_made(rt, compile(alloc, desk.space()).ok(), |plan| {
+        print_beside(rt, desk, plan)
+    })
 }
 
 /// Prints the ratios of publishes.

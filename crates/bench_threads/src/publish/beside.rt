@@ -1,6 +1,7 @@
 //! Readers in threads, beside a desk that publishes without a pause.
 use crate::publish::spaces::change;
-use crate::times::{Watch, lacking};
+use crate::times::Watch;
+use numa_examples::measured::lacking;
 use numa_publish::{Desk, PlanReader};
 use std::alloc::Global;
 use std::io;

@@ -1,5 +1,5 @@
 //! Looks at what is published, and the least that they could be made of.
-use numa_examples::many::page_of;
+use numa_examples::many::{page_of, sum_of_looks};
 use numa_plan::{Plan, Steps};
 use numa_publish::PlanReader;
 use std::hint::black_box;
@@ -40,14 +40,10 @@ pub fn choices(mut reader: PlanReader, count: u64) -> (PlanReader, u64) {
 
 /// Asks a plan for so many lists.
 pub fn plan_choices(plan: &Plan, count: u64) -> u64 {
-    let mut sum = 0u64;
-    for i in 0..count {
-        let page = black_box(page_of(i));
-        if let Ok(row) = plan.choice(1, page, 3, &mut Steps::new()) {
-            sum = sum.wrapping_add(row.len() as u64);
-        }
-    }
-    sum
+    sum_of_looks(count, |page| {
+        plan.choice(1, page, 3, &mut Steps::new())
+            .map_or(0, |row| row.len() as u64)
+    })
 }
 
 /// The atomic steps of a look, so many times, on words of one's own.
