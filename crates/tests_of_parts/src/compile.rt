@@ -1,24 +1,36 @@
 //! Spans of many lengths, and a list of commands with a refused one among them. That the plan of a
 //! space answers as the space does is seen with each example of a space.
 use crate::played::Step::{List, NoList, Ranges, Version};
-use crate::played::{ask_plan, plan_of};
+use crate::played::{Step, plan_of, put_all};
 use crate::same::same;
+use numa_examples::ShortCommand;
 use numa_examples::ShortCommand::{Map, Mbind};
 use numa_plan::Plan;
 use numa_space::PlaceRefusal;
 use std::alloc::Global;
 use std::process::Abort;
 
+static TWO_SPANS_ASKED: [ShortCommand<'static>; 3] = [
+    Map(0x10_0000, 0x2_1000, 0),
+    Mbind(0x10_a000, 0xa000, 2, &[1]),
+    Map(0x100_0000, 0x200_1000, 0),
+];
+
 /// 33 pages from 0x100 on, of which the ten from 0x10a on are bound to node 1, and 8,193 pages from
 /// 0x1000 on.
 fn two_spans(rt: &impl Abort, alloc: Global) -> Plan {
-    let asked = [
-        Map(0x10_0000, 0x2_1000, 0),
-        Mbind(0x10_a000, 0xa000, 2, &[1]),
-        Map(0x100_0000, 0x200_1000, 0),
-    ];
-    plan_of(rt, alloc, &asked)
+    plan_of(rt, alloc, &TWO_SPANS_ASKED)
 }
+
+/// Spans by their first page and their pages, how many pages nodes 0 and 1 have, and the places of
+/// those on node 1.
+static SPANS: [(u64, usize, (u64, u64), (usize, usize)); 5] = [
+    (0x100, 0, (0, 0), (0, 0)),
+    (0x100, 31, (21, 10), (10, 20)),
+    (0x100, 32, (22, 10), (10, 20)),
+    (0x100, 33, (23, 10), (10, 20)),
+    (0x1000, 8193, (8193, 0), (0, 0)),
+];
 
 fn expect_counts(rt: &impl Abort, plan: &Plan, first: u64, pages: u64, want: (u64, u64)) {
     let counts = plan.counts(1, 0, first, pages).expect(rt, "counts");
@@ -28,14 +40,8 @@ fn expect_counts(rt: &impl Abort, plan: &Plan, first: u64, pages: u64, want: (u6
 #[test]
 fn spans_of_many_lengths_are_counted(rt: HostRuntime) {
     let plan = two_spans(&rt, rt.alloc());
-    for (first, pages, want) in [
-        (0x100, 0, (0, 0)),
-        (0x100, 31, (21, 10)),
-        (0x100, 32, (22, 10)),
-        (0x100, 33, (23, 10)),
-        (0x1000, 8193, (8193, 0)),
-    ] {
-        expect_counts(&rt, &plan, first, pages, want);
+    for (first, pages, want, _) in &SPANS {
+        expect_counts(&rt, &plan, *first, *pages as u64, *want);
     }
     drop(plan);
 }
@@ -72,14 +78,8 @@ fn expect_length(
 #[test]
 fn spans_of_many_lengths_are_filled(rt: HostRuntime) {
     let plan = two_spans(&rt, rt.alloc());
-    for (first, pages, ones) in [
-        (0x100, 0, (0, 0)),
-        (0x100, 31, (10, 20)),
-        (0x100, 32, (10, 20)),
-        (0x100, 33, (10, 20)),
-        (0x1000, 8193, (0, 0)),
-    ] {
-        expect_length(&rt, rt.alloc(), &plan, (first, pages), ones);
+    for (first, pages, _, ones) in &SPANS {
+        expect_length(&rt, rt.alloc(), &plan, (*first, *pages), *ones);
     }
     drop(plan);
 }
@@ -97,24 +97,24 @@ fn a_page_too_many_is_refused(rt: HostRuntime) {
     drop(plan);
 }
 
+static PASSED_OVER: [ShortCommand<'static>; 3] = [
+    Map(0x10000, 0x2000, 0),
+    Map(0x11000, 0x2000, 7),
+    Mbind(0x11000, 0x1000, 2, &[1]),
+];
+
+static PASSED_OVER_QUESTIONS: [Step<'static>; 6] = [
+    Version(2),
+    Ranges(2),
+    List(1, 0x10, 0, &[0, 1, 2, 3]),
+    List(1, 0x10, 1, &[1, 0, 2, 3]),
+    List(1, 0x11, 0, &[1]),
+    NoList(1, 0x12, 0, PlaceRefusal::Unmapped),
+];
+
 #[test]
 fn refused_commands_are_passed_over(rt: HostRuntime) {
-    let asked = [
-        Map(0x10000, 0x2000, 0),
-        Map(0x11000, 0x2000, 7),
-        Mbind(0x11000, 0x1000, 2, &[1]),
-    ];
-    let plan = plan_of(&rt, rt.alloc(), &asked);
-    let questions = [
-        Version(2),
-        Ranges(2),
-        List(1, 0x10, 0, &[0, 1, 2, 3]),
-        List(1, 0x10, 1, &[1, 0, 2, 3]),
-        List(1, 0x11, 0, &[1]),
-        NoList(1, 0x12, 0, PlaceRefusal::Unmapped),
-    ];
-    for (line, question) in questions.iter().enumerate() {
-        ask_plan(&rt, &plan, question, line);
-    }
+    let plan = plan_of(&rt, rt.alloc(), &PASSED_OVER);
+    put_all(&rt, &plan, &PASSED_OVER_QUESTIONS);
     drop(plan);
 }

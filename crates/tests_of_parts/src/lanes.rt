@@ -4,7 +4,7 @@
 ghost use Rattle.std.specs.Prelude.{◌<◌, ◌^◌};
 
 use crate::same::same;
-use numa_examples::set_of;
+use numa_examples::{set_of, tallied};
 use numa_lanes::{Cycle, count_all, count_block, count_in, count_node, fill_cycle, fill_one};
 use numa_mask::NodeMask;
 use std::alloc::Global;
@@ -38,15 +38,6 @@ fn placed(rt: &impl Abort, alloc: Global, mix: [u8; 8]) -> Vec<u8> {
         span.push(mix[page % 8]).expect(rt, "memory");
     }
     span
-}
-
-fn tallied(span: &[u8]) -> [u64; 256] {
-    let mut counts = [0u64; 256];
-    for entry in span {
-        let place = usize::from(*entry);
-        counts[place] = counts[place].wrapping_add(1);
-    }
-    counts
 }
 
 /// The counts of each node are these.

@@ -14,11 +14,16 @@ fn machine_of(alloc: Global, row: &Row) -> Result<Machine, MachineFault> {
     Machine::new(alloc, nodes, set_of(memory), distances, frames)
 }
 
-/// Each of these descriptions has this fault, or none.
-fn expect_faults(rt: &impl Abort, alloc: Global, rows: &[Row], want: Option<MachineFault>) {
+/// This description has this fault, or none.
+fn expect_answer(rt: &impl Abort, alloc: Global, row: &Row, want: Option<MachineFault>) {
+    let found = machine_of(alloc, row).err();
+    same(rt, &(*row, found), &(*row, want));
+}
+
+/// Each of these descriptions has this fault.
+fn expect_faults(rt: &impl Abort, alloc: Global, rows: &[Row], fault: MachineFault) {
     for row in rows {
-        let found = machine_of(alloc, row).err();
-        same(rt, &(*row, found), &(*row, want));
+        expect_answer(rt, alloc, row, Some(fault));
     }
 }
 
@@ -35,31 +40,33 @@ fn expect_orders(rt: &impl Abort, machine: &Machine, orders: &[&[u8]; 3]) {
     expect_order(rt, machine, 2, orders[2]);
 }
 
+/// Distances of three nodes, the nodes with memory, and the order of each node.
+static ORDERS: [([u8; 9], &[u8], [&[u8]; 3]); 4] = [
+    (
+        [10, 20, 255, 20, 10, 20, 255, 20, 10],
+        &[0, 2],
+        [&[0, 2], &[0, 2], &[2, 0]],
+    ),
+    (
+        [10, 15, 20, 15, 10, 20, 20, 15, 10],
+        &[0, 1, 2],
+        [&[0, 1, 2], &[1, 0, 2], &[2, 1, 0]],
+    ),
+    (
+        [10, 30, 20, 40, 10, 50, 21, 22, 10],
+        &[0, 1, 2],
+        [&[0, 2, 1], &[1, 0, 2], &[2, 0, 1]],
+    ),
+    (
+        [10, 11, 11, 255, 10, 254, 12, 12, 10],
+        &[1, 2],
+        [&[1, 2], &[1, 2], &[2, 1]],
+    ),
+];
+
 #[test]
 fn orders_by_hand(rt: HostRuntime) {
-    let cases: [([u8; 9], &[u8], [&[u8]; 3]); 4] = [
-        (
-            [10, 20, 255, 20, 10, 20, 255, 20, 10],
-            &[0, 2],
-            [&[0, 2], &[0, 2], &[2, 0]],
-        ),
-        (
-            [10, 15, 20, 15, 10, 20, 20, 15, 10],
-            &[0, 1, 2],
-            [&[0, 1, 2], &[1, 0, 2], &[2, 1, 0]],
-        ),
-        (
-            [10, 30, 20, 40, 10, 50, 21, 22, 10],
-            &[0, 1, 2],
-            [&[0, 2, 1], &[1, 0, 2], &[2, 0, 1]],
-        ),
-        (
-            [10, 11, 11, 255, 10, 254, 12, 12, 10],
-            &[1, 2],
-            [&[1, 2], &[1, 2], &[2, 1]],
-        ),
-    ];
-    for (distances, memory, orders) in &cases {
+    for (distances, memory, orders) in &ORDERS {
         let row: Row = (3, *memory, distances, &[0, 0, 0]);
         let machine = machine_of(rt.alloc(), &row).expect(&rt, "a machine");
         expect_orders(&rt, &machine, orders);
@@ -128,59 +135,66 @@ fn reads_what_was_handed_in(rt: HostRuntime) {
 /// The distances of two nodes that are 20 apart.
 const TWO: [u8; 4] = [10, 20, 20, 10];
 
+static EDGES: [Row<'static>; 4] = [
+    (2, &[1], &TWO, &[0, 0]),
+    (2, &[1], &[10, 11, 255, 10], &[0, 0]),
+    (2, &[0, 1], &TWO, &[4096, 0]),
+    (2, &[0], &TWO, &[8, 0]),
+];
+
 #[test]
 fn no_fault_at_the_edges(rt: HostRuntime) {
-    let rows: [Row; 4] = [
-        (2, &[1], &TWO, &[0, 0]),
-        (2, &[1], &[10, 11, 255, 10], &[0, 0]),
-        (2, &[0, 1], &TWO, &[4096, 0]),
-        (2, &[0], &TWO, &[8, 0]),
-    ];
-    expect_faults(&rt, rt.alloc(), &rows, None);
+    for row in &EDGES {
+        expect_answer(&rt, rt.alloc(), row, None);
+    }
 }
+
+static BAD_COUNTS: [Row<'static>; 6] = [
+    (0, &[], &[], &[]),
+    (257, &[0], &[10], &[0]),
+    (2, &[0], &[10, 20, 20], &[0, 0]),
+    (2, &[0], &[10, 20, 20, 10, 10], &[0, 0]),
+    (2, &[0], &TWO, &[0]),
+    (2, &[], &TWO, &[0, 0, 0]),
+];
 
 #[test]
 fn faults_of_the_number_of_nodes(rt: HostRuntime) {
-    let rows: [Row; 6] = [
-        (0, &[], &[], &[]),
-        (257, &[0], &[10], &[0]),
-        (2, &[0], &[10, 20, 20], &[0, 0]),
-        (2, &[0], &[10, 20, 20, 10, 10], &[0, 0]),
-        (2, &[0], &TWO, &[0]),
-        (2, &[], &TWO, &[0, 0, 0]),
-    ];
-    expect_faults(&rt, rt.alloc(), &rows, Some(MachineFault::NodeCount));
+    expect_faults(&rt, rt.alloc(), &BAD_COUNTS, MachineFault::NodeCount);
 }
+
+static BAD_MEMORY: [Row<'static>; 3] = [
+    (2, &[], &TWO, &[0, 0]),
+    (2, &[0, 2], &TWO, &[0, 0]),
+    (2, &[255], &[0, 0, 0, 0], &[0, 0]),
+];
 
 #[test]
 fn faults_of_the_memory(rt: HostRuntime) {
-    let rows: [Row; 3] = [
-        (2, &[], &TWO, &[0, 0]),
-        (2, &[0, 2], &TWO, &[0, 0]),
-        (2, &[255], &[0, 0, 0, 0], &[0, 0]),
-    ];
-    expect_faults(&rt, rt.alloc(), &rows, Some(MachineFault::NoMemoryNode));
+    expect_faults(&rt, rt.alloc(), &BAD_MEMORY, MachineFault::NoMemoryNode);
 }
+
+static BAD_DISTANCES: [Row<'static>; 4] = [
+    (2, &[1], &[9, 20, 20, 10], &[0, 0]),
+    (2, &[1], &[10, 20, 20, 11], &[0, 0]),
+    (2, &[1], &[10, 10, 20, 10], &[9999, 0]),
+    (2, &[1], &[10, 20, 0, 10], &[0, 0]),
+];
 
 #[test]
 fn faults_of_the_distances(rt: HostRuntime) {
-    let rows: [Row; 4] = [
-        (2, &[1], &[9, 20, 20, 10], &[0, 0]),
-        (2, &[1], &[10, 20, 20, 11], &[0, 0]),
-        (2, &[1], &[10, 10, 20, 10], &[9999, 0]),
-        (2, &[1], &[10, 20, 0, 10], &[0, 0]),
-    ];
-    expect_faults(&rt, rt.alloc(), &rows, Some(MachineFault::BadDistance));
+    expect_faults(&rt, rt.alloc(), &BAD_DISTANCES, MachineFault::BadDistance);
 }
+
+static BAD_FRAMES: [Row<'static>; 3] = [
+    (2, &[0, 1], &TWO, &[4097, 0]),
+    (2, &[0], &TWO, &[0, 1]),
+    (1, &[0], &[10], &[u32::MAX]),
+];
 
 #[test]
 fn faults_of_the_frames(rt: HostRuntime) {
-    let rows: [Row; 3] = [
-        (2, &[0, 1], &TWO, &[4097, 0]),
-        (2, &[0], &TWO, &[0, 1]),
-        (1, &[0], &[10], &[u32::MAX]),
-    ];
-    expect_faults(&rt, rt.alloc(), &rows, Some(MachineFault::TooManyFrames));
+    expect_faults(&rt, rt.alloc(), &BAD_FRAMES, MachineFault::TooManyFrames);
 }
 
 #[test]
@@ -189,26 +203,27 @@ fn no_more_frames_than_sixteen_nodes_have(rt: HostRuntime) {
     let table = flat_distances(rt.alloc(), 17).expect(&rt, "memory");
     let mut frames = [4096; 17];
     let want = Some(MachineFault::TooManyFrames);
-    expect_faults(&rt, rt.alloc(), &[(17, &memory, &table, &frames)], want);
+    expect_answer(&rt, rt.alloc(), &(17, &memory, &table, &frames), want);
     frames[16] = 0;
-    expect_faults(&rt, rt.alloc(), &[(17, &memory, &table, &frames)], None);
+    expect_answer(&rt, rt.alloc(), &(17, &memory, &table, &frames), None);
 }
+
+static WEIGHTS_SET: [(u32, u32, Result<(), WeightFault>); 7] = [
+    (0, 5, Ok(())),
+    (1, 2, Ok(())),
+    (2, 1, Err(WeightFault::NoSuchNode)),
+    (2, 0, Err(WeightFault::NoSuchNode)),
+    (1, 0, Err(WeightFault::BadWeight)),
+    (1, 256, Err(WeightFault::BadWeight)),
+    (0, 255, Ok(())),
+];
 
 #[test]
 fn weights_are_set_and_read(rt: HostRuntime) {
     let mut weights = Weights::new(2);
-    let cases = [
-        (0, 5, Ok(())),
-        (1, 2, Ok(())),
-        (2, 1, Err(WeightFault::NoSuchNode)),
-        (2, 0, Err(WeightFault::NoSuchNode)),
-        (1, 0, Err(WeightFault::BadWeight)),
-        (1, 256, Err(WeightFault::BadWeight)),
-        (0, 255, Ok(())),
-    ];
-    for (node, weight, expected) in cases {
-        let answer = weights.set(node, weight);
-        same(&rt, &(node, weight, answer), &(node, weight, expected));
+    for (node, weight, expected) in &WEIGHTS_SET {
+        let answer = weights.set(*node, *weight);
+        same(&rt, &(*node, *weight, answer), &(*node, *weight, *expected));
     }
     for (node, weight) in [(0, 255), (1, 2), (2, 1), (255, 1)] {
         same(&rt, &(node, weights.get(node)), &(node, weight));
@@ -229,18 +244,20 @@ fn expect_turns(rt: &impl Abort, alloc: Global, weights: &Weights, set: &[u8], t
     same(rt, &(set, found.as_slice()), &(set, turns));
 }
 
+/// Sets of nodes, and their turns.
+static TURNS: [(&[u8], &[u8]); 4] = [
+    (&[], &[]),
+    (&[0, 1], &[0, 0, 0, 0, 0, 1, 1]),
+    (&[1, 7, 64], &[1, 1, 7, 64]),
+    (&[255, 1], &[1, 1, 255, 255, 255]),
+];
+
 #[test]
 fn turns_by_hand(rt: HostRuntime) {
     let mut weights = Weights::new(256);
     let answers = [weights.set(0, 5), weights.set(1, 2), weights.set(255, 3)];
     same(&rt, &answers, &[Ok(()); 3]);
-    let cases: [(&[u8], &[u8]); 4] = [
-        (&[], &[]),
-        (&[0, 1], &[0, 0, 0, 0, 0, 1, 1]),
-        (&[1, 7, 64], &[1, 1, 7, 64]),
-        (&[255, 1], &[1, 1, 255, 255, 255]),
-    ];
-    for (set, turns) in cases {
+    for (set, turns) in &TURNS {
         expect_turns(&rt, rt.alloc(), &weights, set, turns);
     }
 }

@@ -26,29 +26,42 @@ fn kernel_onto(rt: HostRuntime) {
     same(&rt, &placed, &set_of(&[31, 33, 35, 37, 39]));
 }
 
+/// Lists of nodes, and their texts.
+static MEMBERS: [(&str, &str); 7] = [
+    ("", ""),
+    ("0,1", "0-1"),
+    ("0,2,3,5", "0,2-3,5"),
+    ("63", "63"),
+    ("255", "255"),
+    ("0-255", "0-255"),
+    ("63-64,127-128,254", "63-64,127-128,254"),
+];
+
+/// Lists, folded to ten nodes, and then onto ten others.
+static FOLDS: [(&str, &str, &str); 11] = [
+    ("0", "0", "40"),
+    ("1", "1", "41"),
+    ("9", "9", "95"),
+    ("10", "0", "40"),
+    ("1,3,5,7", "1,3,5,7", "41,43,48,61"),
+    ("0-4", "0-4", "40-43,45"),
+    ("0,9,18,27", "0,7-9", "40,61,74,95"),
+    ("0,10,20,30", "0", "40"),
+    ("0,11,22,33", "0-3", "40-43"),
+    ("0,12,24,36", "0,2,4,6", "40,42,45,53"),
+    ("78,102,211", "1,2,8", "41,42,74"),
+];
+
 #[test]
 fn kernel_fold_and_onto(rt: HostRuntime) {
     let relative = set_of(&[40, 41, 42, 43, 45, 48, 53, 61, 74, 95]);
-    let rows = [
-        ("0", "0", "40"),
-        ("1", "1", "41"),
-        ("9", "9", "95"),
-        ("10", "0", "40"),
-        ("1,3,5,7", "1,3,5,7", "41,43,48,61"),
-        ("0-4", "0-4", "40-43,45"),
-        ("0,9,18,27", "0,7-9", "40,61,74,95"),
-        ("0,10,20,30", "0", "40"),
-        ("0,11,22,33", "0-3", "40-43"),
-        ("0,12,24,36", "0,2,4,6", "40,42,45,53"),
-        ("78,102,211", "1,2,8", "41,42,74"),
-    ];
-    for (original, folded, placed) in rows {
+    for (original, folded, placed) in &FOLDS {
         let small = list(&rt, original).fold(10);
-        let found = (original, small, small.onto(&relative));
+        let found = (*original, small, small.onto(&relative));
         same(
             &rt,
             &found,
-            &(original, list(&rt, folded), list(&rt, placed)),
+            &(*original, list(&rt, folded), list(&rt, placed)),
         );
     }
 }
@@ -69,18 +82,9 @@ fn kernel_remap(rt: HostRuntime) {
 
 #[test]
 fn texts(rt: HostRuntime) {
-    let rows = [
-        ("", ""),
-        ("0,1", "0-1"),
-        ("0,2,3,5", "0,2-3,5"),
-        ("63", "63"),
-        ("255", "255"),
-        ("0-255", "0-255"),
-        ("63-64,127-128,254", "63-64,127-128,254"),
-    ];
-    for (members, text) in rows {
+    for (members, text) in &MEMBERS {
         let nodes = nodes_of(&rt, members);
-        same(&rt, &list_text(&nodes).as_str(), &text);
+        same(&rt, &list_text(&nodes).as_str(), text);
     }
 }
 
@@ -94,31 +98,32 @@ fn lists(rt: HostRuntime) {
     same(&rt, &found, &(set_of(&[0, 2, 3, 5]), set_of(&[0]), 256));
 }
 
+static FAULTY_LISTS: [(&str, ListFault); 16] = [
+    ("", ListFault::Empty),
+    ("0,,1", ListFault::Empty),
+    ("0,", ListFault::Empty),
+    ("0-x", ListFault::BadDigit),
+    ("1-", ListFault::BadDigit),
+    ("-", ListFault::BadDigit),
+    ("1-2-3", ListFault::BadDigit),
+    ("+1", ListFault::BadDigit),
+    ("00000", ListFault::BadDigit),
+    ("0\r", ListFault::BadDigit),
+    ("3-1", ListFault::BackRange),
+    ("300-299", ListFault::BackRange),
+    ("256", ListFault::NodeTooHigh),
+    ("0-256", ListFault::NodeTooHigh),
+    ("3-1,x", ListFault::BackRange),
+    ("0,9999,", ListFault::NodeTooHigh),
+];
+
 #[test]
 fn faults(rt: HostRuntime) {
-    let rows = [
-        ("", ListFault::Empty),
-        ("0,,1", ListFault::Empty),
-        ("0,", ListFault::Empty),
-        ("0-x", ListFault::BadDigit),
-        ("1-", ListFault::BadDigit),
-        ("-", ListFault::BadDigit),
-        ("1-2-3", ListFault::BadDigit),
-        ("+1", ListFault::BadDigit),
-        ("00000", ListFault::BadDigit),
-        ("0\r", ListFault::BadDigit),
-        ("3-1", ListFault::BackRange),
-        ("300-299", ListFault::BackRange),
-        ("256", ListFault::NodeTooHigh),
-        ("0-256", ListFault::NodeTooHigh),
-        ("3-1,x", ListFault::BackRange),
-        ("0,9999,", ListFault::NodeTooHigh),
-    ];
-    for (text, fault) in rows {
+    for (text, fault) in &FAULTY_LISTS {
         same(
             &rt,
-            &(text, read_list(text.as_bytes())),
-            &(text, Err(fault)),
+            &(*text, read_list(text.as_bytes())),
+            &(*text, Err(*fault)),
         );
     }
 }

@@ -49,22 +49,23 @@ fn mode_words(rt: HostRuntime) {
     );
 }
 
+static WORD_FAULTS: [(u32, &[u8], SpecFault); 9] = [
+    (0xc002, &[5], SpecFault::BothFlags),
+    (7, &[], SpecFault::UnknownMode),
+    (0x2002, &[5], SpecFault::UnknownMode),
+    (0x10002, &[5], SpecFault::UnknownMode),
+    (0x8001, &[], SpecFault::FlagsForbidden),
+    (0x8004, &[], SpecFault::FlagsForbidden),
+    (4, &[5], SpecFault::NodesForbidden),
+    (0, &[5], SpecFault::NodesForbidden),
+    (3, &[], SpecFault::NodesMissing),
+];
+
 #[test]
 fn faults_of_mode_words(rt: HostRuntime) {
-    let faults: [(u32, &[u8], SpecFault); 9] = [
-        (0xc002, &[5], SpecFault::BothFlags),
-        (7, &[], SpecFault::UnknownMode),
-        (0x2002, &[5], SpecFault::UnknownMode),
-        (0x10002, &[5], SpecFault::UnknownMode),
-        (0x8001, &[], SpecFault::FlagsForbidden),
-        (0x8004, &[], SpecFault::FlagsForbidden),
-        (4, &[5], SpecFault::NodesForbidden),
-        (0, &[5], SpecFault::NodesForbidden),
-        (3, &[], SpecFault::NodesMissing),
-    ];
-    for (word, nodes, fault) in faults {
-        let found = PolicySpec::from_raw(word, set_of(nodes)).err();
-        same(&rt, &(word, found), &(word, Some(fault)));
+    for (word, nodes, fault) in &WORD_FAULTS {
+        let found = PolicySpec::from_raw(*word, set_of(nodes)).err();
+        same(&rt, &(*word, found), &(*word, Some(*fault)));
     }
 }
 
@@ -152,20 +153,21 @@ fn expect_text(rt: &impl Abort, record: &Record, text: &str) {
     same(rt, &record.policy_text().as_str(), &text);
 }
 
+static TEXTS_OF_RECORDS: [(u32, &[u8], &str); 7] = [
+    (6, &[0, 1, 1], "weighted interleave:0-1"),
+    (0x8005, &[0, 0, 0], "prefer (many)=static:0"),
+    (0x4003, &[4, 5, 6], "interleave=relative:5,100,255"),
+    (1, &[2, 1, 2], "prefer:1"),
+    (0x8002, &[4, 100, 255], "bind=static:100,255"),
+    (3, &[3, 2, 0], "interleave:0,2-3"),
+    (1, &[], "local"),
+];
+
 #[test]
 fn texts(rt: HostRuntime) {
     let allowed = set_of(&[0, 1, 2, 3, 5, 100, 255]);
-    let cases: [(u32, &[u8], &str); 7] = [
-        (6, &[0, 1, 1], "weighted interleave:0-1"),
-        (0x8005, &[0, 0, 0], "prefer (many)=static:0"),
-        (0x4003, &[4, 5, 6], "interleave=relative:5,100,255"),
-        (1, &[2, 1, 2], "prefer:1"),
-        (0x8002, &[4, 100, 255], "bind=static:100,255"),
-        (3, &[3, 2, 0], "interleave:0,2-3"),
-        (1, &[], "local"),
-    ];
-    for (word, nodes, text) in cases {
-        expect_text(&rt, &standing(&rt, word, nodes, &allowed), text);
+    for (word, nodes, text) in &TEXTS_OF_RECORDS {
+        expect_text(&rt, &standing(&rt, *word, nodes, &allowed), text);
     }
     let bind = standing(&rt, 0x8002, &[1], &allowed);
     expect_text(&rt, &rebound(&rt, &bind, &[1], &[0]), "bind=static");

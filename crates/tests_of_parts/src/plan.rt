@@ -3,6 +3,7 @@ ghost use Rattle.std.specs.Prelude.{◌<◌};
 
 use crate::played::plan_of;
 use crate::same::same;
+use numa_examples::ShortCommand;
 use numa_examples::ShortCommand::{Map, Mbind, Task, Weight};
 use numa_mode::Record;
 use numa_plan::{Plan, Rule, Steps};
@@ -11,14 +12,15 @@ use numa_space::PlaceRefusal;
 use std::alloc::Global;
 use std::process::Abort;
 
+static TEN_PAGES_ASKED: [ShortCommand<'static>; 3] = [
+    Map(0x10000, 0xa000, 0),
+    Task(1, 3, &[0, 1, 2, 3]),
+    Mbind(0x13000, 0x3000, 2, &[2]),
+];
+
 /// Pages 16 to 25, of which 19 to 21 are bound to node 2; task 1 takes turns among four nodes.
 fn ten_pages(rt: &impl Abort, alloc: Global) -> Plan {
-    let asked = [
-        Map(0x10000, 0xa000, 0),
-        Task(1, 3, &[0, 1, 2, 3]),
-        Mbind(0x13000, 0x3000, 2, &[2]),
-    ];
-    plan_of(rt, alloc, &asked)
+    plan_of(rt, alloc, &TEN_PAGES_ASKED)
 }
 
 /// A span of eleven pages is refused so, by both calls, and what `fill` was handed is as it was.
@@ -59,17 +61,18 @@ fn spans_without_pages(rt: HostRuntime) {
     drop(plan);
 }
 
+static ALL_PAGES_ASKED: [ShortCommand<'static>; 5] = [
+    Map(0, 0x8000_0000_0000, 0),
+    Weight(0, 3),
+    Weight(1, 2),
+    Weight(3, 2),
+    Task(7, 6, &[0, 1, 2, 3]),
+];
+
 /// All pages, each of which has its own number as its index. Task 7 takes turns by weights 3, 2, 1
 /// and 2 of four nodes.
 fn all_pages(rt: &impl Abort, alloc: Global) -> Plan {
-    let asked = [
-        Map(0, 0x8000_0000_0000, 0),
-        Weight(0, 3),
-        Weight(1, 2),
-        Weight(3, 2),
-        Task(7, 6, &[0, 1, 2, 3]),
-    ];
-    plan_of(rt, alloc, &asked)
+    plan_of(rt, alloc, &ALL_PAGES_ASKED)
 }
 
 /// The turns that these weights give.

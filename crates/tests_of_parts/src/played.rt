@@ -51,67 +51,15 @@ fn first_at(rt: &impl Abort, space: &Space, task: u32, page: u64) -> Option<u8> 
     list.first().copied()
 }
 
-fn firsts_in_space(
-    rt: &impl Abort,
-    space: &Space,
-    task: u32,
-    first: u64,
-    want: &[u8],
-    line: usize,
-) {
-    let mut page = first;
-    for node in want {
-        let found = first_at(rt, space, task, page);
-        same(rt, &(line, page, found), &(line, page, Some(*node)));
-        page = page.saturating_add(1);
-    }
-}
+/// What is asked for a list: the task, the page and the node of the fault.
+type Asked = (u32, u64, u32);
+
+/// The list, or the refusal, that is wanted.
+type Wanted<'a> = Result<&'a [u8], PlaceRefusal>;
 
 /// The list of a page; a refusal in its place.
-fn same_list(
-    rt: &impl Abort,
-    line: usize,
-    found: Result<&[u8], PlaceRefusal>,
-    wanted: Result<&[u8], PlaceRefusal>,
-) {
+fn same_list(rt: &impl Abort, line: usize, found: Wanted, wanted: Wanted) {
     same(rt, &(line, found), &(line, wanted));
-}
-
-/// Asks the space for the list of a page.
-fn list_in_space(
-    rt: &impl Abort,
-    space: &Space,
-    (task, page, cpu): (u32, u64, u32),
-    wanted: Result<&[u8], PlaceRefusal>,
-    line: usize,
-) {
-    match space.list_at(task, page, cpu) {
-        Ok(list) => same_list(rt, line, Ok(list.as_slice()), wanted),
-        Err(refusal) => same_list(rt, line, Err(refusal), wanted),
-    }
-}
-
-/// Puts a question to the space.
-pub fn ask_space(rt: &impl Abort, space: &Space, step: &Step, line: usize) {
-    match step {
-        Does(_) | Refuses(_, _) => {}
-        List(task, page, cpu, want) => {
-            list_in_space(rt, space, (*task, *page, *cpu), Ok(*want), line);
-        }
-        NoList(task, page, cpu, want) => {
-            list_in_space(rt, space, (*task, *page, *cpu), Err(*want), line);
-        }
-        Firsts(task, first, want) => firsts_in_space(rt, space, *task, *first, want, line),
-        Ranges(want) => same(rt, &(line, space.ranges() as u64), &(line, *want)),
-        Version(want) => same(rt, &(line, space.version()), &(line, *want)),
-    }
-}
-
-fn firsts_in_plan(rt: &impl Abort, plan: &Plan, task: u32, first: u64, want: &[u8], line: usize) {
-    let mut out = [9u8; 16];
-    let pages = out.get_mut(..want.len()).expect(rt, "16 pages at most");
-    let answer = fill(plan, task, first, pages);
-    same(rt, &(line, answer, &*pages), &(line, Ok(()), want));
 }
 
 /// Asks the plan for the first nodes of a span.
@@ -119,38 +67,92 @@ fn fill(plan: &Plan, task: u32, first: u64, out: &mut [u8]) -> Result<(), PlaceR
     plan.fill(task, 0, first, out)
 }
 
-/// Asks the plan for the list of a page.
-fn list_in_plan(
-    rt: &impl Abort,
-    plan: &Plan,
-    (task, page, cpu): (u32, u64, u32),
-    wanted: Result<&[u8], PlaceRefusal>,
-    line: usize,
-) {
-    let found = plan.choice(task, page, cpu, &mut Steps::new());
-    same_list(rt, line, found, wanted);
+/// What a question can be put to.
+pub trait Answers<R> {
+    /// The list is this, or is refused so.
+    fn expect_list(&self, rt: &R, asked: Asked, wanted: Wanted, line: usize);
+
+    /// These are the first nodes of the lists of a task's pages from this one on.
+    fn expect_firsts(&self, rt: &R, task: u32, first: u64, want: &[u8], line: usize);
+
+    /// How many ranges there are.
+    fn range_count(&self) -> u64;
+
+    /// How many commands were accepted.
+    fn accepted(&self) -> u64;
 }
 
-/// Puts a question to the plan.
-pub fn ask_plan(rt: &impl Abort, plan: &Plan, step: &Step, line: usize) {
+impl<R: Abort> Answers<R> for Space {
+    fn expect_list(&self, rt: &R, (task, page, cpu): Asked, wanted: Wanted, line: usize) {
+        match self.list_at(task, page, cpu) {
+            Ok(list) => same_list(rt, line, Ok(list.as_slice()), wanted),
+            Err(refusal) => same_list(rt, line, Err(refusal), wanted),
+        }
+    }
+
+    fn expect_firsts(&self, rt: &R, task: u32, first: u64, want: &[u8], line: usize) {
+        let mut page = first;
+        for node in want {
+            let found = first_at(rt, self, task, page);
+            same(rt, &(line, page, found), &(line, page, Some(*node)));
+            page = page.saturating_add(1);
+        }
+    }
+
+    fn range_count(&self) -> u64 {
+        self.ranges() as u64
+    }
+
+    fn accepted(&self) -> u64 {
+        self.version()
+    }
+}
+
+impl<R: Abort> Answers<R> for Plan {
+    fn expect_list(&self, rt: &R, (task, page, cpu): Asked, wanted: Wanted, line: usize) {
+        let found = self.choice(task, page, cpu, &mut Steps::new());
+        same_list(rt, line, found, wanted);
+    }
+
+    fn expect_firsts(&self, rt: &R, task: u32, first: u64, want: &[u8], line: usize) {
+        let mut out = [9u8; 16];
+        let pages = out.get_mut(..want.len()).expect(rt, "16 pages at most");
+        let answer = fill(self, task, first, pages);
+        same(rt, &(line, answer, &*pages), &(line, Ok(()), want));
+    }
+
+    fn range_count(&self) -> u64 {
+        self.run_count() as u64
+    }
+
+    fn accepted(&self) -> u64 {
+        self.version()
+    }
+}
+
+/// Puts a question to a space or a plan.
+pub fn put<R: Abort, A: Answers<R>>(rt: &R, to: &A, step: &Step, line: usize) {
     match step {
         Does(_) | Refuses(_, _) => {}
-        List(task, page, cpu, want) => {
-            list_in_plan(rt, plan, (*task, *page, *cpu), Ok(*want), line);
-        }
-        NoList(task, page, cpu, want) => {
-            list_in_plan(rt, plan, (*task, *page, *cpu), Err(*want), line);
-        }
-        Firsts(task, first, want) => firsts_in_plan(rt, plan, *task, *first, want, line),
-        Ranges(want) => same(rt, &(line, plan.run_count() as u64), &(line, *want)),
-        Version(want) => same(rt, &(line, plan.version()), &(line, *want)),
+        List(task, page, cpu, want) => to.expect_list(rt, (*task, *page, *cpu), Ok(*want), line),
+        NoList(task, page, cpu, want) => to.expect_list(rt, (*task, *page, *cpu), Err(*want), line),
+        Firsts(task, first, want) => to.expect_firsts(rt, *task, *first, want, line),
+        Ranges(want) => same(rt, &(line, to.range_count()), &(line, *want)),
+        Version(want) => same(rt, &(line, to.accepted()), &(line, *want)),
+    }
+}
+
+/// Puts the questions to a space or a plan.
+pub fn put_all<R: Abort, A: Answers<R>>(rt: &R, to: &A, questions: &[Step]) {
+    for (line, question) in questions.iter().enumerate() {
+        put(rt, to, question, line);
     }
 }
 
 fn ask(rt: &impl Abort, alloc: Global, space: &Space, step: &Step, line: usize) {
-    ask_space(rt, space, step, line);
+    put(rt, space, step, line);
     let plan = compile(alloc, space).expect(rt, "a plan");
-    ask_plan(rt, &plan, step, line);
+    put(rt, &plan, step, line);
     drop(plan);
 }
 

@@ -40,6 +40,9 @@ enum Step<'a> {
 use Call::{Halve, HalveAll, Map, Set, Unmap};
 use Step::{At, Does, Hole};
 
+/// No room for one range more.
+const FULL: Result<(), RangeFault> = Err(RangeFault::TooManyRanges);
+
 /// Maps ten pages.
 const TEN_PAGES: Step<'static> = Does(Map(16, 10, 0, 1), Ok(()), &[(16, 10, 0, 1)]);
 
@@ -150,157 +153,180 @@ fn play(rt: &impl Abort, mut map: RangeMap<u8>, steps: &[Step]) {
     }
 }
 
+static SPLIT_STEPS: [Step<'static>; 10] = [
+    TEN_PAGES,
+    THREE_APART,
+    At(15, None),
+    At(18, Some((2, 1))),
+    At(19, Some((3, 2))),
+    At(25, Some((9, 1))),
+    At(26, None),
+    Does(Set(19, 3, 1), Ok(()), &[(16, 10, 0, 1)]),
+    Does(Unmap(18, 1), Ok(()), &[(16, 2, 0, 1), (19, 7, 3, 1)]),
+    Does(Map(18, 1, 2, 1), Ok(()), &[(16, 10, 0, 1)]),
+];
+
 #[test]
 fn a_span_splits_its_range_and_joins_back(rt: HostRuntime) {
-    let steps = [
-        TEN_PAGES,
-        THREE_APART,
-        At(15, None),
-        At(18, Some((2, 1))),
-        At(19, Some((3, 2))),
-        At(25, Some((9, 1))),
-        At(26, None),
-        Does(Set(19, 3, 1), Ok(()), &[(16, 10, 0, 1)]),
-        Does(Unmap(18, 1), Ok(()), &[(16, 2, 0, 1), (19, 7, 3, 1)]),
-        Does(Map(18, 1, 2, 1), Ok(()), &[(16, 10, 0, 1)]),
-    ];
-    play(&rt, RangeMap::new(rt.alloc(), 8), &steps);
+    play(&rt, RangeMap::new(rt.alloc(), 8), &SPLIT_STEPS);
 }
+
+static NEIGHBOUR_STEPS: [Step<'static>; 4] = [
+    Does(Map(16, 1, 0, 1), Ok(()), &[(16, 1, 0, 1)]),
+    Does(Map(17, 1, 6, 1), Ok(()), &[(16, 1, 0, 1), (17, 1, 6, 1)]),
+    Does(Map(18, 1, 7, 1), Ok(()), &[(16, 1, 0, 1), (17, 2, 6, 1)]),
+    Does(Unmap(15, 3), Ok(()), &[(18, 1, 7, 1)]),
+];
 
 #[test]
 fn neighbours_with_indexes_apart_stay_apart(rt: HostRuntime) {
-    let steps = [
-        Does(Map(16, 1, 0, 1), Ok(()), &[(16, 1, 0, 1)]),
-        Does(Map(17, 1, 6, 1), Ok(()), &[(16, 1, 0, 1), (17, 1, 6, 1)]),
-        Does(Map(18, 1, 7, 1), Ok(()), &[(16, 1, 0, 1), (17, 2, 6, 1)]),
-        Does(Unmap(15, 3), Ok(()), &[(18, 1, 7, 1)]),
-    ];
-    play(&rt, RangeMap::new(rt.alloc(), 8), &steps);
+    play(&rt, RangeMap::new(rt.alloc(), 8), &NEIGHBOUR_STEPS);
 }
+
+const TWO_RANGES: [Row; 2] = [(16, 2, 0, 1), (19, 2, 3, 1)];
+
+static FAULT_STEPS: [Step<'static>; 12] = [
+    Does(Map(16, 2, 0, 1), Ok(()), &[(16, 2, 0, 1)]),
+    Does(Map(19, 2, 3, 1), Ok(()), &TWO_RANGES),
+    Hole(16, 2, false),
+    Hole(17, 3, true),
+    Hole(19, 3, true),
+    Does(Set(17, 3, 2), Err(RangeFault::Hole), &TWO_RANGES),
+    Does(Set(30, 1, 2), Err(RangeFault::Hole), &TWO_RANGES),
+    Does(Map(18, 2, 9, 1), Err(RangeFault::Overlap), &TWO_RANGES),
+    Does(Map(10, 20, 9, 1), Err(RangeFault::Overlap), &TWO_RANGES),
+    Does(Set(17, 1, 2), FULL, &TWO_RANGES),
+    Does(Map(18, 1, 9, 1), FULL, &TWO_RANGES),
+    Does(Unmap(0, END), Ok(()), &[]),
+];
 
 #[test]
 fn holes_and_overlaps_come_before_the_limit(rt: HostRuntime) {
-    let two: [Row; 2] = [(16, 2, 0, 1), (19, 2, 3, 1)];
-    let full = Err(RangeFault::TooManyRanges);
-    let steps = [
-        Does(Map(16, 2, 0, 1), Ok(()), &[(16, 2, 0, 1)]),
-        Does(Map(19, 2, 3, 1), Ok(()), &two),
-        Hole(16, 2, false),
-        Hole(17, 3, true),
-        Hole(19, 3, true),
-        Does(Set(17, 3, 2), Err(RangeFault::Hole), &two),
-        Does(Set(30, 1, 2), Err(RangeFault::Hole), &two),
-        Does(Map(18, 2, 9, 1), Err(RangeFault::Overlap), &two),
-        Does(Map(10, 20, 9, 1), Err(RangeFault::Overlap), &two),
-        Does(Set(17, 1, 2), full, &two),
-        Does(Map(18, 1, 9, 1), full, &two),
-        Does(Unmap(0, END), Ok(()), &[]),
-    ];
-    play(&rt, RangeMap::new(rt.alloc(), 2), &steps);
+    play(&rt, RangeMap::new(rt.alloc(), 2), &FAULT_STEPS);
 }
+
+const ONE_RANGE: [Row; 1] = [(16, 3, 0, 1)];
+
+static LIMIT_STEPS: [Step<'static>; 7] = [
+    Does(Map(16, 3, 0, 1), Ok(()), &ONE_RANGE),
+    Does(Unmap(17, 1), FULL, &ONE_RANGE),
+    Does(Halve(17, 1), FULL, &ONE_RANGE),
+    Does(Unmap(18, 5), Ok(()), &[(16, 2, 0, 1)]),
+    At(18, None),
+    Does(Map(18, 1, 2, 1), Ok(()), &ONE_RANGE),
+    Does(Map(19, 1, 9, 1), FULL, &ONE_RANGE),
+];
 
 #[test]
 fn the_limit_is_reached_from_both_sides(rt: HostRuntime) {
-    let full = Err(RangeFault::TooManyRanges);
-    let one: [Row; 1] = [(16, 3, 0, 1)];
-    let steps = [
-        Does(Map(16, 3, 0, 1), Ok(()), &one),
-        Does(Unmap(17, 1), full, &one),
-        Does(Halve(17, 1), full, &one),
-        Does(Unmap(18, 5), Ok(()), &[(16, 2, 0, 1)]),
-        At(18, None),
-        Does(Map(18, 1, 2, 1), Ok(()), &one),
-        Does(Map(19, 1, 9, 1), full, &one),
-    ];
-    play(&rt, RangeMap::new(rt.alloc(), 1), &steps);
+    play(&rt, RangeMap::new(rt.alloc(), 1), &LIMIT_STEPS);
 }
+
+static NO_RANGE_STEPS: [Step<'static>; 2] = [
+    Does(Map(16, 3, 0, 1), Err(RangeFault::TooManyRanges), &[]),
+    Does(Unmap(16, 3), Ok(()), &[]),
+];
+
+static THREE_RANGES_STEPS: [Step<'static>; 2] = [
+    Does(Map(16, 3, 0, 1), Ok(()), &[(16, 3, 0, 1)]),
+    Does(
+        Set(17, 1, 2),
+        Ok(()),
+        &[(16, 1, 0, 1), (17, 1, 1, 2), (18, 1, 2, 1)],
+    ),
+];
 
 #[test]
 fn no_range_and_three_of_three(rt: HostRuntime) {
-    let none = [
-        Does(Map(16, 3, 0, 1), Err(RangeFault::TooManyRanges), &[]),
-        Does(Unmap(16, 3), Ok(()), &[]),
-    ];
-    play(&rt, RangeMap::new(rt.alloc(), 0), &none);
-    let three = [
-        Does(Map(16, 3, 0, 1), Ok(()), &[(16, 3, 0, 1)]),
-        Does(
-            Set(17, 1, 2),
-            Ok(()),
-            &[(16, 1, 0, 1), (17, 1, 1, 2), (18, 1, 2, 1)],
-        ),
-    ];
-    play(&rt, RangeMap::new(rt.alloc(), 3), &three);
+    play(&rt, RangeMap::new(rt.alloc(), 0), &NO_RANGE_STEPS);
+    play(&rt, RangeMap::new(rt.alloc(), 3), &THREE_RANGES_STEPS);
 }
+
+/// Five ranges, of which a span of four was halved.
+const HALVED: [Row; 5] = [
+    (16, 2, 0, 4),
+    (18, 2, 2, 2),
+    (20, 2, 4, 1),
+    (30, 1, 14, 4),
+    (31, 1, 15, 8),
+];
+
+static UPDATE_STEPS: [Step<'static>; 6] = [
+    Does(Map(16, 4, 0, 4), Ok(()), &[(16, 4, 0, 4)]),
+    Does(Map(20, 2, 4, 2), Ok(()), &[(16, 4, 0, 4), (20, 2, 4, 2)]),
+    Does(
+        Map(30, 2, 14, 8),
+        Ok(()),
+        &[(16, 4, 0, 4), (20, 2, 4, 2), (30, 2, 14, 8)],
+    ),
+    Does(Halve(18, 13), Ok(()), &HALVED),
+    Does(
+        HalveAll,
+        Ok(()),
+        &[
+            (16, 2, 0, 2),
+            (18, 2, 2, 1),
+            (20, 2, 4, 0),
+            (30, 1, 14, 2),
+            (31, 1, 15, 4),
+        ],
+    ),
+    Does(
+        HalveAll,
+        Ok(()),
+        &[(16, 2, 0, 1), (18, 4, 2, 0), (30, 1, 14, 1), (31, 1, 15, 2)],
+    ),
+];
 
 #[test]
 fn updates_pass_over_holes_and_join_what_they_make_equal(rt: HostRuntime) {
-    let halved: [Row; 5] = [
-        (16, 2, 0, 4),
-        (18, 2, 2, 2),
-        (20, 2, 4, 1),
-        (30, 1, 14, 4),
-        (31, 1, 15, 8),
-    ];
-    let quartered: [Row; 4] = [(16, 2, 0, 1), (18, 4, 2, 0), (30, 1, 14, 1), (31, 1, 15, 2)];
-    let mapped: [Row; 3] = [(16, 4, 0, 4), (20, 2, 4, 2), (30, 2, 14, 8)];
-    let steps = [
-        Does(Map(16, 4, 0, 4), Ok(()), &mapped[..1]),
-        Does(Map(20, 2, 4, 2), Ok(()), &mapped[..2]),
-        Does(Map(30, 2, 14, 8), Ok(()), &mapped),
-        Does(Halve(18, 13), Ok(()), &halved),
-        Does(
-            HalveAll,
-            Ok(()),
-            &[
-                (16, 2, 0, 2),
-                (18, 2, 2, 1),
-                (20, 2, 4, 0),
-                (30, 1, 14, 2),
-                (31, 1, 15, 4),
-            ],
-        ),
-        Does(HalveAll, Ok(()), &quartered),
-    ];
-    play(&rt, RangeMap::new(rt.alloc(), 8), &steps);
+    play(&rt, RangeMap::new(rt.alloc(), 8), &UPDATE_STEPS);
 }
+
+static LAST_PAGE_STEPS: [Step<'static>; 7] = [
+    Does(
+        Map(END - 2, 2, END - 1, 1),
+        Ok(()),
+        &[(END - 2, 2, END - 1, 1)],
+    ),
+    At(END - 1, Some((END, 1))),
+    At(END, None),
+    At(u64::MAX, None),
+    Does(
+        Set(END - 1, 1, 2),
+        Ok(()),
+        &[(END - 2, 1, END - 1, 1), (END - 1, 1, END, 2)],
+    ),
+    Does(
+        Map(0, END - 2, 1, 1),
+        Ok(()),
+        &[(0, END - 1, 1, 1), (END - 1, 1, END, 2)],
+    ),
+    Does(Unmap(1, END - 1), Ok(()), &[(0, 1, 1, 1)]),
+];
 
 #[test]
 fn the_last_page_is_a_page(rt: HostRuntime) {
-    let all: [Row; 2] = [(0, END - 1, 1, 1), (END - 1, 1, END, 2)];
-    let steps = [
-        Does(
-            Map(END - 2, 2, END - 1, 1),
-            Ok(()),
-            &[(END - 2, 2, END - 1, 1)],
-        ),
-        At(END - 1, Some((END, 1))),
-        At(END, None),
-        At(u64::MAX, None),
-        Does(
-            Set(END - 1, 1, 2),
-            Ok(()),
-            &[(END - 2, 1, END - 1, 1), (END - 1, 1, END, 2)],
-        ),
-        Does(Map(0, END - 2, 1, 1), Ok(()), &all),
-        Does(Unmap(1, END - 1), Ok(()), &[(0, 1, 1, 1)]),
-    ];
-    play(&rt, RangeMap::new(rt.alloc(), 8), &steps);
+    play(&rt, RangeMap::new(rt.alloc(), 8), &LAST_PAGE_STEPS);
 }
+
+static GROWTH_STEPS: [Step<'static>; 5] = [
+    TEN_PAGES,
+    THREE_APART,
+    Does(
+        Unmap(18, 2),
+        Ok(()),
+        &[(16, 2, 0, 1), (20, 2, 4, 2), (22, 4, 6, 1)],
+    ),
+    Does(
+        Halve(20, 4),
+        Ok(()),
+        &[(16, 2, 0, 1), (20, 2, 4, 1), (22, 2, 6, 0), (24, 2, 8, 1)],
+    ),
+    Does(Unmap(17, 8), Ok(()), &[(16, 1, 0, 1), (25, 1, 9, 1)]),
+];
 
 #[test]
 fn growths_of_every_call(rt: HostRuntime) {
-    let cut: [Row; 3] = [(16, 2, 0, 1), (20, 2, 4, 2), (22, 4, 6, 1)];
-    let steps = [
-        TEN_PAGES,
-        THREE_APART,
-        Does(Unmap(18, 2), Ok(()), &cut),
-        Does(
-            Halve(20, 4),
-            Ok(()),
-            &[(16, 2, 0, 1), (20, 2, 4, 1), (22, 2, 6, 0), (24, 2, 8, 1)],
-        ),
-        Does(Unmap(17, 8), Ok(()), &[(16, 1, 0, 1), (25, 1, 9, 1)]),
-    ];
-    play(&rt, RangeMap::new(rt.alloc(), 8), &steps);
+    play(&rt, RangeMap::new(rt.alloc(), 8), &GROWTH_STEPS);
 }

@@ -1,11 +1,14 @@
 //! Plans that are edited after each command that a space accepts, beside plans that are compiled
 //! anew. Each worked example is followed so, and histories of random commands.
+ghost use Rattle.std.specs.Prelude.{◌≡◌};
+ghost use Rattle.std.specs.Bool.{OnFalse, OnTrue};
 ghost use Rattle.numa_compile.specs.Follows.{Follows, IsBehind};
 
 use crate::alike::expect_alike;
 use crate::dice::{ACCEPTED, COMMANDS, Dice, SEEDS, rough_space};
 use crate::played::Step::{Does, List, Ranges, Version};
 use crate::played::{Step, play_flat, play_new};
+use crate::refused::mark;
 use numa_compile::{compile, recompile};
 use numa_examples::ShortCommand::{Home, Map, Mbind, Mems, Task, Unmap, Weight};
 use numa_examples::{command_of, flat_machine, limits};
@@ -15,7 +18,7 @@ use std::alloc::Global;
 use std::process::Abort;
 
 /// The plan answers as one that is compiled anew.
-pub fn expect_compiled(rt: &impl Abort, alloc: Global, plan: &Plan, space: &Space) {
+fn expect_compiled(rt: &impl Abort, alloc: Global, plan: &Plan, space: &Space) {
     let fresh = compile(alloc, space).expect(rt, "a plan");
     expect_alike(rt, plan, &fresh);
     drop(fresh);
@@ -28,8 +31,17 @@ fn expect_copied(rt: &impl Abort, alloc: Global, plan: &Plan, space: &Space) {
     drop(copy);
 }
 
+/// How a plan is edited.
+#[derive(Clone, Copy)]
+pub enum Way {
+    /// A copy first, which leaves the plan as it was.
+    Copied,
+    /// With one growth refused, between two marks, which leaves it as it was; then again.
+    Marked,
+}
+
 /// Edits a plan by the last command of its space.
-pub fn edit(rt: &impl Abort, alloc: Global, plan: &mut Plan, space: &Space, command: &Command)
+fn edit(rt: &impl Abort, alloc: Global, plan: &mut Plan, space: &Space, command: &Command)
     requires { IsBehind space.now command.now plan.old }
     ensures { Follows space.now plan.new }
 {
@@ -46,23 +58,47 @@ fn edit_copy(rt: &impl Abort, alloc: Global, plan: &Plan, space: &Space, command
     drop(copy);
 }
 
-/// Edits first a copy, which leaves the plan as it was, and then the plan.
-fn edit_both(
+/// Edits a plan between two marks, where it isn't a copy that is edited; whether it was edited.
+fn is_edited(
+    rt: &impl Abort,
+    alloc: Global,
+    plan: &mut Plan,
+    space: &Space,
+    command: &Command,
+    way: Way,
+) -> bool
+    requires { IsBehind space.now command.now plan.old }
+    ensures refused { OnFalse result (plan.new ≡ plan.old) }
+    ensures edited { OnTrue result (Follows space.now plan.new) }
+{
+    if let Way::Copied = way {
+        edit_copy(rt, alloc, plan, space, command);
+        return false;
+    }
+    mark(rt, alloc);
+    let answer = recompile(alloc, plan, space, command, &mut Steps::new());
+    mark(rt, alloc);
+    answer.is_ok()
+}
+
+/// Edits a plan so. Where it was left as it was, it is edited again.
+fn edit_so(
     rt: &impl Abort,
     alloc: Global,
     before: &Space,
     space: &Space,
     plan: &mut Plan,
     command: &Command,
+    way: Way,
 )
     requires { IsBehind space.now command.now plan.old }
     ensures { Follows space.now plan.new }
 {
-    edit_copy(rt, alloc, plan, space, command);
+    if is_edited(rt, alloc, plan, space, command, way) {
+        return;
+    }
     expect_compiled(rt, alloc, plan, before);
     edit(rt, alloc, plan, space, command);
-    expect_compiled(rt, alloc, plan, space);
-    expect_copied(rt, alloc, plan, space);
 }
 
 /// Carries out a command, or refuses it, on a space that is as `before`, and has the plan follow.
@@ -73,6 +109,7 @@ fn follow_from(
     before: &Space,
     space: &mut Space,
     plan: &mut Plan,
+    way: Way,
     command: &Command,
 ) -> u32
     requires { Follows space.old plan.old }
@@ -81,14 +118,17 @@ fn follow_from(
     if space.apply(command).is_err() {
         return 0;
     }
-    edit_both(rt, alloc, before, space, plan, command);
+    edit_so(rt, alloc, before, space, plan, command, way);
+    expect_compiled(rt, alloc, plan, space);
+    expect_copied(rt, alloc, plan, space);
     1
 }
 
 /// The same on any space.
-fn follow_one(
+pub fn follow_one(
     rt: &impl Abort,
     alloc: Global,
+    way: Way,
     space: &mut Space,
     plan: &mut Plan,
     command: &Command,
@@ -97,7 +137,7 @@ fn follow_one(
     ensures { Follows space.new plan.new }
 {
     let before = space.copy(alloc).expect(rt, "a copy");
-    let accepted = follow_from(rt, alloc, &before, space, plan, command);
+    let accepted = follow_from(rt, alloc, &before, space, plan, way, command);
     drop(before);
     accepted
 }
@@ -109,7 +149,7 @@ fn follow_steps(rt: &impl Abort, alloc: Global, space: &mut Space, plan: &mut Pl
     for step in steps {
         if let Does(asked) = step {
             let command = command_of(asked).expect(rt, "a command");
-            follow_one(rt, alloc, space, plan, &command);
+            follow_one(rt, alloc, Way::Copied, space, plan, &command);
         }
     }
 }
@@ -136,7 +176,7 @@ fn follow_dice(
     let mut accepted = 0u32;
     for _ in 0..COMMANDS {
         if let Some(command) = dice.command() {
-            let more = follow_one(rt, alloc, space, plan, &command);
+            let more = follow_one(rt, alloc, Way::Copied, space, plan, &command);
             accepted = accepted.saturating_add(more);
         }
     }
@@ -184,32 +224,33 @@ fn more_nodes_than_a_word_has(rt: HostRuntime) {
     play_new(&rt, rt.alloc(), machine, limits(), &steps);
 }
 
+static POLICIES_COME_AND_GO_STEPS: [Step<'static>; 23] = [
+    Does(Map(0x7fff_ffff_f000, 0x1000, 0)),
+    Does(Map(0x10000, 0x8000, 0)),
+    Does(Task(1, 6, &[0, 1])),
+    Does(Task(2, 0x8005, &[0])),
+    Does(Task(3, 1, &[])),
+    Does(Task(4, 1, &[0, 1])),
+    Does(Mbind(0x10000, 0x8000, 6, &[0, 1])),
+    Does(Mbind(0x12000, 0x2000, 2, &[1])),
+    Does(Mbind(0x13000, 0x3000, 5, &[1])),
+    Does(Home(0x12000, 0x4000, 0)),
+    Does(Mbind(0x12000, 0x1000, 2, &[1])),
+    Does(Unmap(0x13000, 0x1000)),
+    Does(Weight(1, 9)),
+    Does(Map(0x13000, 0x1000, 3)),
+    Does(Mbind(0x13000, 0x1000, 2, &[1])),
+    Does(Task(1, 0, &[])),
+    Does(Mbind(0x10000, 0x8000, 0, &[])),
+    Does(Task(2, 2, &[1])),
+    Does(Mems(&[1, 2])),
+    Does(Task(2, 0, &[])),
+    Does(Unmap(0, 0x7fff_ffff_f000)),
+    Ranges(1),
+    Version(21),
+];
+
 #[test]
 fn policies_come_and_go(rt: HostRuntime) {
-    let steps = [
-        Does(Map(0x7fff_ffff_f000, 0x1000, 0)),
-        Does(Map(0x10000, 0x8000, 0)),
-        Does(Task(1, 6, &[0, 1])),
-        Does(Task(2, 0x8005, &[0])),
-        Does(Task(3, 1, &[])),
-        Does(Task(4, 1, &[0, 1])),
-        Does(Mbind(0x10000, 0x8000, 6, &[0, 1])),
-        Does(Mbind(0x12000, 0x2000, 2, &[1])),
-        Does(Mbind(0x13000, 0x3000, 5, &[1])),
-        Does(Home(0x12000, 0x4000, 0)),
-        Does(Mbind(0x12000, 0x1000, 2, &[1])),
-        Does(Unmap(0x13000, 0x1000)),
-        Does(Weight(1, 9)),
-        Does(Map(0x13000, 0x1000, 3)),
-        Does(Mbind(0x13000, 0x1000, 2, &[1])),
-        Does(Task(1, 0, &[])),
-        Does(Mbind(0x10000, 0x8000, 0, &[])),
-        Does(Task(2, 2, &[1])),
-        Does(Mems(&[1, 2])),
-        Does(Task(2, 0, &[])),
-        Does(Unmap(0, 0x7fff_ffff_f000)),
-        Ranges(1),
-        Version(21),
-    ];
-    play_flat(&rt, rt.alloc(), 3, &steps);
+    play_flat(&rt, rt.alloc(), 3, &POLICIES_COME_AND_GO_STEPS);
 }

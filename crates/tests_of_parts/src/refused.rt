@@ -3,7 +3,7 @@
 ghost use Rattle.std.specs.Prelude.{◌≡◌, length};
 
 use crate::played::Step::{Does, List, Ranges, Version};
-use crate::played::{Step, ask_plan, ask_space, play};
+use crate::played::{Step, play, put_all};
 use crate::same::same;
 use numa_compile::compile;
 use numa_examples::ShortCommand::{Map, Mbind, Task};
@@ -20,7 +20,7 @@ use std::process::Abort;
 
 /// What is asked after three pages are mapped, the middle one bound to node 0, and task 1 prefers
 /// node 1.
-const QUESTIONS: [Step<'static>; 5] = [
+static QUESTIONS: [Step<'static>; 5] = [
     Version(3),
     Ranges(3),
     List(1, 16, 0, &[1, 0]),
@@ -33,29 +33,23 @@ pub fn mark(rt: &impl Abort, alloc: Global) {
     assert!(rt; numa_examples::mark(alloc));
 }
 
+static THREE_PAGES_STEPS: [Step<'static>; 3] = [
+    Does(Map(0x10000, 0x3000, 0)),
+    Does(Task(1, 1, &[1])),
+    Does(Mbind(0x11000, 0x1000, 2, &[0])),
+];
+
 /// A space of two nodes after the three commands.
 fn three_pages(rt: &impl Abort, alloc: Global) -> Space {
     let mut space = flat_space(alloc, 2).expect(rt, "a space");
-    let steps = [
-        Does(Map(0x10000, 0x3000, 0)),
-        Does(Task(1, 1, &[1])),
-        Does(Mbind(0x11000, 0x1000, 2, &[0])),
-    ];
-    play(rt, alloc, &mut space, &steps);
+    play(rt, alloc, &mut space, &THREE_PAGES_STEPS);
     space
-}
-
-/// The questions put to a space.
-fn ask_space_all(rt: &impl Abort, space: &Space) {
-    for (line, step) in QUESTIONS.iter().enumerate() {
-        ask_space(rt, space, step, line);
-    }
 }
 
 /// Copies a space; both answer as before.
 fn expect_copied_space(rt: &impl Abort, alloc: Global, space: &Space) {
     let mut copy = made(alloc, &|| space.copy(alloc).ok()).expect(rt, "a copy");
-    ask_space_all(rt, space);
+    put_all(rt, space, &QUESTIONS);
     play(rt, alloc, &mut copy, &QUESTIONS);
     drop(copy);
 }
@@ -68,19 +62,20 @@ fn copy_of_a_space(rt: HostRuntime) {
     drop(space);
 }
 
-/// The same questions put to a plan.
-fn ask_all(rt: &impl Abort, plan: &Plan) {
-    for (line, step) in QUESTIONS.iter().enumerate() {
-        ask_plan(rt, plan, step, line);
-    }
-}
-
 /// Copies a plan; both answer as before.
 fn expect_copied(rt: &impl Abort, alloc: Global, plan: &Plan) {
     let copy = made(alloc, &|| plan.copy(alloc).ok()).expect(rt, "a copy");
-    ask_all(rt, plan);
-    ask_all(rt, &copy);
+    put_all(rt, plan, &QUESTIONS);
+    put_all(rt, &copy, &QUESTIONS);
     drop(copy);
+}
+
+/// Compiles a space, which answers as before and as its plan.
+fn expect_compiled(rt: &impl Abort, alloc: Global, space: &Space) {
+    let plan = made(alloc, &|| compile(alloc, space).ok()).expect(rt, "a plan");
+    put_all(rt, space, &QUESTIONS);
+    put_all(rt, &plan, &QUESTIONS);
+    drop(plan);
 }
 
 #[test]
@@ -90,14 +85,6 @@ fn copy_of_a_plan(rt: HostRuntime) {
     expect_copied(&rt, rt.alloc(), &plan);
     drop(plan);
     drop(space);
-}
-
-/// Compiles a space, which answers as before and as its plan.
-fn expect_compiled(rt: &impl Abort, alloc: Global, space: &Space) {
-    let plan = made(alloc, &|| compile(alloc, space).ok()).expect(rt, "a plan");
-    ask_space_all(rt, space);
-    ask_all(rt, &plan);
-    drop(plan);
 }
 
 #[test]
