@@ -19,6 +19,15 @@ struct Crossed {
 }
 
 impl Crossed {
+    /// One of which no call was made.
+    fn new() -> Crossed {
+        Crossed {
+            before: [AtomicU64::new(0), AtomicU64::new(0)],
+            after: [AtomicU64::new(0), AtomicU64::new(0)],
+            late: AtomicU64::new(0),
+        }
+    }
+
     /// Waits until the call was made.
     fn wait_for(&self, calls: &AtomicU64) {
         for _ in 0..10_000_000u64 {
@@ -86,21 +95,19 @@ fn judge(rt: &impl Abort, gate: &Crossed) {
     same(rt, &(calls, late.load(Ordering::SeqCst)), &([1; 4], 0));
 }
 
+/// Page 16 was placed on node 1, and page 17 on node 0.
+fn expect_crossed(rt: &impl Abort, answers: &[Answer]) {
+    let pages = (placed(answers.first()), placed(answers.get(1)));
+    let wanted = (Some((16, 1)), Some((17, 0)));
+    same(rt, &(answers.len(), pages), &(2, wanted));
+}
+
 #[test]
 fn crew_crossed(rt: HostRuntime) {
-    let gate = Crossed {
-        before: [AtomicU64::new(0), AtomicU64::new(0)],
-        after: [AtomicU64::new(0), AtomicU64::new(0)],
-        late: AtomicU64::new(0),
-    };
+    let gate = Crossed::new();
     let wanted = requests(&rt, rt.alloc(), 2);
     let answers = run_crew(&rt, rt.alloc(), 1, 3, 2, &wanted, &gate).expect(&rt, "answers");
-    let pages = (placed(answers.first()), placed(answers.get(1)));
-    same(
-        &rt,
-        &(answers.len(), pages),
-        &(2, (Some((16, 1)), Some((17, 0)))),
-    );
+    expect_crossed(&rt, &answers);
     judge(&rt, &gate);
 }
 
@@ -142,10 +149,21 @@ impl Gate for Counting {
     }
 }
 
+/// How many of the answers are a placement of the page of the request at their place.
+fn in_place(wanted: &[Request], answers: &[Answer]) -> usize {
+    let mut right = 0usize;
+    for (request, answer) in wanted.iter().zip(answers) {
+        if placed(Some(answer)).map(|(page, _)| page) == Some(request.page) {
+            right = right.saturating_add(1);
+        }
+    }
+    right
+}
+
 /// So many workers serve requests for so many pages, for each of which there are frames: how many
-/// answers there are, how many of them are a placement of the page at their place, and whether the
-/// gate was called as it must be.
-fn in_place<R: Threads + Wait + Abort + Sync>(
+/// answers there are, how many of them stand in their place, and whether the gate was called as it
+/// must be.
+fn serve_all<R: Threads + Wait + Abort + Sync>(
     rt: &R,
     alloc: Global,
     count: usize,
@@ -154,21 +172,14 @@ fn in_place<R: Threads + Wait + Abort + Sync>(
     let wanted = requests(rt, alloc, pages);
     let gate = Counting::new(rt, alloc, pages);
     let answers = run_crew(rt, alloc, 256, 300, count, &wanted, &gate).expect(rt, "answers");
-    let right = wanted
-        .iter()
-        .zip(&answers)
-        .filter(|(request, answer)| {
-            placed(Some(*answer)).map(|(page, _)| page) == Some(request.page)
-        })
-        .count();
-    (answers.len(), right, gate.is_even())
+    (answers.len(), in_place(&wanted, &answers), gate.is_even())
 }
 
 #[test]
 fn answers_in_place(rt: HostRuntime) {
     for (count, pages) in [(3, 5u16), (16, 3), (1, 300), (1, 0)] {
         let all = usize::from(pages);
-        let found = in_place(&rt, rt.alloc(), count, u64::from(pages));
+        let found = serve_all(&rt, rt.alloc(), count, u64::from(pages));
         same(&rt, &(count, found), &(count, (all, all, true)));
     }
 }

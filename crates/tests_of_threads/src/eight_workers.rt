@@ -4,13 +4,13 @@ ghost use Rattle.std.specs.Prelude.{◌≡◌};
 ghost use Rattle.std.specs.List.{All};
 ghost use Rattle.tests_of_threads.specs.declared.eight_workers.Hand.{Hand};
 
-use crate::setting::{accept_as, limits, nodes, publish_as, same};
+use crate::setting::{accept_as, limits, publish_as, same};
 use crate::tally::{frames_not_once, wrong_placements};
+use numa_examples::{flat_machine, spec_of};
 use numa_fault::{FaultRefusal, FaultWorker};
 use numa_machine::Machine;
-use numa_mode::PolicySpec;
 use numa_pool::{PoolSeat, Pools};
-use numa_publish::{Desk, DeskName, SharedDesk};
+use numa_publish::{Desk, DeskName, PlanReader, SharedDesk};
 use numa_space::{Command, Placement, Request};
 use std::alloc::Global;
 use std::marker::Brand;
@@ -44,11 +44,7 @@ pub struct Hand {
 
 /// Four nodes, 20 apart.
 pub fn machine(rt: &impl Abort, alloc: Global) -> Machine {
-    let distances = [
-        10, 20, 20, 20, 20, 10, 20, 20, 20, 20, 10, 20, 20, 20, 20, 10,
-    ];
-    let memory = nodes(&[0, 1, 2, 3]);
-    Machine::new(alloc, 4, memory, &distances, &[FRAMES; 4]).expect(rt, "a machine")
+    flat_machine(alloc, &[FRAMES; 4]).expect(rt, "a machine")
 }
 
 /// The command that makes this version: the map first, then interleaving of task 1 over nodes 1 and
@@ -61,14 +57,14 @@ pub fn command(rt: &impl Abort, version: u64) -> Command {
             offset: 0,
         };
     }
-    let set = if version % 2 == 0 {
-        nodes(&[1, 2])
+    let nodes: &[u8] = if version % 2 == 0 {
+        &[1, 2]
     } else {
-        nodes(&[0, 1, 2, 3])
+        &[0, 1, 2, 3]
     };
     Command::SetTask {
         task: 1,
-        spec: PolicySpec::from_raw(3, set).expect(rt, "a policy"),
+        spec: spec_of(3, nodes).expect(rt, "a policy"),
     }
 }
 
@@ -122,39 +118,39 @@ fn wait_for_all(arrived: &AtomicU64) {
     }
 }
 
-/// Each worker places a page, in its thread.
-fn place_first<R: Threads + Sync>(rt: &R, pools: &Pools, hands: &mut [Hand])
-    requires { All (λ (h : Hand). h.worker.seat.table ≡ pools.now.table) hands.old }
-    ensures { All (λ (h : Hand). h.worker.seat.table ≡ pools.now.table) hands.new }
+/// Places a page; or waits, where those are counted that wait, and places the rest.
+fn place_turn(pools: &Pools, w: usize, hand: &mut Hand, arrived: Option<&AtomicU64>)
+    requires { hand.old.worker.seat.table ≡ pools.now.table }
+    ensures { hand.new.worker.seat.table ≡ pools.now.table }
 {
-    thread::for_each_mut(
-        rt,
-        hands,
-        WORKERS,
-        &|w, hand: &mut Hand|
-            requires { hand.old.worker.seat.table ≡ pools.now.table }
-            ensures { hand.new.worker.seat.table ≡ pools.entry.now.table }
-        {
-            place_one(pools, w, hand);
-        },
-    );
-}
-
-/// Once all came here, each worker places the rest, in its thread.
-fn place_rest<R: Threads + Sync>(rt: &R, pools: &Pools, hands: &mut [Hand], arrived: &AtomicU64)
-    requires { All (λ (h : Hand). h.worker.seat.table ≡ pools.now.table) hands.old }
-    ensures { All (λ (h : Hand). h.worker.seat.table ≡ pools.now.table) hands.new }
-{
-    thread::for_each_mut(
-        rt,
-        hands,
-        WORKERS,
-        &|w, hand: &mut Hand|
-            requires { hand.old.worker.seat.table ≡ pools.now.table }
-            ensures { hand.new.worker.seat.table ≡ pools.entry.now.table }
-        {
+    match arrived {
+        None => place_one(pools, w, hand),
+        Some(arrived) => {
             wait_for_all(arrived);
             place_all(pools, w, hand);
+        }
+    }
+}
+
+/// Each worker places a page, in its thread, or once all came here the rest.
+fn place_each<R: Threads + Sync>(
+    rt: &R,
+    pools: &Pools,
+    hands: &mut [Hand],
+    arrived: Option<&AtomicU64>,
+)
+    requires { All (λ (h : Hand). h.worker.seat.table ≡ pools.now.table) hands.old }
+    ensures { All (λ (h : Hand). h.worker.seat.table ≡ pools.now.table) hands.new }
+{
+    thread::for_each_mut(
+        rt,
+        hands,
+        WORKERS,
+        &|w, hand: &mut Hand|
+            requires { hand.old.worker.seat.table ≡ pools.now.table }
+            ensures { hand.new.worker.seat.table ≡ pools.entry.now.table }
+        {
+            place_turn(pools, w, hand, arrived);
         },
     );
 }
@@ -176,11 +172,11 @@ fn submit_all<K: DeskName>(
     missed
 }
 
-/// A worker with a seat and a reader of its own.
-fn hire_one<K: DeskName>(
-    rt: &(impl Wait + Abort),
+/// A worker with this reader and a seat of its own.
+fn hire_one(
+    rt: &impl Abort,
     alloc: Global,
-    desk: &SharedDesk<K>,
+    reader: PlanReader,
     pools: &Pools,
     seat: &mut PoolSeat,
 ) -> Hand
@@ -188,7 +184,6 @@ fn hire_one<K: DeskName>(
     ensures table { seat.new.table ≡ pools.now.table }
     ensures hand { result.worker.seat.table ≡ pools.now.table }
 {
-    let reader = desk.reader(rt).expect(rt, "a place");
     let other = pools.split(alloc, seat).expect(rt, "memory");
     Hand {
         worker: FaultWorker::new(reader, other),
@@ -211,7 +206,8 @@ fn hire<K: DeskName>(
 {
     let mut hands = Vec::with_capacity(alloc, WORKERS).expect(rt, "memory");
     for _ in 0..WORKERS {
-        let hand = hire_one(rt, alloc, desk, pools, seat);
+        let reader = desk.reader(rt).expect(rt, "a place");
+        let hand = hire_one(rt, alloc, reader, pools, seat);
         hands.push(hand).expect(rt, "memory");
     }
     hands
@@ -242,8 +238,8 @@ impl Crowd {
             seat,
             mut hands,
         } = self;
-        place_first(rt, &pools, hands.as_mut_slice());
-        place_rest(rt, &pools, hands.as_mut_slice(), arrived);
+        place_each(rt, &pools, hands.as_mut_slice(), None);
+        place_each(rt, &pools, hands.as_mut_slice(), Some(arrived));
         Crowd { pools, seat, hands }
     }
 

@@ -11,12 +11,9 @@ use std::marker::Brand;
 use std::process::Abort;
 use std::sync::Wait;
 
-/// How many bytes a mark allocates: a size that nothing else here has.
-const MARK: usize = 1_000_003;
-
 /// What lies between two marks is what growths are refused of.
 pub fn mark(rt: &impl Abort, alloc: Global) {
-    drop(Vec::<u8>::with_capacity(alloc, MARK).expect(rt, "memory"));
+    assert!(rt; numa_examples::mark(alloc));
 }
 
 /// A desk with two commands pending: a map, and `prefer:1` for task 1.

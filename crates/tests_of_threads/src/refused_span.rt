@@ -11,11 +11,6 @@ use std::process::Abort;
 /// A span of three pages, of which two have frames: its answer, and whether both were placed.
 type Asked = (Result<u64, SpanRefusal>, bool, bool);
 
-/// The list is the one that is wanted.
-fn lists(rt: &impl Abort, found: &[Placement], wanted: &[Placement]) {
-    assert_eq!(rt; found, wanted);
-}
-
 /// Asks for it.
 fn ask(alloc: Global, placing: &mut Placing, out: &mut Vec<Placement>) -> Asked {
     let answer = placing.span(alloc, 0, 16, 3, out);
@@ -48,7 +43,7 @@ fn ask_till_answered(
 ) {
     let mut asked = ask_refused(rt, alloc, placing, out);
     if asked == (Err(SpanRefusal::NoMemory), false, false) {
-        lists(rt, out.as_slice(), [placed(99, 1, 7)].as_slice());
+        same(rt, &out.as_slice(), &[placed(99, 1, 7)].as_slice());
         asked = ask(alloc, placing, out);
     }
     same(rt, &asked, &(Err(SpanRefusal::Exhausted(1, 2)), true, true));
@@ -69,7 +64,7 @@ fn three_pages(rt: HostRuntime) {
     ask_till_answered(&rt, rt.alloc(), &mut placing, &mut out);
     desk.end(&rt);
     let all = [placed(99, 1, 7), placed(16, 0, 0), placed(17, 1, 1)];
-    lists(&rt, out.as_slice(), all.as_slice());
+    same(&rt, &out.as_slice(), &all.as_slice());
 }
 
 /// A span with a page that isn't mapped, and a page that is given up again, with no growth granted.

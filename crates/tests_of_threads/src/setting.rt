@@ -1,9 +1,8 @@
 //! The machine, the commands and the looks of the tests.
 ghost use Rattle.std.specs.Prelude.{◌≡◌, ◌≤◌};
 
+use numa_examples::{flat_machine, spec_of};
 use numa_machine::Machine;
-use numa_mask::{NodeId, NodeMask};
-use numa_mode::PolicySpec;
 use numa_plan::Steps;
 use numa_publish::{Desk, PlanReader, Receipt};
 use numa_space::{Command, Limits, PlaceRefusal};
@@ -19,26 +18,9 @@ pub fn same<T: PartialEq + Debug>(rt: &impl Abort, found: &T, wanted: &T) {
     assert_eq!(rt; *found, *wanted);
 }
 
-/// The set of one node.
-pub fn node(number: u8) -> NodeMask {
-    nodes(&[number])
-}
-
-/// The set of these nodes.
-pub fn nodes(numbers: &[u8]) -> NodeMask {
-    let mut set = NodeMask::empty();
-    for number in numbers {
-        if let Some(id) = NodeId::new(*number) {
-            set.insert(id);
-        }
-    }
-    set
-}
-
 /// Two nodes with so many frames each, 20 apart.
 pub fn machine_of(rt: &impl Abort, alloc: Global, frames: u32) -> Machine {
-    let memory = nodes(&[0, 1]);
-    Machine::new(alloc, 2, memory, &[10, 20, 20, 10], &[frames, frames]).expect(rt, "a machine")
+    flat_machine(alloc, &[frames, frames]).expect(rt, "a machine")
 }
 
 /// Limits that stand in nobody's way.
@@ -81,7 +63,7 @@ pub fn map_one() -> Command {
 pub fn prefer(rt: &impl Abort, number: u8) -> Command {
     Command::SetTask {
         task: 1,
-        spec: PolicySpec::from_raw(1, node(number)).expect(rt, "a policy"),
+        spec: spec_of(1, &[number]).expect(rt, "a policy"),
     }
 }
 
@@ -129,7 +111,7 @@ pub fn bind_a_hole(rt: &impl Abort) -> Command {
     Command::Mbind {
         start: 0x20000,
         length: 0x1000,
-        spec: PolicySpec::from_raw(2, node(1)).expect(rt, "a policy"),
+        spec: spec_of(2, &[1]).expect(rt, "a policy"),
     }
 }
 

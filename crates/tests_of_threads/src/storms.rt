@@ -16,11 +16,8 @@ fn prints<R: Threads + Wait + Abort + Sync>(rt: &R, alloc: Global, workers: u32,
 {
     let mut output = Watched::new(Vec::new(alloc));
     let status = storm(rt, alloc, workers, &mut output);
-    assert_eq!(rt;
-        (status, output.inner.as_slice()),
-        (Ok(0), want.as_bytes()),
-        "{workers}"
-    );
+    let found = (workers, status, output.inner.as_slice());
+    same(rt, &found, &(workers, Ok(0), want.as_bytes()));
 }
 
 #[test]
@@ -50,13 +47,9 @@ fn storm_by<R: Threads + Wait + Sync>(
 /// A storm whose output fails behind so many bytes says so, and has written those.
 fn fails_behind<R: Threads + Wait + Abort + Sync>(rt: &R, alloc: Global, bytes: usize) {
     let (answer, output) = storm_by(rt, alloc, bytes);
-    same(
-        rt,
-        &(bytes, answer, output.failed()),
-        &(bytes, Err(RunFault::Write), 1),
-    );
     let front = WHOLE.as_bytes().get(..bytes).unwrap_or(b"");
-    assert_eq!(rt; output.taken(), front, "{bytes}");
+    let found = (bytes, answer, output.failed(), output.taken());
+    same(rt, &found, &(bytes, Err(RunFault::Write), 1, front));
 }
 
 #[test]

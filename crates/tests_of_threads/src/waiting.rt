@@ -25,17 +25,23 @@ fn publish_beside(rt: &(impl Wait + Abort), desk: &mut Desk) {
     see(rt, reader, Some((2, Ok((1, 0)))));
 }
 
+/// Holds two views of version 1 beside a publish, which waits for neither, since both are of the
+/// newest version. The versions of both.
+fn hold_two(rt: &(impl Wait + Abort), desk: &mut Desk) -> (u64, u64) {
+    let first = view(rt, desk);
+    let second = view(rt, desk);
+    publish_beside(rt, desk);
+    let held = (first.version(), second.version());
+    first.leave();
+    second.leave();
+    held
+}
+
 #[test]
 fn two_views_at_once(rt: HostRuntime) {
     let mut desk = desk_for(&rt, rt.alloc(), 3);
     publish_map(&rt, &mut desk, 1);
-    let first = view(&rt, &mut desk);
-    let second = view(&rt, &mut desk);
-    // Both views are of the newest version, so this waits for neither.
-    publish_beside(&rt, &mut desk);
-    let held = (first.version(), second.version());
-    first.leave();
-    second.leave();
+    let held = hold_two(&rt, &mut desk);
     desk.end(&rt);
     same(&rt, &held, &(1, 1));
 }
@@ -76,25 +82,33 @@ fn publish_twice<R: Wait + Abort>(rt: &R, desk: &mut Desk, flags: &Flags) -> (u6
     (first, publish_one(rt, desk, 0, flags))
 }
 
-#[test]
-fn a_view_that_leaves_after_a_while(rt: HostRuntime) {
-    let mut desk = desk_for(&rt, rt.alloc(), 2);
-    publish_map(&rt, &mut desk, 1);
-    let reader = new_reader(&rt, &mut desk);
+/// Publishes twice beside a view of the reader: the view's version, and whether it was about to
+/// leave when each publish returned.
+fn hold_beside<R: Threads + Wait + Abort + Clock + Sync>(
+    rt: &R,
+    desk: &mut Desk,
+    reader: PlanReader,
+) -> (u64, (u64, u64)) {
     let flags = Flags {
         held: AtomicU64::new(0),
         published: AtomicU64::new(0),
         leaves: AtomicU64::new(0),
     };
-    let (handle, shared) = (&rt, &flags);
-    let writer = &mut desk;
-    let (version, (first, second)) = join(
-        handle,
-        move || hold(handle, reader, shared),
-        move || publish_twice(handle, writer, shared),
-    );
+    let shared = &flags;
+    join(
+        rt,
+        move || hold(rt, reader, shared),
+        move || publish_twice(rt, desk, shared),
+    )
+}
+
+#[test]
+fn a_view_that_leaves_after_a_while(rt: HostRuntime) {
+    let mut desk = desk_for(&rt, rt.alloc(), 2);
+    publish_map(&rt, &mut desk, 1);
+    let reader = new_reader(&rt, &mut desk);
+    let found = hold_beside(&rt, &mut desk, reader);
     let published = desk.published();
     desk.end(&rt);
-    same(&rt, &(version, published), &(1, 3));
-    same(&rt, &(first, second), &(0, 1));
+    same(&rt, &(found, published), &((1, (0, 1)), 3));
 }
