@@ -2,7 +2,7 @@
 //! set_mempolicy(2): 1 is PREFERRED, 2 BIND, 5 PREFERRED_MANY.
 ghost use Rattle.std.specs.Prelude.{◌≤◌};
 
-use crate::same::same;
+use crate::same;
 use numa_core::{Core, CoreRefusal, CoreReply, Event, Frame, Request};
 use numa_examples::ShortCommand::{Map, Task};
 use numa_examples::{ShortCommand, command_of, flat_machine, limits};
@@ -99,6 +99,17 @@ fn play_new(rt: &impl Abort, alloc: Global, frames: &[u32], workers: u32, steps:
     drop(core);
 }
 
+/// Plays an example behind that opening, on a core with a frame on each of two nodes.
+fn play_opened(rt: &impl Abort, alloc: Global, workers: u32, steps: &[(Call, Answer)])
+    requires some { 1 ≤ workers }
+    requires few { workers ≤ 16 }
+{
+    let mut core = core_of(rt, alloc, &[1, 1], workers);
+    play(rt, &mut core, &OPENING);
+    play(rt, &mut core, steps);
+    drop(core);
+}
+
 /// The version that is published, and that of the space.
 fn expect_versions(rt: &impl Abort, core: &Core, published: u64, accepted: u64) {
     let found = (core.published(), core.space().version());
@@ -130,11 +141,15 @@ fn versions(rt: HostRuntime) {
     drop(core);
 }
 
-static TOUCHES_STEPS: [(Call<'static>, Answer); 15] = [
+/// Three pages, a task that binds them to node 0, and one that prefers node 0.
+static OPENING: [(Call<'static>, Answer); 4] = [
     (Does(Map(0x10000, 0x3000, 0)), Accepted(1)),
     (Does(Task(1, 2, &[0])), Accepted(2)),
     (Does(Task(2, 5, &[0])), Accepted(3)),
     (Publish, Published(3)),
+];
+
+static TOUCHES_STEPS: [(Call<'static>, Answer); 11] = [
     (Begin(1, 1, 16, 0), Still),
     (Begin(2, 1, 16, 0), Refused(CoreRefusal::NoSuchWorker)),
     (Touch(1, 1, 16, 0), Refused(CoreRefusal::Busy)),
@@ -148,9 +163,105 @@ static TOUCHES_STEPS: [(Call<'static>, Answer); 15] = [
     (Touch(2, 2, 19, 2), Refused(CoreRefusal::NoSuchWorker)),
 ];
 
+static EXHAUSTED_STEPS: [(Call<'static>, Answer); 10] = [
+    (Begin(0, 1, 16, 0), Still),
+    (Try(0, 0, 0), Won(3, 0, 0, 0)),
+    (Begin(0, 1, 17, 0), Still),
+    (Try(0, 0, 0), Exhausted(3)),
+    (Begin(0, 2, 17, 0), Still),
+    (Try(0, 0, 0), Still),
+    (Try(0, 1, 0), Won(3, 1, 0, 1)),
+    (Begin(0, 2, 18, 0), Still),
+    (Look(0, 0), Still),
+    (Look(0, 0), Exhausted(3)),
+];
+
+static ONE_FRAME_TWO_WORKERS_STEPS: [(Call<'static>, Answer); 14] = [
+    (Does(Map(0x10000, 0x2000, 0)), Accepted(1)),
+    (Publish, Published(1)),
+    (Begin(0, 1, 16, 0), Still),
+    (Begin(1, 1, 17, 0), Still),
+    (Look(0, 0), Still),
+    (Look(1, 0), Still),
+    (Try(0, 0, 0), Won(1, 0, 0, 0)),
+    (Try(1, 0, 0), Still),
+    (Try(1, 0, 0), Refused(CoreRefusal::BadTry)),
+    (Try(1, 1, 0), Won(1, 1, 0, 1)),
+    (Give(0, 1, 0), Refused(CoreRefusal::NotOwned)),
+    (Give(0, 0, 0), Given),
+    (Look(0, 0), Refused(CoreRefusal::Idle)),
+    (Begin(4, 1, 16, 0), Refused(CoreRefusal::NoSuchWorker)),
+];
+
+static WORD_BORDERS_STEPS: [(Call<'static>, Answer); 11] = [
+    (Does(Map(0x10000, 0x1000, 0)), Accepted(1)),
+    (Publish, Published(1)),
+    (Begin(0, 1, 16, 0), Still),
+    (Try(0, 0, 65), Refused(CoreRefusal::BadTry)),
+    (Look(0, 2), Refused(CoreRefusal::BadTry)),
+    (Try(0, 0, 64), Won(1, 0, 64, 0)),
+    (Begin(1, 1, 16, 0), Still),
+    (Look(1, 1), Still),
+    (Try(1, 0, 64), Refused(CoreRefusal::BadTry)),
+    (Begin(1, 1, 16, 0), Refused(CoreRefusal::Busy)),
+    (Try(1, 0, 63), Won(1, 0, 63, 0)),
+];
+
+static NODES_WITHOUT_FRAMES_STEPS: [(Call<'static>, Answer); 7] = [
+    (Does(Map(0x10000, 0x1000, 0)), Accepted(1)),
+    (Does(Task(2, 2, &[0, 2])), Accepted(2)),
+    (Publish, Published(2)),
+    (Begin(0, 1, 16, 0), Still),
+    (Try(0, 1, 0), Won(2, 1, 0, 1)),
+    (Begin(0, 2, 16, 0), Exhausted(2)),
+    (Give(0, 1, 0), Given),
+];
+
+static ALL_FRAMES_STEPS: [(Call<'static>, Answer); 14] = [
+    (Does(Map(0x10000, 0x1000, 0)), Accepted(1)),
+    (Does(Task(1, 2, &[14, 15])), Accepted(2)),
+    (Publish, Published(2)),
+    (Begin(0, 1, 16, 0), Still),
+    (Try(0, 15, 4_095), Refused(CoreRefusal::BadTry)),
+    (Look(0, 63), Still),
+    (Look(0, 64), Refused(CoreRefusal::BadTry)),
+    (Try(0, 14, 4_096), Refused(CoreRefusal::BadTry)),
+    (Try(0, 14, 4_095), Won(2, 14, 4_095, 0)),
+    (Begin(1, 1, 16, 0), Still),
+    (Look(1, 63), Still),
+    (Try(1, 14, 4_095), Refused(CoreRefusal::BadTry)),
+    (Try(1, 14, 4_032), Won(2, 14, 4_032, 0)),
+    (Give(1, 15, 0), Refused(CoreRefusal::NotOwned)),
+];
+
 #[test]
 fn touches(rt: HostRuntime) {
-    play_new(&rt, rt.alloc(), &[1, 1], 2, &TOUCHES_STEPS);
+    play_opened(&rt, rt.alloc(), 2, &TOUCHES_STEPS);
+}
+
+#[test]
+fn exhausted(rt: HostRuntime) {
+    play_opened(&rt, rt.alloc(), 1, &EXHAUSTED_STEPS);
+}
+
+#[test]
+fn one_frame_two_workers(rt: HostRuntime) {
+    play_new(&rt, rt.alloc(), &[1, 1], 4, &ONE_FRAME_TWO_WORKERS_STEPS);
+}
+
+#[test]
+fn word_borders(rt: HostRuntime) {
+    play_new(&rt, rt.alloc(), &[65], 2, &WORD_BORDERS_STEPS);
+}
+
+#[test]
+fn nodes_without_frames(rt: HostRuntime) {
+    play_new(&rt, rt.alloc(), &[0, 1, 0], 1, &NODES_WITHOUT_FRAMES_STEPS);
+}
+
+#[test]
+fn as_many_frames_as_a_machine_has(rt: HostRuntime) {
+    play_new(&rt, rt.alloc(), &[4_096; 16], 2, &ALL_FRAMES_STEPS);
 }
 
 static BEGUN_CORE_STEPS: [(Call<'static>, Answer); 6] = [
@@ -212,84 +323,6 @@ fn a_copy_and_its_original_go_different_ways(rt: HostRuntime) {
     drop(core);
 }
 
-static EXHAUSTED_STEPS: [(Call<'static>, Answer); 14] = [
-    (Does(Map(0x10000, 0x3000, 0)), Accepted(1)),
-    (Does(Task(1, 2, &[0])), Accepted(2)),
-    (Does(Task(2, 5, &[0])), Accepted(3)),
-    (Publish, Published(3)),
-    (Begin(0, 1, 16, 0), Still),
-    (Try(0, 0, 0), Won(3, 0, 0, 0)),
-    (Begin(0, 1, 17, 0), Still),
-    (Try(0, 0, 0), Exhausted(3)),
-    (Begin(0, 2, 17, 0), Still),
-    (Try(0, 0, 0), Still),
-    (Try(0, 1, 0), Won(3, 1, 0, 1)),
-    (Begin(0, 2, 18, 0), Still),
-    (Look(0, 0), Still),
-    (Look(0, 0), Exhausted(3)),
-];
-
-#[test]
-fn exhausted(rt: HostRuntime) {
-    play_new(&rt, rt.alloc(), &[1, 1], 1, &EXHAUSTED_STEPS);
-}
-
-static ONE_FRAME_TWO_WORKERS_STEPS: [(Call<'static>, Answer); 14] = [
-    (Does(Map(0x10000, 0x2000, 0)), Accepted(1)),
-    (Publish, Published(1)),
-    (Begin(0, 1, 16, 0), Still),
-    (Begin(1, 1, 17, 0), Still),
-    (Look(0, 0), Still),
-    (Look(1, 0), Still),
-    (Try(0, 0, 0), Won(1, 0, 0, 0)),
-    (Try(1, 0, 0), Still),
-    (Try(1, 0, 0), Refused(CoreRefusal::BadTry)),
-    (Try(1, 1, 0), Won(1, 1, 0, 1)),
-    (Give(0, 1, 0), Refused(CoreRefusal::NotOwned)),
-    (Give(0, 0, 0), Given),
-    (Look(0, 0), Refused(CoreRefusal::Idle)),
-    (Begin(4, 1, 16, 0), Refused(CoreRefusal::NoSuchWorker)),
-];
-
-#[test]
-fn one_frame_two_workers(rt: HostRuntime) {
-    play_new(&rt, rt.alloc(), &[1, 1], 4, &ONE_FRAME_TWO_WORKERS_STEPS);
-}
-
-static WORD_BORDERS_STEPS: [(Call<'static>, Answer); 11] = [
-    (Does(Map(0x10000, 0x1000, 0)), Accepted(1)),
-    (Publish, Published(1)),
-    (Begin(0, 1, 16, 0), Still),
-    (Look(0, 2), Refused(CoreRefusal::BadTry)),
-    (Try(0, 0, 65), Refused(CoreRefusal::BadTry)),
-    (Try(0, 0, 64), Won(1, 0, 64, 0)),
-    (Begin(1, 1, 16, 0), Still),
-    (Look(1, 1), Still),
-    (Try(1, 0, 64), Refused(CoreRefusal::BadTry)),
-    (Begin(1, 1, 16, 0), Refused(CoreRefusal::Busy)),
-    (Try(1, 0, 63), Won(1, 0, 63, 0)),
-];
-
-#[test]
-fn word_borders(rt: HostRuntime) {
-    play_new(&rt, rt.alloc(), &[65], 2, &WORD_BORDERS_STEPS);
-}
-
-static NODES_WITHOUT_FRAMES_STEPS: [(Call<'static>, Answer); 7] = [
-    (Does(Map(0x10000, 0x1000, 0)), Accepted(1)),
-    (Does(Task(2, 2, &[0, 2])), Accepted(2)),
-    (Publish, Published(2)),
-    (Begin(0, 1, 16, 0), Still),
-    (Try(0, 1, 0), Won(2, 1, 0, 1)),
-    (Begin(0, 2, 16, 0), Exhausted(2)),
-    (Give(0, 1, 0), Given),
-];
-
-#[test]
-fn nodes_without_frames(rt: HostRuntime) {
-    play_new(&rt, rt.alloc(), &[0, 1, 0], 1, &NODES_WITHOUT_FRAMES_STEPS);
-}
-
 fn begin_all(rt: &impl Abort, core: &mut Core) {
     for worker in 0..16u32 {
         play(rt, core, &[(Begin(worker, 1, 16, 0), Still)]);
@@ -344,28 +377,6 @@ fn sixteen_workers(rt: HostRuntime) {
     win_node_1(&rt, &mut core);
     play(&rt, &mut core, &SIXTEEN_WORKERS_ENDS);
     drop(core);
-}
-
-static ALL_FRAMES_STEPS: [(Call<'static>, Answer); 14] = [
-    (Does(Map(0x10000, 0x1000, 0)), Accepted(1)),
-    (Does(Task(1, 2, &[14, 15])), Accepted(2)),
-    (Publish, Published(2)),
-    (Begin(0, 1, 16, 0), Still),
-    (Try(0, 15, 4_095), Refused(CoreRefusal::BadTry)),
-    (Look(0, 63), Still),
-    (Look(0, 64), Refused(CoreRefusal::BadTry)),
-    (Try(0, 14, 4_096), Refused(CoreRefusal::BadTry)),
-    (Try(0, 14, 4_095), Won(2, 14, 4_095, 0)),
-    (Begin(1, 1, 16, 0), Still),
-    (Look(1, 63), Still),
-    (Try(1, 14, 4_095), Refused(CoreRefusal::BadTry)),
-    (Try(1, 14, 4_032), Won(2, 14, 4_032, 0)),
-    (Give(1, 15, 0), Refused(CoreRefusal::NotOwned)),
-];
-
-#[test]
-fn as_many_frames_as_a_machine_has(rt: HostRuntime) {
-    play_new(&rt, rt.alloc(), &[4_096; 16], 2, &ALL_FRAMES_STEPS);
 }
 
 /// Worker 0 wins each frame of node 15, the last node.

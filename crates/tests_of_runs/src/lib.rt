@@ -2,6 +2,13 @@
 //! crates themselves are proved once.
 #![tactic(auto)]
 
+/// What was found is what was wanted: one comparison for all tests, so that it is proved once.
+/// Where it was found goes with both, in a tuple.
+#[cfg(test)]
+fn same<T: PartialEq + std::fmt::Debug>(rt: &impl std::process::Abort, found: &T, wanted: &T) {
+    assert_eq!(rt; *found, *wanted);
+}
+
 #[cfg(test)]
 mod events;
 #[cfg(test)]
@@ -10,8 +17,6 @@ mod lines;
 mod maps;
 #[cfg(test)]
 mod refused;
-#[cfg(test)]
-mod same;
 #[cfg(test)]
 mod script;
 #[cfg(test)]

@@ -1,5 +1,5 @@
 //! What each line of a script says, by the rules of the script language, and the texts of faults.
-use crate::same::same;
+use crate::same;
 use numa_examples::set_of;
 use numa_script::line::parse;
 use numa_script::{Line, MachineLine, RunFault};

@@ -1,5 +1,5 @@
 //! Worked listings, in the form of numa_maps (numa(7)).
-use crate::same::same;
+use crate::same;
 use numa_examples::ShortCommand::{Map, Mbind, Task};
 use numa_examples::{ShortCommand, command_of, flat_space};
 use numa_machine::Frame;

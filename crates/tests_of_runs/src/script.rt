@@ -1,6 +1,6 @@
 //! Scripts and their answers, by the rules of the script language. The program `rows` has more of
 //! them.
-use crate::same::same;
+use crate::same;
 use numa_run::run;
 use numa_script::Watched;
 use std::alloc::Global;

@@ -1,6 +1,6 @@
 //! Readers and writers that fail, and when a script is read and answered.
 use crate::maps::{THREE_RANGES, space_after};
-use crate::same::same;
+use crate::same;
 use numa_examples::{Narrow, Trickle};
 use numa_maps::{CallFailed, Resident, WriteFault, write_maps};
 use numa_run::run;

@@ -1,8 +1,0 @@
-//! One comparison for all tests, so that it is proved once.
-use std::fmt::Debug;
-use std::process::Abort;
-
-/// What was found is what was wanted. Where it was found goes with both, in a tuple.
-pub fn same<T: PartialEq + Debug>(rt: &impl Abort, found: &T, wanted: &T) {
-    assert_eq!(rt; *found, *wanted);
-}
