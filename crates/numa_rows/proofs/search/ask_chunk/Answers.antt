@@ -1,5 +1,5 @@
 -- What the first row of a chunk tells of the others.
-use Rattle.std.proofs.Common.{arith}
+use Rattle.std.proofs.Common.{arith, refl}
 use Rattle.numa_rows.specs.Parts.{flat}
 use Rattle.numa_rows.proofs.InParts.{some-part}
 use Rattle.numa_rows.proofs.Narrowing.{at-start}
@@ -72,3 +72,24 @@ returns-clause-within g c = c.ask_last.ensures.within
 pub returns-clause-narrowed : goal.returns-clause-narrowed
 returns-clause-narrowed g c p gives parted =
     c.ask_last.ensures.narrowed p gives parted (c.ask-left.ensures.narrowed p gives parted (at-start p (flat c.args.chunks.now) c.args.len c.requires.table.count))
+
+pub has-requires : goal.has-requires
+has-requires g c = omega (arith, c.requires.table.small)
+
+pub part_of-part-requires-clause-rank : goal.part_of-part-requires-clause-rank
+part_of-part-requires-clause-rank g c = omega (arith, c.if-not-has.ensures.to refl)
+
+pub part_of-part-requires-clause-part : goal.part_of-part-requires-clause-part
+part_of-part-requires-clause-part g c = c.empty.ensures (flat c.args.chunks.now)
+
+pub ask-left-requires-clause-from : goal.ask-left-requires-clause-from
+ask-left-requires-clause-from g c = c.if-not-has.ensures.from refl
+
+pub ask-left-requires-clause-to : goal.ask-left-requires-clause-to
+ask-left-requires-clause-to g c = c.if-not-has.ensures.to refl
+
+pub ask_firsts-requires-clause-places : goal.ask_firsts-requires-clause-places
+ask_firsts-requires-clause-places g c = omega (arith, (some-part 256 c.args.chunks.now c.args.starts.now c.args.len 0 c.requires.table c.requires.some).0)
+
+pub returns-then-not-has-clause-within : goal.returns-then-not-has-clause-within
+returns-then-not-has-clause-within g c = omega arith

@@ -1,5 +1,5 @@
 -- What the last row of a chunk tells of the others.
-use Rattle.std.proofs.Common.{arith}
+use Rattle.std.proofs.Common.{arith, refl}
 use Rattle.numa_rows.proofs.search.ask_last.Goals as goal
 
 pub last_rank-last-requires-clause-has : goal.last_rank-last-requires-clause-has
@@ -50,3 +50,12 @@ returns-clause-within g c = omega (arith, c.ask-left.ensures.within, c.requires.
 
 pub returns-clause-narrowed : goal.returns-clause-narrowed
 returns-clause-narrowed g c p gives parted so = c.ask-left.ensures.narrowed p gives parted so
+
+pub has-requires : goal.has-requires
+has-requires g c = omega (arith, c.requires.within, c.requires.table.small)
+
+pub ask-left-requires-clause-from : goal.ask-left-requires-clause-from
+ask-left-requires-clause-from g c = c.if-not-has.ensures.from refl
+
+pub ask-left-requires-clause-to : goal.ask-left-requires-clause-to
+ask-left-requires-clause-to g c = c.if-not-has.ensures.to refl

@@ -1,5 +1,6 @@
 -- What is left lies within the list.
-use Rattle.std.proofs.Common.{arith}
+use Rattle.std.proofs.Common.{arith, refl}
+use Rattle.numa_rows.specs.Parts.{flat}
 use Rattle.numa_rows.proofs.search.ask_left.Goals as goal
 
 pub ask-requires-clause-within : goal.ask-requires-clause-within
@@ -31,3 +32,18 @@ ask-requires-clause-has g c = c.part_of-part.ensures.has
 
 pub returns-then-not-has-clause-within : goal.returns-then-not-has-clause-within
 returns-then-not-has-clause-within g c = c.requires.within
+
+pub has-requires : goal.has-requires
+has-requires g c = omega (arith, c.requires.within, c.requires.table.small)
+
+pub part_of-part-requires-clause-rank : goal.part_of-part-requires-clause-rank
+part_of-part-requires-clause-rank g c = omega (arith, c.if-not-has.ensures.to refl, c.requires.within)
+
+pub part_of-part-requires-clause-part : goal.part_of-part-requires-clause-part
+part_of-part-requires-clause-part g c = c.empty.ensures (flat c.args.chunks.now)
+
+pub ask-requires-clause-from : goal.ask-requires-clause-from
+ask-requires-clause-from g c = c.if-not-has.ensures.from refl
+
+pub ask-requires-clause-to : goal.ask-requires-clause-to
+ask-requires-clause-to g c = c.if-not-has.ensures.to refl

@@ -39,3 +39,22 @@ ask-left-requires-clause-has g c = c.part_of-part.ensures.has
 
 pub returns-clause-within : goal.returns-clause-within
 returns-clause-within g c = omega (arith, c.loop-left.invariant.within)
+
+pub loop-left-init : goal.loop-left-init
+loop-left-init g c = record {
+  within = c.requires.within;
+  stands = c.empty-part.ensures (flat c.args.chunks.now);
+  narrowed = λ p gives parted so. so;
+}
+
+pub loop-left-smaller : goal.loop-left-smaller
+loop-left-smaller g c = c.ask-left.ensures.less
+
+pub part_of-part-requires-clause-rank : goal.part_of-part-requires-clause-rank
+part_of-part-requires-clause-rank g c = omega (arith, c.loop-left.invariant.within, c.loop-left-test.true)
+
+pub ask-left-requires-clause-from : goal.ask-left-requires-clause-from
+ask-left-requires-clause-from g c = omega arith
+
+pub ask-left-requires-clause-to : goal.ask-left-requires-clause-to
+ask-left-requires-clause-to g c = omega (arith, c.loop-left-test.true)
