@@ -3,6 +3,7 @@ ghost use Rattle.std.specs.Prelude.{◌≡◌, ◌<◌, length, map, slice_set, 
 ghost use Rattle.numa_rows.specs.Changes.{Makes};
 
 use crate::chunk::put_in;
+use crate::items::update_items;
 use crate::keep::Keep;
 use std::alloc::{AllocError, Global};
 use std::marker::Model;
@@ -81,7 +82,7 @@ impl<T: Copy + Drop> Owned<T> {
         ensures size { length self.new ≡ length self.old }
         ensures made { (change : T → T) → Makes F.Fn f.now change → self.new ≡ map change self.old }
     {
-        change_rows(&mut self.rows, f);
+        update_items(&mut self.rows, f);
     }
 
     /// Puts a row in the place of another.
@@ -97,18 +98,5 @@ impl<T: Copy + Drop> Owned<T> {
         ensures { self.new ≡ take len self.old }
     {
         self.rows.truncate(len);
-    }
-}
-
-/// Gives each row what `f` makes of it.
-fn change_rows<T: Copy + Drop, F: Fn(&T) -> T>(rows: &mut Vec<T>, f: &F)
-    requires { F.IsAlwaysCallable f.now }
-    ensures size { length rows.new.items ≡ length rows.old.items }
-    ensures made { (change : T → T) → Makes F.Fn f.now change
-        → rows.new.items ≡ map change rows.old.items }
-{
-    for i in 0..rows.len() {
-        let row = rows[i];
-        rows[i] = f(&row);
     }
 }
