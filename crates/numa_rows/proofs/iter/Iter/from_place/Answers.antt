@@ -13,3 +13,9 @@ returns g c =
     ap (λ l. l ++ flat (take (length parts - (place.chunk + 1)) (drop (place.chunk + 1) parts))) (take_rest rows (c.args.rank - place.start))
     ∙ (ap (λ l. drop (c.args.rank - place.start) rows ++ flat l) (take_rest parts (place.chunk + 1))
     ∙ rows-from parts c.index-chunks-place.result rows place.chunk place.start c.args.rank c.requires c.index-chunks-place.is c.rows-rows.ensures)
+
+pub bounds-chunks-place : goal.bounds-chunks-place
+bounds-chunks-place g c = c.requires.within
+
+pub overflow_sub-result : goal.overflow_sub-result
+overflow_sub-result g c = c.requires.from

@@ -1,14 +1,8 @@
--- The list is that of the chunks.
-use Rattle.std.proofs.Common.{◌∙◌, get_or, ap, length, arith}
-use Rattle.numa_rows.specs.Parts.{flat}
-use Rattle.numa_rows.proofs.Windows.{table-same}
+-- The row is found from a guess at its chunk.
 use Rattle.numa_rows.proofs.rows.Rows.get.Goals as goal
 
-pub row_at-requires-clause-table : goal.row_at-requires-clause-table
-row_at-requires-clause-table g c = table-same 256 c.self.inside.chunks.items c.deref-2.result.now c.self.inside.starts.items c.deref-3.result.now c.self.inside.len c.deref-2.ensures.value c.deref-3.ensures.value c.self.invariant
+pub get_near-requires : goal.get_near-requires
+get_near-requires g c = c.requires
 
 pub returns : goal.returns
-returns g c d = c.row_at.ensures d ∙ ap (λ l. get_or l c.args.rank d) (ap flat c.deref-2.ensures.value ∙ c.self.view_is)
-
-pub row_at-requires-clause-rank : goal.row_at-requires-clause-rank
-row_at-requires-clause-rank g c = omega (arith, c.requires, ap length c.self.view_is, c.self.invariant.count)
+returns g c = c.get_near.ensures
