@@ -5,7 +5,7 @@ ghost use Rattle.std.specs.List.{slice_range};
 ghost use Rattle.std.specs.Prelude.{Option, All};
 ghost use Rattle.numa_rows.specs.Changes.{Makes};
 ghost use Rattle.numa_ranges.specs.Runs.{AreApart};
-ghost use Rattle.numa_ranges.specs.Edits.{IsInRange, part_before, part_within, part_from, parts};
+ghost use Rattle.numa_ranges.specs.Edits.{IsInRange, part_before, part_within, part_from};
 ghost use Rattle.numa_ranges.specs.Edits.{edit_of};
 ghost use Rattle.numa_ranges.specs.Gathered.{Gathered};
 
@@ -38,7 +38,9 @@ pub(crate) fn gather_edited<T: Exact, F: Fn(&T) -> Option<T>>(
         let Some(run) = rest.next() else {
             unreachable!()
         };
-        add_parts(&mut pieces, run, first, end, edit);
+        add_before(&mut pieces, run, first);
+        add_within(&mut pieces, run, first, end, edit);
+        add_from(&mut pieces, run, end);
     }
     pieces
 }
@@ -92,27 +94,6 @@ fn add_all<T: Exact>(pieces: &mut Pieces<T>, rest: &mut RangeIter<'_, T>, count:
     }
 }
 
-/// Adds the parts of a run before a span, in it and behind it.
-fn add_parts<T: Exact, F: Fn(&T) -> Option<T>>(
-    pieces: &mut Pieces<T>,
-    run: Run<T>,
-    first: u64,
-    end: u64,
-    edit: &F,
-)
-    requires callable { F.IsAlwaysCallable edit.now }
-    requires in_range { IsInRange run }
-    requires room { pieces.old.count < 2 ^ 62 }
-    ensures gathered { (change : T → Option T) → Makes F.Fn edit.now change → (added : List (Run T))
-        → Gathered T.eq pieces.old added → Gathered T.eq pieces.new
-        (added ++ parts first end change run) }
-    ensures count { pieces.new.count ≤ pieces.old.count + 3 }
-{
-    add_before(pieces, run, first);
-    add_within(pieces, run, first, end, edit);
-    add_from(pieces, run, end);
-}
-
 /// Adds the part of a run before a page.
 fn add_before<T: Exact>(pieces: &mut Pieces<T>, run: Run<T>, page: u64)
     requires in_range { IsInRange run }
@@ -122,17 +103,9 @@ fn add_before<T: Exact>(pieces: &mut Pieces<T>, run: Run<T>, page: u64)
     ensures count { pieces.new.count ≤ pieces.old.count + 1 }
 {
     if run.first < page {
-        let Run {
-            first,
-            pages,
-            index,
-            value,
-        } = run;
         pieces.add(Run {
-            first,
-            pages: pages.min(page - first),
-            index,
-            value,
+            pages: run.pages.min(page - run.first),
+            ..run
         });
     }
 }

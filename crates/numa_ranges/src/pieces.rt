@@ -119,7 +119,8 @@ impl<T: Exact> Pieces<T> {
         if is_refused {
             return Err(RangeFault::NoMemory);
         }
-        let Ok(()) = runs.splice_near(from, to, &closed, near) else {
+        runs.tidy();
+        let Ok(()) = runs.splice_near(from, to, near, &closed) else {
             return Err(RangeFault::NoMemory);
         };
         Ok(())

@@ -155,10 +155,7 @@ impl<T: Exact> Runs<T> {
     }
 
     /// Puts runs in the place of those from one rank to another. `near` is a guess at the chunk of
-    /// the first.
-    ///
-    /// Values that no run has any more stay until there are far more values than runs: then the
-    /// values are numbered anew.
+    /// the first. Values that no run has any more stay until `tidy`.
     ///
     /// # Errors
     /// `AllocError` where memory is wanting; then the runs are as they were.
@@ -166,28 +163,10 @@ impl<T: Exact> Runs<T> {
         &mut self,
         from: usize,
         to: usize,
-        runs: &[Run<T>],
         near: usize,
-    ) -> Result<(), AllocError>
-        requires rises { from ≤ to }
-        requires within { to ≤ length self.old }
-        ensures ok { OnOk result (self.new ≡ splice self.old from to runs.now) }
-        ensures unchanged { OnErr result (self.new ≡ self.old) }
-    {
-        self.tidy();
-        self.put(from, to, runs, near)
-    }
-
-    /// Puts runs in the place of others, and their values behind all others.
-    fn put(
-        &mut self,
-        from: usize,
-        to: usize,
         runs: &[Run<T>],
-        near: usize,
     ) -> Result<(), AllocError>
-        requires rises { from ≤ to }
-        requires within { to ≤ length self.old }
+        requires { (from ≤ to) × (to ≤ length self.old) }
         ensures ok { OnOk result (self.new ≡ splice self.old from to runs.now) }
         ensures unchanged { OnErr result (self.new ≡ self.old) }
     {
@@ -198,7 +177,8 @@ impl<T: Exact> Runs<T> {
 
     /// Numbers the values anew where there are far more of them than runs. Without memory for that
     /// all stays as it is.
-    fn tidy(&mut self)
+    #[inline]
+    pub(crate) fn tidy(&mut self)
         ensures { self.new ≡ self.old }
     {
         let most = 2 * self.rows.len() + SPARE;
@@ -226,7 +206,7 @@ impl<T: Exact> Runs<T> {
             return None;
         };
         let mut fresh = Runs::new(self.alloc);
-        let Ok(()) = fresh.put(0, 0, &all, 0) else {
+        let Ok(()) = fresh.splice_near(0, 0, 0, &all) else {
             return None;
         };
         Some(fresh)

@@ -5,6 +5,7 @@ ghost use Rattle.numa_rows.specs.Changes.{Makes};
 ghost use Rattle.numa_ranges.specs.Numbered.{IsLonger};
 
 use crate::exact::Exact;
+use numa_rows::update_items;
 use std::alloc::{AllocError, Global};
 use std::marker::Model;
 
@@ -108,19 +109,6 @@ impl<T: Exact> Values<T> {
         ensures size { length self.new ≡ length self.old }
         ensures made { (change : T → T) → Makes F.Fn f.now change → self.new ≡ map change self.old }
     {
-        change_items(&mut self.items, f);
-    }
-}
-
-/// Gives each value what `f` makes of it.
-fn change_items<T: Exact, F: Fn(&T) -> T>(items: &mut Vec<T>, f: &F)
-    requires { F.IsAlwaysCallable f.now }
-    ensures size { length items.new.items ≡ length items.old.items }
-    ensures made { (change : T → T) → Makes F.Fn f.now change
-        → items.new.items ≡ map change items.old.items }
-{
-    for i in 0..items.len() {
-        let item = items[i];
-        items[i] = f(&item);
+        update_items(&mut self.items, f);
     }
 }

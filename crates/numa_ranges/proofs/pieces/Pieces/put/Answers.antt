@@ -11,7 +11,7 @@ returns-clause-ok g c added h =
     let closed : c.seal.new.self.closed.items ≡ maximal_runs g.T.PartialEq.eq added = c.seal.ensures.closed added h c.if-is_refused.false in
     let count : c.seal.new.self.count ≡ length (maximal_runs g.T.PartialEq.eq added) = c.seal.ensures.count added h in
     let size = length-splice c.args.runs.now (maximal_runs g.T.PartialEq.eq added) c.args.from c.args.to c.requires.window.0 c.requires.window.1 in
-    (c.in-Ok.ensures.ok ∙ ap (splice c.args.runs.now c.args.from c.args.to) (c.deref.ensures.value ∙ closed), omega (arith, size, count, c.len.ensures.len))
+    (c.in-Ok.ensures.ok ∙ (λ i. splice (c.tidy.ensures i) c.args.from c.args.to ((c.deref.ensures.value ∙ closed) i)), omega (arith, size, count, c.len.ensures.len))
 
 pub returns-clause-err : goal.returns-clause-err
 returns-clause-err g c added h = tt
@@ -51,3 +51,9 @@ returns-then-is_refused-clause-unchanged g c = refl
 
 pub returns-then-others-count-clause-unchanged : goal.returns-then-others-count-clause-unchanged
 returns-then-others-count-clause-unchanged g c = refl
+
+pub splice_near-requires : goal.splice_near-requires
+splice_near-requires g c = (c.requires.window.0, omega (arith, c.requires.window.1, ap length c.tidy.ensures))
+
+pub returns-in_default-clause-unchanged : goal.returns-in_default-clause-unchanged
+returns-in_default-clause-unchanged g c = c.in_default.ensures.unchanged ∙ c.tidy.ensures

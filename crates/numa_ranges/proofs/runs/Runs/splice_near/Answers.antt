@@ -4,7 +4,7 @@ use Rattle.std.specs.List.{splice}
 use Rattle.numa_ranges.specs.Numbered.{runs_of}
 use Rattle.numa_ranges.specs.declared.row.Row.{Row}
 use Rattle.numa_ranges.proofs.Numbered.{length-runs, numbered-longer, runs-longer, numbered-splice, runs-splice, at_err}
-use Rattle.numa_ranges.proofs.runs.Runs.put.Goals as goal
+use Rattle.numa_ranges.proofs.runs.Runs.splice_near.Goals as goal
 
 pub invariant_of-self : goal.invariant_of-self
 invariant_of-self g c = numbered-longer c.self.inside.values c.numbered.new.values c.self.inside.rows c.numbered.ensures.longer c.self.invariant
@@ -12,8 +12,11 @@ invariant_of-self g c = numbered-longer c.self.inside.values c.numbered.new.valu
 pub returns-in_err-rows-clause-unchanged : goal.returns-in_err-rows-clause-unchanged
 returns-in_err-rows-clause-unchanged g c = at_err c.from_residual.result (runs-longer c.self.inside.values c.numbered.new.values c.self.inside.rows c.numbered.ensures.longer c.self.invariant ∙ c.self.view_is)
 
+pub splice_near-requires-clause-rises : goal.splice_near-requires-clause-rises
+splice_near-requires-clause-rises g c = c.requires.0
+
 pub splice_near-requires-clause-within : goal.splice_near-requires-clause-within
-splice_near-requires-clause-within g c = omega (arith, c.requires.within, length-runs c.self.inside.values c.self.inside.rows c.self.invariant, ap length c.self.view_is)
+splice_near-requires-clause-within g c = omega (arith, c.requires.1, length-runs c.self.inside.values c.self.inside.rows c.self.invariant, ap length c.self.view_is)
 
 pub invariant_of-self-in_err-splice_near : goal.invariant_of-self-in_err-splice_near
 invariant_of-self-in_err-splice_near g c = rw c.in_err-splice_near.ensures.unchanged (numbered-longer c.self.inside.values c.numbered.new.values c.self.inside.rows c.numbered.ensures.longer c.self.invariant)
