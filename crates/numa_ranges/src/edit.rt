@@ -112,11 +112,11 @@ fn add_before<T: Exact>(pieces: &mut Pieces<T>, run: Run<T>, page: u64)
 
 /// Adds the part of a run from a page on.
 fn add_from<T: Exact>(pieces: &mut Pieces<T>, run: Run<T>, page: u64)
-    requires in_range { IsInRange run }
     requires room { pieces.old.count < 2 ^ 63 }
+    requires in_range { IsInRange run }
+    ensures count { pieces.new.count ≤ pieces.old.count + 1 }
     ensures gathered { (added : List (Run T)) → Gathered T.eq pieces.old added
         → Gathered T.eq pieces.new (added ++ part_from page run) }
-    ensures count { pieces.new.count ≤ pieces.old.count + 1 }
 {
     let end = run.first + run.pages;
     if page < end {

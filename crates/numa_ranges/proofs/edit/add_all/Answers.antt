@@ -1,5 +1,5 @@
 -- One more run is added.
-use Rattle.std.proofs.Common.{List, ◌∷◌, ◌++◌, [], take, sym, ap, subst, ◌∙◌, append_assoc, length, arith}
+use Rattle.std.proofs.Common.{◌≡◌, List, ◌∷◌, ◌++◌, [], take, drop, sym, ap, subst, ◌∙◌, append_assoc, length, arith}
 use Rattle.std.proofs.lemmas.List.{length-drop}
 use Rattle.numa_ranges.specs.declared.run.Run.{Run}
 use Rattle.numa_ranges.specs.Edits.{IsInRange}
@@ -24,3 +24,19 @@ loop-k-preserved g c =
           (c.add.ensures.gathered _ (c.loop-k.invariant.gathered added h));
       count = omega (arith, c.add.ensures.count, c.loop-k.invariant.count);
     }
+
+pub add-requires-clause-room : goal.add-requires-clause-room
+add-requires-clause-room g c = omega (arith, c.loop-k.invariant.count, c.requires.room, c.requires.len, c.loop-k-test.true)
+
+pub returns-clause-gathered : goal.returns-clause-gathered
+returns-clause-gathered g c added h =
+    let all : c.loop-k.k ≡ c.args.count = omega arith in
+    subst (λ n. Gathered g.T.PartialEq.eq c.loop-k.pieces (added ++ take n c.args.rest.now)) all (c.loop-k.invariant.gathered added h)
+
+pub returns-clause-rest : goal.returns-clause-rest
+returns-clause-rest g c =
+    let all : c.loop-k.k ≡ c.args.count = omega arith in
+    subst (λ n. c.loop-k.rest ≡ drop n c.args.rest.now) all c.loop-k.invariant.rest
+
+pub returns-clause-count : goal.returns-clause-count
+returns-clause-count g c = omega (arith, c.loop-k.invariant.count)

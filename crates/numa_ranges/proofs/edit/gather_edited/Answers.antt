@@ -57,3 +57,6 @@ loop-k-preserved g c =
           (c.add_from.ensures.gathered _ (c.add_within.ensures.gathered change gives _ (c.add_before.ensures.gathered _ (inv.gathered change gives))));
       count = omega (arith, c.add_before.ensures.count, c.add_within.ensures.count, c.add_from.ensures.count, inv.count);
     }
+
+pub returns-clause-count : goal.returns-clause-count
+returns-clause-count g c = omega (arith, c.loop-k.invariant.count)

@@ -99,3 +99,39 @@ returns-clause-joined g c =
     let here = length-runs c.args.values.now c.loop-i.rows inv.numbered in
     let size = length-runs c.args.values.now c.args.rows.now c.requires.numbered in
     closed-last g.T.PartialEq.eq g.met.T.Exact.exact g.met.T.Eq.laws.refl now whole (runs_of c.args.values.now c.put_run-2.new.rows) (runs_of c.args.values.now c.keep_runs.new.rows) c.loop-i.kept c.loop-i.i c.loop-i.last (omega (arith, inv.behind, inv.size, inv.some, here)) (omega (arith, size)) c.put_run-2.ensures.runs c.keep_runs.ensures.runs inv.so_far
+
+pub returns-then-is_empty-clause-numbered : goal.returns-then-is_empty-clause-numbered
+returns-then-is_empty-clause-numbered g c = c.requires.numbered
+
+pub run_at-first-requires-clause-numbered : goal.run_at-first-requires-clause-numbered
+run_at-first-requires-clause-numbered g c = c.requires.numbered
+
+pub run_at-first-requires-clause-within : goal.run_at-first-requires-clause-within
+run_at-first-requires-clause-within g c = some-rows (length c.args.rows.now) (sym c.if-is_empty.ensures)
+
+pub run_at-seen-requires-clause-numbered : goal.run_at-seen-requires-clause-numbered
+run_at-seen-requires-clause-numbered g c = c.loop-i.invariant.numbered
+
+pub run_at-seen-requires-clause-within : goal.run_at-seen-requires-clause-within
+run_at-seen-requires-clause-within g c = omega (arith, c.loop-i.invariant.size)
+
+pub put_run-requires-clause-numbered : goal.put_run-requires-clause-numbered
+put_run-requires-clause-numbered g c = c.loop-i.invariant.numbered
+
+pub put_run-requires-clause-within : goal.put_run-requires-clause-within
+put_run-requires-clause-within g c = omega (arith, c.loop-i.invariant.behind, c.loop-i.invariant.size)
+
+pub put_run-requires-clause-number : goal.put_run-requires-clause-number
+put_run-requires-clause-number g c = c.loop-i.invariant.number
+
+pub put_run-requires-2-clause-numbered : goal.put_run-requires-2-clause-numbered
+put_run-requires-2-clause-numbered g c = c.loop-i.invariant.numbered
+
+pub put_run-requires-2-clause-number : goal.put_run-requires-2-clause-number
+put_run-requires-2-clause-number g c = c.loop-i.invariant.number
+
+pub keep_runs-requires : goal.keep_runs-requires
+keep_runs-requires g c = record { numbered = c.put_run-2.ensures.numbered }
+
+pub returns-clause-numbered : goal.returns-clause-numbered
+returns-clause-numbered g c = c.keep_runs.ensures.numbered
