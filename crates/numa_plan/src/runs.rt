@@ -461,25 +461,23 @@ impl Runs {
         Ok(())
     }
 
-    /// Puts runs in the place of those from one place to another, which it hands back. `near` is a
-    /// guess at the chunk of the first.
+    /// Puts runs in the place of those of a window, which it hands back.
     pub(crate) fn splice(
         &mut self,
         alloc: Global,
-        from: usize,
-        to: usize,
+        window: Beside,
         runs: &[Run<Option<u32>>],
-        near: usize,
         steps: &mut Steps,
     ) -> Result<Vec<Run<Option<u32>>>, NoMemory>
-        requires rises { from ≤ to }
-        requires within { to ≤ length self.old }
-        requires apart { AreApart 0 (splice self.old from to runs.now) }
-        ensures ok { IfOk result (λ gone. (gone.items ≡ slice_range self.old from to)
-            × (self.new ≡ splice self.old from to runs.now)
+        requires rises { window.from ≤ window.to }
+        requires within { window.to ≤ length self.old }
+        requires apart { AreApart 0 (splice self.old window.from window.to runs.now) }
+        ensures ok { IfOk result (λ gone. (gone.items ≡ slice_range self.old window.from window.to)
+            × (self.new ≡ splice self.old window.from window.to runs.now)
             × (steps.new ≡ more_runs (length runs.now) steps.old)) }
         ensures err { OnErr result ((self.new ≡ self.old) × (steps.new ≡ steps.old)) }
     {
+        let Beside { from, to, near } = window;
         let gone = gathered(alloc, &self.items, from, to, near)?;
         self.items.splice_near(from, to, runs, near)?;
         steps.runs_written(runs.len());
