@@ -17,7 +17,7 @@ use Rattle.numa_plan.specs.Meaning.{PlanData}
 use Rattle.numa_plan.specs.Slots.{policy_in}
 use Rattle.numa_compile.specs.Copies.{IsNumber}
 use Rattle.numa_compile.specs.Follows.{IsBehind}
-use Rattle.numa_compile.specs.Windows.{BeginsBeside, BeginsInside, IsOpen, IsFromInside, NumbersInside}
+use Rattle.numa_compile.specs.Windows.{BeginsBeside, BeginsInside, HavePolicy, IsOpen, IsFromInside, NumbersInside}
 use Rattle.numa_compile.specs.declared.recompiler.window.Window.{Window}
 use Rattle.numa_compile.proofs.CopyLemmas.{copies-length}
 use Rattle.numa_compile.proofs.SpanLemmas.{copies-window}
@@ -37,6 +37,10 @@ outside-next first end from k ranges range lt there out before j d low high =
           ap (begins_in first end) (ap (λ (n : ℕ). get_or ranges n d) same ∙ get_or_default ranges k d range lt ∙ there) ∙ out
     ]
 
+-- the number of their one policy is that of each range that begins in the span
+pub bound-inside : (space : SpaceState) (plan : PlanData) (window : Window) (policy : Option PolicyRecord) (number : Option ℕ) → HavePolicy space window policy → IsNumber (policy_in plan.slots) (where_live policy) number → NumbersInside space plan window number
+bound-inside space plan window policy number have is k d low high inside = subst (λ (p : Option PolicyRecord). IsNumber (policy_in plan.slots) (where_live p) number) (sym (have k d low high inside)) is
+
 module _ (space : SpaceState) (plan : PlanData) (window : Window) (start bytes : ℕ) (first : window.first ≡ page_of start) (end : window.end ≡ page_of start + page_count bytes) (within : window.to_now ≤ length space.ranges) (rising : AreApart 0 space.ranges) (maximal : AreMaximal space.ranges) where
   begins : (run : Run (Option PolicyRecord)) → begins_in (page_of start) (page_of start + page_count bytes) run ≡ begins_in window.first window.end run
   begins run = λ i. begins_in (sym first i) (sym end i) run
@@ -48,14 +52,12 @@ module _ (space : SpaceState) (plan : PlanData) (window : Window) (start bytes :
       absurd (cc)
 
   -- where a policy was set, all ranges that begin have it
-  pub mbind-inside : (spec : Specification) → IsBehind space (Mbind start bytes spec) plan → (now : PlanData) (policy : Option PolicyRecord) (number : Option ℕ) → IsFromInside space window policy
-      → IsNumber (policy_in now.slots) (where_live policy) number → NumbersInside space now window number
-  mbind-inside spec behind now policy number from is k d low high inside =
+  pub mbind-policy : (spec : Specification) → IsBehind space (Mbind start bytes spec) plan → (policy : Option PolicyRecord) → IsFromInside space window policy → HavePolicy space window policy
+  mbind-policy spec behind policy from k d low high inside =
       let other = from k d low high inside in
       let value : (j : ℕ) → j < length space.ranges → begins_in window.first window.end (get_or space.ranges j d) ≡ true → (get_or space.ranges j d).value ≡ record_now behind.before.allowed spec =
       λ j lt in_it. mbind-value behind.before space start bytes spec behind.step rising maximal j d lt (begins (get_or space.ranges j d) ∙ in_it) in
-      let same : policy ≡ (get_or space.ranges k d).value = other.3 ∙ value other.0 other.1 other.2 ∙ sym (value k (omega (arith, within)) inside) in
-      subst (λ (p : Option PolicyRecord). IsNumber (policy_in now.slots) (where_live p) number) same is
+      value k (omega (arith, within)) inside ∙ sym (other.3 ∙ value other.0 other.1 other.2)
 
   -- where pages were mapped, a range that begins has no policy of its own
   pub map-inside : (offset : ℕ) → IsBehind space (Map start bytes offset) plan → (later : Window) → later.first ≡ window.first → later.end ≡ window.end → later.to_now ≡ window.to_now → NumbersInside space plan later None

@@ -70,6 +70,13 @@ NumbersInside space plan window number = (k : ℕ) (d : Run (Option PolicyRecord
     → begins_in window.first window.end (get_or space.ranges k d) ≡ true
     → IsNumber (policy_in plan.slots) (where_live (get_or space.ranges k d).value) number
 
+-- this policy is that of each range of the window that begins in its span
+abbrev pub HavePolicy : SpaceState → Window → Option PolicyRecord → Type 0
+HavePolicy space window policy = (k : ℕ) (d : Run (Option PolicyRecord))
+    → window.from ≤ k → k < window.to_now
+    → begins_in window.first window.end (get_or space.ranges k d) ≡ true
+    → (get_or space.ranges k d).value ≡ policy
+
 -- where a range of the window begins in its span, this policy is that of such a range
 abbrev pub IsFromInside : SpaceState → Window → Option PolicyRecord → Type 0
 IsFromInside space window policy = (k : ℕ) (d : Run (Option PolicyRecord))

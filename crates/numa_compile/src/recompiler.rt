@@ -18,52 +18,67 @@ mod mems;
 mod put;
 mod rewrite;
 mod task;
-mod unmap;
 mod unused;
 mod weight;
 mod window;
 
 use crate::compiler::survey;
-use crate::recompiler::home::recompile_home;
-use crate::recompiler::map::recompile_map;
-use crate::recompiler::mbind::recompile_mbind;
+use crate::recompiler::home::rewrite_homes;
+use crate::recompiler::map::mapped_window;
+use crate::recompiler::mbind::{policy_inside, rewrite_bound};
 use crate::recompiler::mems::recompile_mems;
+use crate::recompiler::rewrite::rewrite_window;
 use crate::recompiler::task::recompile_task;
-use crate::recompiler::unmap::recompile_unmap;
 use crate::recompiler::weight::recompile_weight;
+use crate::recompiler::window::open_window;
 use numa_plan::{NoMemory, Plan, Steps};
 use numa_space::{Command, Space};
 use std::alloc::Global;
 
-/// Edits a plan as its space's last command says.
+/// Edits a plan as its space's last command says. Where pages were mapped or unmapped, no range that
+/// begins in the span has a policy; mbind(2) has set one for all of them, and a home node leaves
+/// each its own.
 ///
 /// # Errors
-/// `NoMemory` where there is none for what the command wants; the plan is as it was.
+/// `NoMemory` where there is none for what the command wants; the plan is as it was. Never for a
+/// span without pages, of a command that maps nothing.
 fn edit(
     alloc: Global,
     plan: &mut Plan,
     space: &Space,
-    command: &Command,
+    command: Command,
     steps: &mut Steps,
 ) -> Result<(), NoMemory>
-    requires behind { IsBehind space.now command.now plan.old }
+    requires behind { IsBehind space.now command plan.old }
     ensures follows { OnOk result (Follows space.now plan.new) }
     ensures unchanged { OnErr result (plan.new ≡ plan.old) }
-    ensures few { WritesFew command.now plan.old steps.old steps.new }
-    ensures others { KeepsOthers command.now plan.old plan.new }
+    ensures few { WritesFew command plan.old steps.old steps.new }
+    ensures others { KeepsOthers command plan.old plan.new }
 {
-    match *command {
+    survey(space);
+    match command {
         Command::Map { start, length, .. } => {
-            recompile_map(alloc, plan, space, start, length, steps)
+            let window = mapped_window(plan, space, start, length);
+            rewrite_window(alloc, plan, space, &window, None, steps)
         }
         Command::Unmap { start, length } => {
-            recompile_unmap(alloc, plan, space, start, length, steps)
+            let Some(window) = open_window(plan, space, start, length) else {
+                return Ok(());
+            };
+            rewrite_window(alloc, plan, space, &window, None, steps)
         }
         Command::Mbind { start, length, .. } => {
-            recompile_mbind(alloc, plan, space, start, length, steps)
+            let Some(window) = open_window(plan, space, start, length) else {
+                return Ok(());
+            };
+            let policy = policy_inside(space, &window);
+            rewrite_bound(alloc, plan, space, &window, policy, steps)
         }
         Command::SetHome { start, length, .. } => {
-            recompile_home(alloc, plan, space, start, length, steps)
+            let Some(window) = open_window(plan, space, start, length) else {
+                return Ok(());
+            };
+            rewrite_homes(alloc, plan, space, &window, steps)
         }
         Command::SetTask { task, .. } => recompile_task(alloc, plan, space, task, steps),
         Command::SetWeight { .. } => recompile_weight(alloc, plan, space, steps),
@@ -101,5 +116,5 @@ pub fn recompile(
     ensures others { KeepsOthers command.now plan.old plan.new }
 {
     survey(space);
-    edit(alloc, plan, space, command, steps)
+    edit(alloc, plan, space, *command, steps)
 }

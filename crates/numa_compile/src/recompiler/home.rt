@@ -1,18 +1,17 @@
 //! Recompiling for a span with a home node.
-ghost use Rattle.std.specs.Prelude.{◌≡◌, ◌+◌, ◌-◌, ℕ, Some, false, [], if◌then◌else◌, IfOk, OnOk};
+ghost use Rattle.std.specs.Prelude.{◌≡◌, ◌-◌, ℕ, Some, false, [], if◌then◌else◌, IfOk, OnOk};
 ghost use Rattle.std.specs.Prelude.{OnErr};
 ghost use Rattle.std.specs.List.{slice_range};
 ghost use Rattle.std.specs.Option.{ForSome};
 ghost use Rattle.numa_ranges.specs.Windows.{begins_in, starts_in};
 ghost use Rattle.numa_space.specs.Policies.{where_live};
 ghost use Rattle.numa_space.specs.Standing.{IsInForce, SpaceState};
-ghost use Rattle.numa_space.specs.declared.command.Command.{Command};
 ghost use Rattle.numa_plan.specs.Meaning.{PlanData};
 ghost use Rattle.numa_plan.specs.Rows.{Kept};
 ghost use Rattle.numa_plan.specs.Slots.{kept_in, policy_in};
 ghost use Rattle.numa_compile.specs.Copies.{AreCopies, IsNumber};
-ghost use Rattle.numa_compile.specs.Follows.{Follows, IsBehind};
-ghost use Rattle.numa_compile.specs.Recompiling.{WritesBoth, WritesRules, met_by};
+ghost use Rattle.numa_compile.specs.Follows.{Follows};
+ghost use Rattle.numa_compile.specs.Recompiling.{WritesBoth, WritesRules};
 ghost use Rattle.numa_compile.specs.Rules.{IsReady};
 ghost use Rattle.numa_compile.specs.Windows.{IsNumbered, IsOpen, WereAdded};
 ghost use Rattle.numa_compile.specs.declared.recompiler.window.Window.{Window};
@@ -22,7 +21,7 @@ use crate::recompiler::added::number_or_add;
 use crate::recompiler::gather::{number_before, push_run};
 use crate::recompiler::put::put_runs;
 use crate::recompiler::unused::take_back;
-use crate::recompiler::window::{Window, begins_inside, open_window, range_there};
+use crate::recompiler::window::{Window, begins_inside, range_there};
 use numa_plan::{NoMemory, Plan, Steps};
 use numa_space::{RangeRecord, Run, Space};
 use std::alloc::Global;
@@ -112,7 +111,7 @@ fn gather_homes(
 /// # Errors
 /// `NoMemory` where there is none for a rule or for the runs; but for the rules that were added,
 /// the plan is as it was.
-fn rewrite_homes(
+fn write_homes(
     alloc: Global,
     plan: &mut Plan,
     space: &Space,
@@ -134,32 +133,27 @@ fn rewrite_homes(
     put_runs(plan, space, window, &runs, steps)
 }
 
-/// Gives each range that begins in the span the rule of its policy. Writes at most two runs more
-/// than met the span, and at most as many rules as runs met it.
+/// Gives each range that begins in the window's span the rule of its policy. Writes the window's
+/// runs anew, and one rule at most for each of these ranges.
 ///
 /// # Errors
-/// `NoMemory` where there is none for a rule or for the runs; the plan is as it was. Never for a
-/// span without pages.
-pub(crate) fn recompile_home(
+/// `NoMemory` where there is none for a rule or for the runs; the plan is as it was.
+pub(crate) fn rewrite_homes(
     alloc: Global,
     plan: &mut Plan,
     space: &Space,
-    start: u64,
-    bytes: u64,
+    window: &Window,
     steps: &mut Steps,
 ) -> Result<(), NoMemory>
-    requires behind { (node : ℕ) × IsBehind space.now (Command.SetHome start bytes node) plan.old }
+    requires of { IsOpen space.now plan.old window.now }
     ensures follows { OnOk result (Follows space.now plan.new) }
+    ensures tasks { plan.new.tasks ≡ plan.old.tasks }
+    ensures few { WritesBoth (window.now.to_now - window.now.from)
+        (starts_in window.now.first window.now.end space.now.ranges) steps.old steps.new }
     ensures unchanged { OnErr result (plan.new ≡ plan.old) }
-    ensures few { WritesBoth (met_by start bytes plan.old + 2) (met_by start bytes plan.old)
-        steps.old steps.new }
-    ensures others { plan.new.tasks ≡ plan.old.tasks }
 {
-    let Some(window) = open_window(plan, space, start, bytes) else {
-        return Ok(());
-    };
     let mut added = Vec::new(alloc);
-    let Ok(()) = rewrite_homes(alloc, plan, space, &window, &mut added, steps) else {
+    let Ok(()) = write_homes(alloc, plan, space, window, &mut added, steps) else {
         take_all_back(plan, &mut added);
         return Err(NoMemory);
     };

@@ -1,20 +1,16 @@
-//! Recompiling for a span that is mapped.
-ghost use Rattle.std.specs.Prelude.{◌≡◌, ◌+◌, ◌-◌, ◌<◌, ◌≤◌, ℕ, length, None, OnOk, OnErr};
-ghost use Rattle.std.specs.Prelude.{true, false};
+//! The window of a span that is mapped.
+ghost use Rattle.std.specs.Prelude.{◌≡◌, ◌-◌, ◌<◌, ◌≤◌, ℕ, true, false, length, None};
 ghost use Rattle.std.specs.Bool.{OnTrue, OnFalse};
 ghost use Rattle.numa_ranges.specs.Runs.{end_of};
 ghost use Rattle.numa_space.specs.declared.command.Command.{Command};
-ghost use Rattle.numa_compile.specs.Follows.{Follows, IsBehind};
-ghost use Rattle.numa_compile.specs.Recompiling.{WritesBoth, met_by};
+ghost use Rattle.numa_compile.specs.Follows.{IsBehind};
 ghost use Rattle.numa_compile.specs.Windows.{BeginsBeside, BeginsInside, IsOpen, NumbersInside};
 ghost use Rattle.numa_compile.specs.declared.recompiler.window.Window.{Window};
 
 use crate::compiler::survey;
-use crate::recompiler::rewrite::rewrite_window;
 use crate::recompiler::window::{Window, find_window, range_there};
-use numa_plan::{NoMemory, Plan, Steps};
+use numa_plan::Plan;
 use numa_space::{RangeRecord, Run, Space};
-use std::alloc::Global;
 
 /// Whether a range ends at a page or before it.
 fn ends_by(range: &Run<RangeRecord>, page: u64) -> bool
@@ -38,7 +34,7 @@ fn begins_beside(space: &Space, window: &Window) -> bool
 
 /// The window of a span that is mapped, without a first range that wasn't joined to it. It has two
 /// ranges at most.
-fn mapped_window(plan: &Plan, space: &Space, start: u64, bytes: u64) -> Window
+pub(crate) fn mapped_window(plan: &Plan, space: &Space, start: u64, bytes: u64) -> Window
     requires behind { (offset : ℕ) × IsBehind space.now (Command.Map start bytes offset) plan.now }
     ensures open { IsOpen space.now plan.now result }
     ensures inside { NumbersInside space.now plan.now result None }
@@ -53,27 +49,4 @@ fn mapped_window(plan: &Plan, space: &Space, start: u64, bytes: u64) -> Window
         };
     }
     window
-}
-
-/// Puts a run in for the span, joined to those beside it as its range is. Writes at most two runs,
-/// and no rule.
-///
-/// # Errors
-/// `NoMemory` where there is none for the runs; the plan is as it was.
-pub(crate) fn recompile_map(
-    alloc: Global,
-    plan: &mut Plan,
-    space: &Space,
-    start: u64,
-    bytes: u64,
-    steps: &mut Steps,
-) -> Result<(), NoMemory>
-    requires behind { (offset : ℕ) × IsBehind space.now (Command.Map start bytes offset) plan.old }
-    ensures follows { OnOk result (Follows space.now plan.new) }
-    ensures unchanged { OnErr result (plan.new ≡ plan.old) }
-    ensures few { WritesBoth (met_by start bytes plan.old + 2) 0 steps.old steps.new }
-    ensures others { plan.new.tasks ≡ plan.old.tasks }
-{
-    let window = mapped_window(plan, space, start, bytes);
-    rewrite_window(alloc, plan, space, &window, None, steps)
 }

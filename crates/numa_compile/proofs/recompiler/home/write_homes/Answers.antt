@@ -8,7 +8,7 @@ use Rattle.numa_compile.specs.Copies.{AreCopies}
 use Rattle.numa_compile.specs.Windows.{WereAdded}
 use Rattle.numa_compile.proofs.GrownLemmas.{grown-rest, open-grown}
 use Rattle.numa_compile.proofs.SpanLemmas.{writes-few}
-use Rattle.numa_compile.proofs.recompiler.home.rewrite_homes.Goals as goal
+use Rattle.numa_compile.proofs.recompiler.home.write_homes.Goals as goal
 
 pub returns-in_err-gather_homes-clause-tasks : goal.returns-in_err-gather_homes-clause-tasks
 returns-in_err-gather_homes-clause-tasks c = ap (λ (p : PlanData). p.tasks) (grown-rest c.args.space.now c.args.plan.now c.gather_homes.new.plan c.gather_homes.new.added.items c.gather_homes.ensures.added)
