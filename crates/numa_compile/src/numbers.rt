@@ -1,11 +1,13 @@
 //! The numbers of rules.
 ghost use Rattle.std.specs.Prelude.{◌≡◌, ◌^◌, ◌<◌, Some, None, IfOk, OnOk, length, slice_get};
-ghost use Rattle.std.specs.Prelude.{true, slice_index_or};
+ghost use Rattle.std.specs.Prelude.{true, slice_index_or, OnErr};
 ghost use Rattle.std.specs.Option.{ForSome};
 ghost use Rattle.numa_mode.specs.Policy.{is_live};
 ghost use Rattle.numa_space.specs.Policies.{where_live};
 ghost use Rattle.numa_space.specs.Standing.{IsInForce};
+ghost use Rattle.numa_plan.specs.Slots.{policy_in};
 ghost use Rattle.numa_compile.specs.Copies.{AreKnown, Grows, IsNumber, Serves};
+ghost use Rattle.numa_compile.specs.Recompiling.{IsAdded, WritesRules};
 ghost use Rattle.numa_compile.specs.Rules.{IsReady};
 
 use crate::rules::rule_of;
@@ -14,6 +16,32 @@ use numa_mode::Record;
 use numa_plan::{NoMemory, Plan, Steps};
 use numa_space::{RangeRecord, Space};
 use std::alloc::Global;
+
+/// Adds the rule of a live policy to a plan, and answers its number.
+///
+/// # Errors
+/// `NoMemory` where there is none for the rule; the plan is as it was.
+pub(crate) fn add_rule_of(
+    alloc: Global,
+    space: &Space,
+    policy: Record,
+    plan: &mut Plan,
+    steps: &mut Steps,
+) -> Result<u32, NoMemory>
+    requires ready { IsReady space.now }
+    requires in_force { IsInForce space.now.machine space.now.allowed policy }
+    requires live { is_live policy ≡ true }
+    requires nodes { plan.old.nodes ≡ space.now.machine.nodes }
+    ensures here { IfOk result (λ number. policy_in plan.new.slots number ≡ Some policy) }
+    ensures added { IfOk result (λ number. (added : IsAdded space.now plan.old number plan.new)
+        × (added.kept.policy ≡ policy)) }
+    ensures few { WritesRules 1 steps.old steps.new }
+    ensures unchanged { OnErr result (plan.new ≡ plan.old) }
+{
+    let rule = rule_of(alloc, space, &policy)?;
+    let number = plan.add_rule(policy, rule, steps)?;
+    Ok(number)
+}
 
 /// The number of the rule of a live policy: its place among the records. The rule is written where
 /// the record is new.
@@ -41,8 +69,7 @@ fn number_of(
         unreachable!()
     };
     if is_new {
-        let rule = rule_of(alloc, space, &policy)?;
-        plan.add_rule(policy, rule, steps)?;
+        add_rule_of(alloc, space, policy, plan, steps)?;
     }
     Ok(number)
 }

@@ -8,7 +8,7 @@ ghost use Rattle.numa_compile.specs.Copies.{IsNumber};
 ghost use Rattle.numa_compile.specs.Recompiling.{WasAdded, WritesRules};
 ghost use Rattle.numa_compile.specs.Rules.{IsReady};
 
-use crate::rules::rule_of;
+use crate::numbers::add_rule_of;
 use numa_mode::Record;
 use numa_plan::{NoMemory, Plan, Steps};
 use numa_space::Space;
@@ -44,7 +44,6 @@ pub(crate) fn number_or_add(
     if let Some(number) = plan.number_for_policy(&policy) {
         return Ok((Some(number), None));
     }
-    let rule = rule_of(alloc, space, &policy)?;
-    let number = plan.add_rule(policy, rule, steps)?;
+    let number = add_rule_of(alloc, space, policy, plan, steps)?;
     Ok((Some(number), Some(number)))
 }
