@@ -1,13 +1,14 @@
 -- Sets of allowed nodes.
-use Rattle.std.proofs.Common.{◌≡◌, ◌≢◌, ℕ, ◌^◌, ◌<◌, true, false, not, eqb, get_or, All, inl, inr}
+use Rattle.std.proofs.Common.{◌≡◌, ◌≢◌, ℕ, ◌^◌, ◌<◌, true, false, not, eqb, get_or, All, inl, inr, sym, ap, subst, ◌∙◌}
 use Rattle.std.proofs.lemmas.Bool.{both_ways, eq-eqb, not-true, or_cases}
 use Rattle.std.proofs.lemmas.List.Elements.{All-contains}
 use Rattle.numa_mask.specs.NodeSet.{has, both, members}
 use Rattle.numa_mask.proofs.Images.{below-has}
 use Rattle.numa_mask.proofs.Sets.{contains-has, members-have}
-use Rattle.numa_mode.specs.Policy.{PolicyRecord, is_live, is_local_mode}
+use Rattle.numa_mode.specs.Policy.{PolicyRecord, Specification, is_live, is_local_mode}
+use Rattle.numa_mode.specs.declared.modes.Mode.{Mode}
 use Rattle.numa_space.specs.Standing.{SpaceState}
-use Rattle.numa_space.proofs.NodeLists.{within-from_both, small-inside}
+use Rattle.numa_space.proofs.NodeLists.{within-both, within-from_both, small-inside}
 use Rattle.numa_compile.specs.Rules.{IsReady}
 
 -- a set of allowed nodes is one of nodes below 256
@@ -30,3 +31,17 @@ filled r live local none =
       | inl some ↦ both_ways (eqb r.effective 0) (not-true (eqb r.effective 0) some) (eq-eqb r.effective 0 none)
       | inr t ↦ both_ways (is_local_mode r.spec.mode) local t
     ]
+
+-- the set of a live policy, by the mode that was read of it
+pub filled-by : (r : PolicyRecord) (spec : Specification) (mode other : Mode) (set : ℕ) → is_live r ≡ true → spec ≡ r.spec → mode ≡ spec.mode → mode ≡ other → is_local_mode other ≡ false → set ≡ r.effective → set ≢ 0
+filled-by r spec mode other set live of read is local same none =
+    let own : r.spec.mode ≡ other = ap (λ (s : Specification). s.mode) (sym of) ∙ sym read ∙ is in
+    filled r live (ap is_local_mode own ∙ local) (sym same ∙ none)
+
+-- all allowed nodes are allowed
+pub all-allowed : (set allowed : ℕ) → set ≡ allowed → both set allowed ≡ set
+all-allowed set allowed same = within-both set allowed (λ node member. subst (λ (s : ℕ). has s node ≡ true) same member)
+
+-- the set of a policy in force is one of allowed nodes
+pub policy-allowed : (r : PolicyRecord) (set allowed : ℕ) → both r.effective allowed ≡ r.effective → set ≡ r.effective → both set allowed ≡ set
+policy-allowed r set allowed inside same = subst (λ (s : ℕ). both s allowed ≡ s) (sym same) inside

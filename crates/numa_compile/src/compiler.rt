@@ -1,6 +1,6 @@
 //! Compiling.
 ghost use Rattle.std.specs.Prelude.{◌≡◌, ℕ, ◌+◌, ◌-◌, ◌^◌, ◌<◌, ◌≤◌, IfOk, OnOk, List, [], length};
-ghost use Rattle.std.specs.Prelude.{slice_get, All, IsSome, None, ◌∷◌, ◌++◌};
+ghost use Rattle.std.specs.Prelude.{slice_get, All, IsSome, Some, None, ◌∷◌, ◌++◌};
 ghost use Rattle.std.specs.Option.{ForSome};
 ghost use Rattle.numa_ranges.specs.Runs.{AreApart, AreMaximal};
 ghost use Rattle.numa_plan.specs.Building.{empty_plan};
@@ -8,7 +8,8 @@ ghost use Rattle.numa_plan.specs.Meaning.{planned_list};
 ghost use Rattle.numa_plan.specs.Slots.{rule_in};
 ghost use Rattle.numa_space.specs.declared.command.Command.{Command};
 ghost use Rattle.numa_space.specs.Policies.{allowed_nodes};
-ghost use Rattle.numa_space.specs.Standing.{StandsFor, IsNodeList, accepted_of, setting_in};
+ghost use Rattle.numa_space.specs.Standing.{StandsFor, IsNodeList, accepted_of, record_of};
+ghost use Rattle.numa_space.specs.Standing.{setting_in};
 ghost use Rattle.numa_compile.specs.Copies.{AreCopies, HasTasks, HasRunsMore, IsUnderWay};
 ghost use Rattle.numa_compile.specs.Copies.{SharesRules};
 ghost use Rattle.numa_compile.specs.Follows.{Follows};
@@ -128,6 +129,18 @@ fn add_runs(
     put_waiting(plan, &mut waiting, steps)
 }
 
+/// The task at a place where there is one, and its policy.
+fn task_there(space: &Space, place: usize) -> (u32, Record)
+    requires { place < length space.now.tasks }
+    ensures task { slice_get space.now.tasks place ≡ Some result }
+    ensures policy { record_of space.now.tasks result.0 ≡ Some result.1 }
+{
+    let Some(held) = space.task_at(place) else {
+        unreachable!()
+    };
+    held
+}
+
 /// Gives each task that has a live policy its rule.
 fn set_tasks(
     alloc: Global,
@@ -148,12 +161,9 @@ fn set_tasks(
     ensures tasks { OnOk result (HasTasks (slice_get records.new.keys) space.now.tasks plan.new) }
 {
     for k in 0..space.task_count() {
-        let Some(held) = space.task_at(k) else {
-            unreachable!()
-        };
-        let (task, policy) = (held.0, Some(held.1));
-        let number = number_for(alloc, space, policy, plan, records, steps)?;
-        plan.set_task(task, number)?;
+        let held = task_there(space, k);
+        let number = number_for(alloc, space, Some(held.1), plan, records, steps)?;
+        plan.set_task(held.0, number)?;
     }
     Ok(())
 }
@@ -175,11 +185,18 @@ fn copy_space(
 {
     survey(space);
     let mut records = IndexSet::new(alloc);
-    add_runs(alloc, space, plan, &mut records, steps)?;
-    set_tasks(alloc, space, plan, &mut records, steps)?;
+    let Ok(()) = add_runs(alloc, space, plan, &mut records, steps) else {
+        drop(records);
+        return Err(NoMemory);
+    };
+    let Ok(()) = set_tasks(alloc, space, plan, &mut records, steps) else {
+        drop(records);
+        return Err(NoMemory);
+    };
     plan.set_version(space.version());
     // Tells the proof that no record is there twice.
     let _ = records.len();
+    drop(records);
     Ok(())
 }
 

@@ -17,16 +17,16 @@ add_runs-requires-clause-tasks c = ap (λ (p : PlanData). p.tasks) c.requires.em
 
 pub set_tasks-requires-clause-few : goal.set_tasks-requires-clause-few
 set_tasks-requires-clause-few c =
-    omega (arith, copies-length (slice_get c.add_runs.new.records.keys) c.args.space.now.ranges c.add_runs.new.plan.runs c.in_ok-add_runs.ensures.copies, c.survey.ensures.ranges, c.survey.ensures.tasks)
+    omega (arith, copies-length (slice_get c.add_runs.new.records.keys) c.args.space.now.ranges c.add_runs.new.plan.runs c.in-Ok.ensures.copies, c.survey.ensures.ranges, c.survey.ensures.tasks)
 
 pub set_tasks-requires-clause-room : goal.set_tasks-requires-clause-room
 set_tasks-requires-clause-room c =
-    omega (arith, c.in_ok-add_runs.ensures.room, c.survey.ensures.ranges, c.survey.ensures.tasks)
+    omega (arith, c.in-Ok.ensures.room, c.survey.ensures.ranges, c.survey.ensures.tasks)
 
 pub returns-clause-follows : goal.returns-clause-follows
-returns-clause-follows c = follows-done c.args.space.now c.set_tasks.new.plan c.set_version.new.self c.set_tasks.new.records.keys c.version.result c.version.ensures.version c.set_version.ensures c.in_ok-set_tasks.ensures.under_way c.in_ok-set_tasks.ensures.copies c.in_ok-set_tasks.ensures.tasks
+returns-clause-follows c = follows-done c.args.space.now c.set_tasks.new.plan c.set_version.new.self c.set_tasks.new.records.keys c.version.result c.version.ensures.version c.set_version.ensures c.in-Ok-set_tasks.ensures.under_way c.in-Ok-set_tasks.ensures.copies c.in-Ok-set_tasks.ensures.tasks
 
 pub returns-clause-rules : goal.returns-clause-rules
 returns-clause-rules c =
-    shares-done c.args.space.now c.set_tasks.new.plan c.set_version.new.self c.set_tasks.new.records.keys c.version.result c.version.ensures.version c.set_version.ensures c.in_ok-set_tasks.ensures.under_way c.in_ok-set_tasks.ensures.copies c.in_ok-set_tasks.ensures.tasks
+    shares-done c.args.space.now c.set_tasks.new.plan c.set_version.new.self c.set_tasks.new.records.keys c.version.result c.version.ensures.version c.set_version.ensures c.in-Ok-set_tasks.ensures.under_way c.in-Ok-set_tasks.ensures.copies c.in-Ok-set_tasks.ensures.tasks
     (unique-pairs c.set_tasks.new.records.keys c.len.ensures.unique)

@@ -8,21 +8,21 @@ use Rattle.numa_compile.proofs.PlanLemmas.{used-task}
 use Rattle.numa_compile.proofs.compiler.set_tasks.Goals as goal
 
 pub number_for-requires-clause-in_force : goal.number_for-requires-clause-in_force
-number_for-requires-clause-in_force c = λ r is. c.requires.ready.sound.tasks c.in-Some.held.0 r (c.in-Some.ensures.policy ∙ is)
+number_for-requires-clause-in_force c = λ r is. c.requires.ready.sound.tasks c.task_there-held.result.0 r (c.task_there-held.ensures.policy ∙ is)
 
 pub loop-k-preserved : goal.loop-k-preserved
 loop-k-preserved c =
     let given : c.set_task.new.self ≡ _ = c.in_ok-set_task.ensures.ok in
     let runs : c.set_task.new.self.runs ≡ c.loop-k.plan.runs = ap (λ (p : PlanData). p.runs) c.in_ok-set_task.ensures.ok ∙ ap (λ (p : PlanData). p.runs) c.in_ok-number.ensures.rest in
     let tasks : c.number_for.new.plan.tasks ≡ c.loop-k.plan.tasks = ap (λ (p : PlanData). p.tasks) c.in_ok-number.ensures.rest in
-    let used : AreUsed c.args.space.now c.number_for.new.records.keys = used-task c.args.space.now c.loop-k.records.keys c.number_for.new.records.keys c.in-Some.held.0 c.in-Some.held.1 c.in-Some.ensures.policy c.in_ok-number.ensures.grows c.loop-k.invariant.under_way.used in
-    let before : HasTasks (slice_get c.number_for.new.records.keys) (take c.loop-k.k c.args.space.now.tasks) c.loop-k.plan = tasks-grow c.loop-k.records.keys c.number_for.new.records.keys (Some c.in-Some.held.1) (take c.loop-k.k c.args.space.now.tasks) c.loop-k.plan c.in_ok-number.ensures.grows c.loop-k.invariant.tasks in
+    let used : AreUsed c.args.space.now c.number_for.new.records.keys = used-task c.args.space.now c.loop-k.records.keys c.number_for.new.records.keys c.task_there-held.result.0 c.task_there-held.result.1 c.task_there-held.ensures.policy c.in_ok-number.ensures.grows c.loop-k.invariant.under_way.used in
+    let before : HasTasks (slice_get c.number_for.new.records.keys) (take c.loop-k.k c.args.space.now.tasks) c.loop-k.plan = tasks-grow c.loop-k.records.keys c.number_for.new.records.keys (Some c.task_there-held.result.1) (take c.loop-k.k c.args.space.now.tasks) c.loop-k.plan c.in_ok-number.ensures.grows c.loop-k.invariant.tasks in
     record {
-      under_way = under-task c.args.space.now c.loop-k.plan c.number_for.new.plan c.set_task.new.self c.in-Some.held.0 c.in_ok-number.number c.loop-k.records.keys c.number_for.new.records.keys c.loop-k.invariant.under_way c.in_ok-number.ensures.serves used c.in_ok-number.ensures.rest c.in_ok-set_task.ensures.ok;
-      copies = subst (λ (rs : List (Run (Option ℕ))). AreCopies (slice_get c.number_for.new.records.keys) c.args.space.now.ranges rs) (sym runs) (copies-grow c.loop-k.records.keys c.number_for.new.records.keys (Some c.in-Some.held.1) c.args.space.now.ranges c.loop-k.plan.runs c.in_ok-number.ensures.grows c.loop-k.invariant.copies);
-      tasks = tasks-next (slice_get c.number_for.new.records.keys) c.args.space.now.tasks c.loop-k.k c.in-Some.held.0 c.in-Some.held.1 c.loop-k.plan c.set_task.new.self c.in_ok-number.number (sym c.in-Some.ensures.task) c.task_count-k-end.ensures.each_once before c.in_ok-number.ensures.number c.in_ok-set_task.ensures.given
+      under_way = under-task c.args.space.now c.loop-k.plan c.number_for.new.plan c.set_task.new.self c.task_there-held.result.0 c.in_ok-number.number c.loop-k.records.keys c.number_for.new.records.keys c.loop-k.invariant.under_way c.in_ok-number.ensures.serves used c.in_ok-number.ensures.rest c.in_ok-set_task.ensures.ok;
+      copies = subst (λ (rs : List (Run (Option ℕ))). AreCopies (slice_get c.number_for.new.records.keys) c.args.space.now.ranges rs) (sym runs) (copies-grow c.loop-k.records.keys c.number_for.new.records.keys (Some c.task_there-held.result.1) c.args.space.now.ranges c.loop-k.plan.runs c.in_ok-number.ensures.grows c.loop-k.invariant.copies);
+      tasks = tasks-next (slice_get c.number_for.new.records.keys) c.args.space.now.tasks c.loop-k.k c.task_there-held.result.0 c.task_there-held.result.1 c.loop-k.plan c.set_task.new.self c.in_ok-number.number (c.task_there-held.ensures.task) c.task_count-k-end.ensures.each_once before c.in_ok-number.ensures.number c.in_ok-set_task.ensures.given
           (λ other ne. c.in_ok-set_task.ensures.others other ne ∙ ap (λ ts. number_of ts other) tasks);
       runs = runs ∙ c.loop-k.invariant.runs;
-      room = omega (arith, grows-one c.loop-k.records.keys (Some c.in-Some.held.1) c.number_for.new.records.keys c.in_ok-number.ensures.grows, c.loop-k.invariant.room);
+      room = omega (arith, grows-one c.loop-k.records.keys (Some c.task_there-held.result.1) c.number_for.new.records.keys c.in_ok-number.ensures.grows, c.loop-k.invariant.room);
       few = omega (arith, c.in_ok-set_task.ensures.sized, ap length tasks, c.loop-k.invariant.few);
     }
