@@ -15,7 +15,7 @@ use Rattle.numa_compile.specs.Rules.{IsRuleOf}
 use Rattle.numa_compile.proofs.CopyLemmas.{copies-grow, copies-next}
 use Rattle.numa_compile.proofs.FollowLemmas.{serving-served}
 use Rattle.numa_compile.proofs.PlanLemmas.{shares}
-use Rattle.numa_compile.proofs.PutLemmas.{named-copies}
+use Rattle.numa_compile.proofs.PutLemmas.{named-copies, number-named}
 use Rattle.numa_compile.proofs.ServeLemmas.{serves-kept, serves-task}
 
 -- what holds while the runs of the first k ranges are there or wait, and the rest is ahead
@@ -62,6 +62,11 @@ pub served-named : (space : SpaceState) (plan : PlanData) (keys : List PolicyRec
     → All (λ run. ForSome run.value (λ number. IsSome (rule_in plan.slots number))) runs
 served-named space plan keys ranges runs serves copies =
     named-copies plan.slots ranges runs (subst (λ (at : ℕ → Option PolicyRecord). AreCopies at ranges runs) (λ i number. sym (serves.policies number) i) copies)
+
+-- a number of a served policy's rule names one
+pub served-number : (space : SpaceState) (plan : PlanData) (keys : List PolicyRecord) (policy : Option PolicyRecord) (number : Option ℕ) → Serves space plan keys → IsNumber (slice_get keys) policy number → ForSome number (λ place. IsSome (rule_in plan.slots place))
+served-number space plan keys policy number serves is =
+    number-named plan.slots policy number (subst (λ (at : ℕ → Option PolicyRecord). IsNumber at policy number) (λ i place. sym (serves.policies place) i) is)
 
 -- with one task more
 pub under-task : (space : SpaceState) (plan middle new : PlanData) (task : ℕ) (number : Option ℕ) (records keys : List PolicyRecord) → IsUnderWay space plan records → Serves space middle keys → AreUsed space keys → middle ≡ record plan { slots = middle.slots } → new ≡ with_task middle task number

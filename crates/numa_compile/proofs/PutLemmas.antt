@@ -62,16 +62,17 @@ follows-put space plan spliced done dropped from to runs version put kept is sam
 
 -- ---- runs that copy ranges
 
+-- a number of a rule for a policy names one
+pub number-named : (slots : List Slot) (policy : Option PolicyRecord) (number : Option ℕ) → IsNumber (policy_in slots) policy number → ForSome number (λ place. IsSome (rule_in slots place))
+number-named slots None number is place some = absurd (let odd : ◌≡◌ {A = Option ℕ} None (Some place) = sym is ∙ some in cc)
+number-named slots (Some r) number is place some =
+    let same : is.0 ≡ place = same_Some is.0 place (sym is.1 ∙ some) in
+    rule-there slots place r (subst (λ (n : ℕ). policy_in slots n ≡ Some r) same is.2)
+
 -- the rules that they name are there
 pub named-copies : (slots : List Slot) (ranges : List (Run (Option PolicyRecord))) (runs : List (Run (Option ℕ))) → AreCopies (policy_in slots) ranges runs → All (λ run. ForSome run.value (λ number. IsSome (rule_in slots number))) runs
 named-copies slots [] [] copies k d lt = absurd (omega arith)
 named-copies slots [] (run ∷ runs) copies k d lt = absurd copies
 named-copies slots (range ∷ ranges) [] copies k d lt = absurd copies
-named-copies slots (range ∷ ranges) (run ∷ runs) copies zero d lt = named (where_live range.value) copies.0.value
-  where
-    named : (policy : Option PolicyRecord) → IsNumber (policy_in slots) policy run.value → ForSome run.value (λ number. IsSome (rule_in slots number))
-    named None is number some = absurd (let odd : ◌≡◌ {A = Option ℕ} None (Some number) = sym is ∙ some in cc)
-    named (Some r) is number some =
-        let same : is.0 ≡ number = same_Some is.0 number (sym is.1 ∙ some) in
-        rule-there slots number r (subst (λ (n : ℕ). policy_in slots n ≡ Some r) same is.2)
+named-copies slots (range ∷ ranges) (run ∷ runs) copies zero d lt = number-named slots (where_live range.value) run.value copies.0.value
 named-copies slots (range ∷ ranges) (run ∷ runs) copies (suc k) d lt = named-copies slots ranges runs copies.1 k d (omega arith)

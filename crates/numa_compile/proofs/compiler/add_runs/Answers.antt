@@ -9,7 +9,7 @@ use Rattle.numa_ranges.proofs.Walked.{step-short, step-read, step-left}
 use Rattle.numa_plan.specs.Meaning.{PlanData}
 use Rattle.numa_compile.specs.Copies.{AreCopies, AreUsed, Grows, HasRunsMore}
 use Rattle.numa_compile.proofs.CompileSteps.{copied-next, served-named, under-rest, under-runs}
-use Rattle.numa_compile.proofs.KnownLemmas.{known-none, range-of, range-first, rest-numbered}
+use Rattle.numa_compile.proofs.KnownLemmas.{known-none, range-of, range-first, rest-numbered, row-number}
 use Rattle.numa_compile.proofs.CopyLemmas.{copies-apart, apart-take, grows-one}
 use Rattle.numa_compile.proofs.PlanLemmas.{used-range}
 use Rattle.numa_compile.proofs.RangeLemmas.{range-in_force}
@@ -150,3 +150,21 @@ returns-clause-tasks c =
 
 pub returns-clause-room : goal.returns-clause-room
 returns-clause-room c = on_ok_weaker c.put_waiting.result (λ more. omega (arith, c.loop-row.invariant.added.room, c.loop-row.invariant.added.within)) c.put_waiting.ensures.more
+
+pub number_for_range-requires-clause-within : goal.number_for_range-requires-clause-within
+number_for_range-requires-clause-within c = row-number c.range_rows-rows.result.1.now c.loop-row.row-iterator c.next.new.self c.in-Some.row.now c.loop-row.invariant.numbered c.in-Some.ensures.steps
+
+pub number_for_range-requires-clause-size : goal.number_for_range-requires-clause-size
+number_for_range-requires-clause-size c = c.loop-row.invariant.size
+
+pub number_for_range-requires-clause-nodes : goal.number_for_range-requires-clause-nodes
+number_for_range-requires-clause-nodes c = c.loop-row.invariant.added.under_way.nodes
+
+pub number_for_range-requires-clause-serves : goal.number_for_range-requires-clause-serves
+number_for_range-requires-clause-serves c = c.loop-row.invariant.added.under_way.serves
+
+pub number_for_range-requires-clause-room : goal.number_for_range-requires-clause-room
+number_for_range-requires-clause-room c = omega (arith, c.loop-row.invariant.added.room, c.loop-row.invariant.added.within, c.requires.few)
+
+pub number_for_range-requires-clause-known : goal.number_for_range-requires-clause-known
+number_for_range-requires-clause-known c = c.loop-row.invariant.known

@@ -1,8 +1,9 @@
-use Rattle.std.proofs.Common.{◌≡◌, ℕ, List, Option, Some, take, length, sym, ap, subst, ◌∙◌, arith, slice_get}
+use Rattle.std.proofs.Common.{◌≡◌, ℕ, List, Option, Some, take, length, refl, sym, ap, subst, ◌∙◌, arith, slice_get}
 use Rattle.numa_ranges.specs.declared.run.Run.{Run}
 use Rattle.numa_plan.specs.Meaning.{PlanData, number_of}
+use Rattle.numa_space.specs.Policies.{where_live}
 use Rattle.numa_compile.specs.Copies.{AreCopies, AreUsed, HasTasks}
-use Rattle.numa_compile.proofs.CompileSteps.{under-task}
+use Rattle.numa_compile.proofs.CompileSteps.{served-number, under-task}
 use Rattle.numa_compile.proofs.CopyLemmas.{copies-grow, grows-one, tasks-grow, tasks-next}
 use Rattle.numa_compile.proofs.PlanLemmas.{used-task}
 use Rattle.numa_compile.proofs.compiler.set_tasks.Goals as goal
@@ -26,3 +27,33 @@ loop-k-preserved c =
       room = omega (arith, grows-one c.loop-k.records.keys (Some c.task_there-held.result.1) c.number_for.new.records.keys c.in_ok-number.ensures.grows, c.loop-k.invariant.room);
       few = omega (arith, c.in_ok-set_task.ensures.sized, ap length tasks, c.loop-k.invariant.few);
     }
+
+pub number_for-requires-clause-nodes : goal.number_for-requires-clause-nodes
+number_for-requires-clause-nodes c = c.loop-k.invariant.under_way.nodes
+
+pub number_for-requires-clause-serves : goal.number_for-requires-clause-serves
+number_for-requires-clause-serves c = c.loop-k.invariant.under_way.serves
+
+pub number_for-requires-clause-room : goal.number_for-requires-clause-room
+number_for-requires-clause-room c = omega (arith, c.loop-k.invariant.room, c.requires.room, c.task_count-k-end.ensures.tasks)
+
+pub set_task-requires : goal.set_task-requires
+set_task-requires c = record {
+  named = served-number c.args.space.now c.number_for.new.plan c.number_for.new.records.keys (where_live (Some c.task_there-held.result.1)) c.in_ok-number.number c.in_ok-number.ensures.serves c.in_ok-number.ensures.number;
+}
+
+pub loop-k-init : goal.loop-k-init
+loop-k-init c = record {
+  under_way = c.requires.under_way;
+  copies = c.requires.copies;
+  tasks = λ task. ap (λ ts. number_of ts task) c.requires.tasks;
+  runs = refl;
+  few = omega (arith, ap length c.requires.tasks);
+  room = omega arith;
+}
+
+pub returns-clause-under_way : goal.returns-clause-under_way
+returns-clause-under_way c = c.loop-k.invariant.under_way
+
+pub returns-clause-copies : goal.returns-clause-copies
+returns-clause-copies c = c.loop-k.invariant.copies

@@ -1,11 +1,11 @@
-use Rattle.std.proofs.Common.{◌+◌, ◌<◌, ℕ, List, Option, length, sym, ap, subst, ◌∙◌, arith}
+use Rattle.std.proofs.Common.{◌≡◌, ◌+◌, ◌-◌, ◌<◌, ℕ, List, [], Option, length, take, drop, refl, sym, ap, subst, ◌∙◌, arith}
 use Rattle.std.specs.List.{slice_range}
 use Rattle.numa_mode.specs.Policy.{PolicyRecord}
 use Rattle.numa_ranges.specs.Windows.{begins_in}
 use Rattle.numa_ranges.specs.declared.run.Run.{Run}
 use Rattle.numa_plan.specs.Slots.{policy_in}
 use Rattle.numa_compile.specs.Copies.{AreCopies}
-use Rattle.numa_compile.specs.Windows.{IsNumbered}
+use Rattle.numa_compile.specs.Windows.{IsNumbered, WereAdded}
 use Rattle.numa_compile.proofs.CommandLemmas.{open-within}
 use Rattle.numa_compile.proofs.GrownLemmas.{open-grown}
 use Rattle.numa_compile.proofs.HomeLemmas.{begun-take, begun-writes, copies-grown, open-nodes, writes-less}
@@ -72,3 +72,28 @@ loop-k-preserved c =
       added = c.number_of_home.ensures.added c.args.plan.now c.loop-k.invariant.added;
       writes = begun-writes c.args.steps.now c.loop-k.steps c.number_of_home.new.steps window.first window.end c.loop-k.k ranges range short there c.loop-k.invariant.writes c.number_of_home.ensures.few;
     }
+
+pub loop-k-init : goal.loop-k-init
+loop-k-init c =
+    let ranges : List (Run (Option PolicyRecord)) = c.args.space.now.ranges in
+    let from : ℕ = c.args.window.now.from in
+    let at = policy_in c.args.plan.now.slots in
+    let zero : from - from ≡ 0 = omega arith in
+    let none : slice_range ranges from from ≡ [] = ap (λ (n : ℕ). take n (drop from ranges)) zero in
+    record {
+      copies = subst (λ (runs : List (Run (Option ℕ))). AreCopies at (slice_range ranges from from) runs) (sym c.requires.no_run) (subst (λ (rs : List (Run (Option PolicyRecord))). AreCopies at rs []) (sym none) tt);
+      added = subst (λ (numbers : List (Option ℕ)). WereAdded c.args.space.now c.args.plan.now numbers c.args.plan.now) (sym c.requires.none_added) refl;
+      writes = record { runs = refl; rules = omega arith };
+    }
+
+pub returns-in_err-value-clause-added : goal.returns-in_err-value-clause-added
+returns-in_err-value-clause-added c = c.number_of_home.ensures.added c.args.plan.now c.loop-k.invariant.added
+
+pub returns-in_err-push_run-clause-added : goal.returns-in_err-push_run-clause-added
+returns-in_err-push_run-clause-added c = c.number_of_home.ensures.added c.args.plan.now c.loop-k.invariant.added
+
+pub returns-clause-added : goal.returns-clause-added
+returns-clause-added c = c.loop-k.invariant.added
+
+pub returns-clause-few : goal.returns-clause-few
+returns-clause-few c = writes-less c.args.steps.now c.loop-k.steps _ _ c.loop-k.invariant.writes (begun-take c.args.window.now.first c.args.window.now.end c.loop-k.k c.args.space.now.ranges)
