@@ -12,8 +12,8 @@ ghost use Rattle.std.specs.Prelude.{◌≡◌, ◌+◌};
 use logbook::{Opening, Rule, Seen, Start};
 use std::marker::Model;
 
-/// A book of which nothing is asked.
-struct Anything;
+/// The rule of a list that contracts alone see, and of which nothing is asked.
+pub struct Anything;
 
 impl<E> Rule<E, u64> for Anything {
     ghost use Rattle.std.specs.Prelude.{[]};

@@ -1,29 +1,10 @@
 //! A machine and a list of versions that clauses alone read. Neither has a byte.
 ghost use Rattle.std.specs.Prelude.{◌≡◌, ◌∷◌, []};
 
-use logbook::{Opening, Rule, Seen, Start};
+use logbook::{Opening, Seen, Start};
+use numa_count::Anything;
 use numa_machine::Machine;
 use std::marker::Model;
-
-/// The rule of a list of which nothing is asked.
-pub struct Anything;
-
-impl<E> Rule<E, u64> for Anything {
-    ghost use Rattle.std.specs.Prelude.{[]};
-    ghost use base.Fml.{ftrue};
-
-    ghost holds = { λ cells log. Unit {0} };
-
-    ghost first = { [] };
-
-    ghost hinted = { λ n log. Unit {0} };
-
-    ghost shows = { λ log. [] };
-
-    ghost keeps = { λ names log. ftrue };
-
-    ghost moves = { λ ask before after answer. Unit {0} };
-}
 
 /// A list of one machine.
 struct Alone;
