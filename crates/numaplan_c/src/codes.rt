@@ -6,7 +6,6 @@ ghost use Rattle.numaplan_c.specs.Codes.{list_code, word_code, place_code};
 use numa_core::{CoreRefusal, CoreReply};
 use numa_machine::MachineFault;
 use numa_mask::ListFault;
-use numa_mode::SpecFault;
 use numa_script::WordFault;
 use numa_space::{PlaceRefusal, Refusal};
 
@@ -97,55 +96,40 @@ pub(crate) fn answer_code(answer: &Result<CoreReply, CoreRefusal>) -> u32
     }
 }
 
-/// The number of a question's refusal.
+/// The number of a question's refusal: they stand in order from 35.
 pub(crate) fn place_code(refusal: PlaceRefusal) -> u32
     ensures code { result ≡ place_code refusal }
     ensures refused { result ≢ 0 }
 {
-    match refusal {
-        PlaceRefusal::BadCpu => 35,
-        PlaceRefusal::Unmapped => 36,
-    }
+    35 + refusal as u32
 }
 
-/// The number of a machine's fault.
+/// The number of a machine's fault: but for want of memory they stand in order from 50.
 pub(crate) fn machine_code(fault: MachineFault) -> u32
     ensures code { result ≡ machine_code fault }
     ensures refused { result ≢ 0 }
 {
     match fault {
-        MachineFault::NodeCount => 50,
-        MachineFault::NoMemoryNode => 51,
-        MachineFault::BadDistance => 52,
-        MachineFault::TooManyFrames => 53,
-        MachineFault::NoMemory => 3,
+        MachineFault::NoMemory => NO_MEMORY,
+        fault => 50 + fault as u32,
     }
 }
 
-/// The number of a list's fault.
+/// The number of a list's fault: they stand in order from 60.
 pub(crate) fn list_code(fault: ListFault) -> u32
     ensures code { result ≡ list_code fault }
     ensures refused { result ≢ 0 }
 {
-    match fault {
-        ListFault::Empty => 60,
-        ListFault::BadDigit => 61,
-        ListFault::BackRange => 62,
-        ListFault::NodeTooHigh => 63,
-    }
+    60 + fault as u32
 }
 
-/// The number of a policy word's fault.
+/// The number of a policy word's fault: a policy's stand in order from 70.
 pub(crate) fn word_code(fault: WordFault) -> u32
     ensures code { result ≡ word_code fault }
     ensures refused { result ≢ 0 }
 {
     match fault {
         WordFault::List(fault) => list_code(fault),
-        WordFault::Policy(SpecFault::UnknownMode) => 70,
-        WordFault::Policy(SpecFault::BothFlags) => 71,
-        WordFault::Policy(SpecFault::NodesForbidden) => 72,
-        WordFault::Policy(SpecFault::FlagsForbidden) => 73,
-        WordFault::Policy(SpecFault::NodesMissing) => 74,
+        WordFault::Policy(fault) => 70 + fault as u32,
     }
 }
