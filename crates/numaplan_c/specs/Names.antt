@@ -1,6 +1,7 @@
 -- The names of the answers, and their error numbers.
 use Rattle.std.specs.Prelude.{ℕ, ◌-◌, ◌==◌, ◌&&◌, nat_le, nat_lt, List, [], ◌∷◌, codes, slice_get}
 use Rattle.std.specs.Prelude.{Option, Some, None, if◌then◌else◌}
+use Rattle.std.specs.Borrow.{Bor}
 use Rattle.numa_script.specs.Texts.{refusal_name}
 use Rattle.numa_space.specs.Errors.{errno_of}
 use Rattle.numa_space.specs.declared.refusal.Errno.{Errno}
@@ -34,6 +35,10 @@ pub record Named : Type 0 where
 
 abbrev pub named : ℕ → List ℕ → Named
 named number name = record { number = number; name = name }
+
+-- a number and its name, as a table of the code has them
+abbrev pub row_of : ℕ × Bor (List ℕ) → Named
+row_of row = named row.0 row.1.now
 
 -- the answers below 50 that are no refusals of commands; of these the script language has the names
 abbrev pub call_names : List Named

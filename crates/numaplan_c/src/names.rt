@@ -1,7 +1,7 @@
 //! The names of the answers, and their error numbers.
-ghost use Rattle.std.specs.Prelude.{◌≡◌, ◌≢◌, []};
-ghost use Rattle.numaplan_c.specs.Names.{answer_name, answer_errno, errno_number, name_in};
-ghost use Rattle.numaplan_c.specs.Names.{call_names, fault_names, refusal_numbered};
+ghost use Rattle.std.specs.Prelude.{◌≡◌, ◌≢◌, [], map};
+ghost use Rattle.numaplan_c.specs.Names.{answer_name, answer_errno, errno_number};
+ghost use Rattle.numaplan_c.specs.Names.{name_in, refusal_numbered, row_of};
 ghost use Rattle.numaplan_c.specs.Texts.{IsWritten};
 
 use crate::codes::UNKNOWN;
@@ -33,56 +33,58 @@ fn refusal_numbered(code: u32) -> Option<Refusal>
 }
 
 /// The names of the answers below 50 that are no refusals of commands.
-fn call_name(code: u32) -> &'static [u8]
-    ensures { result.now ≡ name_in call_names code }
-{
-    match code {
-        0 => b"Ok",
-        1 => b"Closed",
-        2 => b"Open",
-        4 => b"NoRoom",
-        5 => b"Unknown",
-        6 => b"AnswerLost",
-        30 => b"NoSuchWorker",
-        31 => b"Busy",
-        32 => b"Idle",
-        33 => b"BadTry",
-        34 => b"NotOwned",
-        35 => b"BadCpu",
-        36 => b"Unmapped",
-        37 => b"NoRange",
-        38 => b"PlacedTwice",
-        40 => b"Still",
-        41 => b"Exhausted",
-        42 => b"AllTaken",
-        _ => b"",
-    }
-}
+static CALL_NAMES: [(u32, &[u8]); 18] = [
+    (0, b"Ok"),
+    (1, b"Closed"),
+    (2, b"Open"),
+    (4, b"NoRoom"),
+    (5, b"Unknown"),
+    (6, b"AnswerLost"),
+    (30, b"NoSuchWorker"),
+    (31, b"Busy"),
+    (32, b"Idle"),
+    (33, b"BadTry"),
+    (34, b"NotOwned"),
+    (35, b"BadCpu"),
+    (36, b"Unmapped"),
+    (37, b"NoRange"),
+    (38, b"PlacedTwice"),
+    (40, b"Still"),
+    (41, b"Exhausted"),
+    (42, b"AllTaken"),
+];
 
 /// The names of faults of machines, lists and policy words.
-fn fault_name(code: u32) -> &'static [u8]
-    ensures { result.now ≡ name_in fault_names code }
+static FAULT_NAMES: [(u32, &[u8]); 17] = [
+    (50, b"BadNodeCount"),
+    (51, b"NoMemoryNode"),
+    (52, b"BadDistance"),
+    (53, b"TooManyFrames"),
+    (54, b"BadLimits"),
+    (55, b"BadWorkers"),
+    (60, b"ListEmpty"),
+    (61, b"ListBadDigit"),
+    (62, b"ListBackwards"),
+    (63, b"ListTooHigh"),
+    (70, b"UnknownMode"),
+    (71, b"BothFlags"),
+    (72, b"NodesForbidden"),
+    (73, b"FlagsForbidden"),
+    (74, b"NodesMissing"),
+    (75, b"NoPolicy"),
+    (76, b"NoNodeAllowed"),
+];
+
+/// The name of a number in a table, without a byte where it has none.
+fn name_in(names: &[(u32, &'static [u8])], code: u32) -> &'static [u8]
+    ensures { result.now ≡ name_in (map row_of names.now) code }
 {
-    match code {
-        50 => b"BadNodeCount",
-        51 => b"NoMemoryNode",
-        52 => b"BadDistance",
-        53 => b"TooManyFrames",
-        54 => b"BadLimits",
-        55 => b"BadWorkers",
-        60 => b"ListEmpty",
-        61 => b"ListBadDigit",
-        62 => b"ListBackwards",
-        63 => b"ListTooHigh",
-        70 => b"UnknownMode",
-        71 => b"BothFlags",
-        72 => b"NodesForbidden",
-        73 => b"FlagsForbidden",
-        74 => b"NodesMissing",
-        75 => b"NoPolicy",
-        76 => b"NoNodeAllowed",
-        _ => b"",
+    for row in names {
+        if code == row.0 {
+            return row.1;
+        }
     }
+    b""
 }
 
 /// The name of an answer, without a byte where no answer has this number.
@@ -94,9 +96,9 @@ fn answer_name(code: u32) -> &'static [u8]
         return refusal_name(cause);
     }
     if code < 50 {
-        return call_name(code);
+        return name_in(&CALL_NAMES, code);
     }
-    fault_name(code)
+    name_in(&FAULT_NAMES, code)
 }
 
 /// Writes the name of an answer.
