@@ -91,7 +91,9 @@ fn list(
         Ok(placed) => placed,
         Err(refusal) => return Err(refusal),
     };
-    match core.listing(alloc, task, &placed) {
+    let listed = core.listing(alloc, task, &placed);
+    drop(placed);
+    match listed {
         None => unreachable!(),
         Some(Ok(text)) => Ok(text),
         Some(Err(_)) => Err(MapsRefusal::NoMemory),

@@ -41,7 +41,9 @@ fn make(alloc: Global, memory: &[u8], frames: &[u32], distances: &[u8]) -> Resul
         Ok(machine) => machine,
         Err(code) => return Err(code),
     };
-    match Seat::open(alloc, &machine) {
+    let opened = Seat::open(alloc, &machine);
+    drop(machine);
+    match opened {
         Ok(seat) => Ok(seat),
         Err(_) => Err(NO_MEMORY),
     }
