@@ -104,7 +104,7 @@ impl CoreHandle {
     pub fn close(&mut self, alloc: Global)
         ensures { core_in self.new ≡ None }
     {
-        drop(self.handle.take(alloc));
+        self.handle.close(alloc);
     }
 
     /// An event of the core, with its answer; None where it keeps no core.

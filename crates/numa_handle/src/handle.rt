@@ -66,6 +66,13 @@ impl Handle {
         replace(self, Handle::closed()).into_kept(alloc)
     }
 
+    /// Frees what it keeps, where it keeps something.
+    pub(crate) fn close(&mut self, alloc: Global)
+        ensures { self.new.held.kept ≡ None }
+    {
+        drop(self.take(alloc));
+    }
+
     /// Puts in what it is to keep, where it is closed.
     pub(crate) fn put(&mut self, kept: Box<Kept>)
         requires closed { self.old.held.kept ≡ None }

@@ -135,7 +135,7 @@ impl PlanHandle {
     pub fn close(&mut self, alloc: Global)
         ensures { plan_in self.new ≡ None }
     {
-        drop(self.handle.take(alloc));
+        self.handle.close(alloc);
     }
 
     /// Keeps the same plan in another handle, where that keeps none; None where this keeps none.

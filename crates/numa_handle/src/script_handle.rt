@@ -57,7 +57,7 @@ impl ScriptHandle {
     pub fn close(&mut self, alloc: Global)
         ensures { dialog_in self.new ≡ None }
     {
-        drop(self.handle.take(alloc));
+        self.handle.close(alloc);
     }
 
     /// Serves a line, keeps its answer, and tells how long that is; None where it keeps no script.

@@ -97,7 +97,7 @@ impl SeatHandle {
     pub fn close(&mut self, alloc: Global)
         ensures { seat_in self.new ≡ None }
     {
-        drop(self.handle.take(alloc));
+        self.handle.close(alloc);
     }
 
     /// Takes a frame of the first listed node that has one, as [`Seat::take`]; None where it keeps
