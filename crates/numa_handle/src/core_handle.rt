@@ -3,6 +3,7 @@ ghost use Rattle.std.specs.Prelude.{◌≡◌, Some, None, true, MatchOption, If
 ghost use Rattle.numa_handle.specs.Kinds.{core_of, is_core};
 ghost use Rattle.numa_handle.specs.Steps.{core_in, Steps, Touches, Compiles, HasVersions};
 
+use crate::core_questions::core_kept;
 use crate::handles::CoreHandle;
 use crate::kept::Kept;
 use numa_core::{Core, CoreRefusal, CoreReply, Event, NoMemory, Request};
@@ -50,10 +51,7 @@ fn copy_kept(kept: &Kept, alloc: Global) -> Result<Plan, NoMemory>
     requires core { is_core (Some kept.now) ≡ true }
     ensures plan { IfOk result (Compiles (core_of (Some kept.now))) }
 {
-    let Kept::Core(core) = kept else {
-        unreachable!()
-    };
-    match core.accepted_plan() {
+    match core_kept(kept).accepted_plan() {
         Some(plan) => plan.copy(alloc),
         None => Err(NoMemory),
     }
@@ -67,17 +65,6 @@ fn compile_kept(kept: &mut Kept, alloc: Global) -> Result<Plan, NoMemory>
 {
     prepare_kept(kept)?;
     copy_kept(kept, alloc)
-}
-
-/// How many commands a kept core has accepted, and how many of them are published.
-fn versions_kept(kept: &Kept) -> (u64, u64)
-    requires core { is_core (Some kept.now) ≡ true }
-    ensures versions { HasVersions (core_of (Some kept.now)) result.0 result.1 }
-{
-    let Kept::Core(core) = kept else {
-        unreachable!()
-    };
-    (core.space().version(), core.published())
 }
 
 impl CoreHandle {
@@ -162,7 +149,8 @@ impl CoreHandle {
             (λ both. HasVersions (core_in self.old) both.0 both.1) }
     {
         let kept = self.handle.take(alloc)?;
-        let versions = versions_kept(&kept);
+        let core = core_kept(&kept);
+        let versions = (core.space().version(), core.published());
         self.handle.put(kept);
         Some(versions)
     }

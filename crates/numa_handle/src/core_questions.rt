@@ -19,7 +19,7 @@ use numa_space::{RangeRecord, Run, Space};
 use std::alloc::{AllocError, Global};
 
 /// A core that is kept.
-fn core_kept(kept: &Kept) -> &Core
+pub(crate) fn core_kept(kept: &Kept) -> &Core
     requires core { is_core (Some kept.now) ≡ true }
     ensures core { core_of (Some kept.now) ≡ Some result.now }
 {
@@ -40,14 +40,6 @@ fn copy_kept(kept: &Kept, alloc: Global) -> Result<Box<Kept>, AllocError>
         return Err(AllocError);
     };
     Kept::Core(other).on_heap(alloc).ok_or(AllocError)
-}
-
-/// The published plan of a kept core once more.
-fn plan_kept(kept: &Kept, alloc: Global) -> Result<Plan, NoMemory>
-    requires core { is_core (Some kept.now) ≡ true }
-    ensures plan { IfOk result (Publishes (core_of (Some kept.now))) }
-{
-    core_kept(kept).plan().copy(alloc)
 }
 
 /// The range at a place, the lowest being at 0.
@@ -116,7 +108,7 @@ impl CoreHandle {
             (λ answer. IfOk answer (Publishes (core_in self.old))) }
     {
         let kept = self.handle.take(alloc)?;
-        let answer = plan_kept(&kept, alloc);
+        let answer = core_kept(&kept).plan().copy(alloc);
         self.handle.put(kept);
         Some(answer)
     }

@@ -23,6 +23,17 @@ pub enum ChoiceRefusal {
     TooShort(usize),
 }
 
+/// A plan that is kept.
+fn plan_kept(kept: &Kept) -> &Plan
+    requires plan { is_plan (Some kept.now) ≡ true }
+    ensures plan { plan_of (Some kept.now) ≡ Some result.now }
+{
+    let Kept::Plan(plan) = kept else {
+        unreachable!()
+    };
+    plan
+}
+
 /// Copies the list of a page of a kept plan.
 fn choose_kept(
     kept: &Kept,
@@ -34,62 +45,11 @@ fn choose_kept(
     requires plan { is_plan (Some kept.now) ≡ true }
     ensures chooses { Chooses (plan_of (Some kept.now)) task page cpu result nodes.old nodes.new }
 {
-    let Kept::Plan(plan) = kept else {
-        unreachable!()
-    };
-    let list = match plan.choice(task, page, cpu, &mut Steps::new()) {
+    let list = match plan_kept(kept).choice(task, page, cpu, &mut Steps::new()) {
         Ok(list) => list,
         Err(refusal) => return Err(ChoiceRefusal::Place(refusal)),
     };
-    match copy_bytes(list, nodes) {
-        Ok(count) => Ok(count),
-        Err(count) => Err(ChoiceRefusal::TooShort(count)),
-    }
-}
-
-/// Fills the first nodes of a span from a kept plan.
-fn fill_kept(
-    kept: &Kept,
-    task: u32,
-    cpu: u32,
-    first: u64,
-    nodes: &mut [u8],
-) -> Result<(), PlaceRefusal>
-    requires plan { is_plan (Some kept.now) ≡ true }
-    ensures fills { Fills (plan_of (Some kept.now)) task cpu first result nodes.old nodes.new }
-{
-    let Kept::Plan(plan) = kept else {
-        unreachable!()
-    };
-    plan.fill(task, cpu, first, nodes)
-}
-
-/// Counts the first nodes of a span of a kept plan.
-fn count_kept(
-    kept: &Kept,
-    task: u32,
-    cpu: u32,
-    first: u64,
-    pages: u64,
-) -> Result<[u64; 256], PlaceRefusal>
-    requires plan { is_plan (Some kept.now) ≡ true }
-    ensures counts { Counts (plan_of (Some kept.now)) task cpu first pages result }
-{
-    let Kept::Plan(plan) = kept else {
-        unreachable!()
-    };
-    plan.counts(task, cpu, first, pages)
-}
-
-/// The version of a kept plan.
-fn version_kept(kept: &Kept) -> u64
-    requires plan { is_plan (Some kept.now) ≡ true }
-    ensures version { IfSome (plan_of (Some kept.now)) (λ plan. result ≡ plan.version) }
-{
-    let Kept::Plan(plan) = kept else {
-        unreachable!()
-    };
-    plan.version()
+    copy_bytes(list, nodes).map_err(ChoiceRefusal::TooShort)
 }
 
 /// A kept plan once more.
@@ -166,7 +126,7 @@ impl PlanHandle {
             (λ version. IfSome (plan_in self.old) (λ plan. version ≡ plan.version)) }
     {
         let kept = self.handle.take(alloc)?;
-        let version = version_kept(&kept);
+        let version = plan_kept(&kept).version();
         self.handle.put(kept);
         Some(version)
     }
@@ -216,7 +176,7 @@ impl PlanHandle {
             (λ answer. Fills (plan_in self.old) task cpu first answer nodes.old nodes.new) }
     {
         let kept = self.handle.take(alloc)?;
-        let answer = fill_kept(&kept, task, cpu, first, nodes);
+        let answer = plan_kept(&kept).fill(task, cpu, first, nodes);
         self.handle.put(kept);
         Some(answer)
     }
@@ -240,7 +200,7 @@ impl PlanHandle {
             (λ answer. Counts (plan_in self.old) task cpu first pages answer) }
     {
         let kept = self.handle.take(alloc)?;
-        let answer = count_kept(&kept, task, cpu, first, pages);
+        let answer = plan_kept(&kept).counts(task, cpu, first, pages);
         self.handle.put(kept);
         Some(answer)
     }

@@ -1,4 +1,4 @@
-use Rattle.std.proofs.Common.{subst, sym}
+use Rattle.std.proofs.Common.{◌∙◌, subst, sym}
 use Rattle.std.proofs.lemmas.Option.{same_Some}
 use Rattle.std.proofs.lemmas.Result.{IfOk-weaker}
 use Rattle.numa_plan.specs.Meaning.{PlanData}
@@ -9,8 +9,8 @@ use Rattle.numa_handle.proofs.core_handle.copy_kept.Goals as goal
 
 pub returns-in-Some : goal.returns-in-Some
 returns-in-Some c = record {
-  plan = rw c.in-Core.is (IfOk-weaker c.copy.result _ _ (λ copy same core is.
-      let here = subst (λ (p : PlanData). IsPlanOf c.in-Core.core.space p) (sym same) c.in-Some.ensures.plan in
-      let plan = subst (λ (s : CoreState). IsPlanOf s.space copy) (same_Some _ _ is) here in
-      (plan, λ history stands. plan-stands core.space copy history plan stands)) c.copy.ensures);
+  plan = IfOk-weaker c.copy.result _ _ (λ copy same core is.
+      let here = subst (λ (p : PlanData). IsPlanOf c.core_kept.result.now.space p) (sym same) c.in-Some.ensures.plan in
+      let plan = subst (λ (s : CoreState). IsPlanOf s.space copy) (same_Some _ _ (sym c.core_kept.ensures.core ∙ is)) here in
+      (plan, λ history stands. plan-stands core.space copy history plan stands)) c.copy.ensures;
 }
