@@ -45,25 +45,13 @@ pub(crate) const NO_POLICY: u32 = 75;
 /// No node is allowed.
 pub(crate) const NO_NODE_ALLOWED: u32 = 76;
 
-/// The number of a command's refusal.
+/// The number of a command's refusal: but for want of memory they stand in order from 10.
 pub(crate) fn refusal_code(refusal: Refusal) -> u32
     ensures { result ≡ refusal_code refusal }
 {
     match refusal {
-        Refusal::CommandsSpent => 10,
-        Refusal::Unaligned => 11,
-        Refusal::OutOfSpace => 12,
-        Refusal::EmptyLength => 13,
-        Refusal::BadOffset => 14,
-        Refusal::Overlap => 15,
-        Refusal::Hole => 16,
-        Refusal::NoSuchNode => 17,
-        Refusal::BadWeight => 18,
-        Refusal::NodesNotAllowed => 19,
-        Refusal::NotSupported => 20,
-        Refusal::TooManyTasks => 21,
-        Refusal::TooManyRanges => 22,
-        Refusal::NoMemory => 3,
+        Refusal::NoMemory => NO_MEMORY,
+        refusal => 10 + refusal as u32,
     }
 }
 
@@ -77,10 +65,10 @@ fn cause_code(cause: CoreRefusal) -> u32
         CoreRefusal::Busy => 31,
         CoreRefusal::Idle => 32,
         CoreRefusal::BadTry => 33,
-        CoreRefusal::NotOwned => 34,
+        CoreRefusal::NotOwned => NOT_OWNED,
         CoreRefusal::BadCpu => 35,
         CoreRefusal::Unmapped(_) => 36,
-        CoreRefusal::NoMemory => 3,
+        CoreRefusal::NoMemory => NO_MEMORY,
     }
 }
 

@@ -17,7 +17,7 @@ use numa_maps::{RecordRefusal, Resident};
 use std::alloc::Global;
 
 /// Why there is no listing.
-#[derive(Clone, Copy, Debug, PartialEq, Eq)]
+#[derive(Clone, Copy)]
 pub enum MapsRefusal {
     /// Two placements are of one page.
     Twice,
