@@ -1,8 +1,7 @@
 -- Where pages would go, if a task touched them now from a node.
-use Rattle.std.specs.Prelude.{◌≡◌, ℕ, ◌<◌, ◌==◌, Option, List, length, slice_index}
+use Rattle.std.specs.Prelude.{◌≡◌, ℕ, ◌<◌, Option, List, slice_index}
 use Rattle.numa_machine.specs.Machine.{Hardware}
 use Rattle.numa_mode.specs.Policy.{PolicyRecord}
-use Rattle.numa_ranges.specs.Counts.{count_pages}
 use Rattle.numa_ranges.specs.declared.run.Run.{Run}
 use Rattle.numa_plan.specs.Meaning.{PlanData, planned_count}
 use Rattle.numa_plan.specs.Tally.{Adds}
@@ -10,10 +9,6 @@ use Rattle.numa_space.specs.Pages.{resolved_policy}
 use Rattle.numa_space.specs.declared.command.Command.{Command}
 use Rattle.numa_compile.specs.Spans.{meant_count}
 use Rattle.numa_reports.specs.declared.prediction.RangePrediction.{RangePrediction}
-
--- in how many places a list has the node
-abbrev pub places : List ℕ → ℕ → ℕ
-places nodes node = count_pages (λ k. slice_index nodes k == node) 0 (length nodes)
 
 -- each node's count has as many more as pages of the span go there first by the plan
 abbrev pub AddsSpan : PlanData → ℕ → ℕ → ℕ → ℕ → List ℕ → List ℕ → Type 0

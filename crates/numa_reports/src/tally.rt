@@ -2,9 +2,10 @@
 ghost use Rattle.std.specs.Prelude.{◌≤◌, length, slice_index, IfErr, OnOk};
 ghost use Rattle.numa_plan.specs.Meaning.{RefusesSpan, planned_count};
 ghost use Rattle.numa_plan.specs.Tally.{Adds, HasRoom};
-ghost use Rattle.numa_reports.specs.Predicted.{AddsSpan, places};
+ghost use Rattle.numa_reports.specs.Predicted.{AddsSpan};
 
 use crate::touch::Touch;
+use numa_lanes::tally;
 use numa_plan::Plan;
 use numa_space::PlaceRefusal;
 
@@ -18,16 +19,6 @@ pub(crate) fn add_counts(counts: &mut [u64; 256], more: &[u64; 256])
 {
     for node in 0..256 {
         counts[node] += more[node];
-    }
-}
-
-/// Adds to each node's count a page for each place that has the node.
-fn add_nodes(counts: &mut [u64; 256], nodes: &[u8])
-    requires { HasRoom counts.old (places nodes.now) }
-    ensures { Adds counts.old counts.new (places nodes.now) }
-{
-    for k in 0..nodes.len() {
-        counts[nodes[k] as usize] += 1;
     }
 }
 
@@ -51,8 +42,8 @@ fn add_filled(
     ensures err { IfErr result (RefusesSpan plan.now first (length nodes.old) touch.cpu) }
 {
     plan.fill(touch.task, touch.cpu, first, nodes)?;
-    add_nodes(counts, nodes);
-    add_nodes(all, nodes);
+    tally(nodes, counts);
+    tally(nodes, all);
     Ok(())
 }
 
