@@ -23,13 +23,17 @@ pub free-step : (nodes : ℕ → List ℕ) (free : List ℕ) (first pages : ℕ)
 unfolding free_behind
 free-step nodes free first pages = refl
 
--- a page more whose list a plan told, where it took of the first node that had a free one
-pub free-next : (plan : PlanData) (task cpu page left long : ℕ) (list free free' : List ℕ) (took : Option ℕ) → planned_list plan task page cpu ≡ Some list → took ≡ first_free free list → free' ≡ one_less free took → long ≡ suc left
-    → free_behind (planned_nodes plan task cpu) free' (page + 1) left ≡ free_behind (planned_nodes plan task cpu) free page long
-free-next plan task cpu page left long list free free' took told node taken more =
-    let nodes = planned_nodes plan task cpu in
-    let is : nodes page ≡ list = ap (λ (o : Option (List ℕ)). unwrap_or o []) told in
-    let less : free' ≡ one_less free (first_free free (nodes page)) = taken ∙ ap (λ (o : Option ℕ). one_less free o) node ∙ sym (ap (λ (l : List ℕ). one_less free (first_free free l)) is) in
+-- what is free once a page whose list a plan told took of the first node that had a free one
+pub free-took : (plan : PlanData) (task cpu page : ℕ) (list free free' : List ℕ) (took : Option ℕ) → planned_list plan task page cpu ≡ Some list → took ≡ first_free free list → free' ≡ one_less free took
+    → free' ≡ one_less free (first_free free (planned_nodes plan task cpu page))
+free-took plan task cpu page list free free' took told node taken =
+    let is : planned_nodes plan task cpu page ≡ list = ap (λ (o : Option (List ℕ)). unwrap_or o []) told in
+    taken ∙ ap (λ (o : Option ℕ). one_less free o) node ∙ sym (ap (λ (l : List ℕ). one_less free (first_free free l)) is)
+
+-- a page more
+pub free-next : (nodes : ℕ → List ℕ) (free free' : List ℕ) (page left long : ℕ) → free' ≡ one_less free (first_free free (nodes page)) → long ≡ suc left
+    → free_behind nodes free' (page + 1) left ≡ free_behind nodes free page long
+free-next nodes free free' page left long less more =
     ap (λ (f : List ℕ). free_behind nodes f (page + 1) left) less ∙ sym (free-step nodes free page left) ∙ sym (ap (λ (k : ℕ). free_behind nodes free page k) more)
 
 -- a span cut in two

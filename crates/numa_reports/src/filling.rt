@@ -2,7 +2,7 @@
 ghost use Rattle.std.specs.Prelude.{◌≡◌, ◌+◌, ◌-◌, ◌<◌, ◌≤◌, ◌^◌, ℕ, List, Err, IfErr, OnOk};
 ghost use Rattle.std.specs.Prelude.{length, option_and_then, replicate, slice_index};
 ghost use Rattle.numa_compile.specs.Standing.{PlanStandsFor};
-ghost use Rattle.numa_plan.specs.Meaning.{RefusesSpan};
+ghost use Rattle.numa_plan.specs.Meaning.{RefusesSpan, place_refusal};
 ghost use Rattle.numa_ranges.specs.Runs.{page_at};
 ghost use Rattle.numa_space.specs.Standing.{StandsFor};
 ghost use Rattle.numa_space.specs.declared.command.Command.{Command};
@@ -61,6 +61,24 @@ fn take_first(nodes: &[u8], free: &mut [u64; 256]) -> Option<u8>
     None
 }
 
+/// Takes a free page for a page, and tells the node of it; of none where no node of its list has
+/// one.
+fn fill_page(
+    plan: &Plan,
+    touch: Touch,
+    page: u64,
+    free: &mut [u64; 256],
+) -> Result<Option<u8>, PlaceRefusal>
+    ensures free { OnOk result (free.new ≡ one_less free.old
+        (first_free free.old (planned_nodes plan.now touch.task touch.cpu page))) }
+    ensures err { IfErr result (λ refusal. place_refusal plan.now page touch.cpu ≡ Some refusal) }
+{
+    match plan.choice(touch.task, page, touch.cpu, &mut Steps::new()) {
+        Ok(nodes) => Ok(take_first(nodes, free)),
+        Err(refusal) => Err(refusal),
+    }
+}
+
 /// Takes a free page for each page of a span, the lowest first.
 pub(crate) fn fill_span(
     plan: &Plan,
@@ -75,8 +93,7 @@ pub(crate) fn fill_span(
     ensures err { IfErr result (RefusesSpan plan.now first pages touch.cpu) }
 {
     for page in first..first + pages {
-        let nodes = plan.choice(touch.task, page, touch.cpu, &mut Steps::new())?;
-        take_first(nodes, free);
+        fill_page(plan, touch, page, free)?;
     }
     Ok(())
 }
@@ -96,8 +113,7 @@ pub(crate) fn fill_few(
     ensures err { IfErr result (RefusesSpan plan.now first (length nodes.old) touch.cpu) }
 {
     for k in 0..nodes.len() {
-        let list = plan.choice(touch.task, first + k as u64, touch.cpu, &mut Steps::new())?;
-        nodes[k] = take_first(list, free).unwrap_or(0);
+        nodes[k] = fill_page(plan, touch, first + k as u64, free)?.unwrap_or(0);
     }
     Ok(())
 }
