@@ -1,6 +1,9 @@
 -- Pages that move, one by one and block by block.
-use Rattle.std.proofs.Common.{◌≡◌, ℕ, ◌+◌, ◌-◌, ◌*◌, ◌<◌, ◌≤◌, ◌^◌, ◌&&◌, eqb, length, Bool, Some, List, get_or, refl, ap, ◌∙◌, arith, inl, inr, zero-add, add-zero}
+use Rattle.std.proofs.Common.{◌≡◌, ℕ, ◌+◌, ◌-◌, ◌*◌, ◌<◌, ◌≤◌, ◌^◌, ◌&&◌, eqb, length, Bool, Some, List, get_or, refl, sym, ap, subst, ◌∙◌, arith, inl, inr, zero-add, add-zero}
+use Rattle.std.proofs.Math.ListN.{set}
 use Rattle.std.proofs.lemmas.Bool.{cases_Bool}
+use Rattle.std.proofs.lemmas.Bool.Decides.{eqb_tells}
+use Rattle.std.proofs.lemmas.List.{get_or-set_same, get_or-set_other}
 use Rattle.std.specs.Option.{option_map}
 use Rattle.std.specs.Prelude.{if◌then◌else◌}
 use Rattle.numa_machine.specs.Machine.{Hardware}
@@ -12,7 +15,7 @@ use Rattle.numa_space.specs.Pages.{is_mapped}
 use Rattle.numa_space.specs.declared.command.Command.{Command}
 use Rattle.numa_compile.specs.Spans.{first_node}
 use Rattle.numa_compile.specs.Standing.{PlanStandsFor}
-use Rattle.numa_reports.specs.Moved.{HasRoomFor, meant_moves, planned_moves}
+use Rattle.numa_reports.specs.Moved.{AddsMoves, HasRoomFor, meant_moves, moves_in, pairs, planned_moves}
 
 pub count-zero : (test : ℕ → Bool) → count_pages test 0 0 ≡ 0
 unfolding count_pages
@@ -42,13 +45,38 @@ count-more test first page more low =
     omega (arith, count-split test first (page - first) more (page + more - first) (omega arith), ap (λ (a : ℕ). count_pages test a more) place)
 
 -- what two plans wrote for a span has a pair for each page
-pub filled-pairs : (before after : PlanData) (task cpu first : ℕ) (old new : List ℕ) (n from to : ℕ)
+filled-pairs : (before after : PlanData) (task cpu first : ℕ) (old new : List ℕ) (n from to : ℕ)
     → ((k : ℕ) → k < n → planned_first before task (first + k) cpu ≡ Some (get_or old k 0))
     → ((k : ℕ) → k < n → planned_first after task (first + k) cpu ≡ Some (get_or new k 0))
     → count_pages (λ k. eqb (get_or old k 0) from && eqb (get_or new k 0) to) 0 n ≡ planned_moves before after task cpu first n from to
 filled-pairs before after task cpu first old new n from to filled filled' =
     shift (λ k. eqb (get_or old k 0) from && eqb (get_or new k 0) to) (λ page. is_number from (planned_first before task page cpu) && is_number to (planned_first after task page cpu)) 0 first n
     (λ k lt. rw zero-add (rw (filled k lt, filled' k lt) refl))
+
+-- what is added for such pairs is what the span's pages move
+pub filled-moves : (before after : PlanData) (task cpu first : ℕ) (old new : List ℕ) (n : ℕ) → length old ≡ n → length new ≡ n
+    → ((k : ℕ) → k < length old → planned_first before task (first + k) cpu ≡ Some (get_or old k 0))
+    → ((k : ℕ) → k < length new → planned_first after task (first + k) cpu ≡ Some (get_or new k 0))
+    → (table table' : List ℕ) → AddsMoves table table' (pairs old new) → AddsMoves table table' (planned_moves before after task cpu first n)
+filled-moves before after task cpu first old new n long long' filled filled' table table' adds from to f t =
+    let all = filled-pairs before after task cpu first old new n from to (λ k lt. filled k (omega (arith, long, lt))) (λ k lt. filled' k (omega (arith, long', lt))) in
+    adds from to f t ∙ ap (λ (m : ℕ). moves_in table from to + m) (ap (λ (m : ℕ). count_pages (λ k. eqb (get_or old k 0) from && eqb (get_or new k 0) to) 0 m) long ∙ all)
+
+-- one page more, from a node to another
+pub pair-added : (table : List ℕ) (from to a b : ℕ) → from * 256 + to < length table → to < 256 → b < 256
+    → moves_in (set table (from * 256 + to) (get_or table (from * 256 + to) 0 + 1)) a b ≡ moves_in table a b + (if eqb from a && eqb to b then 1 else 0)
+pair-added table from to a b within low small =
+    let at = from * 256 + to in
+    let more = get_or table at 0 + 1 in
+    elim (eqb_tells from a) [
+      | inl is ↦ elim (eqb_tells to b) [
+        | inl same ↦
+            let place : at ≡ a * 256 + b = omega (arith, is.1, same.1) in
+            rw (is.0, same.0) (subst (λ (p : ℕ). get_or (set table at more) p 0 ≡ get_or table p 0 + 1) place (get_or-set_same table at more 0 within))
+        | inr not ↦ rw (is.0, not.0) (get_or-set_other table at (a * 256 + b) more 0 (λ e. not.1 (omega (arith, e, is.1))) ∙ sym (add-zero _))
+      ]
+      | inr not ↦ rw not.0 (get_or-set_other table at (a * 256 + b) more 0 (λ e. not.1 (omega (arith, e, low, small))) ∙ sym (add-zero _))
+    ]
 
 module _ (machine : Hardware) (plan : PlanData) (history : List Command) (stands : PlanStandsFor machine plan history) where
   -- whether a plan sends a page to a node

@@ -29,7 +29,8 @@ fn add_pair(table: &mut Vec<u64>, from: u8, to: u8)
     ensures pair { AddsMoves table.old.items table.new.items
         (λ a b. if (from == a) && (to == b) then 1 else 0) }
 {
-    table[usize::from(from) * 256 + usize::from(to)] += 1;
+    let place = usize::from(from) * 256 + usize::from(to);
+    table[place] += 1;
 }
 
 /// Adds a page for each place: from the node there in the first list to that in the second.
@@ -142,8 +143,7 @@ pub(crate) fn empty_table(alloc: Global, entries: usize) -> Result<Vec<u64>, All
     ensures entries { IfOk result (λ table. length table.items ≡ entries) }
     ensures empty { IfOk result (λ table. (k : ℕ) → k < entries → slice_index table.items k ≡ 0) }
 {
-    let table = vec![in alloc; 0; entries]?;
-    Ok(table)
+    vec![in alloc; 0; entries]
 }
 
 /// How many pages of a span go from one node to another, for each two nodes: to the first by the
