@@ -1,9 +1,6 @@
 -- Pages that move, one by one and block by block.
-use Rattle.std.proofs.Common.{◌≡◌, ℕ, ◌+◌, ◌-◌, ◌*◌, ◌<◌, ◌≤◌, ◌^◌, ◌&&◌, eqb, length, Bool, Some, List, get_or, refl, sym, ap, subst, ◌∙◌, arith, inl, inr, zero-add, add-zero}
-use Rattle.std.proofs.Math.ListN.{set}
+use Rattle.std.proofs.Common.{◌≡◌, ℕ, ◌+◌, ◌-◌, ◌*◌, ◌<◌, ◌≤◌, ◌^◌, ◌&&◌, eqb, length, Bool, Some, List, get_or, refl, ap, ◌∙◌, arith, inl, inr, zero-add, add-zero}
 use Rattle.std.proofs.lemmas.Bool.{cases_Bool}
-use Rattle.std.proofs.lemmas.Bool.Decides.{eqb_tells}
-use Rattle.std.proofs.lemmas.List.{get_or-set_same, get_or-set_other}
 use Rattle.std.specs.Option.{option_map}
 use Rattle.std.specs.Prelude.{if◌then◌else◌}
 use Rattle.numa_machine.specs.Machine.{Hardware}
@@ -61,22 +58,6 @@ pub filled-moves : (before after : PlanData) (task cpu first : ℕ) (old new : L
 filled-moves before after task cpu first old new n long long' filled filled' table table' adds from to f t =
     let all = filled-pairs before after task cpu first old new n from to (λ k lt. filled k (omega (arith, long, lt))) (λ k lt. filled' k (omega (arith, long', lt))) in
     adds from to f t ∙ ap (λ (m : ℕ). moves_in table from to + m) (ap (λ (m : ℕ). count_pages (λ k. eqb (get_or old k 0) from && eqb (get_or new k 0) to) 0 m) long ∙ all)
-
--- one page more, from a node to another
-pub pair-added : (table : List ℕ) (from to a b : ℕ) → from * 256 + to < length table → to < 256 → b < 256
-    → moves_in (set table (from * 256 + to) (get_or table (from * 256 + to) 0 + 1)) a b ≡ moves_in table a b + (if eqb from a && eqb to b then 1 else 0)
-pair-added table from to a b within low small =
-    let at = from * 256 + to in
-    let more = get_or table at 0 + 1 in
-    elim (eqb_tells from a) [
-      | inl is ↦ elim (eqb_tells to b) [
-        | inl same ↦
-            let place : at ≡ a * 256 + b = omega (arith, is.1, same.1) in
-            rw (is.0, same.0) (subst (λ (p : ℕ). get_or (set table at more) p 0 ≡ get_or table p 0 + 1) place (get_or-set_same table at more 0 within))
-        | inr not ↦ rw (is.0, not.0) (get_or-set_other table at (a * 256 + b) more 0 (λ e. not.1 (omega (arith, e, is.1))) ∙ sym (add-zero _))
-      ]
-      | inr not ↦ rw not.0 (get_or-set_other table at (a * 256 + b) more 0 (λ e. not.1 (omega (arith, e, low, small))) ∙ sym (add-zero _))
-    ]
 
 module _ (machine : Hardware) (plan : PlanData) (history : List Command) (stands : PlanStandsFor machine plan history) where
   -- whether a plan sends a page to a node

@@ -29,8 +29,7 @@ fn add_pair(table: &mut Vec<u64>, from: u8, to: u8)
     ensures pair { AddsMoves table.old.items table.new.items
         (λ a b. if (from == a) && (to == b) then 1 else 0) }
 {
-    let place = usize::from(from) * 256 + usize::from(to);
-    table[place] += 1;
+    table[usize::from(from) * 256 + usize::from(to)] += 1;
 }
 
 /// Adds a page for each place: from the node there in the first list to that in the second.

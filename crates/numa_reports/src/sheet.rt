@@ -4,10 +4,12 @@ mod cells;
 mod changes;
 mod fields;
 mod lines;
+mod nodes;
 mod objects;
 mod parts;
 mod pictures;
 mod records;
+mod written;
 
 pub use changes::difference_text;
 pub use parts::{filling_text, prediction_text};

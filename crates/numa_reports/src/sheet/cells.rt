@@ -6,6 +6,7 @@ ghost use Rattle.numa_reports.specs.Failing.{FailsForNode};
 
 use crate::fault::ReportFault;
 use crate::filling::{fill_few, fill_span};
+use crate::sheet::written::Written;
 use crate::touch::Touch;
 use numa_plan::Plan;
 use numa_space::{PlaceRefusal, RangeRecord, Run, Space};
@@ -14,46 +15,40 @@ use std::alloc::Global;
 /// How many pages of a range have a cell.
 pub(crate) const CELLS: usize = 64;
 
-/// Takes a free page for each page of a range, and writes the nodes of the first ones.
-fn fill_range(
-    plan: &Plan,
-    touch: Touch,
-    range: &Run<RangeRecord>,
-    nodes: &mut [u8; CELLS],
-    free: &mut [u64; 256],
-) -> Result<(), PlaceRefusal>
-    requires { range.now.first + range.now.pages < 2 ^ 64 }
-    ensures { IfErr result (RefusesSpan plan.now range.now.first range.now.pages touch.cpu) }
-{
-    let pages = range.pages.min(CELLS as u64);
-    let behind = range.first + pages;
-    fill_few(plan, touch, range.first, &mut nodes[..pages as usize], free)?;
-    fill_span(plan, touch, behind, range.pages - pages, free)
-}
-
-/// The nodes of the first pages of a range; the places behind its last page are 0, and those of
-/// pages that find no node with a free page. Where free pages are counted, each page takes one.
-fn cells_at(
+/// Writes the nodes of the first pages of a range, [`CELLS`] places; those behind its last page are
+/// 0, and those of pages that find no node with a free page. Where free pages are counted, each page
+/// takes one.
+fn put_cells(
     plan: &Plan,
     touch: Touch,
     range: &Run<RangeRecord>,
     free: &mut Option<[u64; 256]>,
-) -> Result<[u8; CELLS], PlaceRefusal>
+    cells: &mut Written,
+) -> Result<(), PlaceRefusal>
     requires { range.now.first + range.now.pages < 2 ^ 64 }
     ensures { IfErr result (RefusesSpan plan.now range.now.first range.now.pages touch.cpu) }
 {
     let mut nodes = [0u8; CELLS];
-    let Some(free) = free else {
-        let pages = range.pages.min(CELLS as u64) as usize;
-        plan.fill(touch.task, touch.cpu, range.first, &mut nodes[..pages])?;
-        return Ok(nodes);
-    };
-    fill_range(plan, touch, range, &mut nodes, free)?;
-    Ok(nodes)
+    let pages = range.pages.min(CELLS as u64);
+    let behind = range.first + pages;
+    match free {
+        Some(free) => {
+            fill_few(plan, touch, range.first, &mut nodes[..pages as usize], free)?;
+            fill_span(plan, touch, behind, range.pages - pages, free)?;
+        }
+        None => plan.fill(
+            touch.task,
+            touch.cpu,
+            range.first,
+            &mut nodes[..pages as usize],
+        )?,
+    }
+    cells.put(&nodes);
+    Ok(())
 }
 
-/// The nodes of the first pages of each range, [`CELLS`] places a range, as [`cells_at`] has them;
-/// without `free` no free pages are counted.
+/// The nodes of the first pages of each range, as [`put_cells`] has them; without `free` no free
+/// pages are counted.
 pub(crate) fn first_cells(
     alloc: Global,
     space: &Space,
@@ -64,10 +59,9 @@ pub(crate) fn first_cells(
     ensures err { FailsForNode space.now plan.now touch.cpu result }
 {
     let mut left = free;
-    let mut cells = Vec::new(alloc);
+    let mut cells = Written::new(alloc);
     for range in space.range_iter() {
-        let nodes = cells_at(plan, touch, &range, &mut left)?;
-        cells.extend_from_slice(&nodes)?;
+        put_cells(plan, touch, &range, &mut left, &mut cells)?;
     }
-    Ok(cells)
+    Ok(cells.take(alloc)?)
 }

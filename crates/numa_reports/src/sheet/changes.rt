@@ -12,10 +12,10 @@ use crate::fault::ReportFault;
 use crate::moves::{ENTRIES, empty_table, span_moves};
 use crate::outlook::{Outlook, PageSpan, common_spans};
 use crate::sheet::fields::address;
+use crate::sheet::written::Written;
 use numa_plan::Plan;
 use numa_space::PlaceRefusal;
-use std::alloc::{AllocError, Global};
-use std::fmt::Write;
+use std::alloc::Global;
 
 /// How many pages go from a node to another.
 fn entry(table: &[u64], from: u32, to: u32) -> u64 {
@@ -26,22 +26,13 @@ fn entry(table: &[u64], from: u32, to: u32) -> u64 {
 }
 
 /// How many pages go from a node to another one, for each such two nodes between which some go.
-fn push_from(text: &mut String, table: &[u64], nodes: u32, from: u32) -> Result<(), AllocError> {
+fn put_from(text: &mut Written, table: &[u64], nodes: u32, from: u32) {
     for to in 0..nodes {
         let pages = entry(table, from, to);
         if from != to && pages > 0 {
-            write!(text, " N{}->N{}={}", from, to, pages)?;
+            text.put_form(b" N$->N$=$", &[u64::from(from), u64::from(to), pages]);
         }
     }
-    Ok(())
-}
-
-/// How many pages go from each node to each other, where some go.
-fn push_moves(text: &mut String, table: &[u64], nodes: u32) -> Result<(), AllocError> {
-    for from in 0..nodes {
-        push_from(text, table, nodes, from)?;
-    }
-    Ok(())
 }
 
 /// How many pages go from a node to another one.
@@ -64,38 +55,26 @@ fn moved(table: &[u64], nodes: u32) -> u64 {
     sum
 }
 
-/// The line of a span; nothing where none of its pages goes to another node.
-fn span_line(
-    alloc: Global,
-    span: PageSpan,
-    table: &[u64],
-    nodes: u32,
-) -> Result<String, AllocError> {
-    let mut text = String::new(alloc);
-    let moved = moved(table, nodes);
-    if moved == 0 {
-        return Ok(text);
+/// The end of a line: how many pages go to another node, and from each node to each other, where
+/// some go.
+fn put_moves(text: &mut Written, moved: u64, table: &[u64], nodes: u32) {
+    text.put_form(b" moved=$", &[moved]);
+    for from in 0..nodes {
+        put_from(text, table, nodes, from);
     }
-    let end = span.first.saturating_add(span.pages);
-    write!(
-        text,
-        "{:08x}-{:08x} moved={}",
-        address(span.first),
-        address(end),
-        moved
-    )?;
-    push_moves(&mut text, table, nodes)?;
-    text.push_str("\n")?;
-    Ok(text)
+    text.put(b"\n");
 }
 
-/// The last line: what goes in all.
-fn total_line(alloc: Global, table: &[u64], nodes: u32) -> Result<String, AllocError> {
-    let mut text = String::new(alloc);
-    write!(text, "total moved={}", moved(table, nodes))?;
-    push_moves(&mut text, table, nodes)?;
-    text.push_str("\n")?;
-    Ok(text)
+/// The line of a span; nothing where none of its pages goes to another node.
+fn put_line(text: &mut Written, span: PageSpan, table: &[u64], nodes: u32) {
+    let moved = moved(table, nodes);
+    if moved == 0 {
+        return;
+    }
+    text.put_address(address(span.first));
+    text.put(b"-");
+    text.put_address(address(span.first.saturating_add(span.pages)));
+    put_moves(text, moved, table, nodes);
 }
 
 /// Adds a table to another of the same size.
@@ -115,7 +94,7 @@ fn push_span(
     task: u32,
     cpu: u32,
     span: PageSpan,
-    text: &mut Vec<u8>,
+    text: &mut Written,
     total: &mut Vec<u64>,
 ) -> Result<(), ReportFault>
     ensures { (machine : Hardware) (old new : List Command)
@@ -123,9 +102,9 @@ fn push_span(
         → IfErr result (MovesMayFail machine old new span.first span.pages cpu) }
 {
     let table = span_moves(alloc, before, after, task, cpu, span.first, span.pages)?;
-    let line = span_line(alloc, span, table.as_slice(), nodes)?;
-    text.extend_from_slice(line.as_bytes())?;
+    put_line(text, span, table.as_slice(), nodes);
     add_table(total, table.as_slice());
+    text.checked()?;
     Ok(())
 }
 
@@ -154,7 +133,7 @@ pub fn difference_text(
     }
     let spans = common_spans(alloc, before.spans.as_slice(), after.spans.as_slice())?;
     let mut total = empty_table(alloc, ENTRIES)?;
-    let mut text = Vec::new(alloc);
+    let mut text = Written::new(alloc);
     for span in &spans {
         push_span(
             alloc,
@@ -168,7 +147,8 @@ pub fn difference_text(
             &mut total,
         )?;
     }
-    let line = total_line(alloc, total.as_slice(), nodes)?;
-    text.extend_from_slice(line.as_bytes())?;
-    Ok(text)
+    let table = total.as_slice();
+    text.put(b"total");
+    put_moves(&mut text, moved(table, nodes), table, nodes);
+    Ok(text.take(alloc)?)
 }

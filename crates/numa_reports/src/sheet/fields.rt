@@ -2,12 +2,9 @@
 ghost use Rattle.std.specs.Prelude.{◌<◌};
 
 use numa_mode::Record;
-use numa_space::{RangeRecord, Run};
+use numa_space::{PAGE_BYTES, RangeRecord, Run};
 use std::alloc::{AllocError, Global};
 use std::collections::HashMap;
-
-/// How many bytes a page has.
-const PAGE_BYTES: u64 = 4096;
 
 /// The address of a page's first byte. The pages of a space end below 2^47 bytes.
 pub(crate) fn address(page: u64) -> u64 {
@@ -109,14 +106,6 @@ impl PolicyTexts {
         }
     }
 
-    /// The place of a policy's text, which is made where there is none yet.
-    fn find(&mut self, policy: Record) -> Result<usize, AllocError> {
-        match self.places.get(&policy).copied() {
-            Some(place) => Ok(place),
-            None => self.add(policy),
-        }
-    }
-
     /// Whether a policy's text stands at a place.
     fn is_at(&self, place: usize, policy: &Record) -> bool {
         match self.policies.get(place) {
@@ -125,14 +114,18 @@ impl PolicyTexts {
         }
     }
 
-    /// The place of a policy's text, by a guess where that is right.
+    /// The place of a policy's text, by a guess where that is right; the text is made where there is
+    /// none yet.
     fn place(&mut self, policy: Record) -> Result<usize, AllocError> {
         let guess = guess_of(&policy);
         let place = self.guesses[guess];
         if self.is_at(place, &policy) {
             return Ok(place);
         }
-        let place = self.find(policy)?;
+        let place = match self.places.get(&policy).copied() {
+            Some(place) => place,
+            None => self.add(policy)?,
+        };
         self.guesses[guess] = place;
         Ok(place)
     }

@@ -1,12 +1,20 @@
-//! Reports as JSON.
+//! Reports as JSON, whose objects are serde_json's: their members stand in the order of their
+//! names. The pages that find no node stand behind them.
 
 use crate::filling::FreePages;
 use crate::sheet::fields::{Placed, address, end};
+use crate::sheet::written::Written;
 use crate::touch::Touch;
 use numa_space::{RangeRecord, Run};
 use serde_json::{Map, Value, json, put};
 use std::alloc::{AllocError, Global};
-use std::fmt::Write;
+
+/// The object begins, and its list of ranges.
+pub(crate) fn put_head(text: &mut Written, version: u64, touch: Touch) {
+    let asked = [version, u64::from(touch.task), u64::from(touch.cpu)];
+    text.put_form(b"{\"version\":$,\"task\":$,\"cpu\":$,", &asked);
+    text.put(b"\"kernelpagesize_kB\":4,\"ranges\":[");
+}
 
 /// A node and its pages.
 fn node_pages(alloc: Global, node: u64, pages: u64) -> Result<Value, AllocError> {
@@ -24,62 +32,28 @@ fn nodes(alloc: Global, counts: &[u64]) -> Result<Value, AllocError> {
     Ok(Value::from(items))
 }
 
-/// The object begins, and its list of ranges.
-pub(crate) fn head(alloc: Global, version: u64, touch: Touch) -> Result<Vec<u8>, AllocError> {
-    let mut text = String::new(alloc);
-    write!(
-        text,
-        "{{\"version\":{},\"task\":{},\"cpu\":{},",
-        version, touch.task, touch.cpu
-    )?;
-    text.push_str("\"kernelpagesize_kB\":4,\"ranges\":[")?;
-    Ok(text.into_bytes())
-}
-
-/// Adds a number to an object.
-fn put_number(
+/// Adds all pages, and each node that has some, to an object.
+fn put_placed(
     alloc: Global,
     object: &mut Map<String, Value>,
-    name: &str,
-    number: u64,
+    placed: Placed<'_>,
 ) -> Result<(), AllocError> {
-    put(object, alloc, name, Value::from(number))
-}
-
-/// Adds a text to an object.
-fn put_text(
-    alloc: Global,
-    object: &mut Map<String, Value>,
-    name: &str,
-    text: &str,
-) -> Result<(), AllocError> {
-    let text = String::from_str(alloc, text)?;
-    put(object, alloc, name, Value::from(text))
-}
-
-/// Adds each node that has pages to an object.
-fn put_nodes(
-    alloc: Global,
-    object: &mut Map<String, Value>,
-    counts: &[u64],
-) -> Result<(), AllocError> {
-    let nodes = nodes(alloc, counts)?;
+    let nodes = nodes(alloc, placed.counts)?;
+    put(object, alloc, "anon", Value::from(placed.pages))?;
     put(object, alloc, "nodes", nodes)
 }
 
-/// Adds the members of a range to its object.
-fn put_range(
+/// Adds the addresses of a range to its object, and its policy.
+fn put_bounds(
     alloc: Global,
     object: &mut Map<String, Value>,
     range: &Run<RangeRecord>,
     policy: &str,
-    placed: Placed<'_>,
 ) -> Result<(), AllocError> {
-    put_number(alloc, object, "start", address(range.first))?;
-    put_number(alloc, object, "end", end(range))?;
-    put_text(alloc, object, "policy", policy)?;
-    put_number(alloc, object, "anon", placed.pages)?;
-    put_nodes(alloc, object, placed.counts)
+    let policy = String::from_str(alloc, policy)?;
+    put(object, alloc, "policy", Value::from(policy))?;
+    put(object, alloc, "start", Value::from(address(range.first)))?;
+    put(object, alloc, "end", Value::from(end(range)))
 }
 
 /// The object of a range, but for the pages that find no node.
@@ -90,64 +64,76 @@ fn range_item(
     placed: Placed<'_>,
 ) -> Result<String, AllocError> {
     let mut object = Map::new(alloc);
-    put_range(alloc, &mut object, range, policy, placed)?;
+    put_bounds(alloc, &mut object, range, policy)?;
+    put_placed(alloc, &mut object, placed)?;
     Value::Object(object).to_string(alloc)
 }
 
+/// The object of all pages by node, but for those that find none.
+fn total_item(alloc: Global, placed: Placed<'_>) -> Result<String, AllocError> {
+    let mut object = Map::new(alloc);
+    put_placed(alloc, &mut object, placed)?;
+    Value::Object(object).to_string(alloc)
+}
+
+/// An object, with the pages that find no node behind its other members where they are counted.
+fn put_item(text: &mut Written, item: &str, exhausted: Option<u64>) {
+    let (Some(pages), Some(open)) = (exhausted, item.strip_suffix('}')) else {
+        text.put(item.as_bytes());
+        return;
+    };
+    text.put(open.as_bytes());
+    text.put_form(b",\"exhausted\":$}", &[pages]);
+}
+
 /// The object of a range.
-pub(crate) fn range(
+pub(crate) fn put_range(
     alloc: Global,
+    text: &mut Written,
     range: &Run<RangeRecord>,
     policy: &str,
     placed: Placed<'_>,
     is_first: bool,
-) -> Result<Vec<u8>, AllocError> {
+) -> Result<(), AllocError> {
     let item = range_item(alloc, range, policy, placed)?;
-    let mut text = String::from_str(alloc, if is_first { "\n" } else { ",\n" })?;
-    push_item(&mut text, item.as_str(), placed.exhausted)?;
-    Ok(text.into_bytes())
-}
-
-/// An object, with the pages that find no node behind its other members where they are counted.
-fn push_item(text: &mut String, item: &str, exhausted: Option<u64>) -> Result<(), AllocError> {
-    let (Some(pages), Some(open)) = (exhausted, item.strip_suffix('}')) else {
-        return text.push_str(item);
-    };
-    write!(text, "{open},\"exhausted\":{pages}}}")
+    let before = if is_first { "\n" } else { ",\n" };
+    text.put(before.as_bytes());
+    put_item(text, item.as_str(), placed.exhausted);
+    Ok(())
 }
 
 /// What is left on each node that is named.
-fn push_left(alloc: Global, text: &mut String, left: &[FreePages]) -> Result<(), AllocError> {
+fn left_item(alloc: Global, left: &[FreePages]) -> Result<String, AllocError> {
     let mut items = Vec::new(alloc);
     for one in left {
         items.push(node_pages(alloc, u64::from(one.node), one.pages)?)?;
     }
-    let list = Value::from(items).to_string(alloc)?;
-    text.push_str(",\"left\":")?;
-    text.push_str(list.as_str())
+    Value::from(items).to_string(alloc)
 }
 
-/// The object of all pages by node.
-fn total_item(alloc: Global, placed: Placed<'_>) -> Result<String, AllocError> {
-    let mut object = Map::new(alloc);
-    put_number(alloc, &mut object, "anon", placed.pages)?;
-    put_nodes(alloc, &mut object, placed.counts)?;
-    Value::Object(object).to_string(alloc)
+/// What is left on each node, where some are named.
+fn put_left(alloc: Global, text: &mut Written, left: &[FreePages]) -> Result<(), AllocError> {
+    if left.is_empty() {
+        return Ok(());
+    }
+    let item = left_item(alloc, left)?;
+    text.put(b",\"left\":");
+    text.put(item.as_bytes());
+    Ok(())
 }
 
 /// The list of ranges ends, and the object with all pages by node, and with what is left where some
 /// nodes are named.
-pub(crate) fn total(
+pub(crate) fn put_total(
     alloc: Global,
+    text: &mut Written,
     placed: Placed<'_>,
     left: &[FreePages],
-) -> Result<Vec<u8>, AllocError> {
+) -> Result<(), AllocError> {
     let item = total_item(alloc, placed)?;
-    let mut text = String::from_str(alloc, "\n],\"total\":")?;
-    push_item(&mut text, item.as_str(), placed.exhausted)?;
-    if !left.is_empty() {
-        push_left(alloc, &mut text, left)?;
-    }
-    text.push_str("}\n")?;
-    Ok(text.into_bytes())
+    text.put(b"\n],\"total\":");
+    put_item(text, item.as_str(), placed.exhausted);
+    put_left(alloc, text, left)?;
+    text.put(b"}\n");
+    Ok(())
 }

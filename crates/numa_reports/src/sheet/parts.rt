@@ -9,6 +9,7 @@ use crate::filling::{FreePages, fill_all, free_of, taken};
 use crate::prediction::{TakeRange, predict_all};
 use crate::sheet::cells::{CELLS, first_cells};
 use crate::sheet::fields::{Placed, PolicyTexts, sum};
+use crate::sheet::written::Written;
 use crate::sheet::{Format, lines, objects, pictures, records};
 use crate::touch::Touch;
 use numa_mode::Record;
@@ -16,7 +17,7 @@ use numa_plan::Plan;
 use numa_space::{PlaceRefusal, RangeRecord, Run, Space};
 use std::alloc::{AllocError, Global};
 
-/// What is written so far.
+/// A prediction that is written range by range.
 #[derive(Drop)]
 struct Parts {
     alloc: Global,
@@ -31,7 +32,7 @@ struct Parts {
     ranges: usize,
     pages: u64,
     cells: Vec<u8>,
-    text: Vec<u8>,
+    text: Written,
 }
 
 /// The counts of a machine's nodes.
@@ -64,40 +65,42 @@ impl Parts {
         }
     }
 
-    /// Writes what is said of the next range.
-    fn push(
+    /// Writes what stands behind the last range: how many pages each node gets in all, and what is
+    /// left on those that are named.
+    fn put_total(&mut self, counts: &[u64; 256], left: &[FreePages]) -> Result<(), AllocError> {
+        let placed = self.placed(shown(counts, self.nodes), self.pages);
+        let text = &mut self.text;
+        match self.format {
+            Format::Text => lines::put_total(text, placed, left),
+            Format::Json => return objects::put_total(self.alloc, text, placed, left),
+            Format::Csv => return records::put_total(self.alloc, text, placed, left),
+            Format::Svg => pictures::put_total(text, placed, left, self.ranges),
+        }
+        Ok(())
+    }
+
+    /// Writes what is said of a range.
+    fn put_range(
         &mut self,
         range: &Run<RangeRecord>,
         policy: Option<Record>,
         placed: Placed<'_>,
     ) -> Result<(), AllocError> {
         let policy = self.policies.text(policy)?;
-        let part = match self.format {
-            Format::Text => return lines::push_range(&mut self.text, range, policy, placed),
-            Format::Json => { objects::range(self.alloc, range, policy, placed, self.ranges == 0)? }
-            Format::Csv => records::range(self.alloc, range, policy, placed)?,
+        let text = &mut self.text;
+        let before = self.ranges;
+        match self.format {
+            Format::Text => lines::put_range(text, range, policy, placed),
+            Format::Json => {
+                return objects::put_range(self.alloc, text, range, policy, placed, before == 0);
+            }
+            Format::Csv => return records::put_range(self.alloc, text, range, policy, placed),
             Format::Svg => {
-                let cells = cells_of(&self.cells, self.ranges, placed.pages);
-                pictures::range(self.alloc, self.ranges, range, policy, placed, cells)?
+                let cells = cells_of(&self.cells, before, placed.pages);
+                pictures::put_range(text, before, range, policy, placed, cells);
             }
-        };
-        self.text.extend_from_slice(part.as_slice())
-    }
-
-    /// Writes what stands behind the last range: how many pages each node gets in all, and what is
-    /// left on those that are named.
-    fn push_total(&mut self, counts: &[u64; 256], left: &[FreePages]) -> Result<(), AllocError> {
-        let placed = self.placed(shown(counts, self.nodes), self.pages);
-        let part = match self.format {
-            Format::Text => {
-                lines::push_total(&mut self.text, placed)?;
-                return lines::push_left(&mut self.text, left);
-            }
-            Format::Json => objects::total(self.alloc, placed, left)?,
-            Format::Csv => records::total(self.alloc, placed, left)?,
-            Format::Svg => pictures::total(self.alloc, placed, left, self.ranges)?,
-        };
-        self.text.extend_from_slice(part.as_slice())
+        }
+        Ok(())
     }
 }
 
@@ -109,28 +112,24 @@ impl TakeRange for Parts {
         counts: &[u64; 256],
     ) -> Result<(), AllocError> {
         let placed = self.placed(shown(counts, self.nodes), range.pages);
-        self.push(range, policy, placed)?;
+        self.put_range(range, policy, placed)?;
         self.ranges = self.ranges.saturating_add(1);
         self.pages = self.pages.saturating_add(range.pages);
-        Ok(())
+        self.text.checked()
     }
 }
 
 /// What stands before the first range.
-fn head(
-    alloc: Global,
-    version: u64,
-    touch: Touch,
-    format: Format,
-    ranges: usize,
-    nodes: usize,
-) -> Result<Vec<u8>, AllocError> {
+fn head(alloc: Global, space: &Space, version: u64, touch: Touch, format: Format) -> Written {
+    let mut text = Written::new(alloc);
+    let nodes = space.machine().nodes() as usize;
     match format {
-        Format::Text => Ok(Vec::new(alloc)),
-        Format::Json => objects::head(alloc, version, touch),
-        Format::Csv => records::head(alloc),
-        Format::Svg => pictures::head(alloc, version, touch, ranges, nodes),
+        Format::Text => (),
+        Format::Json => objects::put_head(&mut text, version, touch),
+        Format::Csv => records::put_head(&mut text),
+        Format::Svg => pictures::put_head(&mut text, version, touch, space.ranges(), nodes),
     }
+    text
 }
 
 /// How many free pages each node has; None where no node is named, and they aren't counted.
@@ -152,8 +151,6 @@ fn begin(
 ) -> Result<Parts, ReportFault>
     ensures err { FailsForNode space.now plan.now touch.cpu result }
 {
-    let nodes = space.machine().nodes() as usize;
-    let text = head(alloc, plan.version(), touch, format, space.ranges(), nodes)?;
     let cells = match format {
         Format::Svg => first_cells(alloc, space, plan, touch, free_where_named(free))?,
         _ => Vec::new(alloc),
@@ -161,13 +158,13 @@ fn begin(
     Ok(Parts {
         alloc,
         format,
-        nodes,
+        nodes: space.machine().nodes() as usize,
         policies: PolicyTexts::new(alloc),
         fills: !free.is_empty(),
         ranges: 0,
         pages: 0,
         cells,
-        text,
+        text: head(alloc, space, plan.version(), touch, format),
     })
 }
 
@@ -187,27 +184,28 @@ fn left_on(
     Ok(left)
 }
 
-/// Writes what is said of each range, and of all.
+/// Writes what is said of each range, and of all, and gives the text.
 fn write_all(
+    alloc: Global,
     parts: &mut Parts,
     space: &Space,
     plan: &Plan,
     touch: Touch,
     free: &[FreePages],
-) -> Result<(), ReportFault>
+) -> Result<Vec<u8>, ReportFault>
     ensures err { FailsForNode space.now plan.now touch.cpu result }
 {
     if free.is_empty() {
         let counts = predict_all(space, plan, touch.task, touch.cpu, parts)?;
-        parts.push_total(&counts, &[])?;
-        return Ok(());
+        parts.put_total(&counts, &[])?;
+    } else {
+        let before = free_of(free);
+        let mut after = before;
+        fill_all(space, plan, touch.task, touch.cpu, &mut after, parts)?;
+        let left = left_on(alloc, free, &after)?;
+        parts.put_total(&taken(&before, &after), &left)?;
     }
-    let before = free_of(free);
-    let mut after = before;
-    fill_all(space, plan, touch.task, touch.cpu, &mut after, parts)?;
-    let left = left_on(parts.alloc, free, &after)?;
-    parts.push_total(&taken(&before, &after), &left)?;
-    Ok(())
+    Ok(parts.text.take(alloc)?)
 }
 
 /// Where all mapped pages would go, if the task touched each of them now on a CPU of node `cpu`,
@@ -236,8 +234,9 @@ pub fn filling_text(
     }
     let touch = Touch { task, cpu };
     let mut parts = begin(alloc, space, plan, touch, format, free)?;
-    write_all(&mut parts, space, plan, touch, free)?;
-    Ok(parts.text)
+    let text = write_all(alloc, &mut parts, space, plan, touch, free);
+    drop(parts);
+    text
 }
 
 /// Where all mapped pages would go, as [`filling_text`] tells it where no node is named. The time

@@ -5,13 +5,14 @@
 
 use crate::filling::FreePages;
 use crate::sheet::fields::{Placed, address, bytes, end};
+use crate::sheet::lines::{NODE, put_lacking};
+use crate::sheet::nodes::put_nodes;
+use crate::sheet::written::Written;
 use crate::touch::Touch;
 use numa_space::{RangeRecord, Run};
-use std::alloc::{AllocError, Global};
-use std::fmt::Write;
 
 /// Colours that black letters are read on; nodes whose numbers are eight apart share one.
-const COLOURS: [&str; 8] = [
+static COLOURS: [&str; 8] = [
     "#a6cee3", "#fdbf6f", "#b2df8a", "#fb9a99", "#cab2d6", "#ffff99", "#dddddd", "#ffffff",
 ];
 
@@ -35,57 +36,54 @@ fn height(ranges: usize, nodes: usize) -> u64 {
 }
 
 /// The cell of a page that a node gets, to be used by its name.
-fn push_cell(text: &mut String, node: usize) -> Result<(), AllocError> {
-    let colour = COLOURS[node % 8];
+fn put_cell(text: &mut Written, node: usize) {
     let size = if node < 100 { 8 } else { 6 };
-    write!(text, "<g id=\"n{node}\"><rect width=\"12\" height=\"16\" ")?;
-    write!(
-        text,
-        "fill=\"{colour}\" stroke=\"#333333\" stroke-width=\"0.5\"/>"
-    )?;
-    write!(text, "<text x=\"6\" y=\"11\" font-size=\"{size}\" ")?;
-    write!(text, "text-anchor=\"middle\">{node}</text></g>\n")
+    let number = node as u64;
+    text.put_form(
+        b"<g id=\"n$\"><rect width=\"12\" height=\"16\" fill=\"",
+        &[number],
+    );
+    text.put(COLOURS[node % 8].as_bytes());
+    text.put(b"\" stroke=\"#333333\" stroke-width=\"0.5\"/>");
+    text.put_form(b"<text x=\"6\" y=\"11\" font-size=\"$\" ", &[size]);
+    text.put_form(b"text-anchor=\"middle\">$</text></g>\n", &[number]);
 }
 
 /// The cells of all nodes.
-fn push_cells(text: &mut String, nodes: usize) -> Result<(), AllocError> {
-    text.push_str("<defs>\n")?;
+fn put_cells(text: &mut Written, nodes: usize) {
+    text.put(b"<defs>\n");
     for node in 0..nodes {
-        push_cell(text, node)?;
+        put_cell(text, node);
     }
-    text.push_str("</defs>\n")
+    text.put(b"</defs>\n");
+}
+
+/// What the picture is, so many pixels high.
+fn put_frame(text: &mut Written, height: u64) {
+    text.put(b"<?xml version=\"1.0\" encoding=\"UTF-8\"?>\n");
+    text.put(b"<svg xmlns=\"http://www.w3.org/2000/svg\" version=\"1.1\" ");
+    text.put(b"xmlns:xlink=\"http://www.w3.org/1999/xlink\" ");
+    text.put_form(
+        b"width=\"920\" height=\"$\" viewBox=\"0 0 920 $\" ",
+        &[height, height],
+    );
+    text.put(b"font-family=\"monospace\" font-size=\"12\">\n");
 }
 
 /// The picture begins.
-pub(crate) fn head(
-    alloc: Global,
+pub(crate) fn put_head(
+    text: &mut Written,
     version: u64,
     touch: Touch,
     ranges: usize,
     nodes: usize,
-) -> Result<Vec<u8>, AllocError> {
-    let mut text = String::new(alloc);
-    let height = height(ranges, nodes);
-    text.push_str("<?xml version=\"1.0\" encoding=\"UTF-8\"?>\n")?;
-    text.push_str("<svg xmlns=\"http://www.w3.org/2000/svg\" version=\"1.1\" ")?;
-    text.push_str("xmlns:xlink=\"http://www.w3.org/1999/xlink\" ")?;
-    write!(
-        text,
-        "width=\"920\" height=\"{height}\" viewBox=\"0 0 920 {height}\" "
-    )?;
-    text.push_str("font-family=\"monospace\" font-size=\"12\">\n")?;
-    push_cells(&mut text, nodes)?;
-    text.push_str("<rect width=\"920\" height=\"100%\" fill=\"#ffffff\"/>\n")?;
-    write!(
-        text,
-        "<text x=\"16\" y=\"24\" font-size=\"14\">Where pages would go that "
-    )?;
-    write!(
-        text,
-        "task {} touched on node {} (version {})</text>\n",
-        touch.task, touch.cpu, version
-    )?;
-    Ok(text.into_bytes())
+) {
+    put_frame(text, height(ranges, nodes));
+    put_cells(text, nodes);
+    let asked = [u64::from(touch.task), u64::from(touch.cpu), version];
+    text.put(b"<rect width=\"920\" height=\"100%\" fill=\"#ffffff\"/>\n");
+    text.put(b"<text x=\"16\" y=\"24\" font-size=\"14\">Where pages would go that ");
+    text.put_form(b"task $ touched on node $ (version $)</text>\n", &asked);
 }
 
 /// How many of these counts aren't 0.
@@ -94,126 +92,97 @@ fn some(counts: &[u64]) -> usize {
 }
 
 /// The nodes that get pages, each with its pages, or how many there are.
-fn push_counts(text: &mut String, counts: &[u64]) -> Result<(), AllocError> {
+fn put_counts(text: &mut Written, counts: &[u64]) {
     let some = some(counts);
     if some > NAMED {
-        return write!(text, " on {some} nodes");
-    }
-    for node in 0..counts.len() {
-        if counts[node] > 0 {
-            write!(text, " N{}={}", node, counts[node])?;
-        }
-    }
-    Ok(())
-}
-
-/// How many pages find no node with a free page, where there are some.
-fn push_lacking(text: &mut String, placed: Placed<'_>) -> Result<(), AllocError> {
-    match placed.lacking() {
-        Some(pages) => write!(text, " exhausted={pages}"),
-        None => Ok(()),
+        text.put_form(b" on $ nodes", &[some as u64]);
+    } else {
+        put_nodes(text, counts, NODE, b"");
     }
 }
 
 /// A bar: a cell for each of the first pages, and how many pages more there are.
-fn push_bar(text: &mut String, cells: &[u8], pages: u64) -> Result<(), AllocError> {
+fn put_bar(text: &mut Written, cells: &[u8], pages: u64) {
     let mut left = 0u64;
     for node in cells {
-        write!(text, "<use xlink:href=\"#n{node}\" x=\"{left}\" y=\"16\"/>")?;
+        let place = [u64::from(*node), left];
+        text.put_form(b"<use xlink:href=\"#n$\" x=\"$\" y=\"16\"/>", &place);
         left = left.saturating_add(12);
     }
     let more = pages.saturating_sub(cells.len() as u64);
     if more > 0 {
-        let left = left.saturating_add(6);
-        write!(text, "<text x=\"{left}\" y=\"28\">+ {more} pages</text>")?;
+        let place = [left.saturating_add(6), more];
+        text.put_form(b"<text x=\"$\" y=\"28\">+ $ pages</text>", &place);
     }
-    Ok(())
+}
+
+/// How far below the picture's top so many ranges end.
+fn below(ranges: usize) -> u64 {
+    (ranges as u64)
+        .saturating_mul(RANGE_ROWS)
+        .saturating_add(TOP)
 }
 
 /// The range with so many before it: its line and its bar.
-pub(crate) fn range(
-    alloc: Global,
+pub(crate) fn put_range(
+    text: &mut Written,
     before: usize,
     range: &Run<RangeRecord>,
     policy: &str,
     placed: Placed<'_>,
     cells: &[u8],
-) -> Result<Vec<u8>, AllocError> {
-    let mut text = String::new(alloc);
-    let top = (before as u64)
-        .saturating_mul(RANGE_ROWS)
-        .saturating_add(TOP);
-    write!(
-        text,
-        "<g class=\"range\" transform=\"translate(16,{top})\"><text y=\"11\">"
-    )?;
-    write!(text, "{:08x}-{:08x}", address(range.first), end(range))?;
-    write!(text, " anon={}", placed.pages)?;
-    push_counts(&mut text, placed.counts)?;
-    push_lacking(&mut text, placed)?;
-    write!(text, " {policy}</text>")?;
-    push_bar(&mut text, cells, placed.pages)?;
-    text.push_str("</g>\n")?;
-    Ok(text.into_bytes())
+) {
+    text.put_form(
+        b"<g class=\"range\" transform=\"translate(16,$)\">",
+        &[below(before)],
+    );
+    text.put(b"<text y=\"11\">");
+    text.put_address(address(range.first));
+    text.put(b"-");
+    text.put_address(end(range));
+    text.put_form(b" anon=$", &[placed.pages]);
+    put_counts(text, placed.counts);
+    put_lacking(text, placed);
+    text.put(b" ");
+    text.put(policy.as_bytes());
+    text.put(b"</text>");
+    put_bar(text, cells, placed.pages);
+    text.put(b"</g>\n");
 }
 
 /// What is left on a node, where it is named.
-fn push_left(text: &mut String, node: usize, left: &[FreePages]) -> Result<(), AllocError> {
+fn put_left(text: &mut Written, node: usize, left: &[FreePages]) {
     for one in left {
         if usize::from(one.node) == node {
-            write!(text, ", {} pages left", one.pages)?;
+            text.put_form(b", $ pages left", &[one.pages]);
         }
     }
-    Ok(())
 }
 
 /// What a node gets in all.
-fn push_node(
-    text: &mut String,
-    node: usize,
-    pages: u64,
-    top: u64,
-    left: &[FreePages],
-) -> Result<(), AllocError> {
-    let line = top.saturating_add(12);
-    let bytes = bytes(pages);
-    write!(text, "<use xlink:href=\"#n{node}\" x=\"0\" y=\"{top}\"/>")?;
-    write!(
-        text,
-        "<text x=\"20\" y=\"{line}\">N{node}={pages} pages, {bytes} bytes"
-    )?;
-    push_left(text, node, left)?;
-    text.push_str("</text>\n")
+fn put_node(text: &mut Written, node: usize, pages: u64, top: u64, left: &[FreePages]) {
+    let number = node as u64;
+    let said = [top.saturating_add(12), number, pages, bytes(pages)];
+    text.put_form(b"<use xlink:href=\"#n$\" x=\"0\" y=\"$\"/>", &[number, top]);
+    text.put_form(b"<text x=\"20\" y=\"$\">N$=$ pages, $ bytes", &said);
+    put_left(text, node, left);
+    text.put(b"</text>\n");
 }
 
 /// The picture ends: what each node gets.
-pub(crate) fn total(
-    alloc: Global,
-    placed: Placed<'_>,
-    left: &[FreePages],
-    ranges: usize,
-) -> Result<Vec<u8>, AllocError> {
-    let mut text = String::new(alloc);
-    let top = (ranges as u64)
-        .saturating_mul(RANGE_ROWS)
-        .saturating_add(TOP);
-    let pages = placed.pages;
-    let bytes = bytes(pages);
-    write!(
-        text,
-        "<g class=\"total\" transform=\"translate(16,{top})\">"
-    )?;
-    write!(
-        text,
-        "<text y=\"16\">total anon={pages} pages, {bytes} bytes"
-    )?;
-    push_lacking(&mut text, placed)?;
-    text.push_str("</text>\n")?;
+pub(crate) fn put_total(text: &mut Written, placed: Placed<'_>, left: &[FreePages], ranges: usize) {
+    let said = [below(ranges), placed.pages, bytes(placed.pages)];
+    text.put(b"<g class=\"total\" ");
+    text.put_form(
+        b"transform=\"translate(16,$)\"><text y=\"16\">total anon=$ pages, $ bytes",
+        &said,
+    );
+    put_lacking(text, placed);
+    text.put(b"</text>\n");
     let mut top = 24u64;
     for node in 0..placed.counts.len() {
-        push_node(&mut text, node, placed.counts[node], top, left)?;
+        put_node(text, node, placed.counts[node], top, left);
         top = top.saturating_add(NODE_ROWS);
     }
-    text.push_str("</g>\n</svg>\n")?;
-    Ok(text.into_bytes())
+    text.put(b"</g>\n</svg>\n");
 }

@@ -3,17 +3,15 @@
 
 use crate::filling::FreePages;
 use crate::sheet::fields::{Placed, address, end};
+use crate::sheet::written::Written;
 use csv::{Writer, WriterBuilder};
 use itoa::Buffer;
 use numa_space::{RangeRecord, Run};
 use std::alloc::{AllocError, Global};
 
-/// The names of the fields.
-const NAMES: &str = "start,end,policy,anon,node,pages\n";
-
 /// The record of the names.
-pub(crate) fn head(alloc: Global) -> Result<Vec<u8>, AllocError> {
-    Ok(String::from_str(alloc, NAMES)?.into_bytes())
+pub(crate) fn put_head(text: &mut Written) {
+    text.put(b"start,end,policy,anon,node,pages\n");
 }
 
 /// What all records of a range begin with.
@@ -84,7 +82,6 @@ fn put_nodes(
 
 /// Writes the record of what is left on a node that is named.
 fn put_left(writer: &mut Writer<Vec<u8>>, one: FreePages) -> Result<(), AllocError> {
-    let mut number = Buffer::new();
     let mut count = Buffer::new();
     let pages = count.format(one.pages);
     let front = Front {
@@ -93,7 +90,24 @@ fn put_left(writer: &mut Writer<Vec<u8>>, one: FreePages) -> Result<(), AllocErr
         policy: "left",
         all: pages,
     };
-    put_text(writer, &front, number.format(u64::from(one.node)), pages)
+    put(writer, &front, u64::from(one.node), one.pages)
+}
+
+/// Writes the records of pages, and of what is left.
+fn put_records(
+    writer: &mut Writer<Vec<u8>>,
+    front: &Front<'_>,
+    placed: Placed<'_>,
+    left: &[FreePages],
+) -> Result<(), AllocError> {
+    put_nodes(writer, front, placed.counts)?;
+    if let Some(pages) = placed.lacking() {
+        put_lacking(writer, front, pages)?;
+    }
+    for one in left {
+        put_left(writer, *one)?;
+    }
+    Ok(())
 }
 
 /// The records of pages, and of what is left.
@@ -104,13 +118,7 @@ fn records(
     left: &[FreePages],
 ) -> Result<Vec<u8>, AllocError> {
     let mut writer = WriterBuilder::new().from_writer(Vec::new(alloc));
-    put_nodes(&mut writer, front, placed.counts)?;
-    if let Some(pages) = placed.lacking() {
-        put_lacking(&mut writer, front, pages)?;
-    }
-    for one in left {
-        put_left(&mut writer, *one)?;
-    }
+    put_records(&mut writer, front, placed, left)?;
     match writer.into_inner() {
         Ok(bytes) => Ok(bytes),
         Err(_) => Err(AllocError),
@@ -118,12 +126,13 @@ fn records(
 }
 
 /// The records of a range.
-pub(crate) fn range(
+pub(crate) fn put_range(
     alloc: Global,
+    text: &mut Written,
     range: &Run<RangeRecord>,
     policy: &str,
     placed: Placed<'_>,
-) -> Result<Vec<u8>, AllocError> {
+) -> Result<(), AllocError> {
     let mut first = Buffer::new();
     let mut last = Buffer::new();
     let mut all = Buffer::new();
@@ -133,16 +142,19 @@ pub(crate) fn range(
         policy,
         all: all.format(placed.pages),
     };
-    records(alloc, &front, placed, &[])
+    let part = records(alloc, &front, placed, &[])?;
+    text.put(part.as_slice());
+    Ok(())
 }
 
 /// The records of all pages: their policy is `total`, and they have no addresses; behind them those
 /// of what is left, with the policy `left`, where some nodes are named.
-pub(crate) fn total(
+pub(crate) fn put_total(
     alloc: Global,
+    text: &mut Written,
     placed: Placed<'_>,
     left: &[FreePages],
-) -> Result<Vec<u8>, AllocError> {
+) -> Result<(), AllocError> {
     let mut all = Buffer::new();
     let front = Front {
         start: "",
@@ -150,5 +162,7 @@ pub(crate) fn total(
         policy: "total",
         all: all.format(placed.pages),
     };
-    records(alloc, &front, placed, left)
+    let part = records(alloc, &front, placed, left)?;
+    text.put(part.as_slice());
+    Ok(())
 }
