@@ -27,33 +27,24 @@ fn push_digit(text: &mut BlockText, digit: u8)
     text.push(b'0' + digit);
 }
 
-/// Appends a number of at most two digits.
-fn push_two(text: &mut BlockText, number: u8)
-    requires number { number < 100 }
-    requires room { length text.old.items + 2 ≤ 240 }
+/// Appends a number of at most three digits.
+fn push_number(text: &mut BlockText, number: u8)
+    requires { length text.old.items + 3 ≤ 240 }
     ensures items { text.new.items ≡ text.old.items ++ decimal number }
-    ensures short { length text.new.items ≤ length text.old.items + 2 }
+    ensures short { length text.new.items ≤ length text.old.items + 3 }
 {
     if number < 10 {
         push_digit(text, number);
         return;
     }
-    push_digit(text, number / 10);
-    push_digit(text, number % 10);
-}
-
-/// Appends a number of at most three digits.
-fn push_number(text: &mut BlockText, node: u8)
-    requires { length text.old.items + 3 ≤ 240 }
-    ensures items { text.new.items ≡ text.old.items ++ decimal node }
-    ensures short { length text.new.items ≤ length text.old.items + 3 }
-{
-    if node < 100 {
-        push_two(text, node);
-        return;
+    let tens = number / 10;
+    if tens < 10 {
+        push_digit(text, tens);
+    } else {
+        push_digit(text, tens / 10);
+        push_digit(text, tens % 10);
     }
-    push_two(text, node / 10);
-    push_digit(text, node % 10);
+    push_digit(text, number % 10);
 }
 
 /// Appends a node behind a space.
