@@ -8,92 +8,102 @@ use numa_mask::ListFault;
 use numa_mode::SpecFault;
 use numa_space::{Errno, PlaceRefusal, Refusal};
 
+/// The names of the faults of a list of nodes, in their order.
+static LIST_NAMES: [&[u8]; 4] = [b"Empty", b"BadDigit", b"BackRange", b"NodeTooHigh"];
+
 /// The name of a fault of a list of nodes.
 pub fn list_name(fault: ListFault) -> &'static [u8]
     ensures text { result.now ≡ list_name fault }
     ensures short { length result.now ≤ 32 }
 {
-    match fault {
-        ListFault::Empty => b"Empty",
-        ListFault::BadDigit => b"BadDigit",
-        ListFault::BackRange => b"BackRange",
-        ListFault::NodeTooHigh => b"NodeTooHigh",
-    }
+    LIST_NAMES[fault as usize]
 }
+
+/// The names of the faults of a policy, in their order.
+static POLICY_NAMES: [&[u8]; 5] = [
+    b"UnknownMode",
+    b"BothFlags",
+    b"NodesForbidden",
+    b"FlagsForbidden",
+    b"NodesMissing",
+];
 
 /// The name of a fault of a policy.
 pub fn policy_name(fault: SpecFault) -> &'static [u8]
     ensures text { result.now ≡ policy_name fault }
     ensures short { length result.now ≤ 32 }
 {
-    match fault {
-        SpecFault::UnknownMode => b"UnknownMode",
-        SpecFault::BothFlags => b"BothFlags",
-        SpecFault::NodesForbidden => b"NodesForbidden",
-        SpecFault::FlagsForbidden => b"FlagsForbidden",
-        SpecFault::NodesMissing => b"NodesMissing",
-    }
+    POLICY_NAMES[fault as usize]
 }
+
+/// The names of the faults of a machine, in their order.
+static MACHINE_NAMES: [&[u8]; 5] = [
+    b"NodeCount",
+    b"NoMemoryNode",
+    b"BadDistance",
+    b"TooManyFrames",
+    b"NoMemory",
+];
 
 /// The name of a fault of a machine.
 pub fn machine_name(fault: MachineFault) -> &'static [u8]
     ensures text { result.now ≡ machine_name fault }
     ensures short { length result.now ≤ 32 }
 {
-    match fault {
-        MachineFault::NodeCount => b"NodeCount",
-        MachineFault::NoMemoryNode => b"NoMemoryNode",
-        MachineFault::BadDistance => b"BadDistance",
-        MachineFault::TooManyFrames => b"TooManyFrames",
-        MachineFault::NoMemory => b"NoMemory",
-    }
+    MACHINE_NAMES[fault as usize]
 }
+
+/// The names of the refusals of commands, in their order.
+static REFUSAL_NAMES: [&[u8]; 14] = [
+    b"CommandsSpent",
+    b"Unaligned",
+    b"OutOfSpace",
+    b"EmptyLength",
+    b"BadOffset",
+    b"Overlap",
+    b"Hole",
+    b"NoSuchNode",
+    b"BadWeight",
+    b"NodesNotAllowed",
+    b"NotSupported",
+    b"TooManyTasks",
+    b"TooManyRanges",
+    b"NoMemory",
+];
 
 /// The name of a command's refusal.
 pub fn refusal_name(refusal: Refusal) -> &'static [u8]
     ensures text { result.now ≡ refusal_name refusal }
     ensures short { length result.now ≤ 32 }
 {
-    match refusal {
-        Refusal::CommandsSpent => b"CommandsSpent",
-        Refusal::Unaligned => b"Unaligned",
-        Refusal::OutOfSpace => b"OutOfSpace",
-        Refusal::EmptyLength => b"EmptyLength",
-        Refusal::BadOffset => b"BadOffset",
-        Refusal::Overlap => b"Overlap",
-        Refusal::Hole => b"Hole",
-        Refusal::NoSuchNode => b"NoSuchNode",
-        Refusal::BadWeight => b"BadWeight",
-        Refusal::NodesNotAllowed => b"NodesNotAllowed",
-        Refusal::NotSupported => b"NotSupported",
-        Refusal::TooManyTasks => b"TooManyTasks",
-        Refusal::TooManyRanges => b"TooManyRanges",
-        Refusal::NoMemory => b"NoMemory",
-    }
+    REFUSAL_NAMES[refusal as usize]
 }
+
+/// The names of the error numbers, in their order.
+static ERRNO_NAMES: [&[u8]; 6] = [
+    b"EINVAL",
+    b"ENOMEM",
+    b"EEXIST",
+    b"EFAULT",
+    b"ENOSPC",
+    b"EOPNOTSUPP",
+];
 
 /// The name of an error number (errno(3)).
 pub fn errno_name(errno: Errno) -> &'static [u8]
     ensures text { result.now ≡ errno_name errno }
     ensures short { length result.now ≤ 32 }
 {
-    match errno {
-        Errno::EInval => b"EINVAL",
-        Errno::ENoMem => b"ENOMEM",
-        Errno::EExist => b"EEXIST",
-        Errno::EFault => b"EFAULT",
-        Errno::ENoSpc => b"ENOSPC",
-        Errno::EOpNotSupp => b"EOPNOTSUPP",
-    }
+    ERRNO_NAMES[errno as usize]
 }
+
+/// The names of the refusals of questions, in their order.
+static PLACE_NAMES: [&[u8]; 2] = [b"BadCpu", b"Unmapped"];
 
 /// The name of a question's refusal.
 pub fn place_name(refusal: PlaceRefusal) -> &'static [u8]
     ensures text { result.now ≡ place_name refusal }
     ensures short { length result.now ≤ 32 }
 {
-    match refusal {
-        PlaceRefusal::BadCpu => b"BadCpu",
-        PlaceRefusal::Unmapped => b"Unmapped",
-    }
+    PLACE_NAMES[refusal as usize]
 }
