@@ -6,5 +6,6 @@ pub mod Parts
 pub mod Policies
 pub mod Present
 pub mod Replies
+pub mod Tables
 pub mod Texts
 pub mod Workers

@@ -3,8 +3,7 @@ use Rattle.std.specs.Prelude.{ℕ, ◌==◌, Bool, true, List, [], ◌∷◌, le
 use Rattle.std.specs.Prelude.{if◌then◌else◌, Option, Some, None, Result, Ok, Err, unwrap_or}
 use Rattle.std.specs.Prelude.{option_and_then}
 use Rattle.std.specs.List.{list_any}
-use Rattle.std.specs.Option.{option_map, option_or}
-use Rattle.std.specs.Str.{bytes_eq}
+use Rattle.std.specs.Option.{option_map}
 use Rattle.numa_mask.specs.Lists.{list_of}
 use Rattle.numa_mask.specs.declared.list.ListFault.{ListFault}
 use Rattle.numa_mode.specs.Policy.{Specification}
@@ -12,6 +11,7 @@ use Rattle.numa_space.specs.declared.command.Command.{Command}
 use Rattle.numa_space.specs.declared.command.Command.TheVariants as command
 use Rattle.numa_script.specs.Parts.{words_of}
 use Rattle.numa_script.specs.Present.{with_two, with_three, with_four}
+use Rattle.numa_script.specs.Tables.{meaning_of}
 use Rattle.numa_script.specs.Numbers.{number_of, small_of, span_pages_of}
 use Rattle.numa_script.specs.Machines.{frames_of, distances_of}
 use Rattle.numa_script.specs.Policies.{policy_of}
@@ -27,48 +27,35 @@ use Rattle.numa_script.specs.declared.line.Question.TheVariants as question
 
 -- ---- first words
 
-abbrev pub setting_keyword : List ℕ → Option Keyword
-setting_keyword first =
-    if bytes_eq first (codes "limits") then Some keyword.Limits
-    else if bytes_eq first (codes "machine") then Some keyword.Machine
-    else None
-
-abbrev pub command_keyword : List ℕ → Option Keyword
-command_keyword first =
-    if bytes_eq first (codes "map") then Some keyword.Map
-    else if bytes_eq first (codes "unmap") then Some keyword.Unmap
-    else if bytes_eq first (codes "mbind") then Some keyword.Mbind
-    else if bytes_eq first (codes "home") then Some keyword.Home
-    else if bytes_eq first (codes "task") then Some keyword.Task
-    else if bytes_eq first (codes "weight") then Some keyword.Weight
-    else if bytes_eq first (codes "mems") then Some keyword.Mems
-    else None
-
-abbrev pub question_keyword : List ℕ → Option Keyword
-question_keyword first =
-    if bytes_eq first (codes "place") then Some keyword.Place
-    else if bytes_eq first (codes "span") then Some keyword.Span
-    else if bytes_eq first (codes "counts") then Some keyword.Counts
-    else if bytes_eq first (codes "ranges") then Some keyword.Ranges
-    else if bytes_eq first (codes "maps") then Some keyword.Maps
-    else None
-
-abbrev pub work_keyword : List ℕ → Option Keyword
-work_keyword first =
-    if bytes_eq first (codes "publish") then Some keyword.Publish
-    else if bytes_eq first (codes "begin") then Some keyword.Begin
-    else if bytes_eq first (codes "look") then Some keyword.Look
-    else if bytes_eq first (codes "try") then Some keyword.Try
-    else if bytes_eq first (codes "give") then Some keyword.Give
-    else if bytes_eq first (codes "touch") then Some keyword.Touch
-    else if bytes_eq first (codes "release") then Some keyword.Release
-    else None
+-- the words that a line can begin with
+abbrev pub first_words : List (List ℕ × Keyword)
+first_words =
+    (codes "publish", keyword.Publish) ∷
+    (codes "begin", keyword.Begin) ∷
+    (codes "look", keyword.Look) ∷
+    (codes "try", keyword.Try) ∷
+    (codes "give", keyword.Give) ∷
+    (codes "touch", keyword.Touch) ∷
+    (codes "release", keyword.Release) ∷
+    (codes "place", keyword.Place) ∷
+    (codes "span", keyword.Span) ∷
+    (codes "counts", keyword.Counts) ∷
+    (codes "ranges", keyword.Ranges) ∷
+    (codes "maps", keyword.Maps) ∷
+    (codes "map", keyword.Map) ∷
+    (codes "unmap", keyword.Unmap) ∷
+    (codes "mbind", keyword.Mbind) ∷
+    (codes "home", keyword.Home) ∷
+    (codes "task", keyword.Task) ∷
+    (codes "weight", keyword.Weight) ∷
+    (codes "mems", keyword.Mems) ∷
+    (codes "limits", keyword.Limits) ∷
+    (codes "machine", keyword.Machine) ∷
+    []
 
 -- what a first word asks for
 unfoldable pub keyword_of : List ℕ → Option Keyword
-keyword_of first =
-    option_or (work_keyword first)
-    (option_or (question_keyword first) (option_or (command_keyword first) (setting_keyword first)))
+keyword_of first = meaning_of first_words first
 
 -- ---- the words after the first
 

@@ -12,21 +12,26 @@ use Rattle.numa_mode.specs.declared.modes.Mode.TheVariants as mode
 use Rattle.numa_mode.specs.declared.specification.SpecFault.{SpecFault}
 use Rattle.numa_mode.specs.declared.specification.SpecFault.TheVariants.{UnknownMode}
 use Rattle.numa_mask.specs.Parts.{parts_of}
+use Rattle.numa_script.specs.Tables.{meaning_of}
 use Rattle.numa_script.specs.declared.policy.PolicyForm.{PolicyForm}
 use Rattle.numa_script.specs.declared.policy.WordFault.{WordFault}
 use Rattle.numa_script.specs.declared.policy.WordFault.TheVariants as fault
 
+-- the names of the modes
+abbrev pub mode_names : List (List ℕ × Mode)
+mode_names =
+    (codes "default", mode.Default) ∷
+    (codes "prefer", mode.Preferred) ∷
+    (codes "bind", mode.Bind) ∷
+    (codes "interleave", mode.Interleave) ∷
+    (codes "local", mode.Local) ∷
+    (codes "many", mode.PreferredMany) ∷
+    (codes "weighted", mode.WeightedInterleave) ∷
+    []
+
 -- the mode of a name
 unfoldable pub mode_of : List ℕ → Option Mode
-mode_of name =
-    if bytes_eq name (codes "default") then Some mode.Default
-    else if bytes_eq name (codes "prefer") then Some mode.Preferred
-    else if bytes_eq name (codes "bind") then Some mode.Bind
-    else if bytes_eq name (codes "interleave") then Some mode.Interleave
-    else if bytes_eq name (codes "local") then Some mode.Local
-    else if bytes_eq name (codes "many") then Some mode.PreferredMany
-    else if bytes_eq name (codes "weighted") then Some mode.WeightedInterleave
-    else None
+mode_of name = meaning_of mode_names name
 
 -- the mode of a name, with these flags
 abbrev pub form_with : Bool → Bool → List ℕ → Option PolicyForm

@@ -1,7 +1,8 @@
 //! The first words of lines.
 ghost use Rattle.std.specs.Prelude.{◌≡◌, ℕ, Option, Some};
-ghost use Rattle.numa_script.specs.Lines.{setting_keyword, command_keyword, question_keyword};
-ghost use Rattle.numa_script.specs.Lines.{work_keyword, keyword_of};
+ghost use Rattle.numa_script.specs.Lines.{keyword_of};
+
+use crate::table::meaning;
 
 /// What the first word of a line asks for.
 #[derive(Clone, Copy, Debug, PartialEq, Eq)]
@@ -50,136 +51,52 @@ pub enum Keyword {
     Release,
 }
 
+/// The first words of lines, in the order of the keywords.
+static NAMES: [&str; 21] = [
+    "limits", "machine", "map", "unmap", "mbind", "home", "task", "weight", "mems", "place",
+    "span", "counts", "ranges", "maps", "publish", "begin", "look", "try", "give", "touch",
+    "release",
+];
+
 impl Keyword {
     /// The first word of its lines.
     #[tactic(auto, unfolding(crate::specs::Lines::keyword_of))]
     pub fn name(self) -> &'static str
         ensures { keyword_of result.now ≡ Some self }
     {
-        match self {
-            Keyword::Limits => "limits",
-            Keyword::Machine => "machine",
-            Keyword::Map => "map",
-            Keyword::Unmap => "unmap",
-            Keyword::Mbind => "mbind",
-            Keyword::Home => "home",
-            Keyword::Task => "task",
-            Keyword::Weight => "weight",
-            Keyword::Mems => "mems",
-            Keyword::Place => "place",
-            Keyword::Span => "span",
-            Keyword::Counts => "counts",
-            Keyword::Ranges => "ranges",
-            Keyword::Maps => "maps",
-            Keyword::Publish => "publish",
-            Keyword::Begin => "begin",
-            Keyword::Look => "look",
-            Keyword::Try => "try",
-            Keyword::Give => "give",
-            Keyword::Touch => "touch",
-            Keyword::Release => "release",
-        }
+        NAMES[self as usize]
     }
 }
 
-/// A first word that sets up a machine.
-fn read_setting(first: &[u8]) -> Option<Keyword>
-    ensures { result ≡ setting_keyword first.now }
-{
-    if first == b"limits".as_slice() {
-        return Some(Keyword::Limits);
-    }
-    if first == b"machine".as_slice() {
-        return Some(Keyword::Machine);
-    }
-    None
-}
-
-/// A first word that makes a command.
-fn read_command(first: &[u8]) -> Option<Keyword>
-    ensures { result ≡ command_keyword first.now }
-{
-    if first == b"map".as_slice() {
-        return Some(Keyword::Map);
-    }
-    if first == b"unmap".as_slice() {
-        return Some(Keyword::Unmap);
-    }
-    if first == b"mbind".as_slice() {
-        return Some(Keyword::Mbind);
-    }
-    if first == b"home".as_slice() {
-        return Some(Keyword::Home);
-    }
-    if first == b"task".as_slice() {
-        return Some(Keyword::Task);
-    }
-    if first == b"weight".as_slice() {
-        return Some(Keyword::Weight);
-    }
-    if first == b"mems".as_slice() {
-        return Some(Keyword::Mems);
-    }
-    None
-}
-
-/// A first word that asks.
-fn read_question(first: &[u8]) -> Option<Keyword>
-    ensures { result ≡ question_keyword first.now }
-{
-    if first == b"place".as_slice() {
-        return Some(Keyword::Place);
-    }
-    if first == b"span".as_slice() {
-        return Some(Keyword::Span);
-    }
-    if first == b"counts".as_slice() {
-        return Some(Keyword::Counts);
-    }
-    if first == b"ranges".as_slice() {
-        return Some(Keyword::Ranges);
-    }
-    if first == b"maps".as_slice() {
-        return Some(Keyword::Maps);
-    }
-    None
-}
-
-/// A first word that has to do with workers.
-fn read_work(first: &[u8]) -> Option<Keyword>
-    ensures { result ≡ work_keyword first.now }
-{
-    if first == b"publish".as_slice() {
-        return Some(Keyword::Publish);
-    }
-    if first == b"begin".as_slice() {
-        return Some(Keyword::Begin);
-    }
-    if first == b"look".as_slice() {
-        return Some(Keyword::Look);
-    }
-    if first == b"try".as_slice() {
-        return Some(Keyword::Try);
-    }
-    if first == b"give".as_slice() {
-        return Some(Keyword::Give);
-    }
-    if first == b"touch".as_slice() {
-        return Some(Keyword::Touch);
-    }
-    if first == b"release".as_slice() {
-        return Some(Keyword::Release);
-    }
-    None
-}
+/// The first words of lines, in the order in which they are looked for.
+static FIRST_WORDS: [(&[u8], Keyword); 21] = [
+    (b"publish", Keyword::Publish),
+    (b"begin", Keyword::Begin),
+    (b"look", Keyword::Look),
+    (b"try", Keyword::Try),
+    (b"give", Keyword::Give),
+    (b"touch", Keyword::Touch),
+    (b"release", Keyword::Release),
+    (b"place", Keyword::Place),
+    (b"span", Keyword::Span),
+    (b"counts", Keyword::Counts),
+    (b"ranges", Keyword::Ranges),
+    (b"maps", Keyword::Maps),
+    (b"map", Keyword::Map),
+    (b"unmap", Keyword::Unmap),
+    (b"mbind", Keyword::Mbind),
+    (b"home", Keyword::Home),
+    (b"task", Keyword::Task),
+    (b"weight", Keyword::Weight),
+    (b"mems", Keyword::Mems),
+    (b"limits", Keyword::Limits),
+    (b"machine", Keyword::Machine),
+];
 
 /// What the first word of a line asks for.
 #[tactic(auto, unfolding(crate::specs::Lines::keyword_of))]
 pub fn read_keyword(first: &[u8]) -> Option<Keyword>
     ensures { result ≡ keyword_of first.now }
 {
-    read_work(first)
-        .or(read_question(first))
-        .or(read_command(first))
-        .or(read_setting(first))
+    meaning(&FIRST_WORDS, first)
 }

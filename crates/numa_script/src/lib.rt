@@ -12,6 +12,7 @@ pub mod parameter;
 pub mod parts;
 pub mod policy;
 pub mod reply;
+mod table;
 pub mod tell;
 pub mod work;
 

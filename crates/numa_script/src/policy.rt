@@ -5,6 +5,7 @@ ghost use Rattle.numa_script.specs.Policies.{mode_of, form_with, form_of, form_o
 ghost use Rattle.numa_script.specs.Policies.{form_of_three, policy_from, policy_of};
 
 use crate::parts::Parts;
+use crate::table::meaning;
 use bitflags::Flags;
 use numa_mask::parts::first_place;
 use numa_mask::{ListFault, NodeMask, read_list};
@@ -27,33 +28,23 @@ pub struct PolicyForm {
     pub is_relative: bool,
 }
 
+/// The names of the modes.
+static MODE_NAMES: [(&[u8], Mode); 7] = [
+    (b"default", Mode::Default),
+    (b"prefer", Mode::Preferred),
+    (b"bind", Mode::Bind),
+    (b"interleave", Mode::Interleave),
+    (b"local", Mode::Local),
+    (b"many", Mode::PreferredMany),
+    (b"weighted", Mode::WeightedInterleave),
+];
+
 /// The mode of a name.
 #[tactic(auto, unfolding(crate::specs::Policies::mode_of))]
 fn read_mode(name: &[u8]) -> Option<Mode>
     ensures { result ≡ mode_of name.now }
 {
-    if name == b"default".as_slice() {
-        return Some(Mode::Default);
-    }
-    if name == b"prefer".as_slice() {
-        return Some(Mode::Preferred);
-    }
-    if name == b"bind".as_slice() {
-        return Some(Mode::Bind);
-    }
-    if name == b"interleave".as_slice() {
-        return Some(Mode::Interleave);
-    }
-    if name == b"local".as_slice() {
-        return Some(Mode::Local);
-    }
-    if name == b"many".as_slice() {
-        return Some(Mode::PreferredMany);
-    }
-    if name == b"weighted".as_slice() {
-        return Some(Mode::WeightedInterleave);
-    }
-    None
+    meaning(&MODE_NAMES, name)
 }
 
 /// The form of a name with these flags.

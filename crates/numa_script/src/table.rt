@@ -1,0 +1,15 @@
+//! Words that stand for something.
+ghost use Rattle.std.specs.Prelude.{◌≡◌, ℕ, List, Option, map};
+ghost use Rattle.numa_script.specs.Tables.{meaning_of};
+
+/// What the word stands for in the table, whose first entries are looked at first.
+pub(crate) fn meaning<T: Copy>(table: &[(&[u8], T)], word: &[u8]) -> Option<T>
+    ensures { result ≡ meaning_of (map (λ entry. (entry.0.now, entry.1)) table.now) word.now }
+{
+    for (name, meaning) in table {
+        if word == *name {
+            return Some(*meaning);
+        }
+    }
+    None
+}
