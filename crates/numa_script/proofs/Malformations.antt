@@ -69,6 +69,32 @@ four g m n o p (Some x) (Some y) None w well h i j k = rw (h, i, j) refl
 four g m n o p (Some x) (Some y) (Some z) None well h i j k = rw (h, i, j, k) refl
 four g m n o p (Some x) (Some y) (Some z) (Some w) well h i j k = rw (h, i, j, k, well x y z w) refl
 
+pair : {A B : Type 0} (g : A × B → Line) (m n : Bool) (x : Option A) (y : Option B) →
+    ((v : A × B) → is_malformed (g v) ≡ false) →
+    m ≡ is_none x → n ≡ is_none y → (m || (n || false)) ≡ said (option_map g (with_two (λ x y. (x, y)) x y))
+pair g m n None y well h i = rw h refl
+pair g m n (Some x) None well h i = rw (h, i) refl
+pair g m n (Some x) (Some y) well h i = rw (h, i, well (x, y)) refl
+
+triple : {A B C : Type 0} (g : A × B × C → Line) (m n o : Bool) (x : Option A) (y : Option B) (z : Option C) →
+    ((v : A × B × C) → is_malformed (g v) ≡ false) →
+    m ≡ is_none x → n ≡ is_none y → o ≡ is_none z → (m || (n || (o || false))) ≡ said (option_map g (with_three (λ x y z. (x, y, z)) x y z))
+triple g m n o None y z well h i j = rw h refl
+triple g m n o (Some x) None z well h i j = rw (h, i) refl
+triple g m n o (Some x) (Some y) None well h i j = rw (h, i, j) refl
+triple g m n o (Some x) (Some y) (Some z) well h i j = rw (h, i, j, well (x, y, z)) refl
+
+quadruple : {A B C D : Type 0} (g : A × B × C × D → Line) (m n o p : Bool)
+    (x : Option A) (y : Option B) (z : Option C) (w : Option D) →
+    ((v : A × B × C × D) → is_malformed (g v) ≡ false) →
+    m ≡ is_none x → n ≡ is_none y → o ≡ is_none z → p ≡ is_none w →
+    (m || (n || (o || (p || false)))) ≡ said (option_map g (with_four (λ x y z w. (x, y, z, w)) x y z w))
+quadruple g m n o p None y z w well h i j k = rw h refl
+quadruple g m n o p (Some x) None z w well h i j k = rw (h, i) refl
+quadruple g m n o p (Some x) (Some y) None w well h i j k = rw (h, i, j) refl
+quadruple g m n o p (Some x) (Some y) (Some z) None well h i j k = rw (h, i, j, k) refl
+quadruple g m n o p (Some x) (Some y) (Some z) (Some w) well h i j k = rw (h, i, j, k, well (x, y, z, w)) refl
+
 -- ---- words against their forms
 
 either : (b : Bool) (n : ℕ) → is_some (cond b (Some TooGreat) None) ≡ is_none (cond (not b) (Some n) None)
@@ -124,14 +150,18 @@ three_of h g f (Some x) None z = refl
 three_of h g f (Some x) (Some y) None = refl
 three_of h g f (Some x) (Some y) (Some z) = refl
 
-four_of : {A B C D E F : Type 0} (h : F → Line) (g : A → E → F) (f : B → C → D → E)
+four_of : {A B C D E F : Type 0} (h : F → Line) (g : A → E → F) (f : B × C × D → E)
     (x : Option A) (y : Option B) (z : Option C) (w : Option D) →
-    option_map h (with_two g x (with_three f y z w)) ≡ with_four (λ a b c d. h (g a (f b c d))) x y z w
+    option_map h (with_two g x (option_map f (with_three (λ x y z. (x, y, z)) y z w))) ≡ with_four (λ a b c d. h (g a (f (b, c, d)))) x y z w
 four_of h g f None y z w = refl
 four_of h g f (Some x) None z w = refl
 four_of h g f (Some x) (Some y) None w = refl
 four_of h g f (Some x) (Some y) (Some z) None = refl
 four_of h g f (Some x) (Some y) (Some z) (Some w) = refl
+
+mapped : {A B : Type 0} (h : B → Line) (g : A → B) (o : Option A) → option_map h (option_map g o) ≡ option_map (λ x. h (g x)) o
+mapped h g None = refl
+mapped h g (Some x) = refl
 
 two_of : {A B C : Type 0} (h : C → Line) (g : A → B → C) (x : Option A) (y : Option B) →
     option_map h (with_two g x y) ≡ with_two (λ a b. h (g a b)) x y
@@ -197,7 +227,7 @@ says_limits c (a ∷ []) = too_few keyword.Limits c (a ∷ []) (omega arith)
 says_limits c (a ∷ b ∷ []) = too_few keyword.Limits c (a ∷ b ∷ []) (omega arith)
 says_limits c (a ∷ b ∷ d ∷ []) =
     enough keyword.Limits c (a ∷ b ∷ d ∷ []) refl
-    ∙ three (λ r t c. line.Limits r t c) _ _ _ (small_of a) (small_of b) (small_of d) (λ x y z. refl)
+    ∙ triple (λ v. line.Limits v.0 v.1 v.2) _ _ _ (small_of a) (small_of b) (small_of d) (λ v. refl)
     (small a) (small b) (small d)
 says_limits c (a ∷ b ∷ d ∷ e ∷ words) = too_many keyword.Limits c (a ∷ b ∷ d ∷ e ∷ words) (omega arith)
 
@@ -218,7 +248,7 @@ says_map c (a ∷ []) = too_few keyword.Map c (a ∷ []) (omega arith)
 says_map c (a ∷ b ∷ []) = too_few keyword.Map c (a ∷ b ∷ []) (omega arith)
 says_map c (a ∷ b ∷ d ∷ []) =
     enough keyword.Map c (a ∷ b ∷ d ∷ []) refl
-    ∙ three (λ x y z. line.Command (Ok (command.Map x y z))) _ _ _ (number_of a) (number_of b) (number_of d) (λ x y z. refl)
+    ∙ triple (λ v. line.Command (Ok (command.Map v.0 v.1 v.2))) _ _ _ (number_of a) (number_of b) (number_of d) (λ v. refl)
     (any_number a) (any_number b) (any_number d)
 says_map c (a ∷ b ∷ d ∷ e ∷ words) = too_many keyword.Map c (a ∷ b ∷ d ∷ e ∷ words) (omega arith)
 
@@ -227,7 +257,7 @@ says_unmap c [] = too_few keyword.Unmap c [] (omega arith)
 says_unmap c (a ∷ []) = too_few keyword.Unmap c (a ∷ []) (omega arith)
 says_unmap c (a ∷ b ∷ []) =
     enough keyword.Unmap c (a ∷ b ∷ []) refl
-    ∙ two (λ x y. line.Command (Ok (command.Unmap x y))) _ _ (number_of a) (number_of b) (λ x y. refl)
+    ∙ pair (λ v. line.Command (Ok (command.Unmap v.0 v.1))) _ _ (number_of a) (number_of b) (λ v. refl)
     (any_number a) (any_number b)
 says_unmap c (a ∷ b ∷ d ∷ words) = too_many keyword.Unmap c (a ∷ b ∷ d ∷ words) (omega arith)
 
@@ -247,7 +277,7 @@ says_home c (a ∷ []) = too_few keyword.Home c (a ∷ []) (omega arith)
 says_home c (a ∷ b ∷ []) = too_few keyword.Home c (a ∷ b ∷ []) (omega arith)
 says_home c (a ∷ b ∷ d ∷ []) =
     enough keyword.Home c (a ∷ b ∷ d ∷ []) refl
-    ∙ three (λ x y z. line.Command (Ok (command.SetHome x y z))) _ _ _ (number_of a) (number_of b) (small_of d) (λ x y z. refl)
+    ∙ triple (λ v. line.Command (Ok (command.SetHome v.0 v.1 v.2))) _ _ _ (number_of a) (number_of b) (small_of d) (λ v. refl)
     (any_number a) (any_number b) (small d)
 says_home c (a ∷ b ∷ d ∷ e ∷ words) = too_many keyword.Home c (a ∷ b ∷ d ∷ e ∷ words) (omega arith)
 
@@ -265,7 +295,7 @@ says_weight c [] = too_few keyword.Weight c [] (omega arith)
 says_weight c (a ∷ []) = too_few keyword.Weight c (a ∷ []) (omega arith)
 says_weight c (a ∷ b ∷ []) =
     enough keyword.Weight c (a ∷ b ∷ []) refl
-    ∙ two (λ x y. line.Command (Ok (command.SetWeight x y))) _ _ (small_of a) (small_of b) (λ x y. refl)
+    ∙ pair (λ v. line.Command (Ok (command.SetWeight v.0 v.1))) _ _ (small_of a) (small_of b) (λ v. refl)
     (small a) (small b)
 says_weight c (a ∷ b ∷ d ∷ words) = too_many keyword.Weight c (a ∷ b ∷ d ∷ words) (omega arith)
 
@@ -280,7 +310,7 @@ says_place c (a ∷ []) = too_few keyword.Place c (a ∷ []) (omega arith)
 says_place c (a ∷ b ∷ []) = too_few keyword.Place c (a ∷ b ∷ []) (omega arith)
 says_place c (a ∷ b ∷ d ∷ []) =
     enough keyword.Place c (a ∷ b ∷ d ∷ []) refl
-    ∙ three (λ x y z. line.Question (question.Place x y z)) _ _ _ (small_of a) (number_of b) (small_of d) (λ x y z. refl)
+    ∙ triple (λ v. line.Question (question.Place v.0 v.1 v.2)) _ _ _ (small_of a) (number_of b) (small_of d) (λ v. refl)
     (small a) (any_number b) (small d)
 says_place c (a ∷ b ∷ d ∷ e ∷ words) = too_many keyword.Place c (a ∷ b ∷ d ∷ e ∷ words) (omega arith)
 
@@ -302,7 +332,7 @@ says_counts c (a ∷ b ∷ []) = too_few keyword.Counts c (a ∷ b ∷ []) (omeg
 says_counts c (a ∷ b ∷ d ∷ []) = too_few keyword.Counts c (a ∷ b ∷ d ∷ []) (omega arith)
 says_counts c (a ∷ b ∷ d ∷ e ∷ []) =
     enough keyword.Counts c (a ∷ b ∷ d ∷ e ∷ []) refl
-    ∙ four (λ x y z w. line.Question (question.Counts x y z w)) _ _ _ _ (small_of a) (number_of b) (number_of d) (small_of e) (λ x y z w. refl)
+    ∙ quadruple (λ v. line.Question (question.Counts v.0 v.1 v.2 v.3)) _ _ _ _ (small_of a) (number_of b) (number_of d) (small_of e) (λ v. refl)
     (small a) (any_number b) (any_number d) (small e)
 says_counts c (a ∷ b ∷ d ∷ e ∷ f ∷ words) = too_many keyword.Counts c (a ∷ b ∷ d ∷ e ∷ f ∷ words) (omega arith)
 
@@ -329,9 +359,9 @@ says_begin c (a ∷ b ∷ []) = too_few keyword.Begin c (a ∷ b ∷ []) (omega 
 says_begin c (a ∷ b ∷ d ∷ []) = too_few keyword.Begin c (a ∷ b ∷ d ∷ []) (omega arith) ∙ sym (none_second line.Work (λ w r. work.Event (event.Begin w r)) (small_of a))
 says_begin c (a ∷ b ∷ d ∷ e ∷ []) =
     enough keyword.Begin c (a ∷ b ∷ d ∷ e ∷ []) refl
-    ∙ four (λ x y z w. line.Work (work.Event (event.Begin x (record { task = y; page = z; cpu = w })))) _ _ _ _ (small_of a) (small_of b) (page_of d) (small_of e) (λ x y z w. refl)
-    (small a) (small b) (page d) (small e)
-    ∙ ap said (sym (four_of line.Work (λ w r. work.Event (event.Begin w r)) (λ t p c. record { task = t; page = p; cpu = c }) (small_of a) (small_of b) (page_of d) (small_of e)))
+    ∙ four (λ x y z w. line.Work (work.Event (event.Begin x (record { task = y; page = z / 4096; cpu = w })))) _ _ _ _ (small_of a) (small_of b) (number_of d) (small_of e) (λ x y z w. refl)
+    (small a) (small b) (any_number d) (small e)
+    ∙ ap said (sym (four_of line.Work (λ w r. work.Event (event.Begin w r)) (λ v. record { task = v.0; page = v.1 / 4096; cpu = v.2 }) (small_of a) (small_of b) (number_of d) (small_of e)))
 says_begin c (a ∷ b ∷ d ∷ e ∷ f ∷ words) = too_many keyword.Begin c (a ∷ b ∷ d ∷ e ∷ f ∷ words) (omega arith) ∙ sym (none_second line.Work (λ w r. work.Event (event.Begin w r)) (small_of a))
 
 says_look : (c : ℕ) (words : List (List ℕ)) → is_some (fault_behind keyword.Look c words) ≡ said (option_map line.Work (look_work words))
@@ -339,9 +369,9 @@ says_look c [] = too_few keyword.Look c [] (omega arith)
 says_look c (a ∷ []) = too_few keyword.Look c (a ∷ []) (omega arith)
 says_look c (a ∷ b ∷ []) =
     enough keyword.Look c (a ∷ b ∷ []) refl
-    ∙ two (λ x y. line.Work (work.Event (event.Look x y))) _ _ (small_of a) (small_of b) (λ x y. refl)
+    ∙ pair (λ v. line.Work (work.Event (event.Look v.0 v.1))) _ _ (small_of a) (small_of b) (λ v. refl)
     (small a) (small b)
-    ∙ ap said (sym (two_of line.Work (λ w b. work.Event (event.Look w b)) (small_of a) (small_of b)))
+    ∙ ap said (sym (mapped line.Work (λ v. work.Event (event.Look v.0 v.1)) (with_two (λ x y. (x, y)) (small_of a) (small_of b))))
 says_look c (a ∷ b ∷ d ∷ words) = too_many keyword.Look c (a ∷ b ∷ d ∷ words) (omega arith)
 
 says_try : (c : ℕ) (words : List (List ℕ)) → is_some (fault_behind keyword.Try c words) ≡ said (option_map line.Work (try_work words))
@@ -373,9 +403,9 @@ says_touch c (a ∷ b ∷ []) = too_few keyword.Touch c (a ∷ b ∷ []) (omega 
 says_touch c (a ∷ b ∷ d ∷ []) = too_few keyword.Touch c (a ∷ b ∷ d ∷ []) (omega arith) ∙ sym (none_second line.Work work.Touch (small_of a))
 says_touch c (a ∷ b ∷ d ∷ e ∷ []) =
     enough keyword.Touch c (a ∷ b ∷ d ∷ e ∷ []) refl
-    ∙ four (λ x y z w. line.Work (work.Touch x (record { task = y; page = z; cpu = w }))) _ _ _ _ (small_of a) (small_of b) (page_of d) (small_of e) (λ x y z w. refl)
-    (small a) (small b) (page d) (small e)
-    ∙ ap said (sym (four_of line.Work work.Touch (λ t p c. record { task = t; page = p; cpu = c }) (small_of a) (small_of b) (page_of d) (small_of e)))
+    ∙ four (λ x y z w. line.Work (work.Touch x (record { task = y; page = z / 4096; cpu = w }))) _ _ _ _ (small_of a) (small_of b) (number_of d) (small_of e) (λ x y z w. refl)
+    (small a) (small b) (any_number d) (small e)
+    ∙ ap said (sym (four_of line.Work work.Touch (λ v. record { task = v.0; page = v.1 / 4096; cpu = v.2 }) (small_of a) (small_of b) (number_of d) (small_of e)))
 says_touch c (a ∷ b ∷ d ∷ e ∷ f ∷ words) = too_many keyword.Touch c (a ∷ b ∷ d ∷ e ∷ f ∷ words) (omega arith) ∙ sym (none_second line.Work work.Touch (small_of a))
 
 says_release : (c : ℕ) (words : List (List ℕ)) → is_some (fault_behind keyword.Release c words) ≡ said (option_map line.Work (release_work words))

@@ -10,7 +10,8 @@ use Rattle.numa_mode.specs.Policy.{Specification}
 use Rattle.numa_space.specs.declared.command.Command.{Command}
 use Rattle.numa_space.specs.declared.command.Command.TheVariants as command
 use Rattle.numa_script.specs.Parts.{words_of}
-use Rattle.numa_script.specs.Present.{with_two, with_three, with_four}
+use Rattle.numa_script.specs.Present.{with_two, with_three, with_four, two_of, three_of}
+use Rattle.numa_script.specs.Present.{four_of}
 use Rattle.numa_script.specs.Tables.{meaning_of}
 use Rattle.numa_script.specs.Numbers.{number_of, small_of, span_pages_of}
 use Rattle.numa_script.specs.Machines.{frames_of, distances_of}
@@ -70,9 +71,8 @@ with_nodes f (Err wrong) = line.Command (Err (fault.List wrong))
 
 -- limits R T C
 abbrev pub limits_line : List (List ℕ) → Option Line
-limits_line (ranges ∷ tasks ∷ commands ∷ []) =
-    with_three line.Limits (small_of ranges) (small_of tasks) (small_of commands)
-limits_line _ = None
+limits_line words =
+    option_map (λ v. line.Limits v.0 v.1 v.2) (three_of small_of small_of small_of words)
 
 -- machine NODES MEM FRAMES DIST
 abbrev pub machine_line : List (List ℕ) → Option Line
@@ -87,16 +87,14 @@ machine_line _ = None
 
 -- map START LENGTH OFFSET
 abbrev pub map_line : List (List ℕ) → Option Line
-map_line (start ∷ size ∷ offset ∷ []) =
-    with_three (λ s l o. line.Command (Ok (command.Map s l o))) (number_of start) (number_of size)
-    (number_of offset)
-map_line _ = None
+map_line words =
+    option_map (λ v. line.Command (Ok (command.Map v.0 v.1 v.2)))
+    (three_of number_of number_of number_of words)
 
 -- unmap START LENGTH
 abbrev pub unmap_line : List (List ℕ) → Option Line
-unmap_line (start ∷ size ∷ []) =
-    with_two (λ s l. line.Command (Ok (command.Unmap s l))) (number_of start) (number_of size)
-unmap_line _ = None
+unmap_line words =
+    option_map (λ v. line.Command (Ok (command.Unmap v.0 v.1))) (two_of number_of number_of words)
 
 -- mbind START LENGTH POLICY
 abbrev pub mbind_line : List (List ℕ) → Option Line
@@ -107,10 +105,9 @@ mbind_line _ = None
 
 -- home START LENGTH NODE
 abbrev pub home_line : List (List ℕ) → Option Line
-home_line (start ∷ size ∷ node ∷ []) =
-    with_three (λ s l n. line.Command (Ok (command.SetHome s l n))) (number_of start)
-    (number_of size) (small_of node)
-home_line _ = None
+home_line words =
+    option_map (λ v. line.Command (Ok (command.SetHome v.0 v.1 v.2)))
+    (three_of number_of number_of small_of words)
 
 -- task TASK POLICY
 abbrev pub task_line : List (List ℕ) → Option Line
@@ -120,9 +117,8 @@ task_line _ = None
 
 -- weight NODE W
 abbrev pub weight_line : List (List ℕ) → Option Line
-weight_line (node ∷ weight ∷ []) =
-    with_two (λ n w. line.Command (Ok (command.SetWeight n w))) (small_of node) (small_of weight)
-weight_line _ = None
+weight_line words =
+    option_map (λ v. line.Command (Ok (command.SetWeight v.0 v.1))) (two_of small_of small_of words)
 
 -- mems LIST
 abbrev pub mems_line : List (List ℕ) → Option Line
@@ -131,10 +127,9 @@ mems_line _ = None
 
 -- place TASK ADDR CPU
 abbrev pub place_line : List (List ℕ) → Option Line
-place_line (task ∷ address ∷ cpu ∷ []) =
-    with_three (λ t a c. line.Question (question.Place t a c)) (small_of task) (number_of address)
-    (small_of cpu)
-place_line _ = None
+place_line words =
+    option_map (λ v. line.Question (question.Place v.0 v.1 v.2))
+    (three_of small_of number_of small_of words)
 
 -- span TASK ADDR PAGES CPU
 abbrev pub span_line : List (List ℕ) → Option Line
@@ -145,10 +140,9 @@ span_line _ = None
 
 -- counts TASK ADDR PAGES CPU
 abbrev pub counts_line : List (List ℕ) → Option Line
-counts_line (task ∷ address ∷ pages ∷ cpu ∷ []) =
-    with_four (λ t a p c. line.Question (question.Counts t a p c)) (small_of task)
-    (number_of address) (number_of pages) (small_of cpu)
-counts_line _ = None
+counts_line words =
+    option_map (λ v. line.Question (question.Counts v.0 v.1 v.2 v.3))
+    (four_of small_of number_of number_of small_of words)
 
 -- ranges
 abbrev pub ranges_line : List (List ℕ) → Option Line

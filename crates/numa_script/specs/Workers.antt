@@ -1,19 +1,19 @@
 -- What the lines of workers ask for.
-use Rattle.std.specs.Prelude.{ℕ, List, [], ◌∷◌, Option, Some, None}
+use Rattle.std.specs.Prelude.{ℕ, ◌/◌, List, [], ◌∷◌, Option, Some, None}
+use Rattle.std.specs.Option.{option_map}
 use Rattle.numa_space.specs.declared.event.Event.TheVariants as event
 use Rattle.numa_machine.specs.declared.frame.Frame.{Frame}
 use Rattle.numa_space.specs.declared.request.Request.{Request}
-use Rattle.numa_script.specs.Numbers.{small_of, page_of, node_of, frame_number_of}
-use Rattle.numa_script.specs.Present.{with_two, with_three}
+use Rattle.numa_script.specs.Numbers.{number_of, small_of, page_of, node_of, frame_number_of}
+use Rattle.numa_script.specs.Present.{with_two, two_of, three_of}
 use Rattle.numa_script.specs.declared.work.Work.{Work}
 use Rattle.numa_script.specs.declared.work.Work.TheVariants as work
 
 -- TASK ADDR CPU: a fault of the task on the page of the address
 abbrev pub request_of : List (List ℕ) → Option Request
-request_of (task ∷ address ∷ cpu ∷ []) =
-    with_three (λ t p c. record { task = t; page = p; cpu = c }) (small_of task) (page_of address)
-    (small_of cpu)
-request_of _ = None
+request_of words =
+    option_map (λ v. record { task = v.0; page = v.1 / 4096; cpu = v.2 })
+    (three_of small_of number_of small_of words)
 
 -- NODE FRAME
 abbrev pub frame_of : List (List ℕ) → Option Frame
@@ -34,9 +34,7 @@ begin_work _ = None
 
 -- look W WORD
 abbrev pub look_work : List (List ℕ) → Option Work
-look_work (worker ∷ word ∷ []) =
-    with_two (λ w b. work.Event (event.Look w b)) (small_of worker) (small_of word)
-look_work _ = None
+look_work words = option_map (λ v. work.Event (event.Look v.0 v.1)) (two_of small_of small_of words)
 
 -- try W NODE FRAME
 abbrev pub try_work : List (List ℕ) → Option Work

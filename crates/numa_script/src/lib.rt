@@ -11,6 +11,7 @@ pub mod number;
 pub mod parameter;
 pub mod parts;
 pub mod policy;
+mod reading;
 pub mod reply;
 mod table;
 pub mod tell;

@@ -11,6 +11,7 @@ use crate::machine::{Distances, Frames};
 use crate::number::{number, small, span_pages};
 use crate::parts::{Parts, words};
 use crate::policy::{WordFault, read_policy};
+use crate::reading::{four, three, two};
 use crate::work::{Work, begin, give, look, publish, release, touch, try_frame};
 use numa_mask::{ListFault, NodeMask, read_list};
 use numa_space::Command;
@@ -100,16 +101,14 @@ pub(crate) fn is_silent_line(line: &[u8]) -> bool
 }
 
 /// `limits R T C`
-fn limits(mut words: Parts) -> Option<Line>
+fn limits(words: Parts) -> Option<Line>
     ensures { result ≡ limits_line words.entry }
 {
-    let ranges = words.next()?;
-    let tasks = words.next()?;
-    let commands = words.only()?;
+    let (ranges, tasks, commands) = three(words)?;
     Some(Line::Limits {
-        ranges: small(ranges)?,
-        tasks: small(tasks)?,
-        commands: small(commands)?,
+        ranges,
+        tasks,
+        commands,
     })
 }
 
@@ -130,29 +129,23 @@ fn machine<'a>(mut words: Parts<'a>) -> Option<Line<'a>>
 }
 
 /// `map START LENGTH OFFSET`
-fn map(mut words: Parts) -> Option<Line>
+fn map(words: Parts) -> Option<Line>
     ensures { result ≡ map_line words.entry }
 {
-    let start = words.next()?;
-    let length = words.next()?;
-    let offset = words.only()?;
+    let (start, length, offset) = three(words)?;
     Some(Line::Command(Ok(Command::Map {
-        start: number(start)?,
-        length: number(length)?,
-        offset: number(offset)?,
+        start,
+        length,
+        offset,
     })))
 }
 
 /// `unmap START LENGTH`
-fn unmap(mut words: Parts) -> Option<Line>
+fn unmap(words: Parts) -> Option<Line>
     ensures { result ≡ unmap_line words.entry }
 {
-    let start = words.next()?;
-    let length = words.only()?;
-    Some(Line::Command(Ok(Command::Unmap {
-        start: number(start)?,
-        length: number(length)?,
-    })))
+    let (start, length) = two(words)?;
+    Some(Line::Command(Ok(Command::Unmap { start, length })))
 }
 
 /// `mbind START LENGTH POLICY`
@@ -175,16 +168,14 @@ fn mbind(mut words: Parts) -> Option<Line>
 }
 
 /// `home START LENGTH NODE`
-fn home(mut words: Parts) -> Option<Line>
+fn home(words: Parts) -> Option<Line>
     ensures { result ≡ home_line words.entry }
 {
-    let start = words.next()?;
-    let length = words.next()?;
-    let node = words.only()?;
+    let (start, length, node) = three(words)?;
     Some(Line::Command(Ok(Command::SetHome {
-        start: number(start)?,
-        length: number(length)?,
-        node: small(node)?,
+        start,
+        length,
+        node,
     })))
 }
 
@@ -202,15 +193,11 @@ fn task(mut words: Parts) -> Option<Line>
 }
 
 /// `weight NODE W`
-fn weight(mut words: Parts) -> Option<Line>
+fn weight(words: Parts) -> Option<Line>
     ensures { result ≡ weight_line words.entry }
 {
-    let node = words.next()?;
-    let weight = words.only()?;
-    Some(Line::Command(Ok(Command::SetWeight {
-        node: small(node)?,
-        weight: small(weight)?,
-    })))
+    let (node, weight) = two(words)?;
+    Some(Line::Command(Ok(Command::SetWeight { node, weight })))
 }
 
 /// `mems LIST`
@@ -224,17 +211,11 @@ fn mems(words: Parts) -> Option<Line>
 }
 
 /// `place TASK ADDR CPU`
-fn place(mut words: Parts) -> Option<Line>
+fn place(words: Parts) -> Option<Line>
     ensures { result ≡ place_line words.entry }
 {
-    let task = words.next()?;
-    let address = words.next()?;
-    let cpu = words.only()?;
-    Some(Line::Question(Question::Place {
-        task: small(task)?,
-        address: number(address)?,
-        cpu: small(cpu)?,
-    }))
+    let (task, address, cpu) = three(words)?;
+    Some(Line::Question(Question::Place { task, address, cpu }))
 }
 
 /// `span TASK ADDR PAGES CPU`
@@ -254,18 +235,15 @@ fn span(mut words: Parts) -> Option<Line>
 }
 
 /// `counts TASK ADDR PAGES CPU`
-fn counts(mut words: Parts) -> Option<Line>
+fn counts(words: Parts) -> Option<Line>
     ensures { result ≡ counts_line words.entry }
 {
-    let task = words.next()?;
-    let address = words.next()?;
-    let pages = words.next()?;
-    let cpu = words.only()?;
+    let (task, address, pages, cpu) = four(words)?;
     Some(Line::Question(Question::Counts {
-        task: small(task)?,
-        address: number(address)?,
-        pages: number(pages)?,
-        cpu: small(cpu)?,
+        task,
+        address,
+        pages,
+        cpu,
     }))
 }
 
@@ -283,8 +261,7 @@ fn ranges(mut words: Parts) -> Option<Line>
 fn maps(words: Parts) -> Option<Line>
     ensures { result ≡ maps_line words.entry }
 {
-    let task = words.only()?;
-    Some(Line::Maps(small(task)?))
+    Some(Line::Maps(small(words.only()?)?))
 }
 
 /// The line that the words after the first write.

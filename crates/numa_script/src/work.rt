@@ -6,8 +6,9 @@ ghost use Rattle.numa_script.specs.Workers.{release_work};
 
 use crate::number::{frame_number, node, page, small};
 use crate::parts::Parts;
+use crate::reading::{three, two};
 use numa_machine::Frame;
-use numa_space::{Event, Request};
+use numa_space::{Event, PAGE_BYTES, Request};
 
 /// Work for a worker, or the publication of the commands so far. Workers are numbered from 0.
 #[derive(Clone, Copy, Debug, PartialEq, Eq)]
@@ -22,17 +23,12 @@ pub enum Work {
 }
 
 /// `TASK ADDR CPU`
-fn request(mut words: Parts) -> Option<Request>
+fn request(words: Parts) -> Option<Request>
     ensures { result ≡ request_of words.entry }
 {
-    let task = words.next()?;
-    let address = words.next()?;
-    let cpu = words.only()?;
-    Some(Request {
-        task: small(task)?,
-        page: page(address)?,
-        cpu: small(cpu)?,
-    })
+    let (task, address, cpu): (u32, u64, u32) = three(words)?;
+    let page = address / PAGE_BYTES;
+    Some(Request { task, page, cpu })
 }
 
 /// `NODE FRAME`
@@ -65,12 +61,11 @@ pub fn begin(mut words: Parts) -> Option<Work>
 }
 
 /// `look W WORD`. `None` is a malformed line.
-pub fn look(mut words: Parts) -> Option<Work>
+pub fn look(words: Parts) -> Option<Work>
     ensures { result ≡ look_work words.entry }
 {
-    let worker = words.next()?;
-    let word = words.only()?;
-    Some(Work::Event(Event::Look(small(worker)?, small(word)?)))
+    let (worker, word) = two(words)?;
+    Some(Work::Event(Event::Look(worker, word)))
 }
 
 /// `try W NODE FRAME`. `None` is a malformed line.

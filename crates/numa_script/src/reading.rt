@@ -1,0 +1,76 @@
+//! Numbers, where a line has just so many words left.
+ghost use Rattle.std.specs.Prelude.{◌≡◌, ℕ, List, Option};
+ghost use Rattle.numa_script.specs.Numbers.{number_of, small_of};
+ghost use Rattle.numa_script.specs.Present.{two_of, three_of, four_of};
+
+use crate::number::{number, small};
+use crate::parts::Parts;
+
+/// A number of so many bits.
+pub(crate) trait FromWord: Copy {
+    ghost of_word: { List ℕ → Option Self };
+
+    /// The number of a word, where it has one of so many bits.
+    fn from_word(word: &[u8]) -> Option<Self>
+        ensures { result ≡ of_word word.now };
+}
+
+impl FromWord for u32 {
+    ghost of_word = { small_of };
+
+    fn from_word(word: &[u8]) -> Option<u32> {
+        small(word)
+    }
+}
+
+impl FromWord for u64 {
+    ghost of_word = { number_of };
+
+    fn from_word(word: &[u8]) -> Option<u64> {
+        number(word)
+    }
+}
+
+/// The numbers of the words, where they are two.
+#[inline(always)]
+pub(crate) fn two<A: FromWord, B: FromWord>(mut words: Parts) -> Option<(A, B)>
+    ensures { result ≡ two_of A.of_word B.of_word words.entry }
+{
+    let first = words.next()?;
+    let second = words.only()?;
+    Some((A::from_word(first)?, B::from_word(second)?))
+}
+
+/// The numbers of the words, where they are three.
+#[inline(always)]
+pub(crate) fn three<A: FromWord, B: FromWord, C: FromWord>(mut words: Parts) -> Option<(A, B, C)>
+    ensures { result ≡ three_of A.of_word B.of_word C.of_word words.entry }
+{
+    let first = words.next()?;
+    let second = words.next()?;
+    let third = words.only()?;
+    Some((
+        A::from_word(first)?,
+        B::from_word(second)?,
+        C::from_word(third)?,
+    ))
+}
+
+/// The numbers of the words, where they are four.
+#[inline(always)]
+pub(crate) fn four<A: FromWord, B: FromWord, C: FromWord, D: FromWord>(
+    mut words: Parts,
+) -> Option<(A, B, C, D)>
+    ensures { result ≡ four_of A.of_word B.of_word C.of_word D.of_word words.entry }
+{
+    let first = words.next()?;
+    let second = words.next()?;
+    let third = words.next()?;
+    let fourth = words.only()?;
+    Some((
+        A::from_word(first)?,
+        B::from_word(second)?,
+        C::from_word(third)?,
+        D::from_word(fourth)?,
+    ))
+}
