@@ -13,7 +13,7 @@ use Rattle.numa_space.specs.declared.command.Command.TheVariants as command
 use Rattle.numa_script.specs.Causes.{parameters_of, form_of, misfit_of, misfit_else, number_misfit, unless_readable, fault_behind, first_misfit, keyword_fault, words_fault, width_of, empty_word, empty_else, is_stray, stray_else, fault_of, is_malformed}
 use Rattle.numa_script.specs.Lines.{keyword_of, line_after, limits_line, machine_line, map_line, unmap_line, mbind_line, home_line, task_line, weight_line, mems_line, place_line, span_line, counts_line, ranges_line, maps_line, words_line, with_policy, with_nodes, is_silent, has_empty_word, line_of}
 use Rattle.numa_script.specs.Machines.{frames_of, distances_of}
-use Rattle.numa_script.specs.Numbers.{below, number_of, small_of, page_of, node_of, frame_number_of, span_pages_of}
+use Rattle.numa_script.specs.Numbers.{below, few_of, number_of, small_of, page_of, node_of, frame_number_of, span_pages_of}
 use Rattle.numa_script.specs.Parts.{words_of}
 use Rattle.numa_script.specs.Policies.{policy_of}
 use Rattle.numa_script.specs.Present.{with_two, with_three, with_four}
@@ -94,6 +94,31 @@ quadruple g m n o p (Some x) None z w well h i j k = rw (h, i) refl
 quadruple g m n o p (Some x) (Some y) None w well h i j k = rw (h, i, j) refl
 quadruple g m n o p (Some x) (Some y) (Some z) None well h i j k = rw (h, i, j, k) refl
 quadruple g m n o p (Some x) (Some y) (Some z) (Some w) well h i j k = rw (h, i, j, k, well (x, y, z, w)) refl
+
+or_true : (b : Bool) → (b || true) ≡ true
+or_true true = refl
+or_true false = refl
+
+few : {A B D : Type 0} (g : A → B → ℕ → D → Line) (o : Bool) (x : A) (y : B) (z : ℕ) (w : D) →
+    is_malformed (g x y z w) ≡ false → o ≡ is_none (below 65537 (Some z)) →
+    (o || false) ≡ said (option_map (λ s. g x y s w) (few_of z))
+few g o x y z w well j =
+    rw j (elim (nat_lt z 65537) as (λ t. (is_none (cond t (Some z) None) || false) ≡ said (option_map (λ s. g x y s w) (cond t (Some z) None))) [
+      | true ↦ sym well
+      | false ↦ refl
+    ])
+
+spanned : {A B D : Type 0} (g : A → B → ℕ → D → Line) (m n o p : Bool)
+    (x : Option A) (y : Option B) (z : Option ℕ) (w : Option D) →
+    ((x : A) (y : B) (z : ℕ) (w : D) → is_malformed (g x y z w) ≡ false) →
+    m ≡ is_none x → n ≡ is_none y → o ≡ is_none (below 65537 z) → p ≡ is_none w →
+    (m || (n || (o || (p || false))))
+    ≡ said (option_and_then (λ (v : A × B × ℕ × D). option_map (λ s. g v.0 v.1 s v.3) (few_of v.2)) (with_four (λ x y z w. (x, y, z, w)) x y z w))
+spanned g m n o p None y z w well h i j k = rw h refl
+spanned g m n o p (Some x) None z w well h i j k = rw (h, i) refl
+spanned g m n o p (Some x) (Some y) None w well h i j k = rw (h, i, j) refl
+spanned g m n o p (Some x) (Some y) (Some z) None well h i j k = rw (h, i, k) (or_true o)
+spanned g m n o p (Some x) (Some y) (Some z) (Some w) well h i j k = rw (h, i, k) (few g o x y z w (well x y z w) j)
 
 -- ---- words against their forms
 
@@ -321,7 +346,7 @@ says_span c (a ∷ b ∷ []) = too_few keyword.Span c (a ∷ b ∷ []) (omega ar
 says_span c (a ∷ b ∷ d ∷ []) = too_few keyword.Span c (a ∷ b ∷ d ∷ []) (omega arith)
 says_span c (a ∷ b ∷ d ∷ e ∷ []) =
     enough keyword.Span c (a ∷ b ∷ d ∷ e ∷ []) refl
-    ∙ four (λ x y z w. line.Question (question.Span x y z w)) _ _ _ _ (small_of a) (number_of b) (span_pages_of d) (small_of e) (λ x y z w. refl)
+    ∙ spanned (λ x y z w. line.Question (question.Span x y z w)) _ _ _ _ (small_of a) (number_of b) (number_of d) (small_of e) (λ x y z w. refl)
     (small a) (any_number b) (span_pages d) (small e)
 says_span c (a ∷ b ∷ d ∷ e ∷ f ∷ words) = too_many keyword.Span c (a ∷ b ∷ d ∷ e ∷ f ∷ words) (omega arith)
 

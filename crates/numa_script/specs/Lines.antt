@@ -10,10 +10,10 @@ use Rattle.numa_mode.specs.Policy.{Specification}
 use Rattle.numa_space.specs.declared.command.Command.{Command}
 use Rattle.numa_space.specs.declared.command.Command.TheVariants as command
 use Rattle.numa_script.specs.Parts.{words_of}
-use Rattle.numa_script.specs.Present.{with_two, with_three, with_four, two_of, three_of}
+use Rattle.numa_script.specs.Present.{with_two, with_three, two_of, three_of}
 use Rattle.numa_script.specs.Present.{four_of}
 use Rattle.numa_script.specs.Tables.{meaning_of}
-use Rattle.numa_script.specs.Numbers.{number_of, small_of, span_pages_of}
+use Rattle.numa_script.specs.Numbers.{number_of, small_of, few_of}
 use Rattle.numa_script.specs.Machines.{frames_of, distances_of}
 use Rattle.numa_script.specs.Policies.{policy_of}
 use Rattle.numa_script.specs.Workers.{publish_work, begin_work, look_work, try_work, give_work}
@@ -133,10 +133,9 @@ place_line words =
 
 -- span TASK ADDR PAGES CPU
 abbrev pub span_line : List (List ℕ) → Option Line
-span_line (task ∷ address ∷ pages ∷ cpu ∷ []) =
-    with_four (λ t a p c. line.Question (question.Span t a p c)) (small_of task) (number_of address)
-    (span_pages_of pages) (small_of cpu)
-span_line _ = None
+span_line words =
+    option_and_then (λ v. option_map (λ pages. line.Question (question.Span v.0 v.1 pages v.3))
+    (few_of v.2)) (four_of small_of number_of number_of small_of words)
 
 -- counts TASK ADDR PAGES CPU
 abbrev pub counts_line : List (List ℕ) → Option Line

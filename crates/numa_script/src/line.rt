@@ -1,5 +1,6 @@
 //! What a line of a script says.
 ghost use Rattle.std.specs.Prelude.{◌≡◌, ◌==◌, ◌+◌, ◌≤◌, ◌<◌, ℕ, List, length, Option};
+ghost use Rattle.std.specs.Option.{option_map};
 ghost use Rattle.numa_script.specs.Lines.{limits_line, machine_line, map_line, unmap_line};
 ghost use Rattle.numa_script.specs.Lines.{mbind_line, home_line, task_line, weight_line, mems_line};
 ghost use Rattle.numa_script.specs.Lines.{place_line, span_line, counts_line, ranges_line};
@@ -8,7 +9,7 @@ ghost use Rattle.numa_script.specs.Lines.{has_empty_word, line_of};
 
 use crate::keyword::{Keyword, read_keyword};
 use crate::machine::{Distances, Frames};
-use crate::number::{number, small, span_pages};
+use crate::number::{few_pages, number, small};
 use crate::parts::{Parts, words};
 use crate::policy::{WordFault, read_policy};
 use crate::reading::{four, three, two};
@@ -219,18 +220,16 @@ fn place(words: Parts) -> Option<Line>
 }
 
 /// `span TASK ADDR PAGES CPU`
-fn span(mut words: Parts) -> Option<Line>
+fn span(words: Parts) -> Option<Line>
     ensures { result ≡ span_line words.entry }
 {
-    let task = words.next()?;
-    let address = words.next()?;
-    let pages = words.next()?;
-    let cpu = words.only()?;
+    let (task, address, pages, cpu) = four(words)?;
+    let pages = few_pages(pages)?;
     Some(Line::Question(Question::Span {
-        task: small(task)?,
-        address: number(address)?,
-        pages: span_pages(pages)?,
-        cpu: small(cpu)?,
+        task,
+        address,
+        pages,
+        cpu,
     }))
 }
 
@@ -264,6 +263,13 @@ fn maps(words: Parts) -> Option<Line>
     Some(Line::Maps(small(words.only()?)?))
 }
 
+/// The line of what workers have to do.
+fn work_line<'a>(work: Option<Work>) -> Option<Line<'a>>
+    ensures { result ≡ option_map Line.Work work }
+{
+    Some(Line::Work(work?))
+}
+
 /// The line that the words after the first write.
 fn line_after(keyword: Keyword, words: Parts) -> Option<Line>
     ensures { result ≡ line_after keyword words.entry }
@@ -283,13 +289,13 @@ fn line_after(keyword: Keyword, words: Parts) -> Option<Line>
         Keyword::Counts => counts(words),
         Keyword::Ranges => ranges(words),
         Keyword::Maps => maps(words),
-        Keyword::Publish => Some(Line::Work(publish(words)?)),
-        Keyword::Begin => Some(Line::Work(begin(words)?)),
-        Keyword::Look => Some(Line::Work(look(words)?)),
-        Keyword::Try => Some(Line::Work(try_frame(words)?)),
-        Keyword::Give => Some(Line::Work(give(words)?)),
-        Keyword::Touch => Some(Line::Work(touch(words)?)),
-        Keyword::Release => Some(Line::Work(release(words)?)),
+        Keyword::Publish => work_line(publish(words)),
+        Keyword::Begin => work_line(begin(words)),
+        Keyword::Look => work_line(look(words)),
+        Keyword::Try => work_line(try_frame(words)),
+        Keyword::Give => work_line(give(words)),
+        Keyword::Touch => work_line(touch(words)),
+        Keyword::Release => work_line(release(words)),
     }
 }
 

@@ -2,7 +2,7 @@
 ghost use Rattle.std.specs.Prelude.{◌≡◌, ℕ, ◌+◌, ◌*◌, ◌^◌, ◌<◌, ◌≤◌, List, MatchOption, IfSome};
 ghost use Rattle.numa_script.specs.Numbers.{digit_of, in_64_bits, numeral_of, number_of, small_of};
 ghost use Rattle.numa_script.specs.Numbers.{item_of, page_of, node_of, frame_number_of};
-ghost use Rattle.numa_script.specs.Numbers.{span_pages_of, below, IsNumber};
+ghost use Rattle.numa_script.specs.Numbers.{few_of, span_pages_of, below, IsNumber};
 
 use numa_space::PAGE_BYTES;
 
@@ -43,10 +43,7 @@ fn numeral(digits: &[u8], radix: u32, most: usize) -> Option<u64>
     requires high { radix ≤ 36 }
     ensures { result ≡ numeral_of radix most digits.now }
 {
-    if digits.is_empty() {
-        return None;
-    }
-    if digits.len() > most {
+    if digits.is_empty() || digits.len() > most {
         return None;
     }
     let mut value = 0u64;
@@ -62,10 +59,7 @@ fn numeral(digits: &[u8], radix: u32, most: usize) -> Option<u64>
 fn hexadecimal(digits: &[u8]) -> Option<u64>
     ensures { result ≡ numeral_of 16 16 digits.now }
 {
-    if digits.is_empty() {
-        return None;
-    }
-    if digits.len() > HEXADECIMAL_DIGITS {
+    if digits.is_empty() || digits.len() > HEXADECIMAL_DIGITS {
         return None;
     }
     let mut value = 0u64;
@@ -133,13 +127,19 @@ pub fn frame_number(word: &[u8]) -> Option<u16>
     u16::try_from(number(word)?).ok()
 }
 
-/// The pages of a span, where they are at most 65,536.
-pub fn span_pages(word: &[u8]) -> Option<u32>
-    ensures { result ≡ span_pages_of word.now }
+/// So many pages, where a span may have them: at most 65,536.
+pub(crate) fn few_pages(pages: u64) -> Option<u32>
+    ensures { result ≡ few_of pages }
 {
-    let pages = number(word)?;
     if pages > 65536 {
         return None;
     }
     u32::try_from(pages).ok()
+}
+
+/// The pages of a span, where they are at most 65,536.
+pub fn span_pages(word: &[u8]) -> Option<u32>
+    ensures { result ≡ span_pages_of word.now }
+{
+    few_pages(number(word)?)
 }

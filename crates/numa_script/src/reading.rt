@@ -7,58 +7,54 @@ use crate::number::{number, small};
 use crate::parts::Parts;
 
 /// A number of so many bits.
-pub(crate) trait FromWord: Copy {
+pub(crate) trait Number: Copy {
     ghost of_word: { List ℕ → Option Self };
 
     /// The number of a word, where it has one of so many bits.
-    fn from_word(word: &[u8]) -> Option<Self>
+    fn of(word: &[u8]) -> Option<Self>
         ensures { result ≡ of_word word.now };
 }
 
-impl FromWord for u32 {
+impl Number for u32 {
     ghost of_word = { small_of };
 
-    fn from_word(word: &[u8]) -> Option<u32> {
+    fn of(word: &[u8]) -> Option<u32> {
         small(word)
     }
 }
 
-impl FromWord for u64 {
+impl Number for u64 {
     ghost of_word = { number_of };
 
-    fn from_word(word: &[u8]) -> Option<u64> {
+    fn of(word: &[u8]) -> Option<u64> {
         number(word)
     }
 }
 
 /// The numbers of the words, where they are two.
 #[inline(always)]
-pub(crate) fn two<A: FromWord, B: FromWord>(mut words: Parts) -> Option<(A, B)>
+pub(crate) fn two<A: Number, B: Number>(mut words: Parts) -> Option<(A, B)>
     ensures { result ≡ two_of A.of_word B.of_word words.entry }
 {
     let first = words.next()?;
     let second = words.only()?;
-    Some((A::from_word(first)?, B::from_word(second)?))
+    Some((A::of(first)?, B::of(second)?))
 }
 
 /// The numbers of the words, where they are three.
 #[inline(always)]
-pub(crate) fn three<A: FromWord, B: FromWord, C: FromWord>(mut words: Parts) -> Option<(A, B, C)>
+pub(crate) fn three<A: Number, B: Number, C: Number>(mut words: Parts) -> Option<(A, B, C)>
     ensures { result ≡ three_of A.of_word B.of_word C.of_word words.entry }
 {
     let first = words.next()?;
     let second = words.next()?;
     let third = words.only()?;
-    Some((
-        A::from_word(first)?,
-        B::from_word(second)?,
-        C::from_word(third)?,
-    ))
+    Some((A::of(first)?, B::of(second)?, C::of(third)?))
 }
 
 /// The numbers of the words, where they are four.
 #[inline(always)]
-pub(crate) fn four<A: FromWord, B: FromWord, C: FromWord, D: FromWord>(
+pub(crate) fn four<A: Number, B: Number, C: Number, D: Number>(
     mut words: Parts,
 ) -> Option<(A, B, C, D)>
     ensures { result ≡ four_of A.of_word B.of_word C.of_word D.of_word words.entry }
@@ -67,10 +63,5 @@ pub(crate) fn four<A: FromWord, B: FromWord, C: FromWord, D: FromWord>(
     let second = words.next()?;
     let third = words.next()?;
     let fourth = words.only()?;
-    Some((
-        A::from_word(first)?,
-        B::from_word(second)?,
-        C::from_word(third)?,
-        D::from_word(fourth)?,
-    ))
+    Some((A::of(first)?, B::of(second)?, C::of(third)?, D::of(fourth)?))
 }
