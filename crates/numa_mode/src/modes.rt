@@ -26,6 +26,17 @@ pub enum Mode {
     WeightedInterleave,
 }
 
+/// The names that numa_maps gives the modes, in their order.
+static MODE_TEXTS: [&str; 7] = [
+    "default",
+    "prefer",
+    "bind",
+    "interleave",
+    "local",
+    "prefer (many)",
+    "weighted interleave",
+];
+
 impl Mode {
     /// The mode of a number.
     pub(crate) fn numbered(number: u32) -> Option<Mode>
@@ -48,15 +59,7 @@ impl Mode {
         ensures text { result.now ≡ mode_text self }
         ensures short { length result.now ≤ 19 }
     {
-        match self {
-            Mode::Default => "default",
-            Mode::Preferred => "prefer",
-            Mode::Bind => "bind",
-            Mode::Interleave => "interleave",
-            Mode::Local => "local",
-            Mode::PreferredMany => "prefer (many)",
-            Mode::WeightedInterleave => "weighted interleave",
-        }
+        MODE_TEXTS[self as usize]
     }
 
     /// The mode word that asks for this mode with these flags, as set_mempolicy(2) takes it. Bits
