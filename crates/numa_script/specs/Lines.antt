@@ -11,7 +11,7 @@ use Rattle.numa_space.specs.declared.command.Command.{Command}
 use Rattle.numa_space.specs.declared.command.Command.TheVariants as command
 use Rattle.numa_script.specs.Parts.{words_of}
 use Rattle.numa_script.specs.Present.{with_two, with_three, two_of, three_of}
-use Rattle.numa_script.specs.Present.{four_of}
+use Rattle.numa_script.specs.Present.{four_of, two_words, three_words, four_words}
 use Rattle.numa_script.specs.Tables.{meaning_of}
 use Rattle.numa_script.specs.Numbers.{number_of, small_of, few_of}
 use Rattle.numa_script.specs.Machines.{frames_of, distances_of}
@@ -76,14 +76,13 @@ limits_line words =
 
 -- machine NODES MEM FRAMES DIST
 abbrev pub machine_line : List (List ℕ) → Option Line
-machine_line (nodes ∷ memory ∷ frames ∷ distances ∷ []) =
-    with_three (λ n f d. line.Machine (record {
+machine_line words =
+    option_and_then (λ v. with_three (λ n f d. line.Machine (record {
       nodes = n;
-      memory = list_of memory;
+      memory = list_of v.1;
       frames = f;
       distances = d;
-    })) (small_of nodes) (frames_of frames) (distances_of distances)
-machine_line _ = None
+    })) (small_of v.0) (frames_of v.2) (distances_of v.3)) (four_words words)
 
 -- map START LENGTH OFFSET
 abbrev pub map_line : List (List ℕ) → Option Line
@@ -98,10 +97,9 @@ unmap_line words =
 
 -- mbind START LENGTH POLICY
 abbrev pub mbind_line : List (List ℕ) → Option Line
-mbind_line (start ∷ size ∷ policy ∷ []) =
-    with_two (λ s l. with_policy (command.Mbind s l) (policy_of policy)) (number_of start)
-    (number_of size)
-mbind_line _ = None
+mbind_line words =
+    option_and_then (λ v. with_two (λ s l. with_policy (command.Mbind s l) (policy_of v.2))
+    (number_of v.0) (number_of v.1)) (three_words words)
 
 -- home START LENGTH NODE
 abbrev pub home_line : List (List ℕ) → Option Line
@@ -111,9 +109,9 @@ home_line words =
 
 -- task TASK POLICY
 abbrev pub task_line : List (List ℕ) → Option Line
-task_line (task ∷ policy ∷ []) =
-    option_map (λ t. with_policy (command.SetTask t) (policy_of policy)) (small_of task)
-task_line _ = None
+task_line words =
+    option_and_then (λ v. option_map (λ t. with_policy (command.SetTask t) (policy_of v.1))
+    (small_of v.0)) (two_words words)
 
 -- weight NODE W
 abbrev pub weight_line : List (List ℕ) → Option Line

@@ -1,5 +1,5 @@
 -- Values that are there only together.
-use Rattle.std.specs.Prelude.{ℕ, Option, Some, None, List, [], ◌∷◌}
+use Rattle.std.specs.Prelude.{ℕ, Option, Some, None, option_and_then, List, [], ◌∷◌}
 
 -- what the function makes of the values, where each is there
 abbrev pub with_two : {A B C : Type 0} → (A → B → C) → Option A → Option B → Option C
@@ -27,19 +27,32 @@ abbrev pub each_of : {A B : Type 0} → (A → Option B) → List A → Option (
 each_of f [] = Some []
 each_of f (x ∷ xs) = with_two (λ y ys. y ∷ ys) (f x) (each_of f xs)
 
+-- the words, where they are so many
+abbrev pub two_words : List (List ℕ) → Option (List ℕ × List ℕ)
+two_words (a ∷ b ∷ []) = Some (a, b)
+two_words _ = None
+
+abbrev pub three_words : List (List ℕ) → Option (List ℕ × List ℕ × List ℕ)
+three_words (a ∷ b ∷ c ∷ []) = Some (a, b, c)
+three_words _ = None
+
+abbrev pub four_words : List (List ℕ) → Option (List ℕ × List ℕ × List ℕ × List ℕ)
+four_words (a ∷ b ∷ c ∷ d ∷ []) = Some (a, b, c, d)
+four_words _ = None
+
 -- the values of the words, where they are so many and each has one
 abbrev pub two_of : {A B : Type 0} → (List ℕ → Option A) → (List ℕ → Option B) → List (List ℕ)
     → Option (A × B)
-two_of f g (a ∷ b ∷ []) = with_two (λ x y. (x, y)) (f a) (g b)
-two_of f g _ = None
+two_of f g words = option_and_then (λ v. with_two (λ x y. (x, y)) (f v.0) (g v.1)) (two_words words)
 
 abbrev pub three_of : {A B C : Type 0} → (List ℕ → Option A) → (List ℕ → Option B)
     → (List ℕ → Option C) → List (List ℕ) → Option (A × B × C)
-three_of f g h (a ∷ b ∷ c ∷ []) = with_three (λ x y z. (x, y, z)) (f a) (g b) (h c)
-three_of f g h _ = None
+three_of f g h words =
+    option_and_then (λ v. with_three (λ x y z. (x, y, z)) (f v.0) (g v.1) (h v.2))
+    (three_words words)
 
 abbrev pub four_of : {A B C D : Type 0} → (List ℕ → Option A) → (List ℕ → Option B)
     → (List ℕ → Option C) → (List ℕ → Option D) → List (List ℕ) → Option (A × B × C × D)
-four_of f g h i (a ∷ b ∷ c ∷ d ∷ []) =
-    with_four (λ x y z w. (x, y, z, w)) (f a) (g b) (h c) (i d)
-four_of f g h i _ = None
+four_of f g h i words =
+    option_and_then (λ v. with_four (λ x y z w. (x, y, z, w)) (f v.0) (g v.1) (h v.2) (i v.3))
+    (four_words words)

@@ -1,11 +1,11 @@
 -- What the lines of workers ask for.
-use Rattle.std.specs.Prelude.{ℕ, ◌/◌, List, [], ◌∷◌, Option, Some, None}
+use Rattle.std.specs.Prelude.{ℕ, ◌/◌, List, [], ◌∷◌, Option, Some, None, option_and_then}
 use Rattle.std.specs.Option.{option_map}
 use Rattle.numa_space.specs.declared.event.Event.TheVariants as event
 use Rattle.numa_machine.specs.declared.frame.Frame.{Frame}
 use Rattle.numa_space.specs.declared.request.Request.{Request}
 use Rattle.numa_script.specs.Numbers.{number_of, small_of, page_of, node_of, frame_number_of}
-use Rattle.numa_script.specs.Present.{with_two, two_of, three_of}
+use Rattle.numa_script.specs.Present.{with_two, two_words, two_of, three_of}
 use Rattle.numa_script.specs.declared.work.Work.{Work}
 use Rattle.numa_script.specs.declared.work.Work.TheVariants as work
 
@@ -17,9 +17,9 @@ request_of words =
 
 -- NODE FRAME
 abbrev pub frame_of : List (List ℕ) → Option Frame
-frame_of (node ∷ number ∷ []) =
-    with_two (λ n k. record { node = n; number = k }) (node_of node) (frame_number_of number)
-frame_of _ = None
+frame_of words =
+    option_and_then (λ v. with_two (λ n k. record { node = n; number = k }) (node_of v.0)
+    (frame_number_of v.1)) (two_words words)
 
 -- publish
 abbrev pub publish_work : List (List ℕ) → Option Work
@@ -55,5 +55,5 @@ touch_work _ = None
 
 -- release W ADDR
 abbrev pub release_work : List (List ℕ) → Option Work
-release_work (worker ∷ address ∷ []) = with_two work.Release (small_of worker) (page_of address)
-release_work _ = None
+release_work words =
+    option_and_then (λ v. with_two work.Release (small_of v.0) (page_of v.1)) (two_words words)

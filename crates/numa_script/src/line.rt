@@ -12,7 +12,7 @@ use crate::machine::{Distances, Frames};
 use crate::number::{few_pages, number, small};
 use crate::parts::{Parts, words};
 use crate::policy::{WordFault, read_policy};
-use crate::reading::{four, three, two};
+use crate::reading::{four, four_words, three, three_words, two, two_words};
 use crate::work::{Work, begin, give, look, publish, release, touch, try_frame};
 use numa_mask::{ListFault, NodeMask, read_list};
 use numa_space::Command;
@@ -114,13 +114,10 @@ fn limits(words: Parts) -> Option<Line>
 }
 
 /// `machine NODES MEM FRAMES DIST`
-fn machine<'a>(mut words: Parts<'a>) -> Option<Line<'a>>
+fn machine<'a>(words: Parts<'a>) -> Option<Line<'a>>
     ensures { result ≡ machine_line words.entry }
 {
-    let nodes = words.next()?;
-    let memory = words.next()?;
-    let frames = words.next()?;
-    let distances = words.only()?;
+    let (nodes, memory, frames, distances) = four_words(words)?;
     Some(Line::Machine(MachineLine {
         nodes: small(nodes)?,
         memory: read_list(memory),
@@ -150,12 +147,10 @@ fn unmap(words: Parts) -> Option<Line>
 }
 
 /// `mbind START LENGTH POLICY`
-fn mbind(mut words: Parts) -> Option<Line>
+fn mbind(words: Parts) -> Option<Line>
     ensures { result ≡ mbind_line words.entry }
 {
-    let start = words.next()?;
-    let length = words.next()?;
-    let policy = words.only()?;
+    let (start, length, policy) = three_words(words)?;
     let start = number(start)?;
     let length = number(length)?;
     match read_policy(policy) {
@@ -181,11 +176,10 @@ fn home(words: Parts) -> Option<Line>
 }
 
 /// `task TASK POLICY`
-fn task(mut words: Parts) -> Option<Line>
+fn task(words: Parts) -> Option<Line>
     ensures { result ≡ task_line words.entry }
 {
-    let task = words.next()?;
-    let policy = words.only()?;
+    let (task, policy) = two_words(words)?;
     let task = small(task)?;
     match read_policy(policy) {
         Ok(spec) => Some(Line::Command(Ok(Command::SetTask { task, spec }))),

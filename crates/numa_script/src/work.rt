@@ -6,7 +6,7 @@ ghost use Rattle.numa_script.specs.Workers.{release_work};
 
 use crate::number::{frame_number, node, page, small};
 use crate::parts::Parts;
-use crate::reading::{three, two};
+use crate::reading::{three, two, two_words};
 use numa_machine::Frame;
 use numa_space::{Event, PAGE_BYTES, Request};
 
@@ -32,11 +32,10 @@ fn request(words: Parts) -> Option<Request>
 }
 
 /// `NODE FRAME`
-fn frame(mut words: Parts) -> Option<Frame>
+fn frame(words: Parts) -> Option<Frame>
     ensures { result ≡ frame_of words.entry }
 {
-    let node_word = words.next()?;
-    let number_word = words.only()?;
+    let (node_word, number_word) = two_words(words)?;
     Some(Frame {
         node: node(node_word)?,
         number: frame_number(number_word)?,
@@ -90,10 +89,9 @@ pub fn touch(mut words: Parts) -> Option<Work>
 }
 
 /// `release W ADDR`. `None` is a malformed line.
-pub fn release(mut words: Parts) -> Option<Work>
+pub fn release(words: Parts) -> Option<Work>
     ensures { result ≡ release_work words.entry }
 {
-    let worker = words.next()?;
-    let address = words.only()?;
+    let (worker, address) = two_words(words)?;
     Some(Work::Release(small(worker)?, page(address)?))
 }
