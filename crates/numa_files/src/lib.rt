@@ -2,10 +2,12 @@
 //! script.
 #![tactic(auto)]
 
+mod answer;
 pub mod echo;
 pub mod expect;
 pub mod joined;
 pub mod reading;
+mod told;
 pub mod worked;
 
 pub use echo::{Echo, say_echo};

@@ -50,14 +50,21 @@ pub trait TakeText {
     fn end(&mut self) -> Result<(), Stop>;
 }
 
-/// Reads a text to its end. How many of the reads that may be made are left.
-fn read_one<R: Read, T: TakeText>(reader: &mut R, reads: u64, taker: &mut T) -> Result<u64, Stop> {
+/// Reads the text of this name to its end. How many of the reads that may be made are left.
+fn read_one<R: Read, T: TakeText>(
+    name: &str,
+    reader: &mut R,
+    reads: u64,
+    taker: &mut T,
+) -> Result<u64, Stop> {
+    taker.begin(name)?;
     let mut buffer = [0u8; 4096];
     for made in 0..reads {
         let Ok(count) = reader.read(&mut buffer) else {
             return Err(Stop::Read);
         };
         if count == 0 {
+            taker.end()?;
             return Ok(reads - made - 1);
         }
         taker.take(&buffer[..count])?;
@@ -75,9 +82,7 @@ pub fn read_all<R: Read + Drop, T: TakeText>(
 ) -> Result<(), Stop> {
     let mut reads = READS;
     for (name, mut reader) in texts {
-        taker.begin(name.as_str())?;
-        reads = read_one(&mut reader, reads, taker)?;
-        taker.end()?;
+        reads = read_one(name.as_str(), &mut reader, reads, taker)?;
     }
     Ok(())
 }
@@ -114,11 +119,12 @@ impl<T: TakeLine> Lines<T> {
 
     /// Hands the line on, and opens the next.
     fn end_line(&mut self) -> Result<(), Stop> {
-        self.taker
-            .take(self.name.as_str(), self.place, self.line.as_slice())?;
+        let taken = self
+            .taker
+            .take(self.name.as_str(), self.place, self.line.as_slice());
         self.place = self.place.saturating_add(1);
         self.line.clear();
-        Ok(())
+        taken
     }
 
     /// Takes one byte.
