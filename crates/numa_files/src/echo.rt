@@ -1,25 +1,18 @@
 //! Script lines, each with what it was answered, as worked scripts hold them.
-ghost use Rattle.std.specs.Prelude.{◌≡◌, ◌==◌, ◌<◌, ◌++◌, length, position, OnOk, IfSome};
+ghost use Rattle.std.specs.Prelude.{◌≡◌, ◌++◌, OnOk};
 ghost use Rattle.numa_files.specs.Echo.{echo_of, is_one_line, with_marks};
 
 use crate::expect::Respond;
 use crate::reading::{Stop, TakeLine};
+use memchr::memchr;
 use std::alloc::{AllocError, Global};
 use std::io::Write;
-
-/// Where the first line feed is.
-fn first_end(text: &[u8]) -> Option<usize>
-    ensures value { result ≡ position (λ b. b == 10) text.now }
-    ensures bound { IfSome result (λ end. end < length text.now) }
-{
-    text.iter().position(|byte| *byte == b'\n')
-}
 
 /// Whether the answer is one line, with its line feed.
 fn is_one_line(answer: &[u8]) -> bool
     ensures { result ≡ is_one_line answer.now }
 {
-    match first_end(answer) {
+    match memchr(b'\n', answer) {
         Some(end) => end + 1 == answer.len(),
         None => false,
     }

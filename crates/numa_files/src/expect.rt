@@ -105,7 +105,8 @@ impl<W: Write> Comparison<W> {
     fn begin(&mut self, name: &str) -> Result<(), Stop> {
         self.name = String::from_str(self.alloc, name)?;
         self.place = 1;
-        self.told.reserve()
+        self.told.reserve();
+        self.told.outcome
     }
 
     /// Tells some text, where there was memory for it.
@@ -243,16 +244,20 @@ impl<W: Write> Comparison<W> {
         }
     }
 
-    /// Takes the script line before the mark in the line at hand, which ends there in a piece, and
-    /// what it is to be answered.
-    fn take_answered<A: Respond>(&mut self, answerer: &mut A, piece: &[u8], mark: usize, end: usize)
-        requires { (mark + 4 ≤ end) × (end < length piece.now) }
+    /// Takes a line that ends there in a piece, lies whole in it and shows there what it holds.
+    fn take_line<A: Respond>(&mut self, answerer: &mut A, piece: &[u8], end: usize)
+        requires { end < length piece.now }
     {
-        self.ask(answerer, &piece[..mark]);
-        if self.end_whole(&piece[mark + 4..end + 1]) {
-            return;
+        let line = &piece[..end];
+        if let LineForm::Answered(mark) = read_form(line) {
+            self.ask(answerer, &piece[..mark]);
+            if self.end_whole(&piece[mark + 4..end + 1]) {
+                return;
+            }
+            self.want_from(&piece[mark + 4..end]);
+        } else {
+            self.take_head(answerer, line);
         }
-        self.want_from(&piece[mark + 4..end]);
         self.end_line();
     }
 }
@@ -300,17 +305,11 @@ impl<A: Respond, W: Write> Expect<A, W> {
     fn take_rest(&mut self, piece: &[u8], end: usize)
         requires { end < length piece.now }
     {
-        let rest = &piece[..end];
-        if !self.is_new() || end > HEAD {
-            self.feed(rest);
-            return self.end_line();
+        if end <= HEAD && self.is_new() {
+            return self.comparison.take_line(&mut self.answerer, piece, end);
         }
-        let answerer = &mut self.answerer;
-        if let LineForm::Answered(mark) = read_form(rest) {
-            return self.comparison.take_answered(answerer, piece, mark, end);
-        }
-        self.comparison.take_head(answerer, rest);
-        self.comparison.end_line();
+        self.feed(&piece[..end]);
+        self.end_line();
     }
 
     /// Takes the first bytes of the line at hand, up to those that show what it holds, and tells

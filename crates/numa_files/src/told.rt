@@ -26,9 +26,10 @@ impl<W: Write> Told<W> {
     }
 
     /// Takes the memory for what is gathered.
-    pub(crate) fn reserve(&mut self) -> Result<(), Stop> {
-        self.text.reserve(2 * GATHERED)?;
-        Ok(())
+    pub(crate) fn reserve(&mut self) {
+        if self.text.reserve(2 * GATHERED).is_err() {
+            self.stop(Stop::Memory);
+        }
     }
 
     /// Tells nothing more, for this fault.
@@ -40,7 +41,10 @@ impl<W: Write> Told<W> {
 
     /// Writes what is to be written.
     pub(crate) fn flush(&mut self) -> Result<(), Stop> {
-        if self.outcome.is_ok() && self.output.write_all(self.text.as_slice()).is_err() {
+        if self.outcome.is_err() {
+            return self.outcome;
+        }
+        if self.output.write_all(self.text.as_slice()).is_err() {
             self.outcome = Err(Stop::Write);
         }
         self.text.clear();
