@@ -28,7 +28,10 @@ impl Replaying {
     pub fn new(alloc: Global, machine: &Machine, plan: Plan) -> Result<Replaying, AllocError>
         ensures { IfOk result (IsBegun machine.now plan) }
     {
-        let replay = Replay::new(alloc, machine)?;
+        let Ok(replay) = Replay::new(alloc, machine) else {
+            drop(plan);
+            return Err(AllocError);
+        };
         Ok(Replaying {
             plan,
             replay,
@@ -95,6 +98,9 @@ pub fn replay_lines<R: Read + Drop>(
     replaying: Replaying,
 ) -> Result<Replaying, Stop> {
     let mut lines = Lines::new(alloc, replaying);
-    read_all(trace, &mut lines)?;
+    if let Err(why) = read_all(trace, &mut lines) {
+        drop(lines);
+        return Err(why);
+    }
     Ok(lines.taker)
 }

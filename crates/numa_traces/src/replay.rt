@@ -1,7 +1,7 @@
 //! A trace that is replayed, access by access.
-ghost use Rattle.std.specs.Prelude.{◌≡◌, ◌∷◌, [], List, IfOk, IfErr, OnOk};
+ghost use Rattle.std.specs.Prelude.{◌≡◌, ◌<◌, ◌∷◌, [], List, Some, IfOk, IfErr, OnOk};
 ghost use Rattle.numa_machine.specs.Machine.{Hardware};
-ghost use Rattle.numa_plan.specs.Meaning.{PlanData};
+ghost use Rattle.numa_plan.specs.Meaning.{PlanData, place_refusal, planned_list};
 ghost use Rattle.numa_traces.specs.Replaying.{EndsReplay, IsReplay};
 ghost use Rattle.numa_traces.specs.declared.access.Access.{Access};
 
@@ -11,6 +11,7 @@ use crate::memory::Memory;
 use crate::tallies::Tallies;
 use numa_machine::Machine;
 use numa_plan::{Plan, Steps};
+use numa_space::PlaceRefusal;
 use std::alloc::{AllocError, Global};
 use std::marker::Model;
 
@@ -27,6 +28,16 @@ impl Model for Replay {
     ghost Value = { Replayed };
 
     ghost view = { λ a. record { frames = a.memory; tallies = a.tallies } };
+}
+
+/// The nodes on which the first touch of an access looks for a frame.
+fn nodes_for(plan: &Plan, access: Access) -> Result<&[u8], PlaceRefusal>
+    ensures ok { IfOk result (λ row. (access.cpu < plan.now.nodes)
+        × (planned_list plan.now access.task access.page access.cpu ≡ Some row.now)) }
+    ensures err { IfErr result (λ refusal. place_refusal plan.now access.page access.cpu
+        ≡ Some refusal) }
+{
+    plan.choice(access.task, access.page, access.cpu, &mut Steps::new())
 }
 
 impl Replay {
@@ -61,7 +72,7 @@ impl Replay {
         ensures err { IfErr result (EndsReplay plan.now self.old access) }
     {
         let (task, page, cpu) = (access.task, access.page, access.cpu);
-        let list = match plan.choice(task, page, cpu, &mut Steps::new()) {
+        let list = match nodes_for(plan, access) {
             Ok(list) => list,
             Err(refusal) => return Err(ReplayFault::Refused(refusal)),
         };

@@ -8,7 +8,7 @@ use std::alloc::{AllocError, Global};
 use std::fmt::Write;
 
 /// How a report is written.
-#[derive(Clone, Copy, Debug, PartialEq, Eq)]
+#[derive(Clone, Copy, Debug)]
 pub enum Shape {
     /// A line for each task, and one for all.
     Text,
@@ -29,46 +29,83 @@ struct Sheet {
     of_all: Summary,
 }
 
-/// Each count that isn't 0, behind a letter and its number.
+/// Appends numbers, each behind its words.
+fn push_numbers(text: &mut String, said: &[(&str, u64)]) -> Result<(), AllocError> {
+    for (words, number) in said {
+        write!(text, "{}{}", words, number)?;
+    }
+    Ok(())
+}
+
+/// Appends each count that isn't 0, behind a letter and its number.
 fn push_counts(text: &mut String, letter: &str, counts: &[u64; 256]) -> Result<(), AllocError> {
     for number in 0..256 {
         if counts[number] > 0 {
-            write!(text, " {}{}={}", letter, number, counts[number])?;
+            push_numbers(text, &[(letter, number as u64), ("=", counts[number])])?;
         }
     }
     Ok(())
 }
 
-/// The fields of a line.
+/// Appends the fields of a line behind the number of accesses.
 fn push_line(text: &mut String, said: &Summary) -> Result<(), AllocError> {
-    write!(text, " accesses={}", said.accesses)?;
-    push_counts(text, "N", &said.nodes)?;
-    push_counts(text, "D", &said.distances)?;
-    write!(
-        text,
-        " placed={} exhausted={} unserved={}\n",
-        said.placed, said.exhausted, said.unserved
-    )?;
+    let faults = [
+        (" placed=", said.placed),
+        (" exhausted=", said.exhausted),
+        (" unserved=", said.unserved),
+    ];
+    push_counts(text, " N", &said.nodes)?;
+    push_counts(text, " D", &said.distances)?;
+    push_numbers(text, &faults)?;
+    text.push_str("\n")
+}
+
+/// Adds numbers, each under its name, to an object.
+fn put_numbers(
+    alloc: Global,
+    object: &mut Map<String, Value>,
+    said: &[(&str, u64)],
+) -> Result<(), AllocError> {
+    for (name, number) in said {
+        put(object, alloc, name, Value::from(*number))?;
+    }
     Ok(())
 }
 
 /// A count, with its number under this name.
-fn count_value(alloc: Global, name: &str, number: u32, count: u64) -> Result<Value, AllocError> {
+fn count_value(alloc: Global, name: &str, number: u64, count: u64) -> Result<Value, AllocError> {
     let mut object = Map::new(alloc);
-    put(&mut object, alloc, name, Value::from(number))?;
-    put(&mut object, alloc, "accesses", Value::from(count))?;
+    put_numbers(alloc, &mut object, &[(name, number), ("accesses", count)])?;
     Ok(Value::Object(object))
 }
 
-/// Each count that isn't 0, with its number under this name.
-fn counts_value(alloc: Global, name: &str, counts: &[u64; 256]) -> Result<Value, AllocError> {
-    let mut items = Vec::new(alloc);
+/// Appends each count that isn't 0, with its number under this name.
+fn push_values(
+    alloc: Global,
+    items: &mut Vec<Value>,
+    name: &str,
+    counts: &[u64; 256],
+) -> Result<(), AllocError> {
     for number in 0..256 {
         if counts[number] > 0 {
-            items.push(count_value(alloc, name, number as u32, counts[number])?)?;
+            items.push(count_value(alloc, name, number as u64, counts[number])?)?;
         }
     }
-    Ok(Value::from(items))
+    Ok(())
+}
+
+/// Adds the counts that aren't 0 to an object under the name of all, each with its number under the
+/// name of one.
+fn put_counts(
+    alloc: Global,
+    object: &mut Map<String, Value>,
+    all: &str,
+    one: &str,
+    counts: &[u64; 256],
+) -> Result<(), AllocError> {
+    let mut items = Vec::new(alloc);
+    push_values(alloc, &mut items, one, counts)?;
+    put(object, alloc, all, Value::from(items))
 }
 
 /// Adds what a task met, or all, to an object.
@@ -77,23 +114,34 @@ fn put_summary(
     object: &mut Map<String, Value>,
     said: &Summary,
 ) -> Result<(), AllocError> {
-    let nodes = counts_value(alloc, "node", &said.nodes)?;
-    let distances = counts_value(alloc, "distance", &said.distances)?;
-    put(object, alloc, "accesses", Value::from(said.accesses))?;
-    put(object, alloc, "nodes", nodes)?;
-    put(object, alloc, "distances", distances)?;
-    put(object, alloc, "placed", Value::from(said.placed))?;
-    put(object, alloc, "exhausted", Value::from(said.exhausted))?;
-    put(object, alloc, "unserved", Value::from(said.unserved))
+    let faults = [
+        ("placed", said.placed),
+        ("exhausted", said.exhausted),
+        ("unserved", said.unserved),
+    ];
+    put_numbers(alloc, object, &[("accesses", said.accesses)])?;
+    put_counts(alloc, object, "nodes", "node", &said.nodes)?;
+    put_counts(alloc, object, "distances", "distance", &said.distances)?;
+    put_numbers(alloc, object, &faults)
+}
+
+/// Adds the task, where it is one's, and what it met, or all.
+fn put_task(
+    alloc: Global,
+    object: &mut Map<String, Value>,
+    task: Option<u32>,
+    said: &Summary,
+) -> Result<(), AllocError> {
+    if let Some(task) = task {
+        put_numbers(alloc, object, &[("task", u64::from(task))])?;
+    }
+    put_summary(alloc, object, said)
 }
 
 /// The object of a task, or of all.
 fn summary_text(alloc: Global, task: Option<u32>, said: &Summary) -> Result<String, AllocError> {
     let mut object = Map::new(alloc);
-    if let Some(task) = task {
-        put(&mut object, alloc, "task", Value::from(task))?;
-    }
-    put_summary(alloc, &mut object, said)?;
+    put_task(alloc, &mut object, task, said)?;
     Value::Object(object).to_string(alloc)
 }
 
@@ -111,25 +159,34 @@ impl Sheet {
         }
     }
 
+    /// Says an object, behind these words.
+    fn say_object(&mut self, words: &str, task: Option<u32>) -> Result<(), AllocError> {
+        let said = if task.is_some() {
+            &self.of_task
+        } else {
+            &self.of_all
+        };
+        let object = summary_text(self.alloc, task, said)?;
+        self.text.push_str(words)?;
+        self.text.push_str(object.as_str())
+    }
+
     /// Says the task whose accesses are added up, if there is one.
     fn end_task(&mut self) -> Result<(), AllocError> {
         let Some(task) = self.task else {
             return Ok(());
         };
-        match self.format {
-            Shape::Text => {
-                write!(self.text, "task {}", task)?;
-                push_line(&mut self.text, &self.of_task)?;
-            }
-            Shape::Json => {
-                let item = summary_text(self.alloc, Some(task), &self.of_task)?;
-                self.text
-                    .push_str(if self.is_first { "\n" } else { ",\n" })?;
-                self.text.push_str(item.as_str())?;
-            }
+        if let Shape::Json = self.format {
+            let words = if self.is_first { "\n" } else { ",\n" };
+            self.is_first = false;
+            return self.say_object(words, Some(task));
         }
-        self.is_first = false;
-        Ok(())
+        let begin = [
+            ("task ", u64::from(task)),
+            (" accesses=", self.of_task.accesses),
+        ];
+        push_numbers(&mut self.text, &begin)?;
+        push_line(&mut self.text, &self.of_task)
     }
 
     /// Adds the accesses that went a way; those of a task stand together.
@@ -154,18 +211,23 @@ impl Sheet {
     /// Says what all tasks met.
     fn end(&mut self) -> Result<(), AllocError> {
         self.end_task()?;
-        match self.format {
-            Shape::Text => {
-                self.text.push_str("total")?;
-                push_line(&mut self.text, &self.of_all)
-            }
-            Shape::Json => {
-                let item = summary_text(self.alloc, None, &self.of_all)?;
-                self.text.push_str("\n],\"total\":")?;
-                self.text.push_str(item.as_str())?;
-                self.text.push_str("}\n")
-            }
+        if let Shape::Json = self.format {
+            self.say_object("\n],\"total\":", None)?;
+            return self.text.push_str("}\n");
         }
+        push_numbers(&mut self.text, &[("total accesses=", self.of_all.accesses)])?;
+        push_line(&mut self.text, &self.of_all)
+    }
+
+    /// Says what a replayed trace met.
+    fn say(&mut self, machine: &Machine, replay: &Replay) -> Result<(), AllocError> {
+        if let Shape::Json = self.format {
+            self.text.push_str("{\"tasks\":[")?;
+        }
+        for (way, tally) in replay.tallies().iter() {
+            self.add(machine, way, tally)?;
+        }
+        self.end()
     }
 }
 
@@ -188,12 +250,6 @@ pub fn report_text(
     format: Shape,
 ) -> Result<String, AllocError> {
     let mut sheet = Sheet::new(alloc, format);
-    if format == Shape::Json {
-        sheet.text.push_str("{\"tasks\":[")?;
-    }
-    for (way, tally) in replay.tallies().iter() {
-        sheet.add(machine, way, tally)?;
-    }
-    sheet.end()?;
+    sheet.say(machine, replay)?;
     Ok(sheet.text)
 }
