@@ -34,13 +34,5 @@ pub fn range_of(space: &Space, page: u64) -> Option<Run<RangeRecord>>
 pub fn task_policy(space: &Space, task: u32) -> Option<Record>
     ensures { result ≡ record_of space.now.tasks task }
 {
-    for k in 0..space.task_count() {
-        let Some(held) = space.task_at(k) else {
-            unreachable!()
-        };
-        if held.0 == task {
-            return Some(held.1);
-        }
-    }
-    None
+    space.task_policy(task)
 }

@@ -9,16 +9,44 @@ use numa_space::PAGE_BYTES;
 use std::alloc::AllocError;
 use std::fmt::Write;
 
+/// A part of a text.
+#[derive(Clone, Copy)]
+enum Part<'a> {
+    Words(&'a str),
+    /// A number behind words.
+    Number(&'a str, u64),
+    /// A number in hexadecimal behind words.
+    Address(&'a str, u64),
+}
+
+/// Appends a part.
+fn push_part(text: &mut String, part: Part<'_>) -> Result<(), AllocError> {
+    match part {
+        Part::Words(words) => text.push_str(words),
+        Part::Number(words, number) => write!(text, "{}{}", words, number),
+        Part::Address(words, address) => write!(text, "{}{:x}", words, address),
+    }
+}
+
+/// Appends parts, one behind another.
+fn push_parts(text: &mut String, parts: &[Part<'_>]) -> Result<(), AllocError> {
+    for part in parts {
+        push_part(text, *part)?;
+    }
+    Ok(())
+}
+
 /// The first line: the question, and the nodes in order.
 fn push_question(text: &mut String, said: &Explanation) -> Result<(), AllocError> {
-    let address = said.page.saturating_mul(PAGE_BYTES);
-    write!(
-        text,
-        "page 0x{:x} of task {}, touched on node {}: nodes",
-        address, said.task, said.cpu
-    )?;
-    for node in said.nodes.iter() {
-        write!(text, " {}", node)?;
+    let question = [
+        Part::Address("page 0x", said.page.saturating_mul(PAGE_BYTES)),
+        Part::Number(" of task ", u64::from(said.task)),
+        Part::Number(", touched on node ", u64::from(said.cpu)),
+        Part::Words(": nodes"),
+    ];
+    push_parts(text, &question)?;
+    for node in said.nodes.as_slice() {
+        push_part(text, Part::Number(" ", u64::from(*node)))?;
     }
     text.push_str("\n")
 }
@@ -28,32 +56,37 @@ fn push_range(text: &mut String, said: &Explanation) -> Result<(), AllocError> {
     let range = &said.range;
     let end = range.first.saturating_add(range.pages);
     let last = range.index.saturating_add(range.pages.saturating_sub(1));
-    write!(
-        text,
-        "range 0x{:x}-0x{:x}: its pages have the indexes {} to {}, and this one has index {}\n",
-        range.first.saturating_mul(PAGE_BYTES),
-        end.saturating_mul(PAGE_BYTES),
-        range.index,
-        last,
-        said.index
-    )?;
-    Ok(())
+    let line = [
+        Part::Address("range 0x", range.first.saturating_mul(PAGE_BYTES)),
+        Part::Address("-0x", end.saturating_mul(PAGE_BYTES)),
+        Part::Number(": its pages have the indexes ", range.index),
+        Part::Number(" to ", last),
+        Part::Number(", and this one has index ", said.index),
+        Part::Words("\n"),
+    ];
+    push_parts(text, &line)
+}
+
+/// Appends whose a policy is, and the policy.
+fn push_owned(text: &mut String, owner: &str, policy: &Record) -> Result<(), AllocError> {
+    text.push_str(owner)?;
+    text.push_str("'s, ")?;
+    text.push_str(policy.policy_text().as_str())
 }
 
 /// Why the policy of a scope doesn't count.
 fn push_passed(text: &mut String, owner: &str, policy: Option<Record>) -> Result<(), AllocError> {
     let Some(policy) = policy else {
-        write!(text, "the {} has none", owner)?;
-        return Ok(());
+        text.push_str(owner)?;
+        return text.push_str(" has none");
     };
     let why = if policy.is_live() {
-        "counts where the range has none"
+        ", counts where the range has none"
     } else {
-        "has no allowed node"
+        ", has no allowed node"
     };
-    let said = policy.policy_text();
-    write!(text, "the {}'s, {}, {}", owner, said.as_str(), why)?;
-    Ok(())
+    push_owned(text, owner, &policy)?;
+    text.push_str(why)
 }
 
 /// The policy that counts, and whose it is.
@@ -61,39 +94,44 @@ fn push_counting(text: &mut String, owner: &str, policy: Option<Record>) -> Resu
     let Some(policy) = policy else {
         return text.push_str("policy: none, so memory is local; ");
     };
-    let said = policy.policy_text();
-    write!(text, "policy: the {}'s, {}; ", owner, said.as_str())?;
-    Ok(())
+    push_owned(text, owner, &policy)?;
+    text.push_str("; ")
 }
 
-/// The line of the policy: which counts, and why the other doesn't.
-fn push_policy(text: &mut String, said: &Explanation) -> Result<(), AllocError> {
+/// Why the other policies don't count.
+fn push_others_passed(text: &mut String, said: &Explanation) -> Result<(), AllocError> {
     let range = said.range.value.policy();
     match said.scope {
-        Scope::Range => {
-            push_counting(text, "range", said.policy)?;
-            push_passed(text, "task", said.task_policy)?;
-        }
-        Scope::Task => {
-            push_counting(text, "task", said.policy)?;
-            push_passed(text, "range", range)?;
-        }
+        Scope::Range => push_passed(text, "the task", said.task_policy),
+        Scope::Task => push_passed(text, "the range", range),
         Scope::System => {
-            push_counting(text, "system", said.policy)?;
-            push_passed(text, "range", range)?;
-            text.push_str(", and ")?;
-            push_passed(text, "task", said.task_policy)?;
+            push_passed(text, "the range", range)?;
+            push_passed(text, ", and the task", said.task_policy)
         }
     }
+}
+
+/// The line of the policy: which counts, and why the others don't.
+fn push_policy(text: &mut String, said: &Explanation) -> Result<(), AllocError> {
+    let owner = match said.scope {
+        Scope::Range => "policy: the range",
+        Scope::Task => "policy: the task",
+        Scope::System => "policy: the system",
+    };
+    push_counting(text, owner, said.policy)?;
+    push_others_passed(text, said)?;
     text.push_str("\n")
 }
 
-/// A set of nodes; `none` where it has none.
-fn push_set(text: &mut String, set: &NodeMask) -> Result<(), AllocError> {
-    if set.is_empty() {
-        return text.push_str("none");
-    }
-    text.push_str(list_text(set).as_str())
+/// A set of nodes behind words; `none` where it has none.
+fn push_set(text: &mut String, words: &str, set: &NodeMask) -> Result<(), AllocError> {
+    let list = list_text(set);
+    let said = if set.is_empty() {
+        "none"
+    } else {
+        list.as_str()
+    };
+    push_parts(text, &[Part::Words(words), Part::Words(said)])
 }
 
 /// The line of the sets.
@@ -102,10 +140,8 @@ fn push_sets(text: &mut String, said: &Explanation) -> Result<(), AllocError> {
         Some(policy) => policy.effective(),
         None => NodeMask::empty(),
     };
-    text.push_str("effective nodes: ")?;
-    push_set(text, &effective)?;
-    text.push_str("; allowed nodes: ")?;
-    push_set(text, &said.allowed)?;
+    push_set(text, "effective nodes: ", &effective)?;
+    push_set(text, "; allowed nodes: ", &said.allowed)?;
     text.push_str("\n")
 }
 
@@ -119,15 +155,19 @@ fn center(rule: OrderRule) -> u32 {
     }
 }
 
-/// How far a node is from another.
-fn push_distance(
+/// Appends a node behind words, and how far it is from another.
+fn push_node(
     text: &mut String,
     machine: &Machine,
+    words: &str,
+    node: u8,
     from: u32,
-    to: u32,
 ) -> Result<(), AllocError> {
-    if from < machine.nodes() && to < machine.nodes() {
-        write!(text, " at distance {}", machine.distance(from, to))?;
+    push_part(text, Part::Number(words, u64::from(node)))?;
+    let node = u32::from(node);
+    if from < machine.nodes() && node < machine.nodes() {
+        let distance = u64::from(machine.distance(from, node));
+        return push_part(text, Part::Number(" at distance ", distance));
     }
     Ok(())
 }
@@ -141,77 +181,103 @@ fn push_nearest(
     from: u32,
 ) -> Result<(), AllocError> {
     let has_home = said.policy.is_some_and(|policy| policy.home().is_some());
-    let why = if has_home { "the home" } else { "the CPU's" };
-    write!(
-        text,
-        "of the {} nodes the nearest to node {}, {}: ",
-        of, from, why
-    )?;
-    let Some(first) = said.nodes.first() else {
-        return text.push_str("none");
+    let why = if has_home {
+        ", the home: "
+    } else {
+        ", the CPU's: "
     };
-    write!(text, "node {}", first)?;
-    push_distance(text, machine, from, u32::from(*first))
+    let parts = [
+        Part::Words(of),
+        Part::Number(" nodes the nearest to node ", u64::from(from)),
+        Part::Words(why),
+    ];
+    push_parts(text, &parts)?;
+    match said.nodes.first() {
+        Some(first) => push_node(text, machine, "node ", *first, from),
+        None => text.push_str("none"),
+    }
 }
 
 /// The turn of interleave.
 fn push_turn(text: &mut String, index: u64, turn: Turn) -> Result<(), AllocError> {
-    write!(
-        text,
-        "index {} mod {} = {}, so node {}",
-        index, turn.members, turn.place, turn.node
-    )?;
-    Ok(())
+    let parts = [
+        Part::Number("index ", index),
+        Part::Number(" mod ", turn.members),
+        Part::Number(" = ", turn.place),
+        Part::Number(", so node ", u64::from(turn.node)),
+    ];
+    push_parts(text, &parts)
 }
 
 /// The turn of weighted interleave.
 fn push_block(text: &mut String, index: u64, block: WeightedTurn) -> Result<(), AllocError> {
     let last = block.before.saturating_add(block.weight.saturating_sub(1));
-    write!(
-        text,
-        "index {} mod {} = {}, and node {} has turns {} to {} (weight {}), so node {}",
-        index, block.total, block.place, block.node, block.before, last, block.weight, block.node
-    )?;
-    Ok(())
+    let node = u64::from(block.node);
+    let parts = [
+        Part::Number("index ", index),
+        Part::Number(" mod ", block.total),
+        Part::Number(" = ", block.place),
+        Part::Number(", and node ", node),
+        Part::Number(" has turns ", block.before),
+        Part::Number(" to ", last),
+        Part::Number(" (weight ", block.weight),
+        Part::Number("), so node ", node),
+    ];
+    push_parts(text, &parts)
+}
+
+/// Why the first node is the first.
+fn push_rule(text: &mut String, machine: &Machine, said: &Explanation) -> Result<(), AllocError> {
+    match said.rule {
+        OrderRule::Local(from) => push_nearest(text, machine, said, "of the allowed", from),
+        OrderRule::Bind(from) | OrderRule::PreferredMany(from) => {
+            push_nearest(text, machine, said, "of the effective", from)
+        }
+        OrderRule::Preferred(node) => {
+            push_part(
+                text,
+                Part::Number("the policy prefers node ", u64::from(node)),
+            )
+        }
+        OrderRule::Interleave(turn) => push_turn(text, said.index, turn),
+        OrderRule::WeightedInterleave(block) => push_block(text, said.index, block),
+    }
 }
 
 /// The line of the first node.
 fn push_first(text: &mut String, machine: &Machine, said: &Explanation) -> Result<(), AllocError> {
     text.push_str("first: ")?;
-    match said.rule {
-        OrderRule::Local(from) => push_nearest(text, machine, said, "allowed", from)?,
-        OrderRule::Bind(from) => push_nearest(text, machine, said, "effective", from)?,
-        OrderRule::PreferredMany(from) => push_nearest(text, machine, said, "effective", from)?,
-        OrderRule::Preferred(node) => write!(text, "the policy prefers node {}", node)?,
-        OrderRule::Interleave(turn) => push_turn(text, said.index, turn)?,
-        OrderRule::WeightedInterleave(block) => push_block(text, said.index, block)?,
-    }
+    push_rule(text, machine, said)?;
     text.push_str("\n")
 }
 
 /// Which nodes follow the first, and in which order.
 fn order_words(rule: OrderRule) -> &'static str {
     match rule {
-        OrderRule::Bind(_) => "the other effective nodes",
+        OrderRule::Bind(_) => "then: the other effective nodes",
         OrderRule::PreferredMany(_) =>
-            "the other effective nodes, and behind them the other allowed ones",
-        _ => "the other allowed nodes",
+            "then: the other effective nodes, and behind them the other allowed ones",
+        _ => "then: the other allowed nodes",
     }
 }
 
 /// The line of the other nodes.
 fn push_others(text: &mut String, machine: &Machine, said: &Explanation) -> Result<(), AllocError> {
-    if said.nodes.len() < 2 {
+    let others = said.nodes.as_slice().get(1..).unwrap_or(&[]);
+    if others.is_empty() {
         return text.push_str("then: no other node\n");
     }
     let from = center(said.rule);
-    let words = order_words(said.rule);
-    write!(text, "then: {}, the nearest to node {} first:", words, from)?;
-    for (place, node) in said.nodes.iter().enumerate() {
-        if place > 0 {
-            write!(text, "{} {}", if place > 1 { "," } else { "" }, node)?;
-            push_distance(text, machine, from, u32::from(*node))?;
-        }
+    let parts = [
+        Part::Words(order_words(said.rule)),
+        Part::Number(", the nearest to node ", u64::from(from)),
+        Part::Words(" first:"),
+    ];
+    push_parts(text, &parts)?;
+    let mut words = " ";
+    for node in others {
+        push_node(text, machine, words, *node, from)?;
+        words = ", ";
     }
     text.push_str("\n")
 }
