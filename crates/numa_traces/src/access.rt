@@ -67,9 +67,9 @@ fn read_words(mut words: Parts<'_>) -> Result<Access, AccessFault>
     let Some(count) = words.next() else {
         return access_with(small(task), page(address), small(cpu), Some(1));
     };
-    if words.next().is_some() {
+    let None = words.next() else {
         return Err(AccessFault::WordCount);
-    }
+    };
     access_with(small(task), page(address), small(cpu), small(count))
 }
 

@@ -88,7 +88,7 @@ impl Memory {
         let Some(node) = self.first_free(nodes) else {
             return Ok(None);
         };
-        if self.nodes.insert(page, node).is_err() {
+        if let Err(_) = self.nodes.insert(page, node) {
             return Err(AllocError);
         }
         self.free[usize::from(node)] -= 1;
