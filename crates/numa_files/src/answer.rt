@@ -1,4 +1,6 @@
 //! An answer, with which the lines that are wanted are compared.
+ghost use Rattle.std.specs.Prelude.{◌≤◌, length};
+
 use memchr::memchr;
 use std::alloc::Global;
 
@@ -73,15 +75,15 @@ impl Answer {
 
     /// Takes the next bytes of a wanted line, up to the first with which it doesn't go on. How many
     /// these are.
-    pub(crate) fn take_some(&mut self, bytes: &[u8]) -> usize {
-        let mut count = 0usize;
-        for byte in bytes {
-            if !self.take(&[*byte]) {
+    pub(crate) fn take_some(&mut self, bytes: &[u8]) -> usize
+        ensures { result ≤ length bytes.now }
+    {
+        for count in 0..bytes.len() {
+            if !self.take(&bytes[count..count + 1]) {
                 return count;
             }
-            count = count.saturating_add(1);
         }
-        count
+        bytes.len()
     }
 
     /// Goes on to the next line, where the wanted line has all of this one. Whether it has.

@@ -81,14 +81,15 @@ impl<A: Respond, W: Write> TakeLine for Echo<A, W> {
     fn take(&mut self, _name: &str, _place: u64, line: &[u8]) -> Result<(), Stop> {
         self.answer.clear();
         self.text.clear();
-        if self.answerer.respond(line, &mut self.answer).is_err()
-            || say_echo(&mut self.text, line, self.answer.as_slice()).is_err()
-        {
+        let Ok(()) = self.answerer.respond(line, &mut self.answer) else {
             return Err(Stop::Memory);
+        };
+        let Ok(()) = say_echo(&mut self.text, line, self.answer.as_slice()) else {
+            return Err(Stop::Memory);
+        };
+        match self.output.write_all(self.text.as_slice()) {
+            Ok(()) => Ok(()),
+            Err(_) => Err(Stop::Write),
         }
-        if self.output.write_all(self.text.as_slice()).is_err() {
-            return Err(Stop::Write);
-        }
-        Ok(())
     }
 }

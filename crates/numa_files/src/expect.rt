@@ -83,32 +83,6 @@ fn counts_text(alloc: Global, counts: Counts) -> Result<String, AllocError> {
 }
 
 impl<W: Write> Comparison<W> {
-    /// Before the first text.
-    fn new(alloc: Global, output: W) -> Comparison<W> {
-        Comparison {
-            alloc,
-            told: Told::new(alloc, output),
-            counts: Counts {
-                same: 0,
-                different: 0,
-                uncompared: 0,
-            },
-            name: String::new(alloc),
-            place: 1,
-            reading: Reading::Head,
-            answer: Answer::new(alloc),
-            is_wanted: false,
-        }
-    }
-
-    /// Begins a text.
-    fn begin(&mut self, name: &str) -> Result<(), Stop> {
-        self.name = String::from_str(self.alloc, name)?;
-        self.place = 1;
-        self.told.reserve();
-        self.told.outcome
-    }
-
     /// Tells some text, where there was memory for it.
     fn tell_text(&mut self, text: Result<String, AllocError>) {
         match text {
@@ -147,7 +121,7 @@ impl<W: Write> Comparison<W> {
         let count = self.answer.take_some(bytes);
         self.tell_wanted();
         self.reading = Reading::Different;
-        self.told.tell(bytes.get(count..).unwrap_or(&[]));
+        self.told.tell(&bytes[count..]);
     }
 
     /// Takes the bytes of a wanted line that begins.
@@ -224,7 +198,7 @@ impl<W: Write> Comparison<W> {
     /// Has a script line answered.
     fn ask<A: Respond>(&mut self, answerer: &mut A, line: &[u8]) {
         self.end_answer();
-        if answerer.respond(line, &mut self.answer.text).is_err() {
+        if let Err(_) = answerer.respond(line, &mut self.answer.text) {
             self.told.stop(Stop::Memory);
         }
     }
@@ -265,9 +239,23 @@ impl<W: Write> Comparison<W> {
 impl<A: Respond, W: Write> Expect<A, W> {
     /// Before the first text; the differences are told to the writer.
     pub fn new(alloc: Global, answerer: A, output: W) -> Expect<A, W> {
+        let comparison = Comparison {
+            alloc,
+            told: Told::new(alloc, output),
+            counts: Counts {
+                same: 0,
+                different: 0,
+                uncompared: 0,
+            },
+            name: String::new(alloc),
+            place: 1,
+            reading: Reading::Head,
+            answer: Answer::new(alloc),
+            is_wanted: false,
+        };
         Expect {
             answerer,
-            comparison: Comparison::new(alloc, output),
+            comparison,
             head: Vec::new(alloc),
         }
     }
@@ -318,7 +306,7 @@ impl<A: Respond, W: Write> Expect<A, W> {
         ensures { result ≤ length bytes.now }
     {
         let count = HEAD.saturating_sub(self.head.len()).min(bytes.len());
-        if self.head.extend_from_slice(&bytes[..count]).is_err() {
+        if let Err(_) = self.head.extend_from_slice(&bytes[..count]) {
             self.comparison.told.stop(Stop::Memory);
         }
         if self.head.len() >= HEAD {
@@ -352,7 +340,13 @@ impl<A: Respond, W: Write> Expect<A, W> {
 impl<A: Respond, W: Write> TakeText for Expect<A, W> {
     fn begin(&mut self, name: &str) -> Result<(), Stop> {
         self.answerer.begin();
-        self.comparison.begin(name)
+        let comparison = &mut self.comparison;
+        comparison.name = String::from_str(comparison.alloc, name)?;
+        comparison.place = 1;
+        match comparison.told.reserve() {
+            Ok(()) => Ok(()),
+            Err(_) => Err(Stop::Memory),
+        }
     }
 
     fn take(&mut self, piece: &[u8]) -> Result<(), Stop> {

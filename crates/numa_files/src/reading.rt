@@ -126,17 +126,6 @@ impl<T: TakeLine> Lines<T> {
         self.line.clear();
         taken
     }
-
-    /// Takes one byte.
-    fn feed(&mut self, byte: u8) -> Result<(), Stop> {
-        if byte == b'\n' {
-            return self.end_line();
-        }
-        if self.line.len() < KEPT {
-            self.line.push(byte)?;
-        }
-        Ok(())
-    }
 }
 
 impl<T: TakeLine> TakeText for Lines<T> {
@@ -148,7 +137,11 @@ impl<T: TakeLine> TakeText for Lines<T> {
 
     fn take(&mut self, piece: &[u8]) -> Result<(), Stop> {
         for byte in piece {
-            self.feed(*byte)?;
+            if *byte == b'\n' {
+                self.end_line()?;
+            } else if self.line.len() < KEPT {
+                self.line.push(*byte)?;
+            }
         }
         Ok(())
     }

@@ -1,6 +1,6 @@
 //! What is told, gathered before it is written.
 use crate::reading::Stop;
-use std::alloc::Global;
+use std::alloc::{AllocError, Global};
 use std::io::Write;
 
 /// How many bytes are gathered before they are written.
@@ -26,25 +26,23 @@ impl<W: Write> Told<W> {
     }
 
     /// Takes the memory for what is gathered.
-    pub(crate) fn reserve(&mut self) {
-        if self.text.reserve(2 * GATHERED).is_err() {
-            self.stop(Stop::Memory);
-        }
+    pub(crate) fn reserve(&mut self) -> Result<(), AllocError> {
+        self.text.reserve(2 * GATHERED)
     }
 
     /// Tells nothing more, for this fault.
     pub(crate) fn stop(&mut self, why: Stop) {
-        if self.outcome.is_ok() {
+        if let Ok(()) = self.outcome {
             self.outcome = Err(why);
         }
     }
 
     /// Writes what is to be written.
     pub(crate) fn flush(&mut self) -> Result<(), Stop> {
-        if self.outcome.is_err() {
+        let Ok(()) = self.outcome else {
             return self.outcome;
-        }
-        if self.output.write_all(self.text.as_slice()).is_err() {
+        };
+        if let Err(_) = self.output.write_all(self.text.as_slice()) {
             self.outcome = Err(Stop::Write);
         }
         self.text.clear();
@@ -53,7 +51,7 @@ impl<W: Write> Told<W> {
 
     /// Tells at most 4,096 bytes. Those of a line that is begun take no memory.
     fn tell_piece(&mut self, piece: &[u8]) {
-        if self.text.extend_from_slice(piece).is_err() {
+        if let Err(_) = self.text.extend_from_slice(piece) {
             self.stop(Stop::Memory);
         }
         if self.text.len() >= GATHERED {
