@@ -9,7 +9,7 @@ use clap::{ArgMatches, Command, Error};
 use std::alloc::{AllocError, Global};
 
 /// The version, which the file VERSION has too, and the kit that it is proved with.
-const VERSION: &str = "0.10.0 (proved with rattle-kit-13f)";
+const VERSION: &str = "0.10.0 (proved with rattle-kit-13b)";
 
 /// What the help of the program says.
 const PROGRAM: &str =
