@@ -30,7 +30,7 @@ fn serve(script: &mut Script, alloc: Global, line: &[u8], output: &mut Watched<V
 
 impl Respond for Answering {
     fn begin(&mut self) {
-        self.script = Script::new();
+        drop(mem::replace(&mut self.script, Script::new()));
     }
 
     fn respond(&mut self, line: &[u8], answer: &mut Vec<u8>) -> Result<(), AllocError> {

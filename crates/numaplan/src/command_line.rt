@@ -27,32 +27,61 @@ docs/COMMANDS.md.";
 /// What is told where there is no command.
 const NO_COMMAND: &str = "error: a command is missing\n\nFor more information, try '--help'.\n";
 
-/// The program with one word more.
-fn with_word<'a>(
-    program: Command<'a>,
-    word: Result<Command<'a>, AllocError>,
-) -> Result<Command<'a>, AllocError> {
-    match word {
-        Ok(word) => program.subcommand(word),
-        Err(error) => Err(error),
+/// A word that the program knows.
+#[derive(Clone, Copy)]
+enum Word {
+    Run,
+    Check,
+    Expect,
+    Predict,
+    Diff,
+    Explain,
+    Replay,
+    Storm,
+}
+
+/// The word of this name.
+fn word_of(name: &str) -> Option<Word> {
+    match name {
+        "run" => Some(Word::Run),
+        "check" => Some(Word::Check),
+        "expect" => Some(Word::Expect),
+        "predict" => Some(Word::Predict),
+        "diff" => Some(Word::Diff),
+        "explain" => Some(Word::Explain),
+        "replay" => Some(Word::Replay),
+        "storm" => Some(Word::Storm),
+        _ => None,
     }
 }
 
-/// The commands that the program knows.
-fn command<'a>(alloc: Global) -> Result<Command<'a>, AllocError> {
-    let program = Command::new(alloc, "numaplan")
+/// The program with one word more.
+fn with_word<'a>(
+    program: Result<Command<'a>, AllocError>,
+    word: Result<Command<'a>, AllocError>,
+) -> Result<Command<'a>, AllocError> {
+    program?.subcommand(word?)
+}
+
+/// The program before its first word.
+fn bare_program<'a>(alloc: Global) -> Command<'a> {
+    Command::new(alloc, "numaplan")
         .about(PROGRAM)
         .after_help(MORE)
         .version(VERSION)
         .subcommand_required(true)
-        .arg_required_else_help(true);
-    let program = with_word(program, run::command(alloc))?;
-    let program = with_word(program, check::command(alloc))?;
-    let program = with_word(program, expect::command(alloc))?;
-    let program = with_word(program, predict::command(alloc))?;
-    let program = with_word(program, diff::command(alloc))?;
-    let program = with_word(program, explain::command(alloc))?;
-    let program = with_word(program, replay::command(alloc))?;
+        .arg_required_else_help(true)
+}
+
+/// The commands that the program knows.
+fn command<'a>(alloc: Global) -> Result<Command<'a>, AllocError> {
+    let program = with_word(Ok(bare_program(alloc)), run::command(alloc));
+    let program = with_word(program, check::command(alloc));
+    let program = with_word(program, expect::command(alloc));
+    let program = with_word(program, predict::command(alloc));
+    let program = with_word(program, diff::command(alloc));
+    let program = with_word(program, explain::command(alloc));
+    let program = with_word(program, replay::command(alloc));
     with_word(program, storm::command(alloc))
 }
 
@@ -69,21 +98,32 @@ fn fault(alloc: Global, error: &Error) -> JobFault {
     }
 }
 
+/// The job of a word.
+fn word_job(alloc: Global, word: Word, matches: &ArgMatches<'_>) -> Result<Job, JobFault>
+    ensures { IfOk result CanBeDone }
+{
+    match word {
+        Word::Run => run::job(alloc, matches),
+        Word::Check => check::job(alloc, matches),
+        Word::Expect => expect::job(alloc, matches),
+        Word::Predict => predict::job(alloc, matches),
+        Word::Diff => diff::job(alloc, matches),
+        Word::Explain => explain::job(alloc, matches),
+        Word::Replay => replay::job(alloc, matches),
+        Word::Storm => storm::job(alloc, matches),
+    }
+}
+
 /// The job of a command line that the program knows.
 fn known_job(alloc: Global, matches: &ArgMatches<'_>) -> Result<Job, JobFault>
     ensures { IfOk result CanBeDone }
 {
-    match matches.subcommand() {
-        Some(("run", words)) => run::job(alloc, words),
-        Some(("check", words)) => check::job(alloc, words),
-        Some(("expect", words)) => expect::job(alloc, words),
-        Some(("predict", words)) => predict::job(alloc, words),
-        Some(("diff", words)) => diff::job(alloc, words),
-        Some(("explain", words)) => explain::job(alloc, words),
-        Some(("replay", words)) => replay::job(alloc, words),
-        Some(("storm", words)) => storm::job(alloc, words),
-        _ => Err(JobFault::Usage(String::from_str(alloc, NO_COMMAND)?)),
+    if let Some((name, words)) = matches.subcommand() {
+        if let Some(word) = word_of(name) {
+            return word_job(alloc, word, words);
+        }
     }
+    Err(JobFault::Usage(String::from_str(alloc, NO_COMMAND)?))
 }
 
 /// The job that the words of a command line ask for; the first word is the program's name. `Help`

@@ -2,8 +2,22 @@
 use numa_play::{Asked, Format, FreePages, Shape};
 use std::alloc::{AllocError, AllocFailed};
 
-/// What the program is asked to do, a variant for each word.
-#[derive(Debug, Drop)]
+/// What is asked of pages that a task would touch.
+#[derive(Drop)]
+pub enum Question {
+    /// Where pages would go, where nodes are named in `free`, with so many free pages on these.
+    Predict {
+        format: Format,
+        free: Vec<FreePages>,
+    },
+    /// Which pages would go elsewhere if these lines were added to the scripts.
+    Diff(Vec<String>),
+    /// Why this page goes where it goes.
+    Explain(u64),
+}
+
+/// What the program is asked to do.
+#[derive(Drop)]
 pub enum Job {
     /// To answer the scripts of these files in turn, `-` being standard input, which is read where
     /// none is named; each line beside its answer, where `echo` says so.
@@ -15,26 +29,11 @@ pub enum Job {
     Expect(Vec<String>),
     /// To tell what is wrong with the scripts of these files.
     Check(Vec<String>),
-    /// To tell where pages would go after the scripts of these files, where nodes are named in
-    /// `free`, with so many free pages on these.
-    Predict {
+    /// To answer a question about the state that the scripts of these files lead to.
+    Ask {
         files: Vec<String>,
         asked: Asked,
-        format: Format,
-        free: Vec<FreePages>,
-    },
-    /// To tell which pages would go elsewhere if these lines were added to the scripts of these
-    /// files.
-    Diff {
-        files: Vec<String>,
-        asked: Asked,
-        lines: Vec<String>,
-    },
-    /// To tell why the page of this address goes where it goes after the scripts of these files.
-    Explain {
-        files: Vec<String>,
-        asked: Asked,
-        address: u64,
+        question: Question,
     },
     /// To replay the trace of the one file that `trace` names after the scripts of these files.
     Replay {
@@ -47,7 +46,7 @@ pub enum Job {
 }
 
 /// Why there is no job, or it was not begun.
-#[derive(Debug, Drop)]
+#[derive(Drop)]
 pub enum JobFault {
     /// Help, or the version, was asked for: its text.
     Help(String),

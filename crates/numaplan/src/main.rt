@@ -24,7 +24,7 @@ use std::rt::Files;
 use std::sync::Wait;
 use std::thread::Threads;
 use std::{env, io};
-use words::{check, diff, expect, explain, predict, replay, run, storm};
+use words::{asked, check, expect, replay, run, storm};
 
 /// What is told of an argument that isn't UTF-8.
 const NOT_UTF_8: &str = "error: an argument isn't UTF-8\n\nFor more information, try '--help'.\n";
@@ -47,38 +47,27 @@ fn asked_job<R: Env + AllocGlobal>(rt: &R) -> Result<Job, JobFault>
 }
 
 /// Does a job.
-fn done<R>(rt: &R, job: Job) -> Result<ExitCode, JobFault>
+fn done<R>(rt: &R, job: &Job) -> Result<ExitCode, JobFault>
 where
     R: Threads + Wait + Sync + Files + Input + Print + Eprint + AllocGlobal,
     R::Reader: IsTerminal,
-    requires { CanBeDone job }
+    requires { CanBeDone job.now }
 {
     match job {
-        Job::Run { files, echo } => run::answer(rt, &files, echo),
-        Job::Check(files) => check::check(rt, &files),
-        Job::Expect(files) => expect::check(rt, &files),
-        Job::Predict {
+        Job::Run { files, echo } => run::answer(rt, files, *echo),
+        Job::Check(files) => check::check(rt, files),
+        Job::Expect(files) => expect::check(rt, files),
+        Job::Ask {
             files,
             asked,
-            format,
-            free,
-        } => predict::answer(rt, &files, asked, format, &free),
-        Job::Diff {
-            files,
-            asked,
-            lines,
-        } => diff::answer(rt, &files, asked, &lines),
-        Job::Explain {
-            files,
-            asked,
-            address,
-        } => explain::answer(rt, &files, asked, address),
+            question,
+        } => asked::answer(rt, files, *asked, question),
         Job::Replay {
             files,
             trace,
             format,
-        } => replay::answer(rt, &files, &trace, format),
-        Job::Storm(workers) => Ok(storm::show(rt, workers)),
+        } => replay::answer(rt, files, trace, *format),
+        Job::Storm(workers) => Ok(storm::show(rt, *workers)),
     }
 }
 
@@ -87,7 +76,9 @@ fn main(rt: HostRuntime) -> ExitCode {
         Ok(job) => job,
         Err(fault) => return tell_fault(&rt, fault),
     };
-    match done(&rt, job) {
+    let ended = done(&rt, &job);
+    drop(job);
+    match ended {
         Ok(code) => code,
         Err(fault) => tell_fault(&rt, fault),
     }

@@ -11,3 +11,31 @@ pub mod replay;
 pub mod run;
 pub mod storm;
 pub mod wanted;
+
+use clap::{Arg, Command};
+use std::alloc::{AllocError, Global};
+
+/// The command of a word, with what its help says: in a line, in full, and at its end.
+fn command_of<'a>(
+    alloc: Global,
+    word: &'a str,
+    line: &'a str,
+    about: &'a str,
+    more: &'a str,
+) -> Command<'a> {
+    Command::new(alloc, word)
+        .about(line)
+        .long_about(about)
+        .after_help(more)
+}
+
+/// A command with one argument more.
+fn with_arg<'a>(
+    command: Result<Command<'a>, AllocError>,
+    argument: Arg<'a>,
+) -> Result<Command<'a>, AllocError> {
+    match command {
+        Ok(command) => command.arg(argument),
+        Err(error) => Err(error),
+    }
+}

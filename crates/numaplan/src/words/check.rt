@@ -5,12 +5,16 @@ ghost use Rattle.numaplan.specs.Jobs.{CanBeDone};
 use crate::endings::stop;
 use crate::files;
 use crate::jobs::{Job, JobFault};
+use crate::words::command_of;
 use clap::{ArgMatches, Command};
 use std::alloc::{AllocError, Global};
 use std::io;
 use std::io::IsTerminal;
 use std::process::ExitCode;
 use std::rt::Files;
+
+/// What the help says in a line.
+const LINE: &str = "Tells what is wrong with scripts, and what to do about it";
 
 /// What the help says in full.
 const ABOUT: &str =
@@ -28,11 +32,7 @@ const TOLD: u8 = 3;
 
 /// The command.
 pub fn command<'a>(alloc: Global) -> Result<Command<'a>, AllocError> {
-    Command::new(alloc, "check")
-        .about("Tells what is wrong with scripts, and what to do about it")
-        .long_about(ABOUT)
-        .after_help(MORE)
-        .arg(files::argument(alloc))
+    command_of(alloc, "check", LINE, ABOUT, MORE).arg(files::argument(alloc))
 }
 
 /// The job that its words ask for.

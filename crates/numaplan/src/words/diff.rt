@@ -2,18 +2,15 @@
 ghost use Rattle.std.specs.Prelude.{IfOk};
 ghost use Rattle.numaplan.specs.Jobs.{CanBeDone};
 
-use crate::endings::{Told, answered};
 use crate::files;
-use crate::jobs::{Job, JobFault};
-use crate::words::asked;
+use crate::jobs::{Job, JobFault, Question};
 use crate::words::wanted::wanted;
+use crate::words::{asked, with_arg};
 use clap::{ArgAction, ArgMatches, Command};
-use numa_play::Asked;
 use std::alloc::{AllocError, Global};
-use std::io;
-use std::io::IsTerminal;
-use std::process::ExitCode;
-use std::rt::Files;
+
+/// What the help says in a line.
+const LINE: &str = "Tells which pages would go elsewhere if lines were added to scripts";
 
 /// What the help says in full.
 const ABOUT: &str =
@@ -30,43 +27,21 @@ examples/homes.numaplan";
 
 /// The command.
 pub fn command<'a>(alloc: Global) -> Result<Command<'a>, AllocError> {
-    let word = asked::command(alloc, "diff", ABOUT, MORE)?.about(
-        "Tells which pages would go elsewhere if lines were added to scripts",
-    );
+    let word = asked::command(alloc, "diff", LINE, ABOUT, MORE);
     let line = wanted(
         alloc,
         "then",
         "LINE",
         "A script line that is added; several in turn",
     );
-    word.arg(line.action(ArgAction::Append))?
-        .arg(files::argument(alloc))
+    let word = with_arg(word, line.action(ArgAction::Append));
+    with_arg(word, files::argument(alloc))
 }
 
 /// The job that its words ask for.
 pub fn job(alloc: Global, matches: &ArgMatches<'_>) -> Result<Job, JobFault>
     ensures { IfOk result CanBeDone }
 {
-    Ok(Job::Diff {
-        files: files::named(alloc, matches)?,
-        asked: asked::asked(alloc, matches)?,
-        lines: files::texts_of(alloc, matches, "then")?,
-    })
-}
-
-/// Tells which pages would go elsewhere if the lines were added to the scripts of files.
-pub fn answer<R>(
-    rt: &R,
-    names: &[String],
-    asked: Asked,
-    lines: &[String],
-) -> Result<ExitCode, JobFault>
-where
-    R: Files + Input + Print + Eprint + AllocGlobal,
-    R::Reader: IsTerminal,
-{
-    let texts = files::open_all(rt, names)?;
-    let mut output = io::writer(rt);
-    let answer = numa_play::diff(rt.alloc(), texts, lines, asked, &mut output, Told { rt });
-    Ok(answered(rt, asked, answer))
+    let lines = files::texts_of(alloc, matches, "then")?;
+    asked::job(alloc, matches, Question::Diff(lines))
 }

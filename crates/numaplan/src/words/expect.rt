@@ -7,6 +7,7 @@ use crate::endings::stop;
 use crate::files;
 use crate::files::Source;
 use crate::jobs::{Job, JobFault};
+use crate::words::command_of;
 use clap::{ArgMatches, Command};
 use numa_files::{Expect, Stop, read_all};
 use std::alloc::{AllocError, Global};
@@ -14,6 +15,9 @@ use std::io;
 use std::io::IsTerminal;
 use std::process::ExitCode;
 use std::rt::Files;
+
+/// What the help says in a line.
+const LINE: &str = "Compares the answers that scripts hold with those that they get";
 
 /// What the help says in full.
 const ABOUT: &str =
@@ -37,11 +41,7 @@ pub fn command<'a>(alloc: Global) -> Result<Command<'a>, AllocError> {
     let file = files::argument(alloc)
         .help("Worked scripts; - is standard input")
         .required(true);
-    Command::new(alloc, "expect")
-        .about("Compares the answers that scripts hold with those that they get")
-        .long_about(ABOUT)
-        .after_help(MORE)
-        .arg(file)
+    command_of(alloc, "expect", LINE, ABOUT, MORE).arg(file)
 }
 
 /// The job that its words ask for.
@@ -70,7 +70,9 @@ where
 {
     let answering = Answering::new(rt.alloc());
     let mut expect = Expect::new(rt.alloc(), answering, io::writer(rt));
-    compare_by(texts, &mut expect)
+    let is_same = compare_by(texts, &mut expect);
+    drop(expect);
+    is_same
 }
 
 /// Compares the worked scripts of files.

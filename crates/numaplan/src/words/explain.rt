@@ -2,18 +2,15 @@
 ghost use Rattle.std.specs.Prelude.{IfOk};
 ghost use Rattle.numaplan.specs.Jobs.{CanBeDone};
 
-use crate::endings::{Told, answered};
 use crate::files;
-use crate::jobs::{Job, JobFault};
-use crate::words::asked;
+use crate::jobs::{Job, JobFault, Question};
+use crate::words::{asked, with_arg};
 use clap::{Arg, ArgAction, ArgMatches, Command};
-use numa_play::Asked;
 use numa_script::number::number;
 use std::alloc::{AllocError, Global};
-use std::io;
-use std::io::IsTerminal;
-use std::process::ExitCode;
-use std::rt::Files;
+
+/// What the help says in a line.
+const LINE: &str = "Tells why a page goes where it goes";
 
 /// What the help says in full.
 const ABOUT: &str =
@@ -36,14 +33,12 @@ information, try '--help'.\n";
 
 /// The command.
 pub fn command<'a>(alloc: Global) -> Result<Command<'a>, AllocError> {
-    let word = asked::command(alloc, "explain", ABOUT, MORE)?.about(
-        "Tells why a page goes where it goes",
-    );
+    let word = asked::command(alloc, "explain", LINE, ABOUT, MORE);
     let address = Arg::new(alloc, "ADDRESS")
         .help("An address of the page, in bytes")
         .required(true)
         .action(ArgAction::Set);
-    word.arg(address)?.arg(files::argument(alloc))
+    with_arg(with_arg(word, address), files::argument(alloc))
 }
 
 /// The job that its words ask for.
@@ -51,31 +46,8 @@ pub fn job(alloc: Global, matches: &ArgMatches<'_>) -> Result<Job, JobFault>
     ensures { IfOk result CanBeDone }
 {
     let word = matches.get_str("ADDRESS").unwrap_or("");
-    let Some(address) = number(word.as_bytes()) else {
-        return Err(JobFault::Usage(String::from_str(alloc, BAD_ADDRESS)?));
-    };
-    Ok(Job::Explain {
-        files: files::named(alloc, matches)?,
-        asked: asked::asked(alloc, matches)?,
-        address,
-    })
-}
-
-/// Tells why the page of an address goes where it goes after the scripts of files.
-pub fn answer<R>(rt: &R, names: &[String], asked: Asked, address: u64) -> Result<ExitCode, JobFault>
-where
-    R: Files + Input + Print + Eprint + AllocGlobal,
-    R::Reader: IsTerminal,
-{
-    let texts = files::open_all(rt, names)?;
-    let mut output = io::writer(rt);
-    let answer = numa_play::explain(
-        rt.alloc(),
-        texts,
-        asked,
-        address / 4096,
-        &mut output,
-        Told { rt },
-    );
-    Ok(answered(rt, asked, answer))
+    match number(word.as_bytes()) {
+        Some(address) => asked::job(alloc, matches, Question::Explain(address / 4096)),
+        None => Err(JobFault::Usage(String::from_str(alloc, BAD_ADDRESS)?)),
+    }
 }

@@ -3,18 +3,16 @@
 ghost use Rattle.std.specs.Prelude.{IfOk};
 ghost use Rattle.numaplan.specs.Jobs.{CanBeDone};
 
-use crate::endings::{Told, answered};
 use crate::files;
-use crate::jobs::{Job, JobFault};
+use crate::jobs::{Job, JobFault, Question};
 use crate::words::format::format_option;
-use crate::words::{asked, free};
+use crate::words::{asked, free, with_arg};
 use clap::{Arg, ArgAction, ArgMatches, Command};
-use numa_play::{Asked, Format, FreePages};
+use numa_play::Format;
 use std::alloc::{AllocError, Global};
-use std::io;
-use std::io::IsTerminal;
-use std::process::ExitCode;
-use std::rt::Files;
+
+/// What the help says in a line.
+const LINE: &str = "Tells where pages would go after scripts, if a task touched them";
 
 /// What the help says in full.
 const ABOUT: &str =
@@ -36,13 +34,10 @@ const FORMATS: [&str; 4] = ["text", "json", "csv", "svg"];
 
 /// The command.
 pub fn command<'a>(alloc: Global) -> Result<Command<'a>, AllocError> {
-    let word = asked::command(alloc, "predict", ABOUT, MORE)?.about(
-        "Tells where pages would go after scripts, if a task touched them",
-    );
-    let word = word
-        .arg(format_option(alloc, &FORMATS))?
-        .arg(free::option(alloc))?;
-    word.arg(files::argument(alloc))
+    let word = asked::command(alloc, "predict", LINE, ABOUT, MORE);
+    let word = with_arg(word, format_option(alloc, &FORMATS));
+    let word = with_arg(word, free::option(alloc));
+    with_arg(word, files::argument(alloc))
 }
 
 /// The format of this name.
@@ -59,36 +54,7 @@ fn format_of(name: Option<&str>) -> Format {
 pub fn job(alloc: Global, matches: &ArgMatches<'_>) -> Result<Job, JobFault>
     ensures { IfOk result CanBeDone }
 {
-    Ok(Job::Predict {
-        files: files::named(alloc, matches)?,
-        asked: asked::asked(alloc, matches)?,
-        format: format_of(matches.get_str("format")),
-        free: free::named(alloc, matches)?,
-    })
-}
-
-/// Tells where pages would go after the scripts of files.
-pub fn answer<R>(
-    rt: &R,
-    names: &[String],
-    asked: Asked,
-    format: Format,
-    free: &[FreePages],
-) -> Result<ExitCode, JobFault>
-where
-    R: Files + Input + Print + Eprint + AllocGlobal,
-    R::Reader: IsTerminal,
-{
-    let texts = files::open_all(rt, names)?;
-    let mut output = io::writer(rt);
-    let answer = numa_play::predict(
-        rt.alloc(),
-        texts,
-        asked,
-        format,
-        free,
-        &mut output,
-        Told { rt },
-    );
-    Ok(answered(rt, asked, answer))
+    let format = format_of(matches.get_str("format"));
+    let free = free::named(alloc, matches)?;
+    asked::job(alloc, matches, Question::Predict { format, free })
 }

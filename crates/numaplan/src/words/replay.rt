@@ -7,6 +7,7 @@ use crate::files;
 use crate::jobs::{Job, JobFault};
 use crate::words::format::format_option;
 use crate::words::wanted::wanted;
+use crate::words::{command_of, with_arg};
 use clap::{ArgMatches, Command};
 use numa_play::Shape;
 use std::alloc::{AllocError, Global};
@@ -14,6 +15,9 @@ use std::io;
 use std::io::IsTerminal;
 use std::process::ExitCode;
 use std::rt::Files;
+
+/// What the help says in a line.
+const LINE: &str = "Tells what a trace of accesses meets after scripts";
 
 /// What the help says in full.
 const ABOUT: &str =
@@ -45,13 +49,9 @@ pub fn command<'a>(alloc: Global) -> Result<Command<'a>, AllocError> {
         "TRACE",
         "The file of the trace; - is standard input",
     );
-    let word = Command::new(alloc, "replay")
-        .about("Tells what a trace of accesses meets after scripts")
-        .long_about(ABOUT)
-        .after_help(MORE)
-        .arg(trace)?;
-    word.arg(format_option(alloc, &FORMATS))?
-        .arg(files::argument(alloc))
+    let word = command_of(alloc, "replay", LINE, ABOUT, MORE).arg(trace);
+    let word = with_arg(word, format_option(alloc, &FORMATS));
+    with_arg(word, files::argument(alloc))
 }
 
 /// The format of this name.

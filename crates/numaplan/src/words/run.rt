@@ -7,6 +7,7 @@ use crate::endings::{fail, stop};
 use crate::files;
 use crate::files::Source;
 use crate::jobs::{Job, JobFault};
+use crate::words::{command_of, with_arg};
 use clap::{Arg, ArgAction, ArgMatches, Command};
 use numa_files::{Echo, Joined, Lines, Stop, read_all};
 use numa_script::{RunFault, Watched};
@@ -15,6 +16,9 @@ use std::io;
 use std::io::{IsTerminal, Read};
 use std::process::ExitCode;
 use std::rt::Files;
+
+/// What the help says in a line.
+const LINE: &str = "Answers the scripts of files, or of standard input";
 
 /// What the help says in full.
 const ABOUT: &str =
@@ -33,12 +37,8 @@ pub fn command<'a>(alloc: Global) -> Result<Command<'a>, AllocError> {
         .long("echo")
         .help("Writes each line of the script, and its answer behind `=> `")
         .action(ArgAction::SetTrue);
-    Command::new(alloc, "run")
-        .about("Answers the scripts of files, or of standard input")
-        .long_about(ABOUT)
-        .after_help(MORE)
-        .arg(echo)?
-        .arg(files::argument(alloc))
+    let word = command_of(alloc, "run", LINE, ABOUT, MORE).arg(echo);
+    with_arg(word, files::argument(alloc))
 }
 
 /// The job that its words ask for.
@@ -75,7 +75,10 @@ where
 {
     let answering = Answering::new(rt.alloc());
     let echo = Echo::new(rt.alloc(), answering, io::writer(rt));
-    read_all(texts, &mut Lines::new(rt.alloc(), echo))
+    let mut lines = Lines::new(rt.alloc(), echo);
+    let read = read_all(texts, &mut lines);
+    drop(lines);
+    read
 }
 
 /// Answers the scripts of files, and says each line too, where `echo` says so.

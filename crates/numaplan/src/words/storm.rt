@@ -5,6 +5,7 @@ ghost use Rattle.numaplan.specs.Jobs.{CanBeDone};
 
 use crate::endings::fail;
 use crate::jobs::{Job, JobFault};
+use crate::words::command_of;
 use crate::words::wanted::wanted;
 use clap::{ArgMatches, Command};
 use numa_script::Watched;
@@ -13,6 +14,9 @@ use std::io;
 use std::process::ExitCode;
 use std::sync::Wait;
 use std::thread::Threads;
+
+/// What the help says in a line.
+const LINE: &str = "Lets workers place pages while policies change, and compares each placement";
 
 /// What the help says in full.
 const ABOUT: &str =
@@ -38,11 +42,7 @@ pub fn command<'a>(alloc: Global) -> Result<Command<'a>, AllocError> {
         "K",
         "How many workers there are, from 1 to 16",
     );
-    Command::new(alloc, "storm")
-        .about("Lets workers place pages while policies change, and compares each placement")
-        .long_about(ABOUT)
-        .after_help(MORE)
-        .arg(workers)
+    command_of(alloc, "storm", LINE, ABOUT, MORE).arg(workers)
 }
 
 /// The job that its words ask for.
