@@ -10,7 +10,7 @@ use numa_space::{Command, Refusal, Space};
 const PAGE: u64 = 4096;
 
 /// A span of pages, the last of them apart.
-#[derive(Clone, Copy, Debug, PartialEq, Eq)]
+#[derive(Clone, Copy)]
 struct Pages {
     first: u64,
     end: u64,

@@ -17,9 +17,10 @@ fn put(text: &mut Vec<u8>, words: &str) -> Result<(), AllocError> {
     Ok(())
 }
 
-/// Appends a number in decimal.
-fn put_number(text: &mut Vec<u8>, number: u64) -> Result<(), AllocError> {
+/// Appends a text, and a number in decimal behind it.
+fn put_number(text: &mut Vec<u8>, words: &str, number: u64) -> Result<(), AllocError> {
     let mut buffer = Buffer::new();
+    put(text, words)?;
     put(text, buffer.format(number))
 }
 
@@ -50,8 +51,9 @@ fn put_page(text: &mut Vec<u8>, page: u64) -> Result<(), AllocError> {
     put_hex(text, page.saturating_mul(4096))
 }
 
-/// Appends how a keyword's lines are written.
+/// Appends how a keyword's lines are written, behind a semicolon.
 fn put_usage(text: &mut Vec<u8>, keyword: Keyword) -> Result<(), AllocError> {
+    put(text, "; ")?;
     put(text, keyword.name())?;
     let wanted = parameters(keyword);
     if wanted.is_empty() {
@@ -69,10 +71,7 @@ fn put_usage(text: &mut Vec<u8>, keyword: Keyword) -> Result<(), AllocError> {
 fn put_form(text: &mut Vec<u8>, parameter: Parameter) -> Result<(), AllocError> {
     put(text, parameter.name())?;
     match parameter.form() {
-        Form::Number(greatest) => {
-            put(text, " is no number from 0 to ")?;
-            put_number(text, greatest)
-        }
+        Form::Number(greatest) => put_number(text, " is no number from 0 to ", greatest),
         Form::Frames => put(
             text,
             " are no decimal numbers below 2^32 with commas between them",
@@ -95,12 +94,10 @@ fn put_misfit(
     match (misfit, parameter.form()) {
         (Misfit::TooGreat, Form::Number(greatest)) => {
             put(text, parameter.name())?;
-            put(text, " is above ")?;
-            put_number(text, greatest)?;
+            put_number(text, " is above ", greatest)?;
         }
         _ => put_form(text, parameter)?,
     }
-    put(text, "; ")?;
     put_usage(text, keyword)
 }
 
@@ -127,11 +124,11 @@ fn put_cause(text: &mut Vec<u8>, cause: Cause) -> Result<(), AllocError> {
         Cause::TwoSpaces => put(text, "two spaces in a row"),
         Cause::UnknownWord => put(text, "no line begins with this word"),
         Cause::TooFewWords(keyword) => {
-            put(text, "too few words; ")?;
+            put(text, "too few words")?;
             put_usage(text, keyword)
         }
         Cause::TooManyWords(keyword) => {
-            put(text, "too many words; ")?;
+            put(text, "too many words")?;
             put_usage(text, keyword)
         }
         Cause::BadWord(keyword, parameter, misfit) => put_misfit(text, keyword, parameter, misfit),
@@ -205,13 +202,11 @@ fn put_refusal(text: &mut Vec<u8>, cause: CoreRefusal, detail: Detail) -> Result
         }
         Detail::LastNode(node) => {
             put(text, worker_words(cause))?;
-            put(text, "; its nodes are 0 to ")?;
-            put_number(text, u64::from(node))
+            put_number(text, "; its nodes are 0 to ", u64::from(node))
         }
         Detail::Count(count) => {
             put(text, worker_words(cause))?;
-            put(text, " (now ")?;
-            put_number(text, count)?;
+            put_number(text, " (now ", count)?;
             put(text, ")")
         }
         Detail::Mems => put(text, "none of these nodes has memory; name one that has"),
@@ -271,4 +266,33 @@ fn put_detail(text: &mut Vec<u8>, detail: Detail) -> Result<(), AllocError> {
 pub fn say(text: &mut Vec<u8>, finding: &Finding) -> Result<(), AllocError> {
     put_answer(text, finding.fault, finding.detail)?;
     put_detail(text, finding.detail)
+}
+
+/// Appends where a finding stands: the name of the text, the line, and for bad words the column.
+fn put_place(text: &mut Vec<u8>, name: &str, place: u64, detail: Detail) -> Result<(), AllocError> {
+    put(text, name)?;
+    put_number(text, ":", place)?;
+    if let Detail::Malformed(malformed) = detail {
+        put_number(text, ":", malformed.column as u64)?;
+    }
+    put(text, ": ")
+}
+
+/// Appends a line about a line: where it stands, by the name of its text and its place there from
+/// 1, and what is wrong with it.
+pub fn say_line(
+    text: &mut Vec<u8>,
+    name: &str,
+    place: u64,
+    finding: &Finding,
+) -> Result<(), AllocError> {
+    put_place(text, name, place, finding.detail)?;
+    say(text, finding)?;
+    put(text, "\n")
+}
+
+/// Appends a line about so many lines that weren't judged.
+pub fn say_unjudged(text: &mut Vec<u8>, count: u64) -> Result<(), AllocError> {
+    put_number(text, "not judged, since no machine was ready: ", count)?;
+    put(text, "\n")
 }

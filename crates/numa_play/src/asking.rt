@@ -1,7 +1,7 @@
-//! Questions about the state that scripts lead to.
+//! Where pages would go after scripts.
 use crate::findings::Findings;
 use crate::halt::{Halt, halt_of};
-use crate::playing::play;
+use crate::question::{Question, ask};
 use numa_compile::compile;
 use numa_files::{Stop, TakeLine};
 use numa_plan::Plan;
@@ -18,7 +18,7 @@ use std::io::{Read, Write};
 const ADDED: &str = "--then";
 
 /// Who touches the pages: a task, on a CPU of a node.
-#[derive(Clone, Copy, Debug, PartialEq, Eq)]
+#[derive(Clone, Copy)]
 pub struct Asked {
     pub task: u32,
     pub cpu: u32,
@@ -41,19 +41,10 @@ fn outlook_in(alloc: Global, script: &Script) -> Result<Outlook, Halt> {
     }
 }
 
-/// Writes an answer.
-pub(crate) fn write<W: Write>(text: &[u8], output: &mut W) -> Result<(), Halt> {
-    match output.write_all(text) {
-        Ok(()) => Ok(()),
-        Err(_) => Err(Halt::Stopped(Stop::Write)),
-    }
-}
-
 /// The first node of free pages that a machine of so many nodes lacks.
 fn lacking_node(free: &[FreePages], nodes: u32) -> Option<u8> {
-    free.iter()
-        .find(|one| u32::from(one.node) >= nodes)
-        .map(|one| one.node)
+    let lacking = free.iter().find(|one| u32::from(one.node) >= nodes)?;
+    Some(lacking.node)
 }
 
 /// Where the mapped pages of a space would go, as a text.
@@ -72,7 +63,7 @@ fn text_of(
 }
 
 /// Where the mapped pages of a script's space would go, as a text.
-fn prediction(
+fn prediction_of(
     alloc: Global,
     script: &Script,
     asked: Asked,
@@ -94,18 +85,19 @@ fn prediction(
     }
 }
 
-/// Ends what is told, and writes where the mapped pages of the played script would go.
-fn write_prediction<W: Write, T: Write>(
-    alloc: Global,
-    findings: &mut Findings<T>,
+/// Where all mapped pages would go, if they were touched now.
+#[derive(Drop)]
+struct Prediction<'a> {
     asked: Asked,
     format: Format,
-    free: &[FreePages],
-    output: &mut W,
-) -> Result<(), Halt> {
-    findings.end()?;
-    let text = prediction(alloc, findings.script(), asked, format, free)?;
-    write(text.as_slice(), output)
+    free: &'a [FreePages],
+}
+
+impl Question for Prediction<'_> {
+    fn answer<T: Write>(self, alloc: Global, findings: &mut Findings<T>) -> Result<Vec<u8>, Halt> {
+        findings.end()?;
+        prediction_of(alloc, findings.script(), self.asked, self.format, self.free)
+    }
 }
 
 /// Plays the texts as one script, and writes where all mapped pages would go, if they were touched
@@ -124,10 +116,12 @@ pub fn predict<R: Read + Drop, W: Write, T: Write + Drop>(
     output: &mut W,
     told: T,
 ) -> Result<(), Halt> {
-    let mut findings = play(alloc, texts, told)?;
-    let written = write_prediction(alloc, &mut findings, asked, format, free, output);
-    drop(findings);
-    written
+    let question = Prediction {
+        asked,
+        format,
+        free,
+    };
+    ask(alloc, texts, question, output, told)
 }
 
 /// Plays the added lines, and ends what is told.
@@ -141,7 +135,7 @@ fn play_lines<T: Write>(findings: &mut Findings<T>, lines: &[String]) -> Result<
 }
 
 /// Which pages go elsewhere from one outlook to another, as a text.
-fn difference(
+fn difference_of(
     alloc: Global,
     before: &Outlook,
     script: &Script,
@@ -178,32 +172,23 @@ fn difference_from<T: Write>(
     asked: Asked,
 ) -> Result<Vec<u8>, Halt> {
     play_lines(findings, lines)?;
-    difference(alloc, before, findings.script(), asked)
+    difference_of(alloc, before, findings.script(), asked)
 }
 
-/// Plays the lines, and tells which pages go elsewhere by them, as a text.
-fn difference_by<T: Write>(
-    alloc: Global,
-    findings: &mut Findings<T>,
-    lines: &[String],
+/// Which pages would go elsewhere after lines that are added.
+#[derive(Drop)]
+struct Difference<'a> {
+    lines: &'a [String],
     asked: Asked,
-) -> Result<Vec<u8>, Halt> {
-    let before = outlook_before(alloc, findings)?;
-    let text = difference_from(alloc, &before, findings, lines, asked);
-    drop(before);
-    text
 }
 
-/// Plays the lines, and writes which pages go elsewhere by them.
-fn write_difference<W: Write, T: Write>(
-    alloc: Global,
-    findings: &mut Findings<T>,
-    lines: &[String],
-    asked: Asked,
-    output: &mut W,
-) -> Result<(), Halt> {
-    let text = difference_by(alloc, findings, lines, asked)?;
-    write(text.as_slice(), output)
+impl Question for Difference<'_> {
+    fn answer<T: Write>(self, alloc: Global, findings: &mut Findings<T>) -> Result<Vec<u8>, Halt> {
+        let before = outlook_before(alloc, findings)?;
+        let text = difference_from(alloc, &before, findings, self.lines, self.asked);
+        drop(before);
+        text
+    }
 }
 
 /// Plays the texts as one script, and then the lines, and writes which pages would go to another
@@ -221,8 +206,5 @@ pub fn diff<R: Read + Drop, W: Write, T: Write + Drop>(
     output: &mut W,
     told: T,
 ) -> Result<(), Halt> {
-    let mut findings = play(alloc, texts, told)?;
-    let written = write_difference(alloc, &mut findings, lines, asked, output);
-    drop(findings);
-    written
+    ask(alloc, texts, Difference { lines, asked }, output, told)
 }

@@ -1,42 +1,52 @@
 //! Why a page goes where it goes, after scripts.
-use crate::asking::{Asked, space_of, write};
+use crate::asking::{Asked, space_of};
 use crate::findings::Findings;
 use crate::halt::Halt;
-use crate::playing::play;
+use crate::question::{Question, ask};
 use numa_files::Stop;
-use numa_reasons::{ReasonFault, say};
+use numa_machine::Machine;
+use numa_reasons::{Explanation, ReasonFault, say};
 use numa_run::Script;
 use numa_space::PlaceRefusal;
 use std::alloc::Global;
 use std::io::{Read, Write};
 
-/// Why a page goes where it goes in the space that a script has led to, as a text.
-fn reasons(alloc: Global, script: &Script, asked: Asked, page: u64) -> Result<String, Halt> {
-    let space = space_of(script)?;
-    let said = match numa_reasons::explain(alloc, space, asked.task, page, asked.cpu) {
-        Ok(said) => said,
-        Err(ReasonFault::NoMemory) => return Err(Halt::Stopped(Stop::Memory)),
-        Err(ReasonFault::Refused(PlaceRefusal::Unmapped)) => return Err(Halt::Unmapped),
-        Err(ReasonFault::Refused(PlaceRefusal::BadCpu)) => {
-            return Err(Halt::NoNode(space.machine().nodes()));
-        }
-    };
+/// Reasons as a text.
+fn text_of(alloc: Global, machine: &Machine, said: &Explanation) -> Result<Vec<u8>, Halt> {
     let mut text = String::new(alloc);
-    say(&mut text, space.machine(), &said)?;
-    Ok(text)
+    say(&mut text, machine, said)?;
+    Ok(text.into_bytes())
 }
 
-/// Ends what is told, and writes why a page goes where it goes.
-fn write_reasons<W: Write, T: Write>(
-    alloc: Global,
-    findings: &mut Findings<T>,
+/// Why a page goes where it goes in the space that a script has led to, as a text.
+fn reasons_of(alloc: Global, script: &Script, asked: Asked, page: u64) -> Result<Vec<u8>, Halt> {
+    let space = space_of(script)?;
+    match numa_reasons::explain(alloc, space, asked.task, page, asked.cpu) {
+        Ok(said) => {
+            let text = text_of(alloc, space.machine(), &said);
+            drop(said);
+            text
+        }
+        Err(ReasonFault::NoMemory) => Err(Halt::Stopped(Stop::Memory)),
+        Err(ReasonFault::Refused(PlaceRefusal::Unmapped)) => Err(Halt::Unmapped),
+        Err(ReasonFault::Refused(PlaceRefusal::BadCpu)) => {
+            Err(Halt::NoNode(space.machine().nodes()))
+        }
+    }
+}
+
+/// Why a page goes where it goes, if it were touched now.
+#[derive(Drop)]
+struct Reasons {
     asked: Asked,
     page: u64,
-    output: &mut W,
-) -> Result<(), Halt> {
-    findings.end()?;
-    let text = reasons(alloc, findings.script(), asked, page)?;
-    write(text.as_str().as_bytes(), output)
+}
+
+impl Question for Reasons {
+    fn answer<T: Write>(self, alloc: Global, findings: &mut Findings<T>) -> Result<Vec<u8>, Halt> {
+        findings.end()?;
+        reasons_of(alloc, findings.script(), self.asked, self.page)
+    }
 }
 
 /// Plays the texts as one script, and writes why a page would go where it goes, if it were touched
@@ -53,8 +63,5 @@ pub fn explain<R: Read + Drop, W: Write, T: Write + Drop>(
     output: &mut W,
     told: T,
 ) -> Result<(), Halt> {
-    let mut findings = play(alloc, texts, told)?;
-    let written = write_reasons(alloc, &mut findings, asked, page, output);
-    drop(findings);
-    written
+    ask(alloc, texts, Reasons { asked, page }, output, told)
 }

@@ -1,8 +1,8 @@
 //! What is wrong with the lines of scripts, told as they are played.
-use numa_check::{Detail, Finding, judge, lacks_memory, say};
+use numa_check::{Detail, Finding, judge, lacks_memory, say_line, say_unjudged};
 use numa_files::{Stop, TakeLine};
 use numa_run::Script;
-use std::alloc::{AllocError, Global};
+use std::alloc::Global;
 use std::io::Write;
 
 /// How many bytes are gathered before they are written.
@@ -57,22 +57,9 @@ impl<W: Write> Findings<W> {
         Ok(())
     }
 
-    /// Where a finding stands: the text, the line, and for bad words the column.
-    fn put_place(&mut self, name: &str, place: u64, finding: &Finding) -> Result<(), AllocError> {
-        let head = match finding.detail {
-            Detail::Malformed(malformed) => {
-                format!(in self.alloc; "{name}:{place}:{}: ", malformed.column)?
-            }
-            _ => format!(in self.alloc; "{name}:{place}: ")?,
-        };
-        self.text.extend_from_slice(head.as_str().as_bytes())
-    }
-
     /// Tells what was found in a line.
     fn tell(&mut self, name: &str, place: u64, finding: &Finding) -> Result<(), Stop> {
-        self.put_place(name, place, finding)?;
-        say(&mut self.text, finding)?;
-        self.text.push(b'\n')?;
+        say_line(&mut self.text, name, place, finding)?;
         self.told = self.told.saturating_add(1);
         if self.text.len() >= GATHERED {
             return self.flush();
@@ -83,11 +70,7 @@ impl<W: Write> Findings<W> {
     /// Tells how many lines weren't judged, where some weren't, and writes what is to be written.
     pub fn end(&mut self) -> Result<(), Stop> {
         if self.unjudged > 0 {
-            let text = format!(in self.alloc;
-                "not judged, since no machine was ready: {}\n",
-                self.unjudged
-            )?;
-            self.text.extend_from_slice(text.as_str().as_bytes())?;
+            say_unjudged(&mut self.text, self.unjudged)?;
         }
         self.flush()
     }
@@ -98,7 +81,12 @@ impl<W: Write> TakeLine for Findings<W> {
         match judge(self.alloc, &mut self.script, line) {
             None => Ok(()),
             Some(finding) if lacks_memory(finding.fault) => Err(Stop::Memory),
-            Some(finding) if finding.detail == Detail::NoMachine => {
+            Some(
+                Finding {
+                    detail: Detail::NoMachine,
+                    ..
+                },
+            ) => {
                 self.unjudged = self.unjudged.saturating_add(1);
                 Ok(())
             }

@@ -10,6 +10,7 @@ mod explaining;
 mod findings;
 mod halt;
 mod playing;
+mod question;
 mod replaying;
 
 pub use asking::{Asked, diff, predict};

@@ -39,8 +39,13 @@ pub fn play<R: Read + Drop, W: Write + Drop>(
     let mut checking = Checking {
         lines: Lines::new(alloc, Findings::new(alloc, output)),
     };
-    read_all(texts, &mut checking)?;
-    Ok(checking.lines.taker)
+    match read_all(texts, &mut checking) {
+        Ok(()) => Ok(checking.lines.taker),
+        Err(why) => {
+            drop(checking);
+            Err(why)
+        }
+    }
 }
 
 /// Ends what is told. Whether nothing was.

@@ -1,8 +1,8 @@
 //! Traces that are replayed after scripts.
-use crate::asking::{space_of, write};
+use crate::asking::space_of;
 use crate::findings::Findings;
 use crate::halt::Halt;
-use crate::playing::play;
+use crate::question::{Question, ask};
 use numa_compile::compile;
 use numa_files::Stop;
 use numa_run::Script;
@@ -28,13 +28,13 @@ fn met(
     script: &Script,
     replaying: &Replaying,
     format: Shape,
-) -> Result<String, Halt> {
+) -> Result<Vec<u8>, Halt> {
     if let Some((place, fault)) = replaying.fault() {
         return Err(Halt::BadAccess(place, fault));
     }
     let space = space_of(script)?;
     match report_text(alloc, space.machine(), replaying.replay(), format) {
-        Ok(text) => Ok(text),
+        Ok(text) => Ok(text.into_bytes()),
         Err(_) => Err(Halt::Stopped(Stop::Memory)),
     }
 }
@@ -45,7 +45,7 @@ fn replayed<S: Read + Drop>(
     script: &Script,
     trace: Vec<(String, S)>,
     format: Shape,
-) -> Result<String, Halt> {
+) -> Result<Vec<u8>, Halt> {
     let replaying = match replaying_of(alloc, script) {
         Ok(replaying) => replaying,
         Err(halt) => return Err(halt),
@@ -60,20 +60,20 @@ fn replayed<S: Read + Drop>(
     }
 }
 
-/// Ends what is told, replays a trace in the space that the played script has led to, and writes
-/// what it met.
-fn write_replay<S: Read + Drop, W: Write, T: Write>(
-    alloc: Global,
-    findings: &mut Findings<T>,
-    trace: Vec<(String, S)>,
+/// A trace that is to be replayed.
+#[derive(Drop)]
+struct Trace<S> {
+    texts: Vec<(String, S)>,
     format: Shape,
-    output: &mut W,
-) -> Result<(), Halt> {
-    if let Err(why) = findings.end() {
-        return Err(Halt::Stopped(why));
+}
+
+impl<S: Read + Drop> Question for Trace<S> {
+    fn answer<T: Write>(self, alloc: Global, findings: &mut Findings<T>) -> Result<Vec<u8>, Halt> {
+        if let Err(why) = findings.end() {
+            return Err(Halt::Stopped(why));
+        }
+        replayed(alloc, findings.script(), self.texts, self.format)
     }
-    let text = replayed(alloc, findings.script(), trace, format)?;
-    write(text.as_str().as_bytes(), output)
 }
 
 /// Plays the texts as one script, and then a trace on a machine where no page is placed, by the
@@ -92,8 +92,9 @@ pub fn replay<R: Read + Drop, S: Read + Drop, W: Write, T: Write + Drop>(
     output: &mut W,
     told: T,
 ) -> Result<(), Halt> {
-    let mut findings = play(alloc, texts, told)?;
-    let written = write_replay(alloc, &mut findings, trace, format, output);
-    drop(findings);
-    written
+    let question = Trace {
+        texts: trace,
+        format,
+    };
+    ask(alloc, texts, question, output, told)
 }
