@@ -183,8 +183,8 @@ impl<W: Write> Comparison<W> {
         self.open_next();
     }
 
-    /// Ends the line at hand, where the answer is all that it wants, its line feed too: most answers
-    /// are one line, and as wanted. Whether it is.
+    /// Ends the line at hand, where the answer is all that it wants, its line feed too. Whether it
+    /// is: most answers are one line, and as wanted.
     fn end_whole(&mut self, wanted: &[u8]) -> bool {
         let is_same = self.answer.text.as_slice() == wanted;
         if is_same {
