@@ -28,35 +28,45 @@ use Rattle.numa_script.specs.declared.line.Question.TheVariants as question
 
 -- ---- first words
 
--- the words that a line can begin with
-abbrev pub first_words : List (List ℕ × Keyword)
-first_words =
-    (codes "publish", keyword.Publish) ∷
-    (codes "begin", keyword.Begin) ∷
-    (codes "look", keyword.Look) ∷
+-- the words of so many letters that a line can begin with
+abbrev pub first_words : ℕ → List (List ℕ × Keyword)
+first_words letters =
+    if letters == 3 then
     (codes "try", keyword.Try) ∷
-    (codes "give", keyword.Give) ∷
-    (codes "touch", keyword.Touch) ∷
-    (codes "release", keyword.Release) ∷
-    (codes "place", keyword.Place) ∷
-    (codes "span", keyword.Span) ∷
-    (codes "counts", keyword.Counts) ∷
-    (codes "ranges", keyword.Ranges) ∷
-    (codes "maps", keyword.Maps) ∷
     (codes "map", keyword.Map) ∷
-    (codes "unmap", keyword.Unmap) ∷
-    (codes "mbind", keyword.Mbind) ∷
+    []
+    else if letters == 4 then
+    (codes "span", keyword.Span) ∷
+    (codes "look", keyword.Look) ∷
+    (codes "give", keyword.Give) ∷
+    (codes "maps", keyword.Maps) ∷
     (codes "home", keyword.Home) ∷
     (codes "task", keyword.Task) ∷
-    (codes "weight", keyword.Weight) ∷
     (codes "mems", keyword.Mems) ∷
+    []
+    else if letters == 5 then
+    (codes "place", keyword.Place) ∷
+    (codes "begin", keyword.Begin) ∷
+    (codes "touch", keyword.Touch) ∷
+    (codes "mbind", keyword.Mbind) ∷
+    (codes "unmap", keyword.Unmap) ∷
+    []
+    else if letters == 6 then
+    (codes "counts", keyword.Counts) ∷
+    (codes "ranges", keyword.Ranges) ∷
+    (codes "weight", keyword.Weight) ∷
     (codes "limits", keyword.Limits) ∷
+    []
+    else if letters == 7 then
+    (codes "publish", keyword.Publish) ∷
+    (codes "release", keyword.Release) ∷
     (codes "machine", keyword.Machine) ∷
     []
+    else []
 
 -- what a first word asks for
 unfoldable pub keyword_of : List ℕ → Option Keyword
-keyword_of first = meaning_of first_words first
+keyword_of first = meaning_of (first_words (length first)) first
 
 -- ---- the words after the first
 

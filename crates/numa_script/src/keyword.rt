@@ -1,6 +1,6 @@
 //! The first words of lines.
-ghost use Rattle.std.specs.Prelude.{◌≡◌, ℕ, Option, Some};
-ghost use Rattle.numa_script.specs.Lines.{keyword_of};
+ghost use Rattle.std.specs.Prelude.{◌≡◌, ℕ, Option, Some, List, map};
+ghost use Rattle.numa_script.specs.Lines.{first_words, keyword_of};
 
 use crate::table::meaning;
 
@@ -68,35 +68,62 @@ impl Keyword {
     }
 }
 
-/// The first words of lines, in the order in which they are looked for.
-static FIRST_WORDS: [(&[u8], Keyword); 21] = [
-    (b"publish", Keyword::Publish),
-    (b"begin", Keyword::Begin),
-    (b"look", Keyword::Look),
-    (b"try", Keyword::Try),
-    (b"give", Keyword::Give),
-    (b"touch", Keyword::Touch),
-    (b"release", Keyword::Release),
-    (b"place", Keyword::Place),
+/// The first words of three letters.
+static OF_THREE: [(&[u8], Keyword); 2] = [(b"try", Keyword::Try), (b"map", Keyword::Map)];
+
+/// The first words of four letters.
+static OF_FOUR: [(&[u8], Keyword); 7] = [
     (b"span", Keyword::Span),
-    (b"counts", Keyword::Counts),
-    (b"ranges", Keyword::Ranges),
+    (b"look", Keyword::Look),
+    (b"give", Keyword::Give),
     (b"maps", Keyword::Maps),
-    (b"map", Keyword::Map),
-    (b"unmap", Keyword::Unmap),
-    (b"mbind", Keyword::Mbind),
     (b"home", Keyword::Home),
     (b"task", Keyword::Task),
-    (b"weight", Keyword::Weight),
     (b"mems", Keyword::Mems),
+];
+
+/// The first words of five letters.
+static OF_FIVE: [(&[u8], Keyword); 5] = [
+    (b"place", Keyword::Place),
+    (b"begin", Keyword::Begin),
+    (b"touch", Keyword::Touch),
+    (b"mbind", Keyword::Mbind),
+    (b"unmap", Keyword::Unmap),
+];
+
+/// The first words of six letters.
+static OF_SIX: [(&[u8], Keyword); 4] = [
+    (b"counts", Keyword::Counts),
+    (b"ranges", Keyword::Ranges),
+    (b"weight", Keyword::Weight),
     (b"limits", Keyword::Limits),
+];
+
+/// The first words of seven letters.
+static OF_SEVEN: [(&[u8], Keyword); 3] = [
+    (b"publish", Keyword::Publish),
+    (b"release", Keyword::Release),
     (b"machine", Keyword::Machine),
 ];
+
+/// The first words of so many letters.
+fn first_words(letters: usize) -> &'static [(&'static [u8], Keyword)]
+    ensures { map (λ entry. (entry.0.now, entry.1)) result.now ≡ first_words letters }
+{
+    match letters {
+        3 => &OF_THREE,
+        4 => &OF_FOUR,
+        5 => &OF_FIVE,
+        6 => &OF_SIX,
+        7 => &OF_SEVEN,
+        _ => &[],
+    }
+}
 
 /// What the first word of a line asks for.
 #[tactic(auto, unfolding(crate::specs::Lines::keyword_of))]
 pub fn read_keyword(first: &[u8]) -> Option<Keyword>
     ensures { result ≡ keyword_of first.now }
 {
-    meaning(&FIRST_WORDS, first)
+    meaning(first_words(first.len()), first)
 }
