@@ -2,11 +2,13 @@
 //! follows the space again.
 ghost use Rattle.std.specs.Prelude.{◌≡◌, ℕ, ◌<◌, OnOk, OnErr, List};
 ghost use Rattle.std.specs.Option.{ForSome};
+ghost use Rattle.numa_ranges.specs.Runs.{AreApart, AreMaximal};
 ghost use Rattle.numa_space.specs.declared.command.Command.{Command};
 ghost use Rattle.numa_space.specs.Standing.{StandsFor, IsNodeList};
 ghost use Rattle.numa_plan.specs.Meaning.{planned_list};
 ghost use Rattle.numa_compile.specs.Follows.{Follows, IsBehind};
 ghost use Rattle.numa_compile.specs.Recompiling.{KeepsOthers, WritesFew};
+ghost use Rattle.numa_compile.specs.Rules.{IsReady};
 ghost use Rattle.numa_compile.specs.Standing.{PlanStandsFor};
 
 mod added;
@@ -50,12 +52,14 @@ fn edit(
     steps: &mut Steps,
 ) -> Result<(), NoMemory>
     requires behind { IsBehind space.now command plan.old }
+    requires ready { IsReady space.now }
+    requires rising { AreApart 0 space.now.ranges }
+    requires maximal { AreMaximal space.now.ranges }
     ensures follows { OnOk result (Follows space.now plan.new) }
     ensures unchanged { OnErr result (plan.new ≡ plan.old) }
     ensures few { WritesFew command plan.old steps.old steps.new }
     ensures others { KeepsOthers command plan.old plan.new }
 {
-    survey(space);
     match command {
         Command::Map { start, length, .. } => {
             let window = mapped_window(plan, space, start, length);

@@ -48,7 +48,7 @@ pub rewrite_window-requires-in-Unmap-clause-inside : goal.rewrite_window-require
 rewrite_window-requires-in-Unmap-clause-inside c =
     let space = c.args.space.now in
     let window = c.in-Some.window in
-    unmap-inside space c.args.plan.now window c.in-Unmap.start c.in-Unmap.length c.in-Some.ensures.first c.in-Some.ensures.end (open-within space c.open_window.new.plan window c.in-Some.ensures.open).1 c.survey.ensures.rising c.survey.ensures.maximal
+    unmap-inside space c.args.plan.now window c.in-Unmap.start c.in-Unmap.length c.in-Some.ensures.first c.in-Some.ensures.end (open-within space c.open_window.new.plan window c.in-Some.ensures.open).1 c.requires.rising c.requires.maximal
     (behind-as space c.args.plan.now c.args.command (Unmap c.in-Unmap.start c.in-Unmap.length) c.requires.behind c.in-Unmap.is) c.open_window.new.plan _
 
 pub rewrite_bound-requires-clause-inside : goal.rewrite_bound-requires-clause-inside
@@ -56,7 +56,7 @@ rewrite_bound-requires-clause-inside c =
     let space = c.args.space.now in
     let window = c.in-Some-open_window.window in
     mbind-policy space c.args.plan.now window c.in-Mbind.start c.in-Mbind.length c.in-Some-open_window.ensures.first c.in-Some-open_window.ensures.end
-    (open-within space c.open_window-in-Mbind.new.plan window c.in-Some-open_window.ensures.open).1 c.survey.ensures.rising c.survey.ensures.maximal c.in-Mbind.spec
+    (open-within space c.open_window-in-Mbind.new.plan window c.in-Some-open_window.ensures.open).1 c.requires.rising c.requires.maximal c.in-Mbind.spec
     (behind-as space c.args.plan.now c.args.command (Mbind c.in-Mbind.start c.in-Mbind.length c.in-Mbind.spec) c.requires.behind c.in-Mbind.is) c.policy_inside-policy.result c.policy_inside-policy.ensures.inside
 
 pub returns-in-Some-open_window-clause-few : goal.returns-in-Some-open_window-clause-few
