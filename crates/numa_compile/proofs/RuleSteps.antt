@@ -1,11 +1,13 @@
 -- Rules that give their rows.
-use Rattle.std.proofs.Common.{◌≡◌, ℕ, ◌%◌, ◌<◌, List, All, length, slice_index, subst, sym, ap, ◌∙◌, arith}
+use Rattle.std.proofs.Common.{◌≡◌, ℕ, ◌%◌, ◌<◌, Option, Some, List, All, length, slice_index, unwrap_or, subst, sym, ap, ◌∙◌, arith}
 use Rattle.std.specs.List.{range_with_len}
 use Rattle.numa_mask.specs.NodeSet.{members, weight_of}
 use Rattle.numa_machine.specs.Weights.{interleave_node, total_weight, weighted_node}
-use Rattle.numa_space.specs.Lists.{Setting, near}
+use Rattle.numa_mode.specs.Policy.{PolicyRecord, Specification}
+use Rattle.numa_mode.specs.declared.modes.Mode.{Mode}
+use Rattle.numa_space.specs.Lists.{Setting, list_by_mode, list_for, near}
 use Rattle.numa_plan.specs.Rows.{RuleData}
-use Rattle.numa_compile.specs.Rules.{GivesRows, places_from}
+use Rattle.numa_compile.specs.Rules.{GivesRows, IsRuleOf, places_from}
 use Rattle.numa_compile.proofs.TurnLemmas.{places-length, places-below, places-weighted, range-turns, range-below}
 
 -- a rule that is this one
@@ -15,6 +17,14 @@ gives-is nodes rule other row is gives = subst (λ (r : RuleData). GivesRows nod
 -- rows that are these
 pub gives-same : (nodes : ℕ) (rule : RuleData) (row other : ℕ → ℕ → List ℕ) → ((cpu index : ℕ) → row cpu index ≡ other cpu index) → GivesRows nodes rule row → GivesRows nodes rule other
 gives-same nodes rule row other same gives cpu index lt = ((gives cpu index lt).0, (gives cpu index lt).1 ∙ same cpu index)
+
+-- the rule of a policy, by what was read of it
+pub gives-policy : (setting : Setting) (rule : RuleData) (r : PolicyRecord) (spec : Specification) (mode other : Mode) (set : ℕ) (home : Option ℕ) → spec ≡ r.spec → mode ≡ spec.mode → mode ≡ other → set ≡ r.effective → home ≡ r.home
+    → GivesRows setting.machine.nodes rule (λ cpu index. list_by_mode setting other set (unwrap_or home cpu) index) → IsRuleOf setting rule (Some r)
+gives-policy setting rule r spec mode other set home of read is same own =
+    let moded : other ≡ r.spec.mode = sym is ∙ read ∙ ap (λ (s : Specification). s.mode) of in
+    gives-same setting.machine.nodes rule (λ cpu index. list_by_mode setting other set (unwrap_or home cpu) index) (λ cpu index. list_for setting (Some r) cpu index)
+    (λ cpu index. (λ i. list_by_mode setting (moded i) (same i) (unwrap_or (own i) cpu) index))
 
 -- equal turns are those of interleave
 pub gives-interleave : (setting : Setting) (nodes set : ℕ) (cycle : List ℕ) (rule : RuleData) → 0 < weight_of set → cycle ≡ range_with_len 0 (weight_of set) → GivesRows nodes rule (λ cpu index. near setting (slice_index (members set) (slice_index cycle (index % length cycle))))

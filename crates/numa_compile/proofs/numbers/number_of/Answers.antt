@@ -1,7 +1,8 @@
-use Rattle.std.proofs.Common.{◌≡◌, ◌++◌, ◌∷◌, [], List, rules, sym, ap, subst, ◌∙◌, slice_get, Some}
+use Rattle.std.proofs.Common.{◌≡◌, ◌++◌, ◌∷◌, [], List, rules, sym, ap, subst, ◌∙◌, slice_get, Some, inr}
 use Rattle.numa_mode.specs.Policy.{PolicyRecord}
 use Rattle.numa_plan.specs.Meaning.{PlanData}
 use Rattle.numa_compile.specs.Copies.{Serves}
+use Rattle.numa_compile.proofs.CopyLemmas.{live-there}
 use Rattle.numa_compile.proofs.ServeLemmas.{serves-rule}
 use Rattle.numa_compile.proofs.SeenLemmas.{stored-is}
 use Rattle.numa_compile.proofs.numbers.number_of.Goals as goal
@@ -28,3 +29,20 @@ pub returns-else-is_new-clause-number : goal.returns-else-is_new-clause-number
 returns-else-is_new-clause-number c =
     let same : c.in_ok-place.place ≡ c.in-Ok.number = search rules in
     subst (λ place. slice_get c.insert_full.new.self.keys place ≡ Some c.args.policy) same (stored-is c.insert_full.new.self.keys c.in_ok-place.place c.args.policy c.in_ok-place.ensures.stored)
+
+pub add_rule_of-requires-clause-ready : goal.add_rule_of-requires-clause-ready
+add_rule_of-requires-clause-ready c = c.requires.ready
+
+pub add_rule_of-requires-clause-in_force : goal.add_rule_of-requires-clause-in_force
+add_rule_of-requires-clause-in_force c = c.requires.in_force
+
+pub add_rule_of-requires-clause-live : goal.add_rule_of-requires-clause-live
+add_rule_of-requires-clause-live c = c.requires.live
+
+pub add_rule_of-requires-clause-nodes : goal.add_rule_of-requires-clause-nodes
+add_rule_of-requires-clause-nodes c = c.requires.nodes
+
+pub returns-in_ok-add_rule_of-clause-grows : goal.returns-in_ok-add_rule_of-clause-grows
+returns-in_ok-add_rule_of-clause-grows c =
+    let keys : c.insert_full.new.self.keys ≡ c.args.records.now.keys ++ c.args.policy ∷ [] = search rules in
+    inr (c.args.policy, live-there c.args.policy c.requires.live, keys)

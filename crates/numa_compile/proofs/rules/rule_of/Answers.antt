@@ -1,7 +1,13 @@
-use Rattle.std.proofs.Common.{ℕ, ◌<◌, Option, refl, sym, subst}
+use Rattle.std.proofs.Common.{ℕ, ◌<◌, Option, unwrap_or, refl, sym, subst}
+use Rattle.std.proofs.lemmas.Result.{IfOk-weaker}
 use Rattle.std.specs.Option.{ForSome}
-use Rattle.numa_mode.specs.declared.modes.Mode.TheVariants.{Preferred, Bind, PreferredMany, Interleave, WeightedInterleave}
+use Rattle.numa_machine.specs.Machine.{distance_order}
+use Rattle.numa_mode.specs.declared.modes.Mode.TheVariants.{Default, Local, Preferred, Bind, PreferredMany, Interleave, WeightedInterleave}
+use Rattle.numa_space.specs.Lists.{within}
+use Rattle.numa_space.specs.Standing.{setting_in}
+use Rattle.numa_compile.specs.Rules.{GivesRows}
 use Rattle.numa_compile.proofs.AllowedLemmas.{all-allowed, filled-by, policy-allowed}
+use Rattle.numa_compile.proofs.RuleSteps.{gives-policy}
 use Rattle.numa_compile.proofs.rules.rule_of.Goals as goal
 
 pub rule_by_home-requires-clause-some : goal.rule_by_home-requires-clause-some
@@ -57,3 +63,52 @@ weighted_rule-requires-clause-some c = filled-by c.args.policy.now c.spec.result
 
 pub weighted_rule-requires-clause-allowed : goal.weighted_rule-requires-clause-allowed
 weighted_rule-requires-clause-allowed c = policy-allowed c.args.policy.now c.effective-set.result c.args.space.now.allowed c.requires.in_force.inside c.effective-set.ensures.effective
+
+pub returns-in-Default : goal.returns-in-Default
+returns-in-Default c =
+    IfOk-weaker c.rule_by_home.result _ _
+    (λ rule gives.
+    gives-policy (setting_in c.args.space.now) rule c.args.policy.now c.spec.result c.mode.result Default c.effective-set.result c.home.result c.spec.ensures.spec c.mode.ensures c.in-Default.is c.effective-set.ensures.effective c.home.ensures.home
+    (subst (λ (n : ℕ). GivesRows c.args.space.now.machine.nodes rule (λ cpu index. within n (distance_order c.args.space.now.machine (unwrap_or c.home.result cpu)))) c.allowed.ensures.allowed gives)) c.rule_by_home.ensures
+
+pub returns-in-Local : goal.returns-in-Local
+returns-in-Local c =
+    IfOk-weaker c.rule_by_home-in-Local.result _ _
+    (λ rule gives.
+    gives-policy (setting_in c.args.space.now) rule c.args.policy.now c.spec.result c.mode.result Local c.effective-set.result c.home-in-Local.result c.spec.ensures.spec c.mode.ensures c.in-Local.is c.effective-set.ensures.effective c.home-in-Local.ensures.home
+    (subst (λ (n : ℕ). GivesRows c.args.space.now.machine.nodes rule (λ cpu index. within n (distance_order c.args.space.now.machine (unwrap_or c.home-in-Local.result cpu)))) c.allowed.ensures.allowed gives)) c.rule_by_home-in-Local.ensures
+
+pub returns-in-Bind : goal.returns-in-Bind
+returns-in-Bind c =
+    IfOk-weaker c.rule_by_home-in-Bind.result _ _
+    (λ rule gives.
+    gives-policy (setting_in c.args.space.now) rule c.args.policy.now c.spec.result c.mode.result Bind c.effective-set.result c.home-in-Bind.result c.spec.ensures.spec c.mode.ensures c.in-Bind.is c.effective-set.ensures.effective c.home-in-Bind.ensures.home
+    gives) c.rule_by_home-in-Bind.ensures
+
+pub returns-in-PreferredMany : goal.returns-in-PreferredMany
+returns-in-PreferredMany c =
+    IfOk-weaker c.rule_by_home-in-PreferredMany.result _ _
+    (λ rule gives.
+    gives-policy (setting_in c.args.space.now) rule c.args.policy.now c.spec.result c.mode.result PreferredMany c.effective-set.result c.home-in-PreferredMany.result c.spec.ensures.spec c.mode.ensures c.in-PreferredMany.is c.effective-set.ensures.effective c.home-in-PreferredMany.ensures.home
+    gives) c.rule_by_home-in-PreferredMany.ensures
+
+pub returns-in-Preferred : goal.returns-in-Preferred
+returns-in-Preferred c =
+    IfOk-weaker c.preferred_rule.result _ _
+    (λ rule gives.
+    gives-policy (setting_in c.args.space.now) rule c.args.policy.now c.spec.result c.mode.result Preferred c.effective-set.result c.args.policy.now.home c.spec.ensures.spec c.mode.ensures c.in-Preferred.is c.effective-set.ensures.effective refl
+    gives) c.preferred_rule.ensures
+
+pub returns-in-Interleave : goal.returns-in-Interleave
+returns-in-Interleave c =
+    IfOk-weaker c.interleave_rule.result _ _
+    (λ rule gives.
+    gives-policy (setting_in c.args.space.now) rule c.args.policy.now c.spec.result c.mode.result Interleave c.effective-set.result c.args.policy.now.home c.spec.ensures.spec c.mode.ensures c.in-Interleave.is c.effective-set.ensures.effective refl
+    gives) c.interleave_rule.ensures
+
+pub returns-in-WeightedInterleave : goal.returns-in-WeightedInterleave
+returns-in-WeightedInterleave c =
+    IfOk-weaker c.weighted_rule.result _ _
+    (λ rule gives.
+    gives-policy (setting_in c.args.space.now) rule c.args.policy.now c.spec.result c.mode.result WeightedInterleave c.effective-set.result c.args.policy.now.home c.spec.ensures.spec c.mode.ensures c.in-WeightedInterleave.is c.effective-set.ensures.effective refl
+    gives) c.weighted_rule.ensures

@@ -21,3 +21,9 @@ loop-place-preserved c =
           (renewed-push c.args.space.now c.args.plan.now.slots c.loop-place.rules.items c.in_ok-rule.rule at.renewed
           (subst (λ (n : ℕ). IsRenewed c.args.space.now (policy_in c.args.plan.now.slots n) c.in_ok-rule.rule) (here ∙ sym at.all) one));
     }
+
+pub renewed-requires-clause-ready : goal.renewed-requires-clause-ready
+renewed-requires-clause-ready c = c.requires.ready
+
+pub returns-clause-renewed : goal.returns-clause-renewed
+returns-clause-renewed c = c.loop-place.invariant.renewed

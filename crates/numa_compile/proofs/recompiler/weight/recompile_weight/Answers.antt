@@ -40,3 +40,6 @@ returns-clause-follows c =
     weight-follows c.args.space.now c.requires.behind.0 c.requires.behind.1.0 c.args.plan.now c.requires.behind.1.1
     c.survey.ensures.rising c.survey.ensures.maximal c.args.steps.now c.loop-rule.steps c.loop-rule.rules.items c.loop-rule.plan none c.loop-rule.invariant
     c.set_version.new.self (c.set_version.ensures ∙ ap (λ version. record c.loop-rule.plan { version = version }) c.version.ensures.version)
+
+pub all_renewed-requires-clause-ready : goal.all_renewed-requires-clause-ready
+all_renewed-requires-clause-ready c = c.survey.ensures.ready
