@@ -6,7 +6,7 @@ use std::alloc::AllocError;
 
 /// Why a question about played scripts has no answer. Then nothing of one was written, but for
 /// `Stopped(Write)`.
-#[derive(Clone, Copy)]
+#[derive(Clone, Copy, Debug, PartialEq, Eq)]
 pub enum Halt {
     /// A read or a write failed, or there was no memory.
     Stopped(Stop),
