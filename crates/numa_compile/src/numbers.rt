@@ -28,10 +28,10 @@ pub(crate) fn add_rule_of(
     plan: &mut Plan,
     steps: &mut Steps,
 ) -> Result<u32, NoMemory>
+    requires nodes { plan.old.nodes ≡ space.now.machine.nodes }
     requires ready { IsReady space.now }
     requires in_force { IsInForce space.now.machine space.now.allowed policy }
     requires live { is_live policy ≡ true }
-    requires nodes { plan.old.nodes ≡ space.now.machine.nodes }
     ensures here { IfOk result (λ number. policy_in plan.new.slots number ≡ Some policy) }
     ensures added { IfOk result (λ number. (added : IsAdded space.now plan.old number plan.new)
         × (added.kept.policy ≡ policy)) }

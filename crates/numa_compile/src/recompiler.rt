@@ -37,9 +37,9 @@ use numa_plan::{NoMemory, Plan, Steps};
 use numa_space::{Command, Space};
 use std::alloc::Global;
 
-/// Edits a plan as its space's last command says. Where pages were mapped or unmapped, no range that
-/// begins in the span has a policy; mbind(2) has set one for all of them, and a home node leaves
-/// each its own.
+/// Edits a plan as its space's last command says. Where pages were mapped or unmapped, no range
+/// that begins in the span has a policy; mbind(2) has set one for all of them, and a home node
+/// leaves each its own.
 ///
 /// # Errors
 /// `NoMemory` where there is none for what the command wants; the plan is as it was. Never for a

@@ -33,8 +33,8 @@ pub(crate) fn policy_inside(space: &Space, window: &Window) -> Option<Record>
     None
 }
 
-/// Gives the ranges that begin in the window's span the rule of this policy, which each of them has.
-/// Writes the window's runs anew, and one rule at most.
+/// Gives the ranges that begin in the window's span the rule of this policy, which each of them
+/// has. Writes the window's runs anew, and one rule at most.
 ///
 /// # Errors
 /// `NoMemory` where there is none for the rule or for the runs; the plan is as it was.
