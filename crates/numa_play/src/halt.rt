@@ -1,4 +1,8 @@
 //! Why a question about played scripts has no answer.
+ghost use Rattle.std.specs.Prelude.{◌≡◌};
+ghost use Rattle.numa_files.specs.declared.reading.Stop.TheVariants as stop;
+ghost use Rattle.numa_play.specs.declared.halt.Halt.TheVariants as halt;
+
 use numa_files::Stop;
 use numa_reports::ReportFault;
 use numa_traces::ReplayFault;
@@ -23,13 +27,17 @@ pub enum Halt {
 }
 
 impl From<Stop> for Halt {
-    fn from(stop: Stop) -> Halt {
-        Halt::Stopped(stop)
+    fn from(why: Stop) -> Halt
+        ensures { result ≡ halt.Stopped why }
+    {
+        Halt::Stopped(why)
     }
 }
 
 impl From<AllocError> for Halt {
-    fn from(_error: AllocError) -> Halt {
+    fn from(_error: AllocError) -> Halt
+        ensures { result ≡ halt.Stopped stop.Memory }
+    {
         Halt::Stopped(Stop::Memory)
     }
 }
