@@ -1,12 +1,12 @@
 //! Rows that copies of a chunk share.
-ghost use Rattle.std.specs.Prelude.{◌≡◌, ◌+◌, ◌-◌, ◌<◌, ◌≤◌, length, take, slice_set};
-ghost use Rattle.std.specs.Prelude.{IfOk, OnOk, OnErr};
-ghost use Rattle.std.specs.List.{splice};
+ghost use Rattle.std.specs.Prelude.{◌≡◌, IfOk};
+ghost use Rattle.std.specs.Borrow.{sem};
+ghost use Rattle.numa_rows.specs.Lending.{LendsBlock};
 
 use crate::block::Block;
 use crate::chunk::MOST;
 use crate::keep::Keep;
-use std::alloc::{AllocError, Global};
+use std::alloc::{AllocError, Allocator, Global};
 use std::marker::{Model, PhantomData};
 use std::sync::Arc;
 
@@ -77,13 +77,14 @@ impl<T: Copy + Drop, B: Block<T>> Keep<T> for Shared<T, B> {
         if len == MOST {
             return Err(AllocError);
         }
-        set_in(alloc, &mut self.block, len, row)?;
+        own_block(&mut self.block, alloc)?.set(len, row);
         self.len = len + 1;
         Ok(())
     }
 
     fn set(&mut self, alloc: Global, place: usize, row: T) -> Result<(), AllocError> {
-        set_in(alloc, &mut self.block, place, row)
+        own_block(&mut self.block, alloc)?.set(place, row);
+        Ok(())
     }
 
     fn splice(
@@ -98,69 +99,26 @@ impl<T: Copy + Drop, B: Block<T>> Keep<T> for Shared<T, B> {
         if rows.len() > MOST - kept {
             return Err(AllocError);
         }
-        put_among(alloc, &mut self.block, len, from, to, rows)?;
+        own_block(&mut self.block, alloc)?.put(len, from, to, rows);
         self.len = kept + rows.len();
         Ok(())
     }
 }
 
-/// Puts a row in the place of an item of a block. One that others have too is copied.
+/// A block, to be written to. One that others have too is copied first.
 #[inline]
-fn set_in<T, B: Block<T>>(
-    alloc: Global,
-    block: &mut Arc<B>,
-    place: usize,
-    row: T,
-) -> Result<(), AllocError>
-    requires { place < length (B.items_of block.old.value) }
-    ensures ok { OnOk result (B.items_of block.new.value
-        ≡ slice_set (B.items_of block.old.value) place row) }
-    ensures unchanged { OnErr result (block.new ≡ block.old) }
+fn own_block<B: Copy, A: Allocator>(block: &mut Arc<B, A>, alloc: A) -> Result<&mut B, AllocError>
+    ensures* lends { sem 𝓛 (LendsBlock B.row A.row A.Allocator block.entry result) }
+    ensures value { IfOk result (λ items. items.now ≡ block.old.value) }
 {
-    if let Some(items) = Arc::get_mut(block) {
-        items.set(place, row);
-        return Ok(());
+    if Arc::strong_count(block) != 1 {
+        let Some(copy) = Arc::new(alloc, **block).ok() else {
+            return Err(AllocError);
+        };
+        *block = copy;
     }
-    let mut items = **block;
-    items.set(place, row);
-    let Some(copy) = Arc::new(alloc, items).ok() else {
-        return Err(AllocError);
-    };
-    *block = copy;
-    Ok(())
-}
-
-/// Puts rows among the first so many items of a block, in the place of those from one place to
-/// another. One that others have too is copied.
-#[inline]
-fn put_among<T, B: Block<T>>(
-    alloc: Global,
-    block: &mut Arc<B>,
-    len: usize,
-    from: usize,
-    to: usize,
-    rows: &[T],
-) -> Result<(), AllocError>
-    requires rises { from ≤ to }
-    requires within { to ≤ len }
-    requires inside { len ≤ length (B.items_of block.old.value) }
-    requires fits { from + length rows.now + (len - to) ≤ length (B.items_of block.old.value) }
-    ensures room { OnOk result (length (B.items_of block.new.value)
-        ≡ length (B.items_of block.old.value)) }
-    ensures rows { OnOk result (
-        take (len - (to - from) + length rows.now) (B.items_of block.new.value)
-        ≡ splice (take len (B.items_of block.old.value)) from to rows.now) }
-    ensures unchanged { OnErr result (block.new ≡ block.old) }
-{
-    if let Some(items) = Arc::get_mut(block) {
-        items.put(len, from, to, rows);
-        return Ok(());
+    match Arc::get_mut(block) {
+        Some(items) => Ok(items),
+        None => Err(AllocError),
     }
-    let mut items = **block;
-    items.put(len, from, to, rows);
-    let Some(copy) = Arc::new(alloc, items).ok() else {
-        return Err(AllocError);
-    };
-    *block = copy;
-    Ok(())
 }
