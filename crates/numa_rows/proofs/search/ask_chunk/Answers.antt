@@ -2,7 +2,6 @@
 use Rattle.std.proofs.Common.{arith, refl}
 use Rattle.numa_rows.specs.Parts.{flat}
 use Rattle.numa_rows.proofs.InParts.{some-part}
-use Rattle.numa_rows.proofs.Narrowing.{at-start}
 use Rattle.numa_rows.proofs.search.ask_chunk.Goals as goal
 
 pub overflow_sub-starts : goal.overflow_sub-starts
@@ -57,21 +56,19 @@ pub ask_last-requires-clause-within : goal.ask_last-requires-clause-within
 ask_last-requires-clause-within g c = omega (arith, c.ask-left.ensures.within)
 
 pub returns-then-not-has-clause-narrowed : goal.returns-then-not-has-clause-narrowed
-returns-then-not-has-clause-narrowed g c p gives parted = at-start p (flat c.args.chunks.now) c.args.len c.requires.table.count
+returns-then-not-has-clause-narrowed g c p gives parted so = so
 
 pub returns-then-left-rank-clause-within : goal.returns-then-left-rank-clause-within
 returns-then-left-rank-clause-within g c = c.ask_firsts.ensures.within
 
 pub returns-then-left-rank-clause-narrowed : goal.returns-then-left-rank-clause-narrowed
-returns-then-left-rank-clause-narrowed g c p gives parted =
-    c.ask_firsts.ensures.narrowed p gives parted (c.ask-left.ensures.narrowed p gives parted (at-start p (flat c.args.chunks.now) c.args.len c.requires.table.count))
+returns-then-left-rank-clause-narrowed g c p gives parted so = c.ask_firsts.ensures.narrowed p gives parted (c.ask-left.ensures.narrowed p gives parted so)
 
 pub returns-clause-within : goal.returns-clause-within
 returns-clause-within g c = c.ask_last.ensures.within
 
 pub returns-clause-narrowed : goal.returns-clause-narrowed
-returns-clause-narrowed g c p gives parted =
-    c.ask_last.ensures.narrowed p gives parted (c.ask-left.ensures.narrowed p gives parted (at-start p (flat c.args.chunks.now) c.args.len c.requires.table.count))
+returns-clause-narrowed g c p gives parted so = c.ask_last.ensures.narrowed p gives parted (c.ask-left.ensures.narrowed p gives parted so)
 
 pub has-requires : goal.has-requires
 has-requires g c = omega (arith, c.requires.table.small)
