@@ -9,21 +9,23 @@ use numa_ranges::Run;
 use numa_rows::{Rows, Shared};
 use std::alloc::{AllocError, Global};
 
+/// How many runs there are, and in how many chunks they stand.
+#[inline(always)]
+pub(crate) fn sizes(items: &Rows<Run<Option<u32>>, Shared<Run<Option<u32>>>>) -> (usize, usize)
+    ensures count { result.0 ≡ length items.now }
+    ensures bound { result.0 < 2 ^ 32 }
+    ensures chunks { result.1 ≤ 1 + length items.now / 64 }
+{
+    (items.len(), items.chunk_count())
+}
+
 /// How many runs there are.
 #[inline(always)]
 pub(crate) fn run_count(items: &Rows<Run<Option<u32>>, Shared<Run<Option<u32>>>>) -> usize
     ensures count { result ≡ length items.now }
     ensures bound { result < 2 ^ 32 }
 {
-    items.len()
-}
-
-/// In how many chunks they stand.
-#[inline(always)]
-pub(crate) fn chunks_of(items: &Rows<Run<Option<u32>>, Shared<Run<Option<u32>>>>) -> usize
-    ensures { result ≤ 1 + length items.now / 64 }
-{
-    items.chunk_count()
+    sizes(items).0
 }
 
 /// The run at a place, sought from a chunk on, which is the run's own afterwards.

@@ -65,6 +65,14 @@ impl Model for Plan {
         IsPlan a.nodes a.runs a.slots.items a.lowest_free a.tasks.entries a.local };
 }
 
+/// The same tasks once more.
+fn tasks_copied(tasks: &BTreeMap<u32, u32>) -> Result<BTreeMap<u32, u32>, NoMemory>
+    ensures { IfOk result (λ copy. copy.entries ≡ tasks.now.entries) }
+{
+    let copy = tasks.clone()?;
+    Ok(copy)
+}
+
 /// The same tasks and the same local rule once more.
 fn copied(
     alloc: Global,
@@ -74,7 +82,7 @@ fn copied(
     ensures tasks { IfOk result (λ copy. copy.0.entries ≡ tasks.now.entries) }
     ensures local { IfOk result (λ copy. copy.1 ≡ local.now) }
 {
-    let tasks = tasks.clone()?;
+    let tasks = tasks_copied(tasks)?;
     let Ok(local) = local.copy(alloc) else {
         drop(tasks);
         return Err(NoMemory);

@@ -1,5 +1,5 @@
 //! The runs of a plan, in rising order.
-ghost use Rattle.std.specs.Prelude.{◌≡◌, ℕ, ◌+◌, ◌-◌, ◌<◌, ◌≤◌, ◌^◌, List, [], ◌∷◌};
+ghost use Rattle.std.specs.Prelude.{◌≡◌, ℕ, ◌+◌, ◌-◌, ◌/◌, ◌<◌, ◌≤◌, ◌^◌, List, [], ◌∷◌};
 ghost use Rattle.std.specs.Prelude.{◌++◌, length, slice_index_or, MatchOption, Option, slice_get};
 ghost use Rattle.std.specs.Prelude.{IfOk, IfSome, OnOk, OnErr, Some, None, IsSome, true, false};
 ghost use Rattle.std.specs.Bool.{OnTrue, OnFalse};
@@ -11,7 +11,7 @@ ghost use Rattle.numa_plan.specs.Counted.{one_comparison, one_run, more_runs, Fi
 ghost use Rattle.numa_plan.specs.Counted.{FindsTwice};
 ghost use Rattle.numa_plan.specs.Found.{IsAt, IsFound, IsPartOf, IsMapped, IsSplit, HasHole};
 
-use crate::chunks::{chunks_of, gathered, run_count, run_near};
+use crate::chunks::{gathered, run_count, run_near, sizes};
 use crate::guess::{LOOKED_AT, chunk_of, start_before};
 use crate::steps::Steps;
 use numa_machine::NoMemory;
@@ -86,6 +86,19 @@ fn found_in(run: &Run<Option<u32>>, far: u64) -> Option<Found>
     }
 }
 
+/// The place in the middle of those where a search goes on, which leaves half of them on each side
+/// at most.
+#[inline]
+fn middle_of(low: usize, high: usize) -> usize
+    requires { low < high }
+    ensures low { low ≤ result }
+    ensures high { result < high }
+    ensures left { result - low ≤ (high - low) / 2 }
+    ensures right { high - (result + 1) ≤ (high - low) / 2 }
+{
+    low + (high - low) / 2
+}
+
 /// The place behind the last run that begins at a page or before it, how far the page lies behind
 /// the first page of that run, and the chunk where the search ended.
 #[inline]
@@ -98,14 +111,15 @@ fn split_rows(
     ensures split { IsSplit items.now page result.0 result.1 }
     ensures quick { FindsQuickly steps.old steps.new (length items.now) }
 {
+    let (runs, chunks) = sizes(items);
     let mut part = items.no_part();
     let mut low = 0usize;
-    let mut high = run_count(items);
+    let mut high = runs;
     let mut far = 0u64;
     let mut below = 0usize;
-    let mut above = chunks_of(items);
+    let mut above = chunks;
     while low < high {
-        let middle = low + (high - low) / 2;
+        let middle = middle_of(low, high);
         part = items.part_with(part, middle, below / 2 + above / 2);
         let run = items.row_in(&part, middle);
         let chunk = part.chunk();
@@ -380,9 +394,9 @@ impl Runs {
     pub(crate) fn window_near(&self, first: u64, end: u64, guess: usize) -> Beside
         ensures { first ≤ end → IsWindow self.now first end result.from result.to }
     {
-        let runs = run_count(&self.items);
+        let (runs, chunks) = sizes(&self.items);
         let start = start_before(guess, runs);
-        let chunk = chunk_of(start, chunks_of(&self.items), runs);
+        let chunk = chunk_of(start, chunks, runs);
         if let Some(found) = window_from(&self.items, first, end, start, chunk) {
             return found;
         }
@@ -410,8 +424,10 @@ impl Runs {
     pub(crate) fn at(&self, place: usize) -> Option<Run<Option<u32>>>
         ensures { result ≡ slice_get self.now place }
     {
-        if place < run_count(&self.items) {
-            Some(*self.items.get(place))
+        let (runs, chunks) = sizes(&self.items);
+        if place < runs {
+            let mut chunk = chunk_of(place, chunks, runs);
+            Some(*run_near(&self.items, place, &mut chunk))
         } else {
             None
         }

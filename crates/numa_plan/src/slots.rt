@@ -9,6 +9,7 @@ ghost use Rattle.numa_plan.specs.Editing.{with_uses, with_uses_less, up_to_last_
 ghost use Rattle.numa_plan.specs.Meaning.{is_number};
 ghost use Rattle.numa_plan.specs.declared.slots.Slot.TheVariants.{Free, Taken};
 
+use crate::rule::Rule;
 use crate::shared_rule::SharedRule;
 use numa_machine::NoMemory;
 use numa_mode::Record;
@@ -49,7 +50,7 @@ pub(crate) fn copies(alloc: Global, slots: &[Slot]) -> Result<Vec<Slot>, NoMemor
 }
 
 /// The number of the lowest free slot, or of the one behind the last; below `from` none is free.
-pub(crate) fn lowest_free(slots: &Vec<Slot>, from: usize) -> usize
+fn lowest_free(slots: &Vec<Slot>, from: usize) -> usize
     requires within { from ≤ length slots.now.items }
     requires taken { AreTaken slots.now.items from }
     ensures { IsLowestFree slots.now.items result }
@@ -63,11 +64,7 @@ pub(crate) fn lowest_free(slots: &Vec<Slot>, from: usize) -> usize
 }
 
 /// Writes a rule that nothing uses yet.
-pub(crate) fn put_rule(
-    slots: &mut Vec<Slot>,
-    number: usize,
-    kept: SharedRule,
-) -> Result<(), NoMemory>
+fn put_rule(slots: &mut Vec<Slot>, number: usize, kept: SharedRule) -> Result<(), NoMemory>
     requires { number ≤ length slots.old.items }
     ensures ok { OnOk result (slots.new.items ≡ put_slot slots.old.items number (Taken 0 kept)) }
     ensures err { OnErr result (slots.new.items ≡ slots.old.items) }
@@ -79,6 +76,38 @@ pub(crate) fn put_rule(
         slots.push(slot)?;
     }
     Ok(())
+}
+
+/// Puts a policy's rule, which nothing uses yet, into the lowest free slot, or behind the others
+/// where none is free, and answers the slot's number. Below `from` none is free.
+///
+/// # Errors
+/// `NoMemory` where there is none, or where the slots are 2^32 already; they are as they were.
+pub(crate) fn put_lowest(
+    alloc: Global,
+    slots: &mut Vec<Slot>,
+    from: usize,
+    policy: Record,
+    rule: Rule,
+) -> Result<u32, NoMemory>
+    requires within { from ≤ length slots.old.items }
+    requires taken { AreTaken slots.old.items from }
+    ensures lowest { IfOk result (λ number. IsLowestFree slots.old.items number) }
+    ensures put { IfOk result (λ number. slots.new.items ≡ put_slot slots.old.items number
+        (Taken 0 (record { policy = policy; rule = rule }))) }
+    ensures err { OnErr result (slots.new.items ≡ slots.old.items) }
+{
+    let place = lowest_free(slots, from);
+    let Ok(number) = u32::try_from(place) else {
+        return Err(NoMemory);
+    };
+    let Ok(shared) = SharedRule::new(alloc, policy, rule) else {
+        return Err(NoMemory);
+    };
+    let Ok(()) = put_rule(slots, place, shared) else {
+        return Err(NoMemory);
+    };
+    Ok(number)
 }
 
 /// Counts one more use of a rule.

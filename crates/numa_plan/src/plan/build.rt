@@ -13,8 +13,7 @@ use crate::numbers::Numbers;
 use crate::plan::Plan;
 use crate::rule::Rule;
 use crate::runs::Runs;
-use crate::shared_rule::SharedRule;
-use crate::slots::{leave_named, lowest_free, put_rule, use_named, use_rule, uses_at};
+use crate::slots::{leave_named, put_lowest, use_named, use_rule, uses_at};
 use crate::steps::Steps;
 use numa_machine::NoMemory;
 use numa_mode::Record;
@@ -71,13 +70,8 @@ impl Plan {
             → planned_list self.new task page cpu ≡ planned_list self.old task page cpu) }
         ensures err { OnErr result ((self.new ≡ self.old) × (steps.new ≡ steps.old)) }
     {
-        let place = lowest_free(&self.slots, self.lowest_free);
-        let Ok(number) = u32::try_from(place) else {
-            return Err(NoMemory);
-        };
-        let shared = SharedRule::new(self.alloc, policy, rule)?;
-        put_rule(&mut self.slots, place, shared)?;
-        self.lowest_free = place + 1;
+        let number = put_lowest(self.alloc, &mut self.slots, self.lowest_free, policy, rule)?;
+        self.lowest_free = number as usize + 1;
         self.numbers.enter(policy, number);
         steps.rule_written();
         Ok(number)

@@ -141,8 +141,7 @@ impl Plan {
     pub fn reserve(&mut self, rules: usize) -> Result<(), NoMemory>
         ensures same { self.new ≡ self.old }
     {
-        self.slots.reserve(rules)?;
-        Ok(())
+        self.slots.reserve(rules).ok().ok_or(NoMemory)
     }
 
     /// The number of a slot that holds the rule of this policy, where one is known. Looks into a

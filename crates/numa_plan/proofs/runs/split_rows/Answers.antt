@@ -4,8 +4,8 @@ use Rattle.numa_plan.proofs.runs.split_rows.Goals as goal
 
 pub loop-low-preserved-in-Some : goal.loop-low-preserved-in-Some
 loop-low-preserved-in-Some c = record {
-  place = narrow_up c.args.items.now c.args.page c.loop-low.low c.loop-low.high c.loop-low.far _ c.in-Some.distance c.requires (omega arith) (omega arith) (read_far c.args.items.now _ c.row_in-run.result.now c.in-Some.distance c.args.page c.row_in-run.ensures c.in-Some.ensures.far) c.loop-low.invariant.place;
-  cost = rw c.in-Some.ensures.counted (spare c.args.steps.now.comparisons c.loop-low.steps.comparisons (c.loop-low.high - c.loop-low.low) _ (length c.args.items.now) (omega arith) (omega arith) c.loop-low.invariant.cost);
+  place = narrow_up c.args.items.now c.args.page c.loop-low.low c.loop-low.high c.loop-low.far c.middle_of-middle.result c.in-Some.distance c.requires c.middle_of-middle.ensures.low c.middle_of-middle.ensures.high (read_far c.args.items.now _ c.row_in-run.result.now c.in-Some.distance c.args.page c.row_in-run.ensures c.in-Some.ensures.far) c.loop-low.invariant.place;
+  cost = rw c.in-Some.ensures.counted (spare c.args.steps.now.comparisons c.loop-low.steps.comparisons (c.loop-low.high - c.loop-low.low) _ (length c.args.items.now) (omega arith) c.middle_of-middle.ensures.right c.loop-low.invariant.cost);
   no_run = search rules;
   no_rule = search rules;
   part = c.part_with-part.ensures.part;
@@ -13,8 +13,8 @@ loop-low-preserved-in-Some c = record {
 
 pub loop-low-preserved : goal.loop-low-preserved
 loop-low-preserved c = record {
-  place = narrow_down c.args.items.now c.args.page c.loop-low.low c.loop-low.high c.loop-low.far _ c.requires (omega arith) (omega arith) (read_above c.args.items.now _ c.row_in-run.result.now c.args.page c.row_in-run.ensures c.in-None.ensures.far) c.loop-low.invariant.place;
-  cost = rw c.in-None.ensures.counted (spare c.args.steps.now.comparisons c.loop-low.steps.comparisons (c.loop-low.high - c.loop-low.low) _ (length c.args.items.now) (omega arith) (omega arith) c.loop-low.invariant.cost);
+  place = narrow_down c.args.items.now c.args.page c.loop-low.low c.loop-low.high c.loop-low.far c.middle_of-middle.result c.requires c.middle_of-middle.ensures.low c.middle_of-middle.ensures.high (read_above c.args.items.now _ c.row_in-run.result.now c.args.page c.row_in-run.ensures c.in-None.ensures.far) c.loop-low.invariant.place;
+  cost = rw c.in-None.ensures.counted (spare c.args.steps.now.comparisons c.loop-low.steps.comparisons (c.loop-low.high - c.loop-low.low) _ (length c.args.items.now) (omega arith) c.middle_of-middle.ensures.left c.loop-low.invariant.cost);
   no_run = search rules;
   no_rule = search rules;
   part = c.part_with-part.ensures.part;
