@@ -1,4 +1,4 @@
-use Rattle.std.proofs.Common.{◌≡◌, ℕ, Option, Some, None, List, length, refl, ap, sym, subst, ◌∙◌, arith}
+use Rattle.std.proofs.Common.{◌≡◌, Option, Some, None, List, length, refl, ap, sym, subst, ◌∙◌, arith}
 use Rattle.numa_plan.specs.Meaning.{PlanData, planned_list}
 use Rattle.std.specs.Option.{option_map}
 use Rattle.numa_plan.specs.Building.{with_rule}

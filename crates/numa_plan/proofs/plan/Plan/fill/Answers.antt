@@ -17,3 +17,21 @@ loop-done-preserved c =
       within = rw (put_length c.loop-done.done (c.loop-done.done + c.min-count.result - c.loop-done.done) c.loop-done.out c.fill.new.out (omega arith) (omega (arith, c.min-count.ensures))) (omega (arith, c.min-count.ensures));
       filled = filled_more c.args.self.now c.args.task c.args.cpu c.args.first c.loop-done.done c.min-count.result c.loop-done.out c.fill.new.out c.in-Some.found c.rule_for.result.now (omega (arith, c.min-count.ensures)) long (omega (arith, c.min-count.ensures)) at c.rule_for.ensures.is c.loop-done.invariant.filled c.fill.ensures;
     }
+
+pub fill-requires-clause-rows : goal.fill-requires-clause-rows
+fill-requires-clause-rows c k = c.rule_for.ensures.rows c.args.cpu k (omega (arith, c.if-cpu-self.false, ap (λ (p : PlanData). p.nodes) c.self.view_is))
+
+pub fill-requires-clause-index : goal.fill-requires-clause-index
+fill-requires-clause-index c = omega (arith, c.in-Some.ensures.found.few, c.in-Some.ensures.found.some)
+
+pub overflow_add-page : goal.overflow_add-page
+overflow_add-page c = omega (arith, c.in-Some.ensures.found.low, c.min-count.ensures)
+
+pub returns-then-cpu-self-clause-err : goal.returns-then-cpu-self-clause-err
+returns-then-cpu-self-clause-err c = omega (arith, c.if-cpu-self.true, ap (λ (p : PlanData). p.nodes) c.self.view_is)
+
+pub returns-clause-ok : goal.returns-clause-ok
+returns-clause-ok c = (
+  omega (arith, c.if-cpu-self.false, ap (λ (p : PlanData). p.nodes) c.self.view_is),
+  λ k lt. c.loop-done.invariant.filled k (omega (arith, c.loop-done-test.false)),
+)
