@@ -1,6 +1,6 @@
 //! The numbers of rules.
 ghost use Rattle.std.specs.Prelude.{◌≡◌, ◌^◌, ◌<◌, Some, None, IfOk, OnOk, length, slice_get};
-ghost use Rattle.std.specs.Prelude.{true, slice_index_or, OnErr};
+ghost use Rattle.std.specs.Prelude.{true, false, slice_index_or, slice_set, OnErr, [], ◌∷◌, ◌++◌};
 ghost use Rattle.std.specs.Option.{ForSome};
 ghost use Rattle.numa_mode.specs.Policy.{is_live};
 ghost use Rattle.numa_space.specs.Policies.{where_live};
@@ -43,6 +43,22 @@ pub(crate) fn add_rule_of(
     Ok(number)
 }
 
+/// The place of a policy among the records, and whether it is new there.
+fn place_of(records: &mut IndexSet<Record>, policy: Record) -> Result<(u32, bool), NoMemory>
+    requires { length records.old.keys < 2 ^ 32 }
+    ensures stored { IfOk result (λ found. slice_get records.new.keys found.0 ≡ Some policy) }
+    ensures added { IfOk result (λ found. found.1 ≡ true
+        → records.new.keys ≡ records.old.keys ++ policy ∷ []) }
+    ensures known { IfOk result (λ found. found.1 ≡ false
+        → records.new.keys ≡ records.old.keys) }
+{
+    let (place, is_new) = records.insert_full(policy)?;
+    let Ok(number) = u32::try_from(place) else {
+        unreachable!()
+    };
+    Ok((number, is_new))
+}
+
 /// The number of the rule of a live policy: its place among the records. The rule is written where
 /// the record is new.
 fn number_of(
@@ -64,14 +80,18 @@ fn number_of(
     ensures grows { OnOk result (Grows records.old.keys (Some policy) records.new.keys) }
     ensures rest { OnOk result (plan.new ≡ record plan.old { slots = plan.new.slots }) }
 {
-    let (place, is_new) = records.insert_full(policy)?;
-    let Ok(number) = u32::try_from(place) else {
-        unreachable!()
-    };
+    let (number, is_new) = place_of(records, policy)?;
     if is_new {
         add_rule_of(alloc, space, policy, plan, steps)?;
     }
     Ok(number)
+}
+
+/// Whether a policy has a rule of its own: it is live.
+pub(crate) fn has_rule(policy: &Record) -> bool
+    ensures { result ≡ is_live policy.now }
+{
+    policy.is_live()
 }
 
 /// The number of a policy's rule, and none for a policy that isn't live or isn't there.
@@ -97,11 +117,19 @@ pub(crate) fn number_for(
     let Some(policy) = policy else {
         return Ok(None);
     };
-    if !policy.is_live() {
+    if !has_rule(&policy) {
         return Ok(None);
     }
     let number = number_of(alloc, space, policy, plan, records, steps)?;
     Ok(Some(number))
+}
+
+/// Notes the number that was found for a value.
+fn note(known: &mut Vec<Option<Option<u32>>>, value: u32, number: Option<u32>)
+    requires { value < length known.old.items }
+    ensures { known.new.items ≡ slice_set known.old.items value (Some number) }
+{
+    known[value as usize] = Some(number);
 }
 
 /// The number of the rule of the policy under a number of the space's records, and none for one
@@ -140,6 +168,6 @@ pub(crate) fn number_for_range(
     }
     let policy = values[value as usize].policy();
     let number = number_for(alloc, space, policy, plan, records, steps)?;
-    known[value as usize] = Some(number);
+    note(known, value, number);
     Ok(number)
 }

@@ -1,7 +1,6 @@
 //! A space with the plan that is kept beside it.
 ghost use Rattle.std.specs.Prelude.{◌≡◌, ℕ, ◌<◌, ◌∷◌, None, MatchOption, IfOk, IfErr, OnOk, OnErr};
-ghost use Rattle.std.specs.Prelude.{IfSome, List, [], Some};
-ghost use Rattle.std.specs.Bool.{OnTrue};
+ghost use Rattle.std.specs.Prelude.{IfSome, List, [], Some, true};
 ghost use Rattle.std.specs.Option.{ForSome};
 ghost use Rattle.numa_space.specs.declared.command.Command.{Command};
 ghost use Rattle.numa_space.specs.declared.refusal.Refusal.{Refusal};
@@ -61,9 +60,19 @@ fn copy_of(alloc: Global, plan: &Option<Plan>) -> Result<Option<Plan>, NoMemory>
 /// memory for it.
 fn edited(alloc: Global, plan: &mut Plan, space: &Space, command: &Command) -> bool
     requires behind { IsBehind space.now command.now plan.old }
-    ensures follows { OnTrue result (Follows space.now plan.new) }
+    ensures follows { result ≡ true → Follows space.now plan.new }
 {
     recompile(alloc, plan, space, command, &mut Steps::new()).is_ok()
+}
+
+/// Keeps a plan that follows its space, and puts another off.
+fn keep_if(plan: &mut Option<Plan>, space: &Space, follows: bool)
+    requires { follows ≡ true → ForSome plan.old (Follows space.now) }
+    ensures { ForSome plan.new (Follows space.now) }
+{
+    if !follows {
+        drop(plan.take());
+    }
 }
 
 /// Edits a plan, if there is one, as the command says that its space accepted last; or puts it off.
@@ -78,9 +87,8 @@ fn follow(alloc: Global, plan: &mut Option<Plan>, space: &Space, command: &Comma
     let Some(kept) = plan else {
         return;
     };
-    if !edited(alloc, kept, space, command) {
-        drop(plan.take());
-    }
+    let follows = edited(alloc, kept, space, command);
+    keep_if(plan, space, follows);
 }
 
 /// Makes the plan of a space where there is none yet.

@@ -8,7 +8,7 @@ ghost use Rattle.numa_compile.specs.Copies.{IsNumber};
 ghost use Rattle.numa_compile.specs.Recompiling.{WasAdded, WritesRules};
 ghost use Rattle.numa_compile.specs.Rules.{IsReady};
 
-use crate::numbers::add_rule_of;
+use crate::numbers::{add_rule_of, has_rule};
 use numa_mode::Record;
 use numa_plan::{NoMemory, Plan, Steps};
 use numa_space::Space;
@@ -38,7 +38,7 @@ pub(crate) fn number_or_add(
     let Some(policy) = policy else {
         return Ok((None, None));
     };
-    if !policy.is_live() {
+    if !has_rule(&policy) {
         return Ok((None, None));
     }
     if let Some(number) = plan.number_for_policy(&policy) {

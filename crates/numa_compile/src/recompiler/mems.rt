@@ -8,6 +8,13 @@ use numa_space::Space;
 use std::alloc::Global;
 use std::mem::replace;
 
+/// Puts a plan in the place of another.
+fn put_plan(plan: &mut Plan, fresh: Plan)
+    ensures { plan.new ≡ fresh }
+{
+    drop(replace(plan, fresh));
+}
+
 /// Compiles the plan anew, since every policy's nodes may have changed, every row, and which ranges
 /// stand as one. Takes the time of [`crate::compile`].
 ///
@@ -23,6 +30,6 @@ pub(crate) fn recompile_mems(
     ensures unchanged { OnErr result (plan.new ≡ plan.old) }
 {
     let fresh = compile_counted(alloc, space, steps)?;
-    drop(replace(plan, fresh));
+    put_plan(plan, fresh);
     Ok(())
 }

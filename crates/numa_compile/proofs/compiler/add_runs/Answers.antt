@@ -168,3 +168,6 @@ number_for_range-requires-clause-room c = omega (arith, c.loop-row.invariant.add
 
 pub number_for_range-requires-clause-known : goal.number_for_range-requires-clause-known
 number_for_range-requires-clause-known c = c.loop-row.invariant.known
+
+pub number_for_range-requires-clause-ready : goal.number_for_range-requires-clause-ready
+number_for_range-requires-clause-ready c = c.requires.ready

@@ -15,3 +15,12 @@ copy_space-requires-clause-empty c =
 pub copy_space-requires-clause-local : goal.copy_space-requires-clause-local
 copy_space-requires-clause-local c =
     subst (λ (rule : RuleData). IsRuleOf (setting_in c.args.space.now) rule None) (sym (ap (λ (p : PlanData). p.local) c.new-plan.ensures)) c.in_ok-local.ensures
+
+pub local_rule-requires : goal.local_rule-requires
+local_rule-requires c = c.survey.ensures.ready
+
+pub returns-clause-follows : goal.returns-clause-follows
+returns-clause-follows c = c.in-Ok.ensures.follows
+
+pub returns-clause-rules : goal.returns-clause-rules
+returns-clause-rules c = c.in-Ok.ensures.rules

@@ -30,3 +30,18 @@ pub returns-clause-rules : goal.returns-clause-rules
 returns-clause-rules c =
     shares-done c.args.space.now c.set_tasks.new.plan c.set_version.new.self c.set_tasks.new.records.keys c.version.result c.version.ensures.version c.set_version.ensures c.in-Ok-set_tasks.ensures.under_way c.in-Ok-set_tasks.ensures.copies c.in-Ok-set_tasks.ensures.tasks
     (unique-pairs c.set_tasks.new.records.keys c.len.ensures.unique)
+
+pub add_runs-requires-clause-ready : goal.add_runs-requires-clause-ready
+add_runs-requires-clause-ready c = c.survey.ensures.ready
+
+pub set_tasks-requires-clause-ready : goal.set_tasks-requires-clause-ready
+set_tasks-requires-clause-ready c = c.survey.ensures.ready
+
+pub set_tasks-requires-clause-under_way : goal.set_tasks-requires-clause-under_way
+set_tasks-requires-clause-under_way c = c.in-Ok.ensures.under_way
+
+pub set_tasks-requires-clause-copies : goal.set_tasks-requires-clause-copies
+set_tasks-requires-clause-copies c = c.in-Ok.ensures.copies
+
+pub set_tasks-requires-clause-tasks : goal.set_tasks-requires-clause-tasks
+set_tasks-requires-clause-tasks c = c.in-Ok.ensures.tasks

@@ -57,3 +57,6 @@ returns-clause-under_way c = c.loop-k.invariant.under_way
 
 pub returns-clause-copies : goal.returns-clause-copies
 returns-clause-copies c = c.loop-k.invariant.copies
+
+pub number_for-requires-clause-ready : goal.number_for-requires-clause-ready
+number_for-requires-clause-ready c = c.requires.ready

@@ -1,3 +1,4 @@
+use Rattle.std.proofs.Common.{sym, ◌∙◌}
 use Rattle.numa_compile.proofs.numbers.number_for.Goals as goal
 
 pub number_of-requires-clause-in_force : goal.number_of-requires-clause-in_force
@@ -20,3 +21,6 @@ returns-clause-serves c = c.in_ok-number.ensures.serves
 
 pub returns-clause-rest : goal.returns-clause-rest
 returns-clause-rest c = c.in_ok-number.ensures.rest
+
+pub number_of-requires-clause-live : goal.number_of-requires-clause-live
+number_of-requires-clause-live c = sym c.has_rule.ensures ∙ c.if-not-has_rule.false

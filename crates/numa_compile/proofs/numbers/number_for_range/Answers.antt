@@ -1,5 +1,6 @@
 -- What is known of a number is that of its value.
-use Rattle.std.proofs.Common.{◌≡◌, List, Option, None, get_or, refl, sym, subst, ◌∙◌, arith, slice_get, inl}
+use Rattle.std.proofs.Common.{◌≡◌, ℕ, List, Option, Some, None, length, get_or, refl, sym, ap, subst, ◌∙◌, arith, slice_get, inl}
+use Rattle.std.proofs.Math.ListN.{length-set}
 use Rattle.std.proofs.lemmas.List.{get_or_read}
 use Rattle.numa_mode.specs.Policy.{PolicyRecord}
 use Rattle.numa_space.specs.Policies.{where_live}
@@ -19,7 +20,14 @@ returns-clause-known c =
     let is : c.policy-policy.result ≡ get_or values c.args.value None = c.policy-policy.ensures ∙ get_or_read values c.args.value c.index-values-value.result c.requires.within c.index-values-value.is None in
     let numbered : IsNumber (slice_get keys) (where_live (get_or values c.args.value None)) c.in_ok-number.number = subst (λ (p : Option PolicyRecord). IsNumber (slice_get keys) (where_live p) c.in_ok-number.number) is c.in_ok-number.ensures.number in
     let kept : AreKnown (slice_get keys) values c.args.known.now.items = known-grow c.args.records.now.keys keys c.policy-policy.result values c.args.known.now.items c.in_ok-number.ensures.grows c.requires.known in
-    known-set (slice_get keys) values c.args.known.now.items c.args.value c.in_ok-number.number (omega (arith, c.requires.within, c.requires.size)) numbered kept
+    subst (λ (now : List (Option (Option ℕ))). AreKnown (slice_get keys) values now) (sym c.note.ensures)
+    (known-set (slice_get keys) values c.args.known.now.items c.args.value c.in_ok-number.number (omega (arith, c.requires.within, c.requires.size)) numbered kept)
+
+pub note-requires : goal.note-requires
+note-requires c = omega (arith, c.requires.within, c.requires.size)
+
+pub returns-clause-size : goal.returns-clause-size
+returns-clause-size c = ap length c.note.ensures ∙ length-set c.args.known.now.items c.args.value (Some c.in_ok-number.number) ∙ c.requires.size
 
 pub number_for-requires-clause-ready : goal.number_for-requires-clause-ready
 number_for-requires-clause-ready c = c.requires.ready

@@ -68,3 +68,30 @@ pub returns-in-Some-open_window-2-clause-few : goal.returns-in-Some-open_window-
 returns-in-Some-open_window-2-clause-few c =
     few-as c.args.plan.now c.args.steps.now c.rewrite_homes.new.steps c.args.command (SetHome c.in-SetHome.start c.in-SetHome.length c.in-SetHome.node) c.in-SetHome.is
     (few-more c.args.steps.now c.rewrite_homes.new.steps _ _ _ _ c.rewrite_homes.ensures.few c.in-Some-open_window-2.ensures.few c.in-Some-open_window-2.ensures.begun)
+
+pub rewrite_window-requires-clause-of : goal.rewrite_window-requires-clause-of
+rewrite_window-requires-clause-of c = c.mapped_window-window.ensures.open
+
+pub rewrite_window-requires-clause-inside : goal.rewrite_window-requires-clause-inside
+rewrite_window-requires-clause-inside c = c.mapped_window-window.ensures.inside
+
+pub rewrite_window-requires-in-Unmap-clause-of : goal.rewrite_window-requires-in-Unmap-clause-of
+rewrite_window-requires-in-Unmap-clause-of c = c.in-Some.ensures.open
+
+pub policy_inside-policy-requires-clause-ready : goal.policy_inside-policy-requires-clause-ready
+policy_inside-policy-requires-clause-ready c = c.requires.ready
+
+pub policy_inside-policy-requires-clause-within : goal.policy_inside-policy-requires-clause-within
+policy_inside-policy-requires-clause-within c = (open-within c.args.space.now c.open_window-in-Mbind.new.plan c.in-Some-open_window.window c.in-Some-open_window.ensures.open).1
+
+pub rewrite_bound-requires-clause-ready : goal.rewrite_bound-requires-clause-ready
+rewrite_bound-requires-clause-ready c = c.requires.ready
+
+pub rewrite_bound-requires-clause-of : goal.rewrite_bound-requires-clause-of
+rewrite_bound-requires-clause-of c = c.in-Some-open_window.ensures.open
+
+pub rewrite_bound-requires-clause-in_force : goal.rewrite_bound-requires-clause-in_force
+rewrite_bound-requires-clause-in_force c = c.policy_inside-policy.ensures.in_force
+
+pub rewrite_homes-requires : goal.rewrite_homes-requires
+rewrite_homes-requires c = record { of = c.in-Some-open_window-2.ensures.open }

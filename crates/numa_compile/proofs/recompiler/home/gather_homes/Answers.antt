@@ -97,3 +97,6 @@ returns-clause-added c = c.loop-k.invariant.added
 
 pub returns-clause-few : goal.returns-clause-few
 returns-clause-few c = writes-less c.args.steps.now c.loop-k.steps _ _ c.loop-k.invariant.writes (begun-take c.args.window.now.first c.args.window.now.end c.loop-k.k c.args.space.now.ranges)
+
+pub number_of_home-requires-clause-ready : goal.number_of_home-requires-clause-ready
+number_of_home-requires-clause-ready c = c.requires.ready

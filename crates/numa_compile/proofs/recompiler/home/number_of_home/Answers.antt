@@ -1,4 +1,4 @@
-use Rattle.std.proofs.Common.{List, Option, ℕ, sym, ap, subst, ◌∙◌}
+use Rattle.std.proofs.Common.{List, Option, ℕ, refl, sym, ap, subst, ◌∙◌, arith}
 use Rattle.numa_plan.specs.Meaning.{PlanData}
 use Rattle.numa_plan.specs.Slots.{kept_in}
 use Rattle.numa_compile.specs.Windows.{WereAdded}
@@ -28,3 +28,30 @@ returns-in_default-clause-kept c = λ number kept is. ap (λ (p : PlanData). kep
 
 pub returns-clause-kept : goal.returns-clause-kept
 returns-clause-kept c = λ number kept is. added-kept c.args.space.now c.args.plan.now c.number_or_add.new.plan c.in_ok-number.new number kept c.in_ok-number.ensures.added is
+
+pub number_before-requires : goal.number_before-requires
+number_before-requires c = record { numbered = c.requires.outside (sym c.begins_inside.ensures ∙ c.if-not-begins_inside.true) }
+
+pub returns-then-not-begins_inside-clause-number : goal.returns-then-not-begins_inside-clause-number
+returns-then-not-begins_inside-clause-number c = c.number_before.ensures
+
+pub returns-then-not-begins_inside-clause-kept : goal.returns-then-not-begins_inside-clause-kept
+returns-then-not-begins_inside-clause-kept c = λ number kept is. is
+
+pub returns-then-not-begins_inside-clause-added : goal.returns-then-not-begins_inside-clause-added
+returns-then-not-begins_inside-clause-added c = λ start were. were
+
+pub returns-then-not-begins_inside-clause-few : goal.returns-then-not-begins_inside-clause-few
+returns-then-not-begins_inside-clause-few c = record { runs = refl; rules = omega arith }
+
+pub number_or_add-requires-clause-ready : goal.number_or_add-requires-clause-ready
+number_or_add-requires-clause-ready c = c.requires.ready
+
+pub returns-in_err-number-clause-few : goal.returns-in_err-number-clause-few
+returns-in_err-number-clause-few c = rw (sym c.begins_inside.ensures ∙ c.if-not-begins_inside.false) c.number_or_add.ensures.few
+
+pub returns-in_default-clause-few : goal.returns-in_default-clause-few
+returns-in_default-clause-few c = rw (sym c.begins_inside.ensures ∙ c.if-not-begins_inside.false) c.number_or_add.ensures.few
+
+pub returns-clause-few : goal.returns-clause-few
+returns-clause-few c = rw (sym c.begins_inside.ensures ∙ c.if-not-begins_inside.false) c.number_or_add.ensures.few

@@ -30,3 +30,15 @@ returns-clause-added c =
 
 pub returns-clause-few : goal.returns-clause-few
 returns-clause-few c = writes-few c.args.steps.now c.gather_homes.new.steps c.put_runs.new.steps _ _ _ c.gather_homes.ensures.few c.put_runs.ensures.few (omega arith)
+
+pub gather_homes-requires-clause-ready : goal.gather_homes-requires-clause-ready
+gather_homes-requires-clause-ready c = c.survey.ensures.ready
+
+pub gather_homes-requires-clause-of : goal.gather_homes-requires-clause-of
+gather_homes-requires-clause-of c = c.requires.of
+
+pub gather_homes-requires-clause-none_added : goal.gather_homes-requires-clause-none_added
+gather_homes-requires-clause-none_added c = c.requires.none_added
+
+pub returns-clause-follows : goal.returns-clause-follows
+returns-clause-follows c = c.put_runs.ensures.follows

@@ -1,4 +1,6 @@
-use Rattle.std.proofs.Common.{arith}
+use Rattle.std.proofs.Common.{ap, ◌∙◌, arith}
+use Rattle.numa_plan.specs.Meaning.{PlanData}
+use Rattle.numa_compile.proofs.AddedLemmas.{added-rest}
 use Rattle.numa_compile.proofs.CommandLemmas.{bound-inside}
 use Rattle.numa_compile.proofs.GrownLemmas.{open-added}
 use Rattle.numa_compile.proofs.HomeLemmas.{open-nodes}
@@ -22,3 +24,15 @@ returns-in_default-clause-few c =
 pub returns-clause-few : goal.returns-clause-few
 returns-clause-few c =
     writes-few c.args.steps.now c.number_or_add.new.steps c.rewrite_window.new.steps 1 _ _ c.number_or_add.ensures.few c.rewrite_window.ensures.few (omega arith)
+
+pub number_or_add-requires-clause-ready : goal.number_or_add-requires-clause-ready
+number_or_add-requires-clause-ready c = c.requires.ready
+
+pub number_or_add-requires-clause-in_force : goal.number_or_add-requires-clause-in_force
+number_or_add-requires-clause-in_force c = c.requires.in_force
+
+pub returns-clause-follows : goal.returns-clause-follows
+returns-clause-follows c = c.in-Ok.ensures.follows
+
+pub returns-clause-tasks : goal.returns-clause-tasks
+returns-clause-tasks c = c.rewrite_window.ensures.tasks ∙ ap (λ (p : PlanData). p.tasks) (added-rest c.args.space.now c.args.plan.now c.number_or_add.new.plan c.in_ok-number.added c.in_ok-number.ensures.added)

@@ -1,4 +1,5 @@
-use Rattle.numa_compile.proofs.AddedLemmas.{follows-dropped}
+use Rattle.numa_plan.specs.Meaning.{PlanData, number_of}
+use Rattle.numa_compile.proofs.AddedLemmas.{added-rest, follows-dropped}
 use Rattle.numa_compile.proofs.PutLemmas.{number-named}
 use Rattle.numa_compile.proofs.TaskLemmas.{task-follows}
 use Rattle.numa_compile.proofs.recompiler.task.recompile_task.Goals as goal
@@ -24,3 +25,31 @@ number_or_add-requires-clause-nodes c = c.requires.behind.1.follows.nodes ∙ sy
 
 pub set_task-requires : goal.set_task-requires
 set_task-requires c = record { named = number-named c.number_or_add.new.plan.slots (where_live c.task_policy-policy.result) c.in_ok-number.number c.in_ok-number.ensures.number }
+
+pub number_or_add-requires-clause-ready : goal.number_or_add-requires-clause-ready
+number_or_add-requires-clause-ready c = c.survey.ensures.ready
+
+pub returns-in_err-number-clause-few : goal.returns-in_err-number-clause-few
+returns-in_err-number-clause-few c = c.number_or_add.ensures.few
+
+pub returns-in_err-number-clause-others : goal.returns-in_err-number-clause-others
+returns-in_err-number-clause-others c = record {
+  runs = ap (λ (p : PlanData). p.runs) c.in_err-number.ensures.err;
+  tasks = λ other ne. ap (λ (p : PlanData). number_of p.tasks other) c.in_err-number.ensures.err;
+}
+
+pub returns-in_default-clause-few : goal.returns-in_default-clause-few
+returns-in_default-clause-few c = c.number_or_add.ensures.few
+
+pub returns-clause-few : goal.returns-clause-few
+returns-clause-few c = c.number_or_add.ensures.few
+
+pub returns-clause-others : goal.returns-clause-others
+returns-clause-others c =
+    let rest = added-rest c.args.space.now c.args.plan.now c.number_or_add.new.plan c.in_ok-number.added c.in_ok-number.ensures.added in
+    record {
+      runs = ap (λ (p : PlanData). p.runs) c.drop_unused.ensures.rest ∙ ap (λ (p : PlanData). p.runs) c.set_version.ensures ∙ ap (λ (p : PlanData). p.runs) c.in-Ok.ensures.ok ∙ ap (λ (p : PlanData). p.runs) rest;
+      tasks = λ other ne.
+          ap (λ (p : PlanData). number_of p.tasks other) c.drop_unused.ensures.rest ∙ ap (λ (p : PlanData). number_of p.tasks other) c.set_version.ensures
+          ∙ c.in-Ok.ensures.others other ne ∙ ap (λ (p : PlanData). number_of p.tasks other) rest;
+    }
