@@ -19,3 +19,6 @@ returns c =
     (λ rule gives. gives-same c.args.space.now.machine.nodes rule (λ cpu index. row_from (setting_in c.args.space.now) (Only c.allowed.result) c.from-node.result) (λ cpu index. near (setting_in c.args.space.now) (slice_index (members c.args.set.now) 0))
     (λ cpu index i. row_from (setting_in c.args.space.now) (Only (c.allowed.ensures.allowed i)) (node i)) gives)
     c.fixed_rule.ensures
+
+pub fixed_rule-requires-clause-ready : goal.fixed_rule-requires-clause-ready
+fixed_rule-requires-clause-ready c = c.requires.ready

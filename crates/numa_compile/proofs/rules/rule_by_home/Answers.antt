@@ -1,3 +1,4 @@
+use Rattle.std.proofs.Common.{arith}
 use Rattle.numa_compile.proofs.rules.rule_by_home.Goals as goal
 
 pub faulting_rule-requires-clause-ready : goal.faulting_rule-requires-clause-ready
@@ -17,3 +18,6 @@ fixed_rule-requires-clause-some c = c.requires.some
 
 pub fixed_rule-requires-clause-allowed : goal.fixed_rule-requires-clause-allowed
 fixed_rule-requires-clause-allowed c = c.requires.allowed
+
+pub fixed_rule-requires-clause-from : goal.fixed_rule-requires-clause-from
+fixed_rule-requires-clause-from c = omega (arith, c.requires.home c.in-Some.home c.in-Some.is, c.from.ensures)

@@ -1,5 +1,4 @@
 use Rattle.std.proofs.Common.{subst}
-use Rattle.std.specs.Prelude.{IfOk}
 use Rattle.std.proofs.lemmas.Result.{IfOk-weaker}
 use Rattle.numa_space.specs.Standing.{SpaceState}
 use Rattle.numa_compile.specs.Follows.{Follows}

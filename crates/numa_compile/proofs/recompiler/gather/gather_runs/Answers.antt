@@ -31,3 +31,6 @@ loop-k-preserved c =
     let range = c.range_there-range.result in
     subst (λ (runs : List (Run (Option ℕ))). AreCopies at (slice_range c.args.space.now.ranges c.args.window.now.from (c.loop-k.k + 1)) runs) (sym c.in_ok-push_run.ensures)
     (gathered-next at c.args.space.now.ranges c.loop-k.runs.items c.args.window.now.from c.loop-k.k range c.number_in-value.result (omega arith) (omega (arith, c.requires.within)) (c.range_there-range.ensures.there range) c.number_in-value.ensures c.loop-k.invariant)
+
+pub range_there-range-requires : goal.range_there-range-requires
+range_there-range-requires c = omega (arith, c.requires.within)
