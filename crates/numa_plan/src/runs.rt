@@ -88,7 +88,7 @@ fn found_in(run: &Run<Option<u32>>, far: u64) -> Option<Found>
 
 /// The place in the middle of those where a search goes on, which leaves half of them on each side
 /// at most.
-#[inline]
+#[inline(always)]
 fn middle_of(low: usize, high: usize) -> usize
     requires { low < high }
     ensures low { low ≤ result }

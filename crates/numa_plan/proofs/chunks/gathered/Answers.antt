@@ -8,3 +8,9 @@ loop-place-preserved c =
     c.in_ok-push.ensures.items
     ∙ (ap (λ l. l ++ run ∷ []) c.loop-place.invariant
     ∙ sym (gathered-next c.args.items.now c.args.from c.loop-place.place run (omega arith) (omega (arith, c.requires.within)) (c.run_near.ensures run)))
+
+pub overflow_sub-to : goal.overflow_sub-to
+overflow_sub-to c = c.requires.rises
+
+pub run_near-requires : goal.run_near-requires
+run_near-requires c = omega (arith, c.requires.within)

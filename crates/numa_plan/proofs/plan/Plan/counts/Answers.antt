@@ -33,3 +33,12 @@ loop-todo-preserved c =
       counted = counted_more c.args.self.now c.args.task c.args.cpu c.args.first c.loop-todo.page c.min-part.result c.loop-todo.counts c.count.new.counts c.in-Some.found c.rule_for.result.now c.loop-todo.invariant.low short at c.rule_for.ensures.is c.loop-todo.invariant.counted c.count.ensures;
       long = c.count.array_long;
     }
+
+pub count-requires-clause-rows : goal.count-requires-clause-rows
+count-requires-clause-rows c k = c.rule_for.ensures.rows c.args.cpu k (omega (arith, c.if-cpu-self.false, ap (λ (p : PlanData). p.nodes) c.self.view_is))
+
+pub returns-then-cpu-self-clause-err : goal.returns-then-cpu-self-clause-err
+returns-then-cpu-self-clause-err c = omega (arith, c.if-cpu-self.true, ap (λ (p : PlanData). p.nodes) c.self.view_is)
+
+pub overflow_add-page : goal.overflow_add-page
+overflow_add-page c = omega (arith, c.in-Some.ensures.found.low, c.min-part.ensures)
