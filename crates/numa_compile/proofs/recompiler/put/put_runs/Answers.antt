@@ -1,6 +1,7 @@
-use Rattle.std.proofs.Common.{◌≡◌, ◌-◌, length, length-take, length-drop, drop, ap, arith}
+use Rattle.std.proofs.Common.{◌≡◌, ◌-◌, length, length-take, length-drop, drop, ap, ◌∙◌, arith}
 use Rattle.std.specs.List.{slice_range}
 use Rattle.numa_plan.specs.Counted.{Counted}
+use Rattle.numa_plan.specs.Meaning.{PlanData}
 use Rattle.numa_plan.specs.Slots.{policy_in}
 use Rattle.numa_compile.proofs.CommandLemmas.{open-within}
 use Rattle.numa_compile.proofs.CopyLemmas.{copies-apart, copies-length}
@@ -35,3 +36,12 @@ returns-clause-few c =
       runs = omega (arith, size, ap (λ (s : Counted). s.runs) written);
       rules = omega (arith, ap (λ (s : Counted). s.rules) written);
     }
+
+pub replace_runs-requires-clause-rises : goal.replace_runs-requires-clause-rises
+replace_runs-requires-clause-rises c = c.requires.of.rises
+
+pub replace_runs-requires-clause-within : goal.replace_runs-requires-clause-within
+replace_runs-requires-clause-within c = c.requires.of.within
+
+pub returns-clause-tasks : goal.returns-clause-tasks
+returns-clause-tasks c = ap (λ (p : PlanData). p.tasks) c.drop_all.ensures.rest ∙ ap (λ (p : PlanData). p.tasks) c.set_version.ensures ∙ ap (λ (p : PlanData). p.tasks) c.in_ok-gone.ensures.ok.0
