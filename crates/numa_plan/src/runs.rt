@@ -86,8 +86,7 @@ fn found_in(run: &Run<Option<u32>>, far: u64) -> Option<Found>
     }
 }
 
-/// The place in the middle of those where a search goes on, which leaves half of them on each side
-/// at most.
+/// The middle of the places where a search goes on: half of them at most stand on each side.
 #[inline(always)]
 fn middle_of(low: usize, high: usize) -> usize
     requires { low < high }
@@ -249,8 +248,7 @@ impl Runs {
         run_count(&self.items)
     }
 
-    /// The place behind the last run that begins at a page or before it, how far the page lies
-    /// behind the first page of that run, and the chunk where the search ended.
+    /// What [`split_rows`] finds for a page.
     fn split(&self, page: u64, steps: &mut Steps) -> (usize, u64, usize)
         ensures split { IsSplit self.now page result.0 result.1 }
         ensures apart { AreApart 0 self.now }
@@ -259,8 +257,7 @@ impl Runs {
         split_rows(&self.items, page, steps)
     }
 
-    /// What a run says of the page that lies so far behind its first page; none where the run is
-    /// shorter.
+    /// What the run at a place says of the page that lies so far behind its first page.
     fn found_at(&self, place: usize, far: u64, chunk: &mut usize) -> Option<Found>
         requires { place < length self.now }
         ensures { (d : Run (Option ℕ)) →
