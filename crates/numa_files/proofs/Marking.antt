@@ -1,5 +1,6 @@
 -- Marks before the lines of a text, byte by byte.
-use Rattle.std.proofs.Common.{◌≡◌, ℕ, ◌==◌, Bool, true, false, Option, Some, None, List, [], ◌∷◌, ◌++◌, codes, ◌∙◌, length, get_or, arith, ap, refl}
+use Rattle.std.proofs.Common.{◌≡◌, ℕ, ◌==◌, Bool, true, false, Option, Some, None, List, [], ◌∷◌}
+use Rattle.std.proofs.Common.{◌++◌, codes, ◌∙◌, length, get_or, arith, ap, refl}
 use Rattle.std.specs.Prelude.{position}
 use Rattle.std.specs.List.{position_or_len}
 use Rattle.std.proofs.lemmas.Bool.{lt-ltb, le-ltb}
@@ -9,7 +10,8 @@ use Rattle.memchr.specs.Find.{IsFirstByte, is_byte}
 use Rattle.numa_files.specs.Echo.{marked_from, with_marks, is_one_line, echo_of}
 
 pub begun : (text bs : List ℕ) (b : ℕ)
-    → ((text ++ codes "=> ") ++ b ∷ []) ++ marked_from (b == 10) bs ≡ text ++ marked_from true (b ∷ bs)
+    → ((text ++ codes "=> ") ++ b ∷ []) ++ marked_from (b == 10) bs
+    ≡ text ++ marked_from true (b ∷ bs)
 unfolding marked_from
 begun text bs b =
     append_assoc (text ++ codes "=> ") (b ∷ []) (marked_from (b == 10) bs)
@@ -55,5 +57,6 @@ first_feed text (Some end) is =
 first_feed text None is =
     let here : position_or_len (λ (b : ℕ). b == 10) text ≡ length text =
     position_or_len_is (λ (b : ℕ). b == 10) text (length text) 0 (omega arith)
-    (λ k low. is-false (get_or text k 0 == 10) (is k (omega arith) low)) (λ low. absurd (omega (arith, low))) in
+    (λ k low. is-false (get_or text k 0 == 10) (is k (omega arith) low))
+    (λ low. absurd (omega (arith, low))) in
     rw (here, le-ltb (length text) (length text) (omega arith)) refl

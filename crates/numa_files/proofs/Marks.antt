@@ -1,6 +1,9 @@
 -- The last mark of a text, as it is met from the end.
-use Rattle.std.proofs.Common.{◌≡◌, ℕ, ◌+◌, Bool, true, false, List, [], ◌∷◌, Option, Some, None, length, codes, ap, arith, refl, sym, take, drop, get_or, suc, zero, subst, ◌-◌, ◌∙◌, ◌≤◌, ◌<◌, ◌==◌, ◌&&◌, inl, inr}
-use Rattle.std.proofs.lemmas.List.{take_all, length-take, length-take-le, take_rest, get_or-drop, get_or-take, get_or_past}
+use Rattle.std.proofs.Common.{◌≡◌, ℕ, ◌+◌, Bool, true, false, List, [], ◌∷◌, Option, Some, None}
+use Rattle.std.proofs.Common.{length, codes, ap, arith, refl, sym, take, drop, get_or, suc, zero}
+use Rattle.std.proofs.Common.{subst, ◌-◌, ◌∙◌, ◌≤◌, ◌<◌, ◌==◌, ◌&&◌, inl, inr}
+use Rattle.std.proofs.lemmas.List.{take_all, length-take, length-take-le, take_rest, get_or-drop}
+use Rattle.std.proofs.lemmas.List.{get_or-take, get_or_past}
 use Rattle.std.proofs.lemmas.Bool.{ne_eqb, cases_lt}
 use Rattle.numa_files.specs.Worked.{begins_with, further, or_here, last_mark}
 
@@ -105,7 +108,8 @@ pub lacks_there : (text : List ℕ) (end : ℕ) → 2 ≤ end → LacksFrom text
 lacks_there text end some lacks here place low =
     elim (cases_lt end (place + 2)) [
       | inl past ↦ lacks place (omega (arith, past))
-      | inr most ↦ let same : end - 2 ≡ place = omega (arith, low, most, some) in subst (Lacks text) same here
+      | inr most ↦ let same : end - 2 ≡ place = omega (arith, low, most, some) in
+          subst (Lacks text) same here
     ]
 
 -- what begins in the rest of a text
@@ -123,4 +127,5 @@ full_head line long = sym (length-take-le 4101 line (omega (arith, long)))
 pub inside_head : (line : List ℕ) (end : ℕ)
     → end + 4 ≤ length (take 4101 line) → (end ≤ 4097) × (end + 4 ≤ length line)
 inside_head line end inside =
-    let count = length-take 4101 line in (omega (arith, count, inside), omega (arith, count, inside))
+    let count = length-take 4101 line in
+    (omega (arith, count, inside), omega (arith, count, inside))

@@ -27,9 +27,13 @@ fn say_with_marks(text: &mut Vec<u8>, answer: &[u8]) -> Result<(), AllocError>
     let mut rest = answer;
     while let Some((byte, after)) = rest.split_first() {
         if begins {
-            text.extend_from_slice(b"=> ")?;
+            if let Err(fault) = text.extend_from_slice(b"=> ") {
+                return Err(fault);
+            }
         }
-        text.push(*byte)?;
+        if let Err(_) = text.push(*byte) {
+            return Err(AllocError);
+        }
         begins = *byte == b'\n';
         rest = after;
     }
@@ -46,13 +50,18 @@ fn say_with_marks(text: &mut Vec<u8>, answer: &[u8]) -> Result<(), AllocError>
 pub fn say_echo(text: &mut Vec<u8>, line: &[u8], answer: &[u8]) -> Result<(), AllocError>
     ensures { OnOk result (text.new.items ≡ text.old.items ++ echo_of line.now answer.now) }
 {
-    text.extend_from_slice(line)?;
-    if is_one_line(answer) {
-        text.extend_from_slice(b" => ")?;
-        text.extend_from_slice(answer)?;
-        return Ok(());
+    if let Err(fault) = text.extend_from_slice(line) {
+        return Err(fault);
     }
-    text.extend_from_slice(b"\n")?;
+    if is_one_line(answer) {
+        if let Err(fault) = text.extend_from_slice(b" => ") {
+            return Err(fault);
+        }
+        return text.extend_from_slice(answer);
+    }
+    if let Err(fault) = text.extend_from_slice(b"\n") {
+        return Err(fault);
+    }
     say_with_marks(text, answer)
 }
 

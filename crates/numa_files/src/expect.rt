@@ -29,6 +29,9 @@ pub struct Counts {
     pub uncompared: u64,
 }
 
+/// The counts, as they are told.
+const COUNTS: &[u8] = b"$ as wanted, $ not, $ not compared\n";
+
 /// What is known of the line that is read.
 #[derive(Clone, Copy)]
 enum Reading {
@@ -46,7 +49,6 @@ enum Reading {
 /// answered is remembered with what is told.
 #[derive(Drop)]
 struct Comparison<W> {
-    alloc: Global,
     told: Told<W>,
     counts: Counts,
     // The line that is read: its text, its place there from 1, and what is known.
@@ -67,47 +69,19 @@ pub struct Expect<A, W> {
     head: Vec<u8>,
 }
 
-/// Where a difference is, as it is told.
-fn place_text(alloc: Global, name: &str, place: u64) -> Result<String, AllocError> {
-    format!(in alloc; "{name}:{place}: wanted ")
-}
-
-/// The counts, in a line.
-fn counts_text(alloc: Global, counts: Counts) -> Result<String, AllocError> {
-    let Counts {
-        same,
-        different,
-        uncompared,
-    } = counts;
-    format!(in alloc; "{same} as wanted, {different} not, {uncompared} not compared\n")
-}
-
 impl<W: Write> Comparison<W> {
-    /// Tells some text, where there was memory for it.
-    fn tell_text(&mut self, text: Result<String, AllocError>) {
-        match text {
-            Ok(text) => self.told.tell(text.as_str().as_bytes()),
-            Err(_) => self.told.stop(Stop::Memory),
-        }
-    }
-
     /// Begins to tell a difference in the line at hand: where, and what was wanted as far as it is
     /// as given.
     fn tell_wanted(&mut self) {
-        let place = place_text(self.alloc, self.name.as_str(), self.place);
-        self.tell_text(place);
-        self.told.tell(self.answer.taken());
+        let taken = self.answer.taken();
+        self.told.tell_wanted(self.name.as_str(), self.place, taken);
     }
 
     /// Ends that: what was given. Counts it.
     fn tell_given(&mut self) {
         self.counts.different = self.counts.different.saturating_add(1);
-        if self.answer.is_over() {
-            return self.told.tell(b", got nothing\n");
-        }
-        self.told.tell(b", got ");
-        self.told.tell(self.answer.line());
-        self.told.tell(b"\n");
+        self.told
+            .tell_given(self.answer.is_over(), self.answer.line());
     }
 
     /// Takes bytes of a wanted line.
@@ -153,9 +127,7 @@ impl<W: Write> Comparison<W> {
             return;
         }
         let last = self.place.saturating_sub(1);
-        let place = place_text(self.alloc, self.name.as_str(), last);
-        self.tell_text(place);
-        self.told.tell(b"no more");
+        self.told.tell_wanted(self.name.as_str(), last, b"no more");
         self.tell_given();
     }
 
@@ -240,7 +212,6 @@ impl<A: Respond, W: Write> Expect<A, W> {
     /// Before the first text; the differences are told to the writer.
     pub fn new(alloc: Global, answerer: A, output: W) -> Expect<A, W> {
         let comparison = Comparison {
-            alloc,
             told: Told::new(alloc, output),
             counts: Counts {
                 same: 0,
@@ -330,10 +301,14 @@ impl<A: Respond, W: Write> Expect<A, W> {
 
     /// Tells the counts, in a last line.
     pub fn tell_counts(&mut self) -> Result<(), Stop> {
-        let comparison = &mut self.comparison;
-        let counts = counts_text(comparison.alloc, comparison.counts);
-        comparison.tell_text(counts);
-        comparison.told.flush()
+        let Counts {
+            same,
+            different,
+            uncompared,
+        } = self.comparison.counts;
+        let told = &mut self.comparison.told;
+        told.tell_form(COUNTS, &[same, different, uncompared]);
+        told.flush()
     }
 }
 
@@ -341,19 +316,21 @@ impl<A: Respond, W: Write> TakeText for Expect<A, W> {
     fn begin(&mut self, name: &str) -> Result<(), Stop> {
         self.answerer.begin();
         let comparison = &mut self.comparison;
-        comparison.name = String::from_str(comparison.alloc, name)?;
-        comparison.place = 1;
-        match comparison.told.reserve() {
-            Ok(()) => Ok(()),
-            Err(_) => Err(Stop::Memory),
+        comparison.name.clear();
+        if let Err(_) = comparison.name.push_str(name) {
+            return Err(Stop::Memory);
         }
+        comparison.place = 1;
+        comparison.told.reserve()
     }
 
     fn take(&mut self, piece: &[u8]) -> Result<(), Stop> {
         let mut rest = piece;
         while let Some(end) = memchr(b'\n', rest) {
             self.take_rest(rest, end);
-            self.comparison.told.outcome?;
+            if let Err(stop) = self.comparison.told.outcome {
+                return Err(stop);
+            }
             rest = &rest[end + 1..];
         }
         self.feed(rest);

@@ -57,19 +57,37 @@ fn read_one<R: Read, T: TakeText>(
     reads: u64,
     taker: &mut T,
 ) -> Result<u64, Stop> {
-    taker.begin(name)?;
+    if let Err(stop) = taker.begin(name) {
+        return Err(stop);
+    }
     let mut buffer = [0u8; 4096];
     for made in 0..reads {
         let Ok(count) = reader.read(&mut buffer) else {
             return Err(Stop::Read);
         };
         if count == 0 {
-            taker.end()?;
-            return Ok(reads - made - 1);
+            return match taker.end() {
+                Ok(()) => Ok(reads - made - 1),
+                Err(stop) => Err(stop),
+            };
         }
-        taker.take(&buffer[..count])?;
+        if let Err(stop) = taker.take(&buffer[..count]) {
+            return Err(stop);
+        }
     }
     Err(Stop::Read)
+}
+
+/// Reads the texts in turn.
+fn read_each<R: Read, T: TakeText>(texts: &mut [(String, R)], taker: &mut T) -> Result<(), Stop> {
+    let mut reads = READS;
+    for text in texts {
+        match read_one(text.0.as_str(), &mut text.1, reads, taker) {
+            Ok(left) => reads = left,
+            Err(stop) => return Err(stop),
+        }
+    }
+    Ok(())
 }
 
 /// Reads the texts in turn, each with its name, and hands on what is read before the next read.
@@ -80,11 +98,10 @@ pub fn read_all<R: Read + Drop, T: TakeText>(
     texts: Vec<(String, R)>,
     taker: &mut T,
 ) -> Result<(), Stop> {
-    let mut reads = READS;
-    for (name, mut reader) in texts {
-        reads = read_one(name.as_str(), &mut reader, reads, taker)?;
-    }
-    Ok(())
+    let mut texts = texts;
+    let ended = read_each(texts.as_mut_slice(), taker);
+    drop(texts);
+    ended
 }
 
 /// What takes the lines of texts.
@@ -99,7 +116,6 @@ pub trait TakeLine {
 pub struct Lines<T> {
     /// What takes the lines.
     pub taker: T,
-    alloc: Global,
     name: String,
     place: u64,
     line: Vec<u8>,
@@ -110,7 +126,6 @@ impl<T: TakeLine> Lines<T> {
     pub fn new(alloc: Global, taker: T) -> Lines<T> {
         Lines {
             taker,
-            alloc,
             name: String::new(alloc),
             place: 1,
             line: Vec::new(alloc),
@@ -130,17 +145,24 @@ impl<T: TakeLine> Lines<T> {
 
 impl<T: TakeLine> TakeText for Lines<T> {
     fn begin(&mut self, name: &str) -> Result<(), Stop> {
-        self.name = String::from_str(self.alloc, name)?;
         self.place = 1;
-        Ok(())
+        self.name.clear();
+        match self.name.push_str(name) {
+            Ok(()) => Ok(()),
+            Err(_) => Err(Stop::Memory),
+        }
     }
 
     fn take(&mut self, piece: &[u8]) -> Result<(), Stop> {
         for byte in piece {
             if *byte == b'\n' {
-                self.end_line()?;
+                if let Err(stop) = self.end_line() {
+                    return Err(stop);
+                }
             } else if self.line.len() < KEPT {
-                self.line.push(*byte)?;
+                if let Err(_) = self.line.push(*byte) {
+                    return Err(Stop::Memory);
+                }
             }
         }
         Ok(())

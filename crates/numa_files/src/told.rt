@@ -1,6 +1,6 @@
 //! What is told, gathered before it is written.
 use crate::reading::Stop;
-use std::alloc::{AllocError, Global};
+use std::alloc::Global;
 use std::io::Write;
 
 /// How many bytes are gathered before they are written.
@@ -9,6 +9,7 @@ const GATHERED: usize = 4096;
 /// What is told. After the first fault nothing is.
 #[derive(Drop)]
 pub(crate) struct Told<W> {
+    alloc: Global,
     output: W,
     text: Vec<u8>,
     /// The first fault, if one was met.
@@ -19,6 +20,7 @@ impl<W: Write> Told<W> {
     /// Nothing is told yet.
     pub(crate) fn new(alloc: Global, output: W) -> Told<W> {
         Told {
+            alloc,
             output,
             text: Vec::new(alloc),
             outcome: Ok(()),
@@ -26,8 +28,11 @@ impl<W: Write> Told<W> {
     }
 
     /// Takes the memory for what is gathered.
-    pub(crate) fn reserve(&mut self) -> Result<(), AllocError> {
-        self.text.reserve(2 * GATHERED)
+    pub(crate) fn reserve(&mut self) -> Result<(), Stop> {
+        match self.text.reserve(2 * GATHERED) {
+            Ok(()) => Ok(()),
+            Err(_) => Err(Stop::Memory),
+        }
     }
 
     /// Tells nothing more, for this fault.
@@ -49,20 +54,53 @@ impl<W: Write> Told<W> {
         self.outcome
     }
 
-    /// Tells at most 4,096 bytes. Those of a line that is begun take no memory.
-    fn tell_piece(&mut self, piece: &[u8]) {
-        if let Err(_) = self.text.extend_from_slice(piece) {
-            self.stop(Stop::Memory);
-        }
-        if self.text.len() >= GATHERED {
-            let _ = self.flush();
+    /// Tells some bytes, at most 4,096 at a time. Those of a line that is begun take no memory.
+    pub(crate) fn tell(&mut self, text: &[u8]) {
+        for piece in text.chunks(GATHERED) {
+            if let Err(_) = self.text.extend_from_slice(piece) {
+                self.stop(Stop::Memory);
+            }
+            if self.text.len() >= GATHERED {
+                let _ = self.flush();
+            }
         }
     }
 
-    /// Tells some bytes.
-    pub(crate) fn tell(&mut self, text: &[u8]) {
-        for piece in text.chunks(GATHERED) {
-            self.tell_piece(piece);
+    /// Tells a number.
+    fn tell_number(&mut self, number: u64) {
+        match format!(in self.alloc; "{number}") {
+            Ok(digits) => self.tell(digits.as_str().as_bytes()),
+            Err(_) => self.stop(Stop::Memory),
         }
+    }
+
+    /// Tells a form, with the next of the numbers for each `$`.
+    pub(crate) fn tell_form(&mut self, form: &[u8], numbers: &[u64]) {
+        let mut rest = numbers;
+        for letter in form {
+            if *letter != b'$' {
+                self.tell(&[*letter]);
+            } else if let Some((number, behind)) = rest.split_first() {
+                self.tell_number(*number);
+                rest = behind;
+            }
+        }
+    }
+
+    /// Begins to tell a difference: where it is, and what was wanted.
+    pub(crate) fn tell_wanted(&mut self, name: &str, place: u64, wanted: &[u8]) {
+        self.tell(name.as_bytes());
+        self.tell_form(b":$: wanted ", &[place]);
+        self.tell(wanted);
+    }
+
+    /// Ends that: the line that was given, or that none was.
+    pub(crate) fn tell_given(&mut self, is_none: bool, line: &[u8]) {
+        if is_none {
+            return self.tell(b", got nothing\n");
+        }
+        self.tell(b", got ");
+        self.tell(line);
+        self.tell(b"\n");
     }
 }
