@@ -11,6 +11,7 @@ mod place;
 pub mod rule;
 mod scope;
 mod text;
+mod written;
 
 pub use explanation::{Explanation, explain};
 pub use fault::ReasonFault;

@@ -99,7 +99,10 @@ fn block_of(
     ensures { IfOk result (λ block. block
         ≡ block_of (weight_at weights.now) set.now index) }
 {
-    let turns = weights.cycle_of(alloc, set)?;
+    let turns = match weights.cycle_of(alloc, set) {
+        Ok(turns) => turns,
+        Err(fault) => return Err(fault),
+    };
     let total = turns.len() as u64;
     let place = index % total;
     let node = turns[place as usize];
@@ -147,8 +150,10 @@ fn rule_by_mode(
         Mode::PreferredMany => Ok(OrderRule::PreferredMany(from)),
         Mode::Interleave => Ok(OrderRule::Interleave(turn_of(&set, index))),
         Mode::WeightedInterleave => {
-            let block = block_of(alloc, weights, &set, index)?;
-            Ok(OrderRule::WeightedInterleave(block))
+            match block_of(alloc, weights, &set, index) {
+                Ok(block) => Ok(OrderRule::WeightedInterleave(block)),
+                Err(fault) => Err(fault),
+            }
         }
     }
 }
@@ -169,6 +174,8 @@ pub(crate) fn rule_for(
     let Some(policy) = policy else {
         return Ok(OrderRule::Local(cpu));
     };
-    let from = policy.home().map_or(cpu, |home| u32::from(home));
-    rule_by_mode(alloc, weights, policy, from, index)
+    match policy.home() {
+        Some(home) => rule_by_mode(alloc, weights, policy, u32::from(home), index),
+        None => rule_by_mode(alloc, weights, policy, cpu, index),
+    }
 }

@@ -1,295 +1,211 @@
 //! An explanation as text.
 use crate::explanation::Explanation;
-use crate::rule::{OrderRule, Turn, WeightedTurn};
+use crate::rule::{OrderRule, WeightedTurn};
 use crate::scope::Scope;
+use crate::written::Written;
 use numa_machine::Machine;
 use numa_mask::{NodeMask, list_text};
 use numa_mode::Record;
 use numa_space::PAGE_BYTES;
 use std::alloc::AllocError;
-use std::fmt::Write;
-
-/// A part of a text.
-#[derive(Clone, Copy)]
-enum Part<'a> {
-    Words(&'a str),
-    /// A number behind words.
-    Number(&'a str, u64),
-    /// A number in hexadecimal behind words.
-    Address(&'a str, u64),
-}
-
-/// Appends a part.
-fn push_part(text: &mut String, part: Part<'_>) -> Result<(), AllocError> {
-    match part {
-        Part::Words(words) => text.push_str(words),
-        Part::Number(words, number) => write!(text, "{}{}", words, number),
-        Part::Address(words, address) => write!(text, "{}{:x}", words, address),
-    }
-}
-
-/// Appends parts, one behind another.
-fn push_parts(text: &mut String, parts: &[Part<'_>]) -> Result<(), AllocError> {
-    for part in parts {
-        push_part(text, *part)?;
-    }
-    Ok(())
-}
 
 /// The first line: the question, and the nodes in order.
-fn push_question(text: &mut String, said: &Explanation) -> Result<(), AllocError> {
-    let question = [
-        Part::Address("page 0x", said.page.saturating_mul(PAGE_BYTES)),
-        Part::Number(" of task ", u64::from(said.task)),
-        Part::Number(", touched on node ", u64::from(said.cpu)),
-        Part::Words(": nodes"),
-    ];
-    push_parts(text, &question)?;
+fn put_question(text: &mut Written, said: &Explanation) {
+    let address = said.page.saturating_mul(PAGE_BYTES);
+    let asked = [address, said.task as u64, said.cpu as u64];
+    text.put_form("page 0x# of task $, touched on node $: nodes", &asked);
     for node in said.nodes.as_slice() {
-        push_part(text, Part::Number(" ", u64::from(*node)))?;
+        text.put_form(" $", &[*node as u64]);
     }
-    text.push_str("\n")
 }
 
 /// The line of the range.
-fn push_range(text: &mut String, said: &Explanation) -> Result<(), AllocError> {
+fn put_range(text: &mut Written, said: &Explanation) {
     let range = &said.range;
-    let end = range.first.saturating_add(range.pages);
+    let start = range.first.saturating_mul(PAGE_BYTES);
+    let end = range
+        .first
+        .saturating_add(range.pages)
+        .saturating_mul(PAGE_BYTES);
     let last = range.index.saturating_add(range.pages.saturating_sub(1));
-    let line = [
-        Part::Address("range 0x", range.first.saturating_mul(PAGE_BYTES)),
-        Part::Address("-0x", end.saturating_mul(PAGE_BYTES)),
-        Part::Number(": its pages have the indexes ", range.index),
-        Part::Number(" to ", last),
-        Part::Number(", and this one has index ", said.index),
-        Part::Words("\n"),
-    ];
-    push_parts(text, &line)
+    let form = "\nrange 0x#-0x#: its pages have the indexes $ to $, and this one has index $";
+    text.put_form(form, &[start, end, range.index, last, said.index]);
 }
 
-/// Appends whose a policy is, and the policy.
-fn push_owned(text: &mut String, owner: &str, policy: &Record) -> Result<(), AllocError> {
-    text.push_str(owner)?;
-    text.push_str("'s, ")?;
-    text.push_str(policy.policy_text().as_str())
+/// Whose a policy is, the policy, and what is to be said of it.
+fn put_owned(text: &mut Written, owner: &str, policy: &Record, why: &str) {
+    text.put(owner);
+    text.put("'s, ");
+    text.put(policy.policy_text().as_str());
+    text.put(why);
 }
 
 /// Why the policy of a scope doesn't count.
-fn push_passed(text: &mut String, owner: &str, policy: Option<Record>) -> Result<(), AllocError> {
+fn put_passed(text: &mut Written, owner: &str, policy: &Option<Record>) {
     let Some(policy) = policy else {
-        text.push_str(owner)?;
-        return text.push_str(" has none");
+        text.put(owner);
+        return text.put(" has none");
     };
     let why = if policy.is_live() {
         ", counts where the range has none"
     } else {
         ", has no allowed node"
     };
-    push_owned(text, owner, &policy)?;
-    text.push_str(why)
-}
-
-/// The policy that counts, and whose it is.
-fn push_counting(text: &mut String, owner: &str, policy: Option<Record>) -> Result<(), AllocError> {
-    let Some(policy) = policy else {
-        return text.push_str("policy: none, so memory is local; ");
-    };
-    push_owned(text, owner, &policy)?;
-    text.push_str("; ")
+    put_owned(text, owner, policy, why);
 }
 
 /// Why the other policies don't count.
-fn push_others_passed(text: &mut String, said: &Explanation) -> Result<(), AllocError> {
-    let range = said.range.value.policy();
-    match said.scope {
-        Scope::Range => push_passed(text, "the task", said.task_policy),
-        Scope::Task => push_passed(text, "the range", range),
-        Scope::System => {
-            push_passed(text, "the range", range)?;
-            push_passed(text, ", and the task", said.task_policy)
-        }
+fn put_others_passed(text: &mut Written, said: &Explanation) {
+    if let Scope::Range = said.scope {
+        return put_passed(text, "the task", &said.task_policy);
+    }
+    put_passed(text, "the range", &said.range.value.policy());
+    if let Scope::System = said.scope {
+        put_passed(text, ", and the task", &said.task_policy);
     }
 }
 
 /// The line of the policy: which counts, and why the others don't.
-fn push_policy(text: &mut String, said: &Explanation) -> Result<(), AllocError> {
+fn put_policy(text: &mut Written, said: &Explanation) {
     let owner = match said.scope {
-        Scope::Range => "policy: the range",
-        Scope::Task => "policy: the task",
-        Scope::System => "policy: the system",
+        Scope::Range => "\npolicy: the range",
+        Scope::Task => "\npolicy: the task",
+        Scope::System => "\npolicy: the system",
     };
-    push_counting(text, owner, said.policy)?;
-    push_others_passed(text, said)?;
-    text.push_str("\n")
+    match &said.policy {
+        Some(policy) => put_owned(text, owner, policy, "; "),
+        None => text.put("\npolicy: none, so memory is local; "),
+    }
+    put_others_passed(text, said);
 }
 
 /// A set of nodes behind words; `none` where it has none.
-fn push_set(text: &mut String, words: &str, set: &NodeMask) -> Result<(), AllocError> {
-    let list = list_text(set);
-    let said = if set.is_empty() {
-        "none"
-    } else {
-        list.as_str()
-    };
-    push_parts(text, &[Part::Words(words), Part::Words(said)])
+fn put_set(text: &mut Written, words: &str, set: &NodeMask) {
+    text.put(words);
+    if set.is_empty() {
+        return text.put("none");
+    }
+    text.put(list_text(set).as_str());
 }
 
 /// The line of the sets.
-fn push_sets(text: &mut String, said: &Explanation) -> Result<(), AllocError> {
-    let effective = match said.policy {
+fn put_sets(text: &mut Written, said: &Explanation) {
+    let effective = match &said.policy {
         Some(policy) => policy.effective(),
         None => NodeMask::empty(),
     };
-    push_set(text, "effective nodes: ", &effective)?;
-    push_set(text, "; allowed nodes: ", &said.allowed)?;
-    text.push_str("\n")
+    put_set(text, "\neffective nodes: ", &effective);
+    put_set(text, "; allowed nodes: ", &said.allowed);
 }
 
-/// The node around which a rule puts nodes in order.
-fn center(rule: OrderRule) -> u32 {
-    match rule {
-        OrderRule::Local(from) | OrderRule::Bind(from) | OrderRule::PreferredMany(from) => from,
-        OrderRule::Preferred(node) => u32::from(node),
-        OrderRule::Interleave(turn) => u32::from(turn.node),
-        OrderRule::WeightedInterleave(block) => u32::from(block.node),
+/// A node in a form, and how far it is from another.
+fn put_node(text: &mut Written, machine: &Machine, form: &str, node: u8, from: u32) {
+    text.put_form(form, &[node as u64]);
+    let node = node as u32;
+    let nodes = machine.nodes();
+    if from < nodes && node < nodes {
+        text.put_form(" at distance $", &[machine.distance(from, node) as u64]);
     }
 }
 
-/// Appends a node behind words, and how far it is from another.
-fn push_node(
-    text: &mut String,
-    machine: &Machine,
-    words: &str,
-    node: u8,
-    from: u32,
-) -> Result<(), AllocError> {
-    push_part(text, Part::Number(words, u64::from(node)))?;
-    let node = u32::from(node);
-    if from < machine.nodes() && node < machine.nodes() {
-        let distance = u64::from(machine.distance(from, node));
-        return push_part(text, Part::Number(" at distance ", distance));
-    }
-    Ok(())
-}
-
-/// The first node, which is the nearest of some nodes to another.
-fn push_nearest(
-    text: &mut String,
-    machine: &Machine,
-    said: &Explanation,
-    of: &str,
-    from: u32,
-) -> Result<(), AllocError> {
-    let has_home = said.policy.is_some_and(|policy| policy.home().is_some());
-    let why = if has_home {
-        ", the home: "
-    } else {
-        ", the CPU's: "
+/// The first node, which is the nearest to another of the nodes that a form names.
+fn put_nearest(text: &mut Written, machine: &Machine, said: &Explanation, form: &str, from: u32) {
+    text.put_form(form, &[from as u64]);
+    let home = match &said.policy {
+        Some(policy) => policy.home(),
+        None => None,
     };
-    let parts = [
-        Part::Words(of),
-        Part::Number(" nodes the nearest to node ", u64::from(from)),
-        Part::Words(why),
-    ];
-    push_parts(text, &parts)?;
+    text.put(match home {
+        Some(_) => ", the home: ",
+        None => ", the CPU's: ",
+    });
     match said.nodes.first() {
-        Some(first) => push_node(text, machine, "node ", *first, from),
-        None => text.push_str("none"),
+        Some(first) => put_node(text, machine, "node $", *first, from),
+        None => text.put("none"),
     }
-}
-
-/// The turn of interleave.
-fn push_turn(text: &mut String, index: u64, turn: Turn) -> Result<(), AllocError> {
-    let parts = [
-        Part::Number("index ", index),
-        Part::Number(" mod ", turn.members),
-        Part::Number(" = ", turn.place),
-        Part::Number(", so node ", u64::from(turn.node)),
-    ];
-    push_parts(text, &parts)
 }
 
 /// The turn of weighted interleave.
-fn push_block(text: &mut String, index: u64, block: WeightedTurn) -> Result<(), AllocError> {
+fn put_block(text: &mut Written, index: u64, block: WeightedTurn) {
     let last = block.before.saturating_add(block.weight.saturating_sub(1));
-    let node = u64::from(block.node);
-    let parts = [
-        Part::Number("index ", index),
-        Part::Number(" mod ", block.total),
-        Part::Number(" = ", block.place),
-        Part::Number(", and node ", node),
-        Part::Number(" has turns ", block.before),
-        Part::Number(" to ", last),
-        Part::Number(" (weight ", block.weight),
-        Part::Number("), so node ", node),
-    ];
-    push_parts(text, &parts)
+    let node = block.node as u64;
+    let first = [index, block.total, block.place, node];
+    text.put_form("\nfirst: index $ mod $ = $, and node $", &first);
+    let turns = [block.before, last, block.weight, node];
+    text.put_form(" has turns $ to $ (weight $), so node $", &turns);
 }
 
-/// Why the first node is the first.
-fn push_rule(text: &mut String, machine: &Machine, said: &Explanation) -> Result<(), AllocError> {
+/// The line of the first node: why it is the first. Gives the node around which all are in order.
+fn put_first(text: &mut Written, machine: &Machine, said: &Explanation) -> u32 {
     match said.rule {
-        OrderRule::Local(from) => push_nearest(text, machine, said, "of the allowed", from),
+        OrderRule::Local(from) => {
+            let form = "\nfirst: of the allowed nodes the nearest to node $";
+            put_nearest(text, machine, said, form, from);
+            from
+        }
         OrderRule::Bind(from) | OrderRule::PreferredMany(from) => {
-            push_nearest(text, machine, said, "of the effective", from)
+            let form = "\nfirst: of the effective nodes the nearest to node $";
+            put_nearest(text, machine, said, form, from);
+            from
         }
         OrderRule::Preferred(node) => {
-            push_part(
-                text,
-                Part::Number("the policy prefers node ", u64::from(node)),
-            )
+            text.put_form("\nfirst: the policy prefers node $", &[node as u64]);
+            node as u32
         }
-        OrderRule::Interleave(turn) => push_turn(text, said.index, turn),
-        OrderRule::WeightedInterleave(block) => push_block(text, said.index, block),
+        OrderRule::Interleave(turn) => {
+            let numbers = [said.index, turn.members, turn.place, turn.node as u64];
+            text.put_form("\nfirst: index $ mod $ = $, so node $", &numbers);
+            turn.node as u32
+        }
+        OrderRule::WeightedInterleave(block) => {
+            put_block(text, said.index, block);
+            block.node as u32
+        }
     }
-}
-
-/// The line of the first node.
-fn push_first(text: &mut String, machine: &Machine, said: &Explanation) -> Result<(), AllocError> {
-    text.push_str("first: ")?;
-    push_rule(text, machine, said)?;
-    text.push_str("\n")
 }
 
 /// Which nodes follow the first, and in which order.
 fn order_words(rule: OrderRule) -> &'static str {
     match rule {
-        OrderRule::Bind(_) => "then: the other effective nodes",
+        OrderRule::Bind(_) => "\nthen: the other effective nodes",
         OrderRule::PreferredMany(_) =>
-            "then: the other effective nodes, and behind them the other allowed ones",
-        _ => "then: the other allowed nodes",
+            "\nthen: the other effective nodes, and behind them the other allowed ones",
+        _ => "\nthen: the other allowed nodes",
     }
 }
 
-/// The line of the other nodes.
-fn push_others(text: &mut String, machine: &Machine, said: &Explanation) -> Result<(), AllocError> {
+/// The line of the other nodes, which are in order around a node.
+fn put_others(text: &mut Written, machine: &Machine, said: &Explanation, from: u32) {
     let others = said.nodes.as_slice().get(1..).unwrap_or(&[]);
     if others.is_empty() {
-        return text.push_str("then: no other node\n");
+        return text.put("\nthen: no other node\n");
     }
-    let from = center(said.rule);
-    let parts = [
-        Part::Words(order_words(said.rule)),
-        Part::Number(", the nearest to node ", u64::from(from)),
-        Part::Words(" first:"),
-    ];
-    push_parts(text, &parts)?;
-    let mut words = " ";
+    text.put(order_words(said.rule));
+    text.put_form(", the nearest to node $ first:", &[from as u64]);
+    let mut form: &str = " $";
     for node in others {
-        push_node(text, machine, words, *node, from)?;
-        words = ", ";
+        put_node(text, machine, form, *node, from);
+        form = ", $";
     }
-    text.push_str("\n")
+    text.put("\n");
 }
 
 /// Appends why memory for a page is looked for on its nodes, in six lines: the question with the
 /// nodes in order, the range, the policy that counts, the sets of nodes, the first node and the
 /// others. The machine is that of the space.
 pub fn say(text: &mut String, machine: &Machine, said: &Explanation) -> Result<(), AllocError> {
-    push_question(text, said)?;
-    push_range(text, said)?;
-    push_policy(text, said)?;
-    push_sets(text, said)?;
-    push_first(text, machine, said)?;
-    push_others(text, machine, said)
+    let mut written = Written {
+        text: String::new(*text.allocator()),
+        outcome: Ok(()),
+    };
+    put_question(&mut written, said);
+    put_range(&mut written, said);
+    put_policy(&mut written, said);
+    put_sets(&mut written, said);
+    let from = put_first(&mut written, machine, said);
+    put_others(&mut written, machine, said, from);
+    match written.outcome {
+        Ok(()) => text.push_str(written.text.as_str()),
+        Err(fault) => Err(fault),
+    }
 }
