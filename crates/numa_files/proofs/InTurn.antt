@@ -34,15 +34,6 @@ kept-kept (Some xs) None c kept then = absurd kept
 kept-kept (Some xs) (Some ys) None kept then = absurd then
 kept-kept (Some xs) (Some ys) (Some zs) kept then = then ∙ kept
 
--- what a reader keeps is kept in turn
-pub given-keeps : (begun : Bool) (before after rest : Option (List ℕ)) → Keeps before after
-    → Keeps (ended_then begun before rest) (ended_then begun after rest)
-given-keeps begun None after rest kept = tt
-given-keeps begun (Some xs) None rest kept = absurd kept
-given-keeps begun (Some xs) (Some ys) None kept = tt
-given-keeps begun (Some xs) (Some ys) (Some more) kept =
-    ap (λ (bytes : List ℕ). bytes ++ (line_end (open_behind begun bytes) ++ more)) kept
-
 -- some bytes of a reader
 pub given-read : (begun : Bool) (before after rest : Option (List ℕ)) (chunk : List ℕ)
     → Consumes before after chunk
@@ -122,3 +113,27 @@ read-end {R} remaining reader readers r s begun start left count buf kept is sma
     subst (λ (bytes : List ℕ). Consumes start left bytes) feed
     (subst (λ (o : Option (List ℕ)). Consumes start o (line_end begun)) (sym same)
     (kept-consumes start (ended_then begun (remaining r) rest) rest (line_end begun) here ended))
+
+-- a reader with no open line had nothing left
+pub read-nothing : {R : Type 0} (remaining : R → Option (List ℕ)) (reader : Option R)
+    (readers : List R) (r s : R) (begun : Bool) (start left : Option (List ℕ)) (count : ℕ)
+    (buf : List ℕ)
+    → Keeps start (bytes_from remaining begun reader readers) → reader ≡ Some r → count ≤ 0
+    → begun ≡ false → left ≡ bytes_in_turn remaining readers
+    → Consumes (remaining r) (remaining s) (take count buf)
+    → (count ≡ 0 → 0 < length buf → IsAtEnd (remaining s)) → 0 < length buf → Keeps start left
+read-nothing {R} remaining reader readers r s begun start left count buf kept is small was same
+    takes end room =
+    let rest = bytes_in_turn remaining readers in
+    let here : Keeps start (ended_then begun (remaining r) rest) =
+    subst (λ (o : Option R). Keeps start (bytes_from remaining begun o readers)) is kept in
+    let none : count ≡ 0 = omega (arith, small) in
+    let taken : Consumes (remaining r) (remaining s) [] =
+    subst (λ (n : ℕ). Consumes (remaining r) (remaining s) (take n buf)) none takes in
+    let ended : Consumes (ended_then begun (remaining r) rest) rest (line_end begun) =
+    given-end begun (remaining r) (remaining s) rest taken (end none room) in
+    let all = ended_then begun (remaining r) rest in
+    let nothing : Consumes all rest [] =
+    subst (λ (b : Bool). Consumes all rest (line_end b)) was ended in
+    subst (λ (o : Option (List ℕ)). Keeps start o) (sym same)
+    (kept-kept start all rest here (none-consumed all rest nothing))

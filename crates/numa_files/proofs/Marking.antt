@@ -42,6 +42,10 @@ echo_of_more text line answer isnt =
     rw isnt (ap (λ (xs : List ℕ). xs ++ with_marks answer) (append_assoc text line (codes "\n"))
     ∙ append_assoc text (line ++ codes "\n") (with_marks answer))
 
+pub ruleset marking = (begun, inside, over)
+
+pub ruleset echoing = (echo_of_one_line, echo_of_more)
+
 is-false : (b : Bool) → (b ≡ true → ⊥) → b ≡ false
 is-false true isnt = absurd (isnt refl)
 is-false false isnt = refl

@@ -63,15 +63,14 @@ impl Answer {
 
     /// Takes the next bytes of a wanted line, where it goes on with them. Whether it does.
     pub(crate) fn take(&mut self, bytes: &[u8]) -> bool {
-        let end = self.at.saturating_add(bytes.len());
-        let Some(next) = self.text.get(self.at..end) else {
-            return false;
+        let goes_on = match self.text.get(self.at..) {
+            Some(rest) => rest.starts_with(bytes),
+            None => false,
         };
-        if next != bytes {
-            return false;
+        if goes_on {
+            self.at = self.at.saturating_add(bytes.len());
         }
-        self.at = end;
-        true
+        goes_on
     }
 
     /// Takes the next bytes of a wanted line, up to the first with which it doesn't go on. How many

@@ -19,7 +19,7 @@ fn is_one_line(answer: &[u8]) -> bool
 }
 
 /// Says an answer with `=> ` before each of its lines.
-#[tactic(auto, using(crate::proofs::Marking::begun, crate::proofs::Marking::inside, crate::proofs::Marking::over))]
+#[tactic(auto, using(crate::proofs::Marking::marking))]
 fn say_with_marks(text: &mut Vec<u8>, answer: &[u8]) -> Result<(), AllocError>
     ensures { OnOk result (text.new.items ≡ text.old.items ++ with_marks answer.now) }
 {
@@ -46,7 +46,7 @@ fn say_with_marks(text: &mut Vec<u8>, answer: &[u8]) -> Result<(), AllocError>
 ///
 /// # Errors
 /// `AllocError` where there is no memory: then a part of that may have been said.
-#[tactic(auto, using(crate::proofs::Marking::echo_of_one_line, crate::proofs::Marking::echo_of_more))]
+#[tactic(auto, using(crate::proofs::Marking::echoing))]
 pub fn say_echo(text: &mut Vec<u8>, line: &[u8], answer: &[u8]) -> Result<(), AllocError>
     ensures { OnOk result (text.new.items ≡ text.old.items ++ echo_of line.now answer.now) }
 {

@@ -1,5 +1,5 @@
 //! Worked scripts, compared with what their lines are answered as they are read.
-ghost use Rattle.std.specs.Prelude.{◌+◌, ◌≤◌, ◌<◌, length};
+ghost use Rattle.std.specs.Prelude.{◌≤◌, length};
 
 use crate::answer::Answer;
 use crate::reading::{Stop, TakeText};
@@ -28,9 +28,6 @@ pub struct Counts {
     /// Script lines with an answer, of which the worked script says nothing.
     pub uncompared: u64,
 }
-
-/// The counts, as they are told.
-const COUNTS: &[u8] = b"$ as wanted, $ not, $ not compared\n";
 
 /// What is known of the line that is read.
 #[derive(Clone, Copy)]
@@ -98,13 +95,6 @@ impl<W: Write> Comparison<W> {
         self.told.tell(&bytes[count..]);
     }
 
-    /// Takes the bytes of a wanted line that begins.
-    fn want_from(&mut self, start: &[u8]) {
-        self.reading = Reading::Same;
-        self.is_wanted = true;
-        self.want(start);
-    }
-
     /// Compares the end of a wanted line.
     fn end_wanted(&mut self) {
         if let Reading::Same = self.reading {
@@ -140,29 +130,17 @@ impl<W: Write> Comparison<W> {
         self.is_wanted = false;
     }
 
-    /// Goes on to the next line of the text.
-    fn open_next(&mut self) {
-        self.reading = Reading::Head;
-        self.place = self.place.saturating_add(1);
-    }
-
-    /// Ends the line at hand, of which is known what it holds.
-    fn end_line(&mut self) {
-        match self.reading {
-            Reading::Head | Reading::Passed => (),
-            Reading::Same | Reading::Different => self.end_wanted(),
-        }
-        self.open_next();
-    }
-
-    /// Ends the line at hand, where the answer is all that it wants, its line feed too. Whether it
-    /// is: most answers are one line, and as wanted.
-    fn end_whole(&mut self, wanted: &[u8]) -> bool {
-        let is_same = self.answer.text.as_slice() == wanted;
+    /// Takes all of a wanted line, where that and a line feed are the whole answer. Whether they
+    /// are: most answers are one line, and as wanted.
+    fn take_whole(&mut self, wanted: &[u8]) -> bool {
+        let is_same = match self.answer.text.split_last() {
+            Some((end, line)) => *end == b'\n' && line == wanted,
+            None => false,
+        };
         if is_same {
             self.counts.same = self.counts.same.saturating_add(1);
             self.answer.clear();
-            self.open_next();
+            self.reading = Reading::Passed;
         }
         is_same
     }
@@ -175,8 +153,8 @@ impl<W: Write> Comparison<W> {
         }
     }
 
-    /// Takes the first bytes of the line at hand, which show what it holds.
-    fn take_head<A: Respond>(&mut self, answerer: &mut A, head: &[u8]) {
+    /// Takes the first bytes of the line at hand, which show what it holds, or the whole line.
+    fn take_head<A: Respond>(&mut self, answerer: &mut A, head: &[u8], is_whole: bool) {
         match read_form(head) {
             LineForm::Script => {
                 self.reading = Reading::Passed;
@@ -184,27 +162,20 @@ impl<W: Write> Comparison<W> {
             }
             LineForm::Answered(end) => {
                 self.ask(answerer, &head[..end]);
-                self.want_from(&head[end + 4..]);
+                let wanted = &head[end + 4..];
+                if is_whole && self.take_whole(wanted) {
+                    return;
+                }
+                self.reading = Reading::Same;
+                self.is_wanted = true;
+                self.want(wanted);
             }
-            LineForm::Answer => self.want_from(&head[3..]),
-        }
-    }
-
-    /// Takes a line that ends there in a piece, lies whole in it and shows there what it holds.
-    fn take_line<A: Respond>(&mut self, answerer: &mut A, piece: &[u8], end: usize)
-        requires { end < length piece.now }
-    {
-        let line = &piece[..end];
-        if let LineForm::Answered(mark) = read_form(line) {
-            self.ask(answerer, &piece[..mark]);
-            if self.end_whole(&piece[mark + 4..end + 1]) {
-                return;
+            LineForm::Answer => {
+                self.reading = Reading::Same;
+                self.is_wanted = true;
+                self.want(&head[3..]);
             }
-            self.want_from(&piece[mark + 4..end]);
-        } else {
-            self.take_head(answerer, line);
         }
-        self.end_line();
     }
 }
 
@@ -239,16 +210,22 @@ impl<A: Respond, W: Write> Expect<A, W> {
     /// Sees what the line at hand holds.
     fn see(&mut self) {
         self.comparison
-            .take_head(&mut self.answerer, self.head.as_slice());
+            .take_head(&mut self.answerer, self.head.as_slice(), false);
         self.head.clear();
     }
 
-    /// Ends the line at hand.
+    /// Ends the line at hand, and goes on to the next.
     fn end_line(&mut self) {
         if let Reading::Head = self.comparison.reading {
             self.see();
         }
-        self.comparison.end_line();
+        let comparison = &mut self.comparison;
+        match comparison.reading {
+            Reading::Head | Reading::Passed => (),
+            Reading::Same | Reading::Different => comparison.end_wanted(),
+        }
+        comparison.reading = Reading::Head;
+        comparison.place = comparison.place.saturating_add(1);
     }
 
     /// Whether nothing of the line at hand was taken.
@@ -259,15 +236,14 @@ impl<A: Respond, W: Write> Expect<A, W> {
         }
     }
 
-    /// Takes the rest of the line at hand, which ends there in a piece. A line that lies whole in
-    /// its piece, and shows there what it holds, isn't copied.
-    fn take_rest(&mut self, piece: &[u8], end: usize)
-        requires { end < length piece.now }
-    {
-        if end <= HEAD && self.is_new() {
-            return self.comparison.take_line(&mut self.answerer, piece, end);
+    /// Takes the rest of the line at hand. A line that lies whole in its piece, and shows there what
+    /// it holds, isn't copied.
+    fn take_rest(&mut self, rest: &[u8]) {
+        if rest.len() <= HEAD && self.is_new() {
+            self.comparison.take_head(&mut self.answerer, rest, true);
+        } else {
+            self.feed(rest);
         }
-        self.feed(&piece[..end]);
         self.end_line();
     }
 
@@ -307,7 +283,10 @@ impl<A: Respond, W: Write> Expect<A, W> {
             uncompared,
         } = self.comparison.counts;
         let told = &mut self.comparison.told;
-        told.tell_form(COUNTS, &[same, different, uncompared]);
+        let text = format!(in told.alloc;
+            "{same} as wanted, {different} not, {uncompared} not compared\n"
+        );
+        told.tell_text(text);
         told.flush()
     }
 }
@@ -327,7 +306,7 @@ impl<A: Respond, W: Write> TakeText for Expect<A, W> {
     fn take(&mut self, piece: &[u8]) -> Result<(), Stop> {
         let mut rest = piece;
         while let Some(end) = memchr(b'\n', rest) {
-            self.take_rest(rest, end);
+            self.take_rest(&rest[..end]);
             if let Err(stop) = self.comparison.told.outcome {
                 return Err(stop);
             }

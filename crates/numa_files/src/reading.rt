@@ -78,18 +78,6 @@ fn read_one<R: Read, T: TakeText>(
     Err(Stop::Read)
 }
 
-/// Reads the texts in turn.
-fn read_each<R: Read, T: TakeText>(texts: &mut [(String, R)], taker: &mut T) -> Result<(), Stop> {
-    let mut reads = READS;
-    for text in texts {
-        match read_one(text.0.as_str(), &mut text.1, reads, taker) {
-            Ok(left) => reads = left,
-            Err(stop) => return Err(stop),
-        }
-    }
-    Ok(())
-}
-
 /// Reads the texts in turn, each with its name, and hands on what is read before the next read.
 ///
 /// # Errors
@@ -99,7 +87,17 @@ pub fn read_all<R: Read + Drop, T: TakeText>(
     taker: &mut T,
 ) -> Result<(), Stop> {
     let mut texts = texts;
-    let ended = read_each(texts.as_mut_slice(), taker);
+    let mut reads = READS;
+    let mut ended = Ok(());
+    for text in texts.as_mut_slice() {
+        match read_one(text.0.as_str(), &mut text.1, reads, taker) {
+            Ok(left) => reads = left,
+            Err(stop) => {
+                ended = Err(stop);
+                break;
+            }
+        }
+    }
     drop(texts);
     ended
 }

@@ -1,6 +1,6 @@
 //! What is told, gathered before it is written.
 use crate::reading::Stop;
-use std::alloc::Global;
+use std::alloc::{AllocError, Global};
 use std::io::Write;
 
 /// How many bytes are gathered before they are written.
@@ -9,7 +9,7 @@ const GATHERED: usize = 4096;
 /// What is told. After the first fault nothing is.
 #[derive(Drop)]
 pub(crate) struct Told<W> {
-    alloc: Global,
+    pub(crate) alloc: Global,
     output: W,
     text: Vec<u8>,
     /// The first fault, if one was met.
@@ -66,31 +66,18 @@ impl<W: Write> Told<W> {
         }
     }
 
-    /// Tells a number.
-    fn tell_number(&mut self, number: u64) {
-        match format!(in self.alloc; "{number}") {
-            Ok(digits) => self.tell(digits.as_str().as_bytes()),
+    /// Tells some text, where there was memory for it.
+    pub(crate) fn tell_text(&mut self, text: Result<String, AllocError>) {
+        match text {
+            Ok(text) => self.tell(text.as_str().as_bytes()),
             Err(_) => self.stop(Stop::Memory),
-        }
-    }
-
-    /// Tells a form, with the next of the numbers for each `$`.
-    pub(crate) fn tell_form(&mut self, form: &[u8], numbers: &[u64]) {
-        let mut rest = numbers;
-        for letter in form {
-            if *letter != b'$' {
-                self.tell(&[*letter]);
-            } else if let Some((number, behind)) = rest.split_first() {
-                self.tell_number(*number);
-                rest = behind;
-            }
         }
     }
 
     /// Begins to tell a difference: where it is, and what was wanted.
     pub(crate) fn tell_wanted(&mut self, name: &str, place: u64, wanted: &[u8]) {
-        self.tell(name.as_bytes());
-        self.tell_form(b":$: wanted ", &[place]);
+        let text = format!(in self.alloc; "{name}:{place}: wanted ");
+        self.tell_text(text);
         self.tell(wanted);
     }
 
