@@ -4,7 +4,7 @@ use crate::words::{list_words, machine_words, policy_words, worker_words};
 use itoa::Buffer;
 use numa_core::CoreRefusal;
 use numa_run::Reply;
-use numa_run::names::{errno_name, list_name, machine_name, policy_name, refusal_name};
+use numa_run::names::Named;
 use numa_script::keyword::Keyword;
 use numa_script::parameter::parameters;
 use numa_script::{Cause, Form, Misfit, Parameter, WordFault};
@@ -136,9 +136,9 @@ fn put_cause(text: &mut Vec<u8>, cause: Cause) -> Result<(), AllocError> {
 }
 
 /// Appends a fault by its head, its name and why.
-fn put_fault(text: &mut Vec<u8>, head: &str, name: &[u8], words: &str) -> Result<(), AllocError> {
+fn put_fault(text: &mut Vec<u8>, head: &str, fault: Named, words: &str) -> Result<(), AllocError> {
     put(text, head)?;
-    text.extend_from_slice(name)?;
+    text.extend_from_slice(fault.name())?;
     put(text, ": ")?;
     put(text, words)
 }
@@ -147,10 +147,15 @@ fn put_fault(text: &mut Vec<u8>, head: &str, name: &[u8], words: &str) -> Result
 fn put_word_fault(text: &mut Vec<u8>, fault: WordFault) -> Result<(), AllocError> {
     match fault {
         WordFault::List(fault) => {
-            put_fault(text, "bad list ", list_name(fault), list_words(fault))
+            put_fault(text, "bad list ", Named::List(fault), list_words(fault))
         }
         WordFault::Policy(fault) => {
-            put_fault(text, "bad policy ", policy_name(fault), policy_words(fault))
+            put_fault(
+                text,
+                "bad policy ",
+                Named::Policy(fault),
+                policy_words(fault),
+            )
         }
     }
 }
@@ -160,9 +165,9 @@ fn put_refusal_name(text: &mut Vec<u8>, cause: CoreRefusal) -> Result<(), AllocE
     put(text, "refused ")?;
     match cause {
         CoreRefusal::Command(refusal) => {
-            text.extend_from_slice(refusal_name(refusal))?;
+            text.extend_from_slice(Named::Refusal(refusal).name())?;
             put(text, " ")?;
-            text.extend_from_slice(errno_name(refusal.errno()))?;
+            text.extend_from_slice(Named::Errno(refusal.errno()).name())?;
             Ok(())
         }
         CoreRefusal::NoSuchWorker => put(text, "NoSuchWorker"),
@@ -234,7 +239,7 @@ fn put_answer(text: &mut Vec<u8>, fault: Reply, detail: Detail) -> Result<(), Al
             put_fault(
                 text,
                 "bad machine ",
-                machine_name(fault),
+                Named::Machine(fault),
                 machine_words(fault),
             )
         }

@@ -16,6 +16,8 @@ use Rattle.numa_space.specs.declared.refusal.PlaceRefusal.TheVariants as place
 use Rattle.numa_space.specs.declared.event.CoreRefusal.{CoreRefusal}
 use Rattle.numa_space.specs.declared.event.CoreRefusal.TheVariants as core
 use Rattle.numa_maps.specs.Listing.{nodes_text as counts_text}
+use Rattle.numa_script.specs.declared.names.Named.{Named}
+use Rattle.numa_script.specs.declared.names.Named.TheVariants as named
 use Rattle.numa_script.specs.declared.policy.WordFault.{WordFault}
 use Rattle.numa_script.specs.declared.policy.WordFault.TheVariants as word
 use Rattle.numa_script.specs.declared.reply.Win.{Win}
@@ -72,6 +74,14 @@ errno_name errno.EOpNotSupp = codes "EOPNOTSUPP"
 abbrev pub place_name : PlaceRefusal → List ℕ
 place_name place.BadCpu = codes "BadCpu"
 place_name place.Unmapped = codes "Unmapped"
+
+abbrev pub name_of : Named → List ℕ
+name_of (named.List fault) = list_name fault
+name_of (named.Policy fault) = policy_name fault
+name_of (named.Machine fault) = machine_name fault
+name_of (named.Refusal refusal) = refusal_name refusal
+name_of (named.Errno errno) = errno_name errno
+name_of (named.Place refusal) = place_name refusal
 
 -- why an event was refused: a command's refusal with its error number
 abbrev pub cause_name : CoreRefusal → List ℕ

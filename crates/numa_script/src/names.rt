@@ -1,25 +1,33 @@
 //! The names of faults and refusals, as answers give them.
 ghost use Rattle.std.specs.Prelude.{◌≡◌, ◌≤◌, length};
-ghost use Rattle.numa_script.specs.Texts.{list_name, policy_name, machine_name, refusal_name};
-ghost use Rattle.numa_script.specs.Texts.{errno_name, place_name};
+ghost use Rattle.numa_script.specs.Texts.{name_of};
 
 use numa_machine::MachineFault;
 use numa_mask::ListFault;
 use numa_mode::SpecFault;
 use numa_space::{Errno, PlaceRefusal, Refusal};
 
-/// The names of the faults of a list of nodes, in their order.
-static LIST_NAMES: [&[u8]; 4] = [b"Empty", b"BadDigit", b"BackRange", b"NodeTooHigh"];
-
-/// The name of a fault of a list of nodes.
-pub fn list_name(fault: ListFault) -> &'static [u8]
-    ensures text { result.now ≡ list_name fault }
-    ensures short { length result.now ≤ 32 }
-{
-    LIST_NAMES[fault as usize]
+/// What answers give by its name.
+#[derive(Clone, Copy, Debug, PartialEq, Eq)]
+pub enum Named {
+    /// A fault of a list of nodes.
+    List(ListFault),
+    /// A fault of a policy.
+    Policy(SpecFault),
+    /// A fault of a machine.
+    Machine(MachineFault),
+    /// A command's refusal.
+    Refusal(Refusal),
+    /// An error number (errno(3)).
+    Errno(Errno),
+    /// A question's refusal.
+    Place(PlaceRefusal),
 }
 
-/// The names of the faults of a policy, in their order.
+/// The names of the faults of a list of nodes, in their order, as those of all kinds are.
+static LIST_NAMES: [&[u8]; 4] = [b"Empty", b"BadDigit", b"BackRange", b"NodeTooHigh"];
+
+/// The names of the faults of a policy.
 static POLICY_NAMES: [&[u8]; 5] = [
     b"UnknownMode",
     b"BothFlags",
@@ -28,15 +36,7 @@ static POLICY_NAMES: [&[u8]; 5] = [
     b"NodesMissing",
 ];
 
-/// The name of a fault of a policy.
-pub fn policy_name(fault: SpecFault) -> &'static [u8]
-    ensures text { result.now ≡ policy_name fault }
-    ensures short { length result.now ≤ 32 }
-{
-    POLICY_NAMES[fault as usize]
-}
-
-/// The names of the faults of a machine, in their order.
+/// The names of the faults of a machine.
 static MACHINE_NAMES: [&[u8]; 5] = [
     b"NodeCount",
     b"NoMemoryNode",
@@ -45,15 +45,7 @@ static MACHINE_NAMES: [&[u8]; 5] = [
     b"NoMemory",
 ];
 
-/// The name of a fault of a machine.
-pub fn machine_name(fault: MachineFault) -> &'static [u8]
-    ensures text { result.now ≡ machine_name fault }
-    ensures short { length result.now ≤ 32 }
-{
-    MACHINE_NAMES[fault as usize]
-}
-
-/// The names of the refusals of commands, in their order.
+/// The names of the refusals of commands.
 static REFUSAL_NAMES: [&[u8]; 14] = [
     b"CommandsSpent",
     b"Unaligned",
@@ -71,15 +63,7 @@ static REFUSAL_NAMES: [&[u8]; 14] = [
     b"NoMemory",
 ];
 
-/// The name of a command's refusal.
-pub fn refusal_name(refusal: Refusal) -> &'static [u8]
-    ensures text { result.now ≡ refusal_name refusal }
-    ensures short { length result.now ≤ 32 }
-{
-    REFUSAL_NAMES[refusal as usize]
-}
-
-/// The names of the error numbers, in their order.
+/// The names of the error numbers.
 static ERRNO_NAMES: [&[u8]; 6] = [
     b"EINVAL",
     b"ENOMEM",
@@ -89,21 +73,22 @@ static ERRNO_NAMES: [&[u8]; 6] = [
     b"EOPNOTSUPP",
 ];
 
-/// The name of an error number (errno(3)).
-pub fn errno_name(errno: Errno) -> &'static [u8]
-    ensures text { result.now ≡ errno_name errno }
-    ensures short { length result.now ≤ 32 }
-{
-    ERRNO_NAMES[errno as usize]
-}
-
-/// The names of the refusals of questions, in their order.
+/// The names of the refusals of questions.
 static PLACE_NAMES: [&[u8]; 2] = [b"BadCpu", b"Unmapped"];
 
-/// The name of a question's refusal.
-pub fn place_name(refusal: PlaceRefusal) -> &'static [u8]
-    ensures text { result.now ≡ place_name refusal }
-    ensures short { length result.now ≤ 32 }
-{
-    PLACE_NAMES[refusal as usize]
+impl Named {
+    /// Its name.
+    pub fn name(self) -> &'static [u8]
+        ensures text { result.now ≡ name_of self }
+        ensures short { length result.now ≤ 32 }
+    {
+        match self {
+            Named::List(fault) => LIST_NAMES[fault as usize],
+            Named::Policy(fault) => POLICY_NAMES[fault as usize],
+            Named::Machine(fault) => MACHINE_NAMES[fault as usize],
+            Named::Refusal(refusal) => REFUSAL_NAMES[refusal as usize],
+            Named::Errno(errno) => ERRNO_NAMES[errno as usize],
+            Named::Place(refusal) => PLACE_NAMES[refusal as usize],
+        }
+    }
 }

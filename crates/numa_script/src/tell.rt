@@ -9,7 +9,7 @@ ghost use Rattle.numa_script.specs.Texts.{cause_name, counts_answer, errno_name,
 ghost use Rattle.numa_script.specs.Texts.{nodes_answer, place_name, ranges_answer, refusal_name};
 ghost use Rattle.numa_script.specs.Texts.{refused_text, text_of, win_answer, word_text};
 
-use crate::names::{errno_name, list_name, machine_name, place_name, policy_name, refusal_name};
+use crate::names::Named;
 use crate::nodes::{FEW, say_each_node, say_few};
 use crate::policy::WordFault;
 use crate::reply::{Reply, Win};
@@ -49,8 +49,8 @@ fn say_word_fault<W: Write>(output: &mut Watched<W>, fault: WordFault)
     ensures { Said W.contents output.old output.new (word_text fault ++ codes "\n") }
 {
     match fault {
-        WordFault::List(fault) => say_line(output, b"bad list ", list_name(fault)),
-        WordFault::Policy(fault) => say_line(output, b"bad policy ", policy_name(fault)),
+        WordFault::List(fault) => say_line(output, b"bad list ", Named::List(fault).name()),
+        WordFault::Policy(fault) => say_line(output, b"bad policy ", Named::Policy(fault).name()),
     }
 }
 
@@ -72,7 +72,7 @@ pub fn say_starved<W: Write>(output: &mut Watched<W>)
 pub fn say_place_refusal<W: Write>(output: &mut Watched<W>, refusal: PlaceRefusal)
     ensures { Said W.contents output.old output.new (refused_text (place_name refusal)) }
 {
-    say_refused(output, place_name(refusal));
+    say_refused(output, Named::Place(refusal).name());
 }
 
 /// Says a command's refusal.
@@ -82,8 +82,8 @@ fn say_refusal<W: Write>(output: &mut Watched<W>, refusal: Refusal)
         ++ codes "\n") }
 {
     output.say(b"refused ");
-    output.say(refusal_name(refusal));
-    say_line(output, b" ", errno_name(refusal.errno()));
+    output.say(Named::Refusal(refusal).name());
+    say_line(output, b" ", Named::Errno(refusal.errno()).name());
 }
 
 /// Says why a command or a worker's step is refused.
@@ -201,7 +201,9 @@ pub fn say_reply<W: Write>(output: &mut Watched<W>, reply: &Reply)
         Reply::LimitsOk => output.say(b"limits ok\n"),
         Reply::BadLimits => output.say(b"bad limits\n"),
         Reply::Ready => output.say(b"ready\n"),
-        Reply::BadMachine(fault) => { say_line(output, b"bad machine ", machine_name(*fault)) }
+        Reply::BadMachine(fault) => {
+            say_line(output, b"bad machine ", Named::Machine(*fault).name())
+        }
         Reply::BadWord(fault) => say_word_fault(output, *fault),
         Reply::Accepted(version) => say_count(output, b"ok ", *version),
         Reply::Published(version) => say_count(output, b"published ", *version),

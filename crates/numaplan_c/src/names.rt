@@ -6,7 +6,7 @@ ghost use Rattle.numaplan_c.specs.Texts.{IsWritten};
 
 use crate::codes::UNKNOWN;
 use crate::texts::write;
-use numa_script::names::refusal_name;
+use numa_script::names::Named;
 use numa_space::{Errno, Refusal};
 
 /// The refusal of a command that has this number.
@@ -93,7 +93,7 @@ fn answer_name(code: u32) -> &'static [u8]
     ensures { result.now ≡ answer_name code }
 {
     if let Some(cause) = refusal_numbered(code) {
-        return refusal_name(cause);
+        return Named::Refusal(cause).name();
     }
     if code < 50 {
         return name_in(&CALL_NAMES, code);

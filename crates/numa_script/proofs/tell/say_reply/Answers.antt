@@ -7,7 +7,7 @@ returns-in-BadLimits g c = λ from said h. rw c.in-BadLimits.is (c.say-in-BadLim
 
 pub returns-in-BadMachine : goal.returns-in-BadMachine
 unfolding text_of
-returns-in-BadMachine g c = λ from said h. rw (c.in-BadMachine.is, ← c.machine_name.ensures.text) (c.say_line.ensures from said h)
+returns-in-BadMachine g c = λ from said h. rw (c.in-BadMachine.is, ← c.name.ensures.text) (c.say_line.ensures from said h)
 
 pub returns-in-Exhausted : goal.returns-in-Exhausted
 unfolding text_of
