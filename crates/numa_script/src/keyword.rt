@@ -68,11 +68,10 @@ impl Keyword {
     }
 }
 
-/// The first words of three letters.
-static OF_THREE: [(&[u8], Keyword); 2] = [(b"try", Keyword::Try), (b"map", Keyword::Map)];
-
-/// The first words of four letters.
-static OF_FOUR: [(&[u8], Keyword); 7] = [
+/// The first words of lines, each with its keyword, the short ones first.
+static FIRST_WORDS: [(&[u8], Keyword); 21] = [
+    (b"try", Keyword::Try),
+    (b"map", Keyword::Map),
     (b"span", Keyword::Span),
     (b"look", Keyword::Look),
     (b"give", Keyword::Give),
@@ -80,27 +79,15 @@ static OF_FOUR: [(&[u8], Keyword); 7] = [
     (b"home", Keyword::Home),
     (b"task", Keyword::Task),
     (b"mems", Keyword::Mems),
-];
-
-/// The first words of five letters.
-static OF_FIVE: [(&[u8], Keyword); 5] = [
     (b"place", Keyword::Place),
     (b"begin", Keyword::Begin),
     (b"touch", Keyword::Touch),
     (b"mbind", Keyword::Mbind),
     (b"unmap", Keyword::Unmap),
-];
-
-/// The first words of six letters.
-static OF_SIX: [(&[u8], Keyword); 4] = [
     (b"counts", Keyword::Counts),
     (b"ranges", Keyword::Ranges),
     (b"weight", Keyword::Weight),
     (b"limits", Keyword::Limits),
-];
-
-/// The first words of seven letters.
-static OF_SEVEN: [(&[u8], Keyword); 3] = [
     (b"publish", Keyword::Publish),
     (b"release", Keyword::Release),
     (b"machine", Keyword::Machine),
@@ -111,11 +98,11 @@ fn first_words(letters: usize) -> &'static [(&'static [u8], Keyword)]
     ensures { map (λ entry. (entry.0.now, entry.1)) result.now ≡ first_words letters }
 {
     match letters {
-        3 => &OF_THREE,
-        4 => &OF_FOUR,
-        5 => &OF_FIVE,
-        6 => &OF_SIX,
-        7 => &OF_SEVEN,
+        3 => &FIRST_WORDS[..2],
+        4 => &FIRST_WORDS[2..9],
+        5 => &FIRST_WORDS[9..14],
+        6 => &FIRST_WORDS[14..18],
+        7 => &FIRST_WORDS[18..],
         _ => &[],
     }
 }
