@@ -3,8 +3,9 @@ ghost use Rattle.std.specs.Prelude.{◌≡◌, ℕ, List, Option};
 ghost use Rattle.numa_script.specs.Causes.{parameters_of, form_of, misfit_of};
 
 use crate::keyword::Keyword;
-use crate::machine::{Distances, Frames};
+use crate::machine;
 use crate::number::number;
+use Parameter::*;
 
 /// A word behind the first of a line.
 #[derive(Clone, Copy, Debug, PartialEq, Eq)]
@@ -154,8 +155,8 @@ pub fn read_misfit(form: Form, word: &[u8]) -> Option<Misfit>
 {
     match form {
         Form::Number(greatest) => number_misfit(greatest, word),
-        Form::Frames if Frames::read(word).is_none() => Some(Misfit::Unreadable),
-        Form::Distances if Distances::read(word).is_none() => Some(Misfit::Unreadable),
+        Form::Frames if machine::Frames::read(word).is_none() => Some(Misfit::Unreadable),
+        Form::Distances if machine::Distances::read(word).is_none() => Some(Misfit::Unreadable),
         _ => None,
     }
 }
@@ -165,45 +166,23 @@ pub fn parameters(keyword: Keyword) -> &'static [Parameter]
     ensures { result.now ≡ parameters_of keyword }
 {
     match keyword {
-        Keyword::Limits => &[Parameter::Ranges, Parameter::Tasks, Parameter::Commands],
-        Keyword::Machine => &[
-            Parameter::Nodes,
-            Parameter::Memory,
-            Parameter::Frames,
-            Parameter::Distances,
-        ],
-        Keyword::Map => &[Parameter::Start, Parameter::Length, Parameter::Offset],
-        Keyword::Unmap => &[Parameter::Start, Parameter::Length],
-        Keyword::Mbind => &[Parameter::Start, Parameter::Length, Parameter::Policy],
-        Keyword::Home => &[Parameter::Start, Parameter::Length, Parameter::Node],
-        Keyword::Task => &[Parameter::Task, Parameter::Policy],
-        Keyword::Weight => &[Parameter::Node, Parameter::Weight],
-        Keyword::Mems => &[Parameter::List],
-        Keyword::Place => &[Parameter::Task, Parameter::Address, Parameter::Cpu],
-        Keyword::Span => &[
-            Parameter::Task,
-            Parameter::Address,
-            Parameter::SpanPages,
-            Parameter::Cpu,
-        ],
-        Keyword::Counts => &[
-            Parameter::Task,
-            Parameter::Address,
-            Parameter::Pages,
-            Parameter::Cpu,
-        ],
+        Keyword::Limits => &[Ranges, Tasks, Commands],
+        Keyword::Machine => &[Nodes, Memory, Frames, Distances],
+        Keyword::Map => &[Start, Length, Offset],
+        Keyword::Unmap => &[Start, Length],
+        Keyword::Mbind => &[Start, Length, Policy],
+        Keyword::Home => &[Start, Length, Node],
+        Keyword::Task => &[Task, Policy],
+        Keyword::Weight => &[Node, Weight],
+        Keyword::Mems => &[List],
+        Keyword::Place => &[Task, Address, Cpu],
+        Keyword::Span => &[Task, Address, SpanPages, Cpu],
+        Keyword::Counts => &[Task, Address, Pages, Cpu],
         Keyword::Ranges | Keyword::Publish => &[],
-        Keyword::Maps => &[Parameter::Task],
-        Keyword::Begin | Keyword::Touch => &[
-            Parameter::Worker,
-            Parameter::Task,
-            Parameter::Address,
-            Parameter::Cpu,
-        ],
-        Keyword::Look => &[Parameter::Worker, Parameter::Word],
-        Keyword::Try | Keyword::Give => {
-            &[Parameter::Worker, Parameter::FrameNode, Parameter::Frame]
-        }
-        Keyword::Release => &[Parameter::Worker, Parameter::Address],
+        Keyword::Maps => &[Task],
+        Keyword::Begin | Keyword::Touch => &[Worker, Task, Address, Cpu],
+        Keyword::Look => &[Worker, Word],
+        Keyword::Try | Keyword::Give => &[Worker, FrameNode, Frame],
+        Keyword::Release => &[Worker, Address],
     }
 }
