@@ -2,6 +2,7 @@
 ghost use Rattle.std.specs.Prelude.{◌≡◌, ◌≢◌, ℕ, Bool, List, length};
 ghost use Rattle.numa_compile.specs.Standing.{PlanStandsFor};
 ghost use Rattle.numa_machine.specs.Machine.{Hardware};
+ghost use Rattle.numa_space.specs.History.{page_of};
 ghost use Rattle.numa_space.specs.declared.command.Command.{Command};
 ghost use Rattle.line_server.specs.Written.{Said};
 ghost use Rattle.numa_run.specs.Questions.{count_text, place_text, question_text};
@@ -11,81 +12,71 @@ use line_server::Watched;
 use numa_plan::{Plan, Steps};
 use numa_script::Question;
 use numa_script::tell::{say_counts, say_nodes, say_place_refusal, say_starved};
-use numa_space::PAGE_BYTES;
+use numa_space::{PAGE_BYTES, Request};
 use std::alloc::Global;
 use std::io::Write;
 
-/// `place TASK ADDR CPU`: the list of nodes of a page.
-pub(crate) fn say_place<W: Write>(
-    plan: &Plan,
-    task: u32,
-    page: u64,
-    cpu: u32,
-    output: &mut Watched<W>,
-)
-    ensures { (machine : Hardware) (history : List Command) → PlanStandsFor machine plan.now history
-        → Said W.contents output.old output.new (place_text machine history task page cpu) }
+/// The fault of a task on the page of an address.
+fn fault_at(task: u32, address: u64, cpu: u32) -> Request
+    ensures { result ≡ record { task = task; page = page_of address; cpu = cpu } }
 {
-    match plan.choice(task, page, cpu, &mut Steps::new()) {
+    let page = address / PAGE_BYTES;
+    Request { task, page, cpu }
+}
+
+/// `place TASK ADDR CPU`: the list of nodes for a fault.
+fn say_place<W: Write>(plan: &Plan, fault: Request, output: &mut Watched<W>)
+    ensures { (machine : Hardware) (history : List Command) → PlanStandsFor machine plan.now history
+        → Said W.contents output.old output.new
+        (place_text machine history fault.task fault.page fault.cpu) }
+{
+    match plan.choice(fault.task, fault.page, fault.cpu, &mut Steps::new()) {
         Ok(nodes) => say_nodes(output, plan.version(), nodes),
         Err(refusal) => say_place_refusal(output, refusal),
     }
 }
 
-/// Says the first node of each page's list, for the pages from one on, as many as there is room
-/// for.
-fn say_firsts<W: Write>(
-    plan: &Plan,
-    task: u32,
-    first: u64,
-    cpu: u32,
-    nodes: &mut [u8],
-    output: &mut Watched<W>,
-)
+/// Says the first node of each page's list, for the pages from that of the first fault on, as many as
+/// there is room for.
+fn say_firsts<W: Write>(plan: &Plan, first: Request, nodes: &mut [u8], output: &mut Watched<W>)
     ensures { (machine : Hardware) (history : List Command) → PlanStandsFor machine plan.now history
         → Said W.contents output.old output.new
-        (span_text machine history task first (length nodes.old) cpu) }
+        (span_text machine history first.task first.page (length nodes.old) first.cpu) }
 {
-    match plan.fill(task, cpu, first, nodes) {
+    match plan.fill(first.task, first.cpu, first.page, nodes) {
         Ok(()) => say_nodes(output, plan.version(), nodes),
         Err(refusal) => say_place_refusal(output, refusal),
     }
 }
 
-/// `span TASK ADDR PAGES CPU`: the first node of each page's list, for so many pages from one on.
-pub(crate) fn say_span<W: Write>(
+/// `span TASK ADDR PAGES CPU`: the first node of each page's list, for so many pages from that of the
+/// first fault on.
+fn say_span<W: Write>(
     alloc: Global,
     plan: &Plan,
-    task: u32,
-    first: u64,
+    first: Request,
     pages: u32,
-    cpu: u32,
     output: &mut Watched<W>,
 )
     ensures { (machine : Hardware) (history : List Command) → PlanStandsFor machine plan.now history
         → (refused : Bool) × Said W.contents output.old output.new
-        (unless_starved refused (span_text machine history task first pages cpu)) }
+        (unless_starved refused (span_text machine history first.task first.page pages first.cpu)) }
 {
     let Ok(mut nodes) = vec![in alloc; 0u8; pages as usize] else {
         say_starved(output);
         return;
     };
-    say_firsts(plan, task, first, cpu, nodes.as_mut_slice(), output);
+    say_firsts(plan, first, nodes.as_mut_slice(), output);
 }
 
-/// `counts TASK ADDR PAGES CPU`: how many pages each node would get, of so many pages from one on.
-pub(crate) fn say_pages<W: Write>(
-    plan: &Plan,
-    task: u32,
-    first: u64,
-    pages: u64,
-    cpu: u32,
-    output: &mut Watched<W>,
-)
+/// `counts TASK ADDR PAGES CPU`: how many pages each node would get, of so many pages from that of
+/// the first fault on.
+fn say_pages<W: Write>(plan: &Plan, first: Request, pages: u64, output: &mut Watched<W>)
     ensures { (machine : Hardware) (history : List Command) → PlanStandsFor machine plan.now history
-        → Said W.contents output.old output.new (count_text machine history task first pages cpu) }
+        → Said W.contents output.old output.new
+        (count_text machine history first.task first.page pages first.cpu) }
 {
-    match plan.counts(task, cpu, first, pages) {
+    match plan.counts(first.task, first.cpu, first.page, pages) {
         Ok(counts) => say_counts(output, plan.version(), &counts),
         Err(refusal) => say_place_refusal(output, refusal),
     }
@@ -105,20 +96,20 @@ pub(crate) fn answer_by_plan<W: Write>(
 {
     match question {
         Question::Place { task, address, cpu } => {
-            say_place(plan, task, address / PAGE_BYTES, cpu, output)
+            say_place(plan, fault_at(task, address, cpu), output)
         }
         Question::Span {
             task,
             address,
             pages,
             cpu,
-        } => say_span(alloc, plan, task, address / PAGE_BYTES, pages, cpu, output),
+        } => say_span(alloc, plan, fault_at(task, address, cpu), pages, output),
         Question::Counts {
             task,
             address,
             pages,
             cpu,
-        } => say_pages(plan, task, address / PAGE_BYTES, pages, cpu, output),
+        } => say_pages(plan, fault_at(task, address, cpu), pages, output),
         Question::Ranges => unreachable!(),
     }
 }
