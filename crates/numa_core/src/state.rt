@@ -100,20 +100,14 @@ impl State {
         ensures kept { IfOk result IsKept }
         ensures shown { IfOk result (λ copy. core_state copy ≡ core_state self.now) }
     {
-        let places = Places::new(self.alloc, self.space.space().machine())?;
-        let seats = seat_copies(self.alloc, &self.seats)?;
-        let owners = Vec::from_slice(self.alloc, &self.owners)?;
-        let taken = Vec::from_slice(self.alloc, &self.taken)?;
-        let plan = self.plan.copy(self.alloc)?;
-        let space = self.space.copy(self.alloc)?;
         Ok(State {
             alloc: self.alloc,
-            space,
-            plan,
-            places,
-            seats,
-            owners,
-            taken,
+            places: Places::new(self.alloc, self.space.space().machine())?,
+            seats: seat_copies(self.alloc, &self.seats)?,
+            owners: Vec::from_slice(self.alloc, &self.owners)?,
+            taken: Vec::from_slice(self.alloc, &self.taken)?,
+            plan: self.plan.copy(self.alloc)?,
+            space: self.space.copy(self.alloc)?,
         })
     }
 
