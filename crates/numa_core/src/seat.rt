@@ -1,6 +1,6 @@
 //! A worker's seat: what it is about, the list that it took and the frames that it met.
 ghost use Rattle.std.specs.Prelude.{◌≡◌, ℕ, ◌*◌, ◌<◌, ◌≤◌, true, false, not, None, Some, IfOk};
-ghost use Rattle.std.specs.Prelude.{IfSome, OnOk, OnErr, MatchOption, is_some, length, vec_len};
+ghost use Rattle.std.specs.Prelude.{IfErr, IfSome, OnOk, OnErr, MatchOption, is_some, length, vec_len};
 ghost use Rattle.std.specs.Prelude.{slice_index};
 ghost use Rattle.numa_core.specs.World.{Setup, World};
 ghost use Rattle.numa_core.specs.Steps.{goes_on, going_on};
@@ -9,6 +9,7 @@ ghost use Rattle.numa_core.specs.Standing.{hunt_in};
 ghost use Rattle.numa_core.specs.Seats.{busy_at, busy_of, seat_hunt, fresh, HasRoom, IsPassed};
 ghost use Rattle.numa_core.specs.Seats.{IsCursor, IsAllMet, IsSeatCopy};
 ghost use Rattle.numa_core.specs.Seats.{SeatFits, SeatLooks, SeatTries};
+ghost use Rattle.numa_core.specs.declared.seat.Job.{Job};
 
 use crate::places::Places;
 use crate::tables::{clear, is_met, meet, meet_owned, none_met};
@@ -177,6 +178,24 @@ impl Seat {
         )
     }
 
+    /// What the worker is about, and its current node.
+    ///
+    /// # Errors
+    /// `Idle`, where it is about nothing.
+    fn current(&self) -> Result<(Job, u8), CoreRefusal>
+        requires listed { (job : Job) → self.now.job ≡ Some job →
+            job.at.rank < length self.now.nodes.items }
+        ensures busy { IfOk result (λ at. (self.now.job ≡ Some at.0)
+            × (at.1 ≡ slice_index self.now.nodes.items at.0.at.rank)) }
+        ensures idle { IfErr result (λ refusal. (refusal ≡ CoreRefusal.Idle)
+            × (self.now.job ≡ None)) }
+    {
+        let Some(job) = self.job else {
+            return Err(CoreRefusal::Idle);
+        };
+        Ok((job, self.nodes.as_slice()[job.at.rank as usize]))
+    }
+
     /// Looks at a word of the current node.
     pub(crate) fn look(
         &mut self,
@@ -192,10 +211,7 @@ impl Seat {
         ensures unchanged { OnErr result (self.new ≡ self.old) }
         ensures fits { SeatFits places.now self.new }
     {
-        let Some(job) = self.job else {
-            return Err(CoreRefusal::Idle);
-        };
-        let node = self.nodes.as_slice()[job.at.rank as usize];
+        let (job, node) = self.current()?;
         let frames = places.frames(node);
         if word >= 64 || 64 * word >= frames {
             return Err(CoreRefusal::BadTry);
@@ -233,10 +249,7 @@ impl Seat {
         ensures unchanged { OnErr result (self.new ≡ self.old) }
         ensures fits { SeatFits places.now self.new }
     {
-        let Some(job) = self.job else {
-            return Err(CoreRefusal::Idle);
-        };
-        let node = self.nodes.as_slice()[job.at.rank as usize];
+        let (job, node) = self.current()?;
         if node != frame.node {
             return Err(CoreRefusal::BadTry);
         }
