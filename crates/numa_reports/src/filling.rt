@@ -15,7 +15,7 @@ ghost use Rattle.numa_reports.specs.Told.{IsFilling, IsTaken, LacksOne, ToldEach
 
 use crate::fault::ReportFault;
 use crate::prediction::{TakeRange, policy_of};
-use crate::touch::Touch;
+use crate::touch::{Touch, has_node};
 use numa_plan::{Plan, Steps};
 use numa_space::{PlaceRefusal, RangeRecord, Run, Space};
 
@@ -186,7 +186,7 @@ pub fn fill_all<T: TakeRange>(
     ensures lack { IfErr result (λ why. why ≡ Memory → LacksOne T.lacks space.now.ranges) }
     ensures bad_cpu { space.now.machine.nodes ≤ cpu → result ≡ Err (Refused BadCpu) }
 {
-    if cpu >= space.machine().nodes() {
+    if !has_node(space, cpu) {
         return Err(ReportFault::Refused(PlaceRefusal::BadCpu));
     }
     let touch = Touch { task, cpu };

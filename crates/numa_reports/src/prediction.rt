@@ -19,7 +19,7 @@ ghost use Rattle.numa_reports.specs.Told.{LacksOne, ToldEach, ToldOne};
 
 use crate::fault::ReportFault;
 use crate::tally::add_span;
-use crate::touch::Touch;
+use crate::touch::{Touch, has_node};
 use numa_mode::Record;
 use numa_plan::Plan;
 use numa_space::{PlaceRefusal, RangeRecord, Run, Space};
@@ -174,7 +174,7 @@ pub fn predict_all<T: TakeRange>(
     ensures lack { IfErr result (λ why. why ≡ Memory → LacksOne T.lacks space.now.ranges) }
     ensures bad_cpu { space.now.machine.nodes ≤ cpu → result ≡ Err (Refused BadCpu) }
 {
-    if cpu >= space.machine().nodes() {
+    if !has_node(space, cpu) {
         return Err(ReportFault::Refused(PlaceRefusal::BadCpu));
     }
     let mut counts = [0u64; 256];

@@ -11,7 +11,7 @@ use crate::sheet::cells::{CELLS, first_cells};
 use crate::sheet::fields::{Placed, PolicyTexts, sum};
 use crate::sheet::written::Written;
 use crate::sheet::{Format, lines, objects, pictures, records};
-use crate::touch::Touch;
+use crate::touch::{Touch, has_node};
 use numa_mode::Record;
 use numa_plan::Plan;
 use numa_space::{PlaceRefusal, RangeRecord, Run, Space};
@@ -229,7 +229,7 @@ pub fn filling_text(
     ensures err { FailsForNode space.now plan.now cpu result }
     ensures bad_cpu { space.now.machine.nodes ≤ cpu → result ≡ Err (Refused BadCpu) }
 {
-    if cpu >= space.machine().nodes() {
+    if !has_node(space, cpu) {
         return Err(ReportFault::Refused(PlaceRefusal::BadCpu));
     }
     let touch = Touch { task, cpu };

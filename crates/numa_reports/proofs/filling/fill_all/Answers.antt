@@ -1,6 +1,6 @@
 use Rattle.std.proofs.Common.{◌≡◌, ℕ, ◌<◌, List, arith, ap, subst, ◌∙◌, sym, refl, Option, inl, inr}
 use Rattle.std.proofs.lemmas.Result.{err_from_is_err_and}
-use Rattle.numa_machine.specs.Machine.{Hardware}
+use Rattle.std.proofs.lemmas.Bool.Decides.{nat_tests}
 use Rattle.numa_mode.specs.Policy.{PolicyRecord}
 use Rattle.numa_ranges.specs.declared.run.Run.{Run}
 use Rattle.numa_reports.specs.Filled.{planned_nodes}
@@ -49,14 +49,14 @@ loop-range-preserved g c =
 
 pub returns-clause-ok : goal.returns-clause-ok
 returns-clause-ok g c history stands planned =
-    let lt : c.args.cpu < c.args.space.now.machine.nodes = omega (arith, ap (λ (m : Hardware). m.nodes) c.machine.ensures) in
+    let lt : c.args.cpu < c.args.space.now.machine.nodes = grind (arith, nat_tests) in
     sym (ap (λ (runs : List (Run (Option PolicyRecord))). free_runs (planned_nodes c.args.plan.now c.args.task c.args.cpu) c.loop-range.free runs) c.in-None.ensures.steps.0)
     ∙ c.loop-range.invariant.left
     ∙ free-all c.args.space.now c.args.plan.now history c.args.task c.args.cpu c.args.free.now stands planned lt c.loop-range.invariant.apart
 
 pub returns-clause-told : goal.returns-clause-told
 returns-clause-told g c history stands planned =
-    let lt : c.args.cpu < c.args.space.now.machine.nodes = omega (arith, ap (λ (m : Hardware). m.nodes) c.machine.ensures) in
+    let lt : c.args.cpu < c.args.space.now.machine.nodes = grind (arith, nat_tests) in
     filled-all g.T.TakeRange.told c.args.space.now c.args.plan.now history c.args.task c.args.cpu c.args.free.now c.args.taker.now c.loop-range.taker stands planned lt c.loop-range.invariant.apart
     (c.loop-range.invariant.told history stands c.loop-range.taker
     (subst (λ (runs : List (Run (Option PolicyRecord))). FilledEach g.T.TakeRange.told (IsTaken c.args.space.now.machine history c.args.task) (planned_nodes c.args.plan.now c.args.task c.args.cpu) c.loop-range.free runs c.loop-range.taker c.loop-range.taker) (sym c.in-None.ensures.steps.0) refl))

@@ -1,8 +1,8 @@
 use Rattle.std.proofs.Common.{◌≡◌, ℕ, ◌<◌, List, arith, ap, subst, sym, ◌∙◌, Option, Bool, refl, length, inl, inr}
 use Rattle.std.proofs.lemmas.Simd.{get_or-replicate}
 use Rattle.std.proofs.lemmas.Result.{err_from_is_err_and}
+use Rattle.std.proofs.lemmas.Bool.Decides.{nat_tests}
 use Rattle.std.proofs.lemmas.List.Sums.{sum_by-cons}
-use Rattle.numa_machine.specs.Machine.{Hardware}
 use Rattle.numa_mode.specs.Policy.{PolicyRecord}
 use Rattle.numa_ranges.specs.Counts.{count_pages}
 use Rattle.numa_ranges.specs.declared.run.Run.{Run}
@@ -33,6 +33,9 @@ predict_next-requires-clause-room g c node small =
     let step = ap (λ (runs : List (Run (Option PolicyRecord))). count_runs test runs) c.in-Some.ensures.steps in
     omega (arith, step, c.loop-range.invariant.counts node small, runs-most test 0 c.args.space.now.ranges c.loop-range.invariant.apart, sum_by-cons (λ run. count_pages test run.first run.pages) c.in-Some.range c.next.new.self)
 
+pub predict_next-requires-clause-known : goal.predict_next-requires-clause-known
+predict_next-requires-clause-known g c = grind (arith, nat_tests)
+
 pub predict_next-requires-clause-own : goal.predict_next-requires-clause-own
 predict_next-requires-clause-own g c = left-value c.loop-range.range-iterator c.args.space.now.ranges c.next.new.self c.in-Some.range c.loop-range.invariant.rest c.in-Some.ensures.steps
 
@@ -53,7 +56,8 @@ loop-range-preserved g c = record {
 
 pub returns-clause-ok : goal.returns-clause-ok
 returns-clause-ok g c history stands planned node small =
-    let lt : c.args.cpu < c.args.plan.now.nodes = omega (arith, planned.nodes, ap (λ (m : Hardware). m.nodes) c.machine.ensures) in
+    let known : c.args.cpu < c.args.space.now.machine.nodes = grind (arith, nat_tests) in
+    let lt : c.args.cpu < c.args.plan.now.nodes = omega (arith, planned.nodes) in
     let test : ℕ → Bool = λ page. is_number node (planned_first c.args.plan.now c.args.task page c.args.cpu) in
     omega (arith, c.loop-range.invariant.counts node small, runs-none test c.loop-range.range-iterator (ap length c.in-None.ensures.steps.0), counted-all c.args.space.now c.args.plan.now history c.args.task c.args.cpu node stands planned lt c.loop-range.invariant.apart)
 
