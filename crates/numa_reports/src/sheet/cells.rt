@@ -63,5 +63,5 @@ pub(crate) fn first_cells(
     for range in space.range_iter() {
         put_cells(plan, touch, &range, &mut left, &mut cells)?;
     }
-    Ok(cells.take(alloc)?)
+    Ok(cells.take()?)
 }

@@ -150,5 +150,5 @@ pub fn difference_text(
     let table = total.as_slice();
     text.put(b"total");
     put_moves(&mut text, moved(table, nodes), table, nodes);
-    Ok(text.take(alloc)?)
+    Ok(text.take()?)
 }

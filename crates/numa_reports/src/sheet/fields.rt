@@ -51,6 +51,15 @@ impl Placed<'_> {
     }
 }
 
+/// What is said of a range.
+#[derive(Clone, Copy)]
+pub(crate) struct Row<'a> {
+    pub(crate) range: &'a Run<RangeRecord>,
+    /// The policy as numa_maps shows it.
+    pub(crate) policy: &'a str,
+    pub(crate) placed: Placed<'a>,
+}
+
 /// How many guesses at places of texts there are.
 const GUESSES: usize = 64;
 

@@ -1,13 +1,9 @@
 //! Reports as lines in the form of numa_maps.
 
 use crate::filling::FreePages;
-use crate::sheet::fields::{Placed, address, end};
+use crate::sheet::fields::{Placed, Row, address, end};
 use crate::sheet::nodes::{put_named, put_nodes};
 use crate::sheet::written::Written;
-use numa_space::{RangeRecord, Run};
-
-/// A node and its pages.
-pub(crate) const NODE: &[u8] = b" N$=$";
 
 /// How many pages find no node with a free page, where there are some.
 pub(crate) fn put_lacking(text: &mut Written, placed: Placed<'_>) {
@@ -20,25 +16,20 @@ pub(crate) fn put_lacking(text: &mut Written, placed: Placed<'_>) {
 fn put_pages(text: &mut Written, placed: Placed<'_>) {
     text.put(b" anon=");
     text.put_number(placed.pages);
-    put_nodes(text, placed.counts, NODE, b"");
+    put_nodes(text, placed.counts);
     put_lacking(text, placed);
     text.put(b" kernelpagesize_kB=4\n");
 }
 
 /// The line of a range: its first address and the one behind its last, the policy, and its pages by
 /// node.
-pub(crate) fn put_range(
-    text: &mut Written,
-    range: &Run<RangeRecord>,
-    policy: &str,
-    placed: Placed<'_>,
-) {
-    text.put_address(address(range.first));
+pub(crate) fn put_range(text: &mut Written, row: Row<'_>) {
+    text.put_address(address(row.range.first));
     text.put(b"-");
-    text.put_address(end(range));
+    text.put_address(end(row.range));
     text.put(b" ");
-    text.put(policy.as_bytes());
-    put_pages(text, placed);
+    text.put(row.policy.as_bytes());
+    put_pages(text, row.placed);
 }
 
 /// The last line, where some nodes are named: what is left on each of them.
@@ -47,7 +38,7 @@ fn put_left(text: &mut Written, left: &[FreePages]) {
         return;
     }
     text.put(b"left");
-    put_named(text, left, NODE, b"");
+    put_named(text, left);
     text.put(b"\n");
 }
 

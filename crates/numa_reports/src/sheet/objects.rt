@@ -2,10 +2,9 @@
 //! names. The pages that find no node stand behind them.
 
 use crate::filling::FreePages;
-use crate::sheet::fields::{Placed, address, end};
+use crate::sheet::fields::{Placed, Row, address, end};
 use crate::sheet::written::Written;
 use crate::touch::Touch;
-use numa_space::{RangeRecord, Run};
 use serde_json::{Map, Value, json, put};
 use std::alloc::{AllocError, Global};
 
@@ -47,25 +46,24 @@ fn put_placed(
 fn put_bounds(
     alloc: Global,
     object: &mut Map<String, Value>,
-    range: &Run<RangeRecord>,
-    policy: &str,
+    row: Row<'_>,
 ) -> Result<(), AllocError> {
-    let policy = String::from_str(alloc, policy)?;
+    let policy = String::from_str(alloc, row.policy)?;
     put(object, alloc, "policy", Value::from(policy))?;
-    put(object, alloc, "start", Value::from(address(range.first)))?;
-    put(object, alloc, "end", Value::from(end(range)))
+    put(
+        object,
+        alloc,
+        "start",
+        Value::from(address(row.range.first)),
+    )?;
+    put(object, alloc, "end", Value::from(end(row.range)))
 }
 
 /// The object of a range, but for the pages that find no node.
-fn range_item(
-    alloc: Global,
-    range: &Run<RangeRecord>,
-    policy: &str,
-    placed: Placed<'_>,
-) -> Result<String, AllocError> {
+fn range_item(alloc: Global, row: Row<'_>) -> Result<String, AllocError> {
     let mut object = Map::new(alloc);
-    put_bounds(alloc, &mut object, range, policy)?;
-    put_placed(alloc, &mut object, placed)?;
+    put_bounds(alloc, &mut object, row)?;
+    put_placed(alloc, &mut object, row.placed)?;
     Value::Object(object).to_string(alloc)
 }
 
@@ -86,20 +84,19 @@ fn put_item(text: &mut Written, item: &str, exhausted: Option<u64>) {
     text.put_form(b",\"exhausted\":$}", &[pages]);
 }
 
+/// The same of an object that was made, if there was memory for it.
+fn put_made(text: &mut Written, item: Result<String, AllocError>, exhausted: Option<u64>) {
+    match item {
+        Ok(item) => put_item(text, item.as_str(), exhausted),
+        Err(_) => text.lack(),
+    }
+}
+
 /// The object of a range.
-pub(crate) fn put_range(
-    alloc: Global,
-    text: &mut Written,
-    range: &Run<RangeRecord>,
-    policy: &str,
-    placed: Placed<'_>,
-    is_first: bool,
-) -> Result<(), AllocError> {
-    let item = range_item(alloc, range, policy, placed)?;
+pub(crate) fn put_range(text: &mut Written, row: Row<'_>, is_first: bool) {
     let before = if is_first { "\n" } else { ",\n" };
     text.put(before.as_bytes());
-    put_item(text, item.as_str(), placed.exhausted);
-    Ok(())
+    put_made(text, range_item(text.alloc(), row), row.placed.exhausted);
 }
 
 /// What is left on each node that is named.
@@ -112,28 +109,18 @@ fn left_item(alloc: Global, left: &[FreePages]) -> Result<String, AllocError> {
 }
 
 /// What is left on each node, where some are named.
-fn put_left(alloc: Global, text: &mut Written, left: &[FreePages]) -> Result<(), AllocError> {
-    if left.is_empty() {
-        return Ok(());
+fn put_left(text: &mut Written, left: &[FreePages]) {
+    if !left.is_empty() {
+        text.put(b",\"left\":");
+        put_made(text, left_item(text.alloc(), left), None);
     }
-    let item = left_item(alloc, left)?;
-    text.put(b",\"left\":");
-    text.put(item.as_bytes());
-    Ok(())
 }
 
 /// The list of ranges ends, and the object with all pages by node, and with what is left where some
 /// nodes are named.
-pub(crate) fn put_total(
-    alloc: Global,
-    text: &mut Written,
-    placed: Placed<'_>,
-    left: &[FreePages],
-) -> Result<(), AllocError> {
-    let item = total_item(alloc, placed)?;
+pub(crate) fn put_total(text: &mut Written, placed: Placed<'_>, left: &[FreePages]) {
     text.put(b"\n],\"total\":");
-    put_item(text, item.as_str(), placed.exhausted);
-    put_left(alloc, text, left)?;
+    put_made(text, total_item(text.alloc(), placed), placed.exhausted);
+    put_left(text, left);
     text.put(b"}\n");
-    Ok(())
 }

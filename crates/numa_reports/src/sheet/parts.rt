@@ -8,7 +8,7 @@ use crate::fault::ReportFault;
 use crate::filling::{FreePages, fill_all, free_of, taken};
 use crate::prediction::{TakeRange, predict_all};
 use crate::sheet::cells::{CELLS, first_cells};
-use crate::sheet::fields::{Placed, PolicyTexts, sum};
+use crate::sheet::fields::{Placed, PolicyTexts, Row, sum};
 use crate::sheet::written::Written;
 use crate::sheet::{Format, lines, objects, pictures, records};
 use crate::touch::{Touch, has_node};
@@ -20,7 +20,6 @@ use std::alloc::{AllocError, Global};
 /// A prediction that is written range by range.
 #[derive(Drop)]
 struct Parts {
-    alloc: Global,
     format: Format,
     // How many nodes the machine has.
     nodes: usize,
@@ -67,40 +66,39 @@ impl Parts {
 
     /// Writes what stands behind the last range: how many pages each node gets in all, and what is
     /// left on those that are named.
-    fn put_total(&mut self, counts: &[u64; 256], left: &[FreePages]) -> Result<(), AllocError> {
+    fn put_total(&mut self, counts: &[u64; 256], left: &[FreePages]) {
         let placed = self.placed(shown(counts, self.nodes), self.pages);
         let text = &mut self.text;
         match self.format {
             Format::Text => lines::put_total(text, placed, left),
-            Format::Json => return objects::put_total(self.alloc, text, placed, left),
-            Format::Csv => return records::put_total(self.alloc, text, placed, left),
+            Format::Json => objects::put_total(text, placed, left),
+            Format::Csv => records::put_total(text, placed, left),
             Format::Svg => pictures::put_total(text, placed, left, self.ranges),
         }
-        Ok(())
     }
 
     /// Writes what is said of a range.
-    fn put_range(
-        &mut self,
-        range: &Run<RangeRecord>,
-        policy: Option<Record>,
-        placed: Placed<'_>,
-    ) -> Result<(), AllocError> {
-        let policy = self.policies.text(policy)?;
+    fn put_range(&mut self, range: &Run<RangeRecord>, policy: Option<Record>, counts: &[u64]) {
+        let placed = self.placed(counts, range.pages);
+        let Ok(policy) = self.policies.text(policy) else {
+            self.text.lack();
+            return;
+        };
+        let row = Row {
+            range,
+            policy,
+            placed,
+        };
         let text = &mut self.text;
-        let before = self.ranges;
         match self.format {
-            Format::Text => lines::put_range(text, range, policy, placed),
-            Format::Json => {
-                return objects::put_range(self.alloc, text, range, policy, placed, before == 0);
-            }
-            Format::Csv => return records::put_range(self.alloc, text, range, policy, placed),
+            Format::Text => lines::put_range(text, row),
+            Format::Json => objects::put_range(text, row, self.ranges == 0),
+            Format::Csv => records::put_range(text, row),
             Format::Svg => {
-                let cells = cells_of(&self.cells, before, placed.pages);
-                pictures::put_range(text, before, range, policy, placed, cells);
+                let cells = cells_of(&self.cells, self.ranges, placed.pages);
+                pictures::put_range(text, self.ranges, row, cells);
             }
         }
-        Ok(())
     }
 }
 
@@ -111,8 +109,7 @@ impl TakeRange for Parts {
         policy: Option<Record>,
         counts: &[u64; 256],
     ) -> Result<(), AllocError> {
-        let placed = self.placed(shown(counts, self.nodes), range.pages);
-        self.put_range(range, policy, placed)?;
+        self.put_range(range, policy, shown(counts, self.nodes));
         self.ranges = self.ranges.saturating_add(1);
         self.pages = self.pages.saturating_add(range.pages);
         self.text.checked()
@@ -156,7 +153,6 @@ fn begin(
         _ => Vec::new(alloc),
     };
     Ok(Parts {
-        alloc,
         format,
         nodes: space.machine().nodes() as usize,
         policies: PolicyTexts::new(alloc),
@@ -197,15 +193,15 @@ fn write_all(
 {
     if free.is_empty() {
         let counts = predict_all(space, plan, touch.task, touch.cpu, parts)?;
-        parts.put_total(&counts, &[])?;
+        parts.put_total(&counts, &[]);
     } else {
         let before = free_of(free);
         let mut after = before;
         fill_all(space, plan, touch.task, touch.cpu, &mut after, parts)?;
         let left = left_on(alloc, free, &after)?;
-        parts.put_total(&taken(&before, &after), &left)?;
+        parts.put_total(&taken(&before, &after), &left);
     }
-    Ok(parts.text.take(alloc)?)
+    Ok(parts.text.take()?)
 }
 
 /// Where all mapped pages would go, if the task touched each of them now on a CPU of node `cpu`,

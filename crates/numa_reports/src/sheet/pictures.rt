@@ -4,12 +4,11 @@
 //! stands; below the ranges stand the nodes with what they get. So nothing hangs on the colours.
 
 use crate::filling::FreePages;
-use crate::sheet::fields::{Placed, address, bytes, end};
-use crate::sheet::lines::{NODE, put_lacking};
+use crate::sheet::fields::{Placed, Row, address, bytes, end};
+use crate::sheet::lines::put_lacking;
 use crate::sheet::nodes::put_nodes;
 use crate::sheet::written::Written;
 use crate::touch::Touch;
-use numa_space::{RangeRecord, Run};
 
 /// Colours that black letters are read on; nodes whose numbers are eight apart share one.
 static COLOURS: [&str; 8] = [
@@ -97,7 +96,7 @@ fn put_counts(text: &mut Written, counts: &[u64]) {
     if some > NAMED {
         text.put_form(b" on $ nodes", &[some as u64]);
     } else {
-        put_nodes(text, counts, NODE, b"");
+        put_nodes(text, counts);
     }
 }
 
@@ -124,29 +123,22 @@ fn below(ranges: usize) -> u64 {
 }
 
 /// The range with so many before it: its line and its bar.
-pub(crate) fn put_range(
-    text: &mut Written,
-    before: usize,
-    range: &Run<RangeRecord>,
-    policy: &str,
-    placed: Placed<'_>,
-    cells: &[u8],
-) {
+pub(crate) fn put_range(text: &mut Written, before: usize, row: Row<'_>, cells: &[u8]) {
     text.put_form(
         b"<g class=\"range\" transform=\"translate(16,$)\">",
         &[below(before)],
     );
     text.put(b"<text y=\"11\">");
-    text.put_address(address(range.first));
+    text.put_address(address(row.range.first));
     text.put(b"-");
-    text.put_address(end(range));
-    text.put_form(b" anon=$", &[placed.pages]);
-    put_counts(text, placed.counts);
-    put_lacking(text, placed);
+    text.put_address(end(row.range));
+    text.put_form(b" anon=$", &[row.placed.pages]);
+    put_counts(text, row.placed.counts);
+    put_lacking(text, row.placed);
     text.put(b" ");
-    text.put(policy.as_bytes());
+    text.put(row.policy.as_bytes());
     text.put(b"</text>");
-    put_bar(text, cells, placed.pages);
+    put_bar(text, cells, row.placed.pages);
     text.put(b"</g>\n");
 }
 

@@ -2,11 +2,10 @@
 //! find no node with a free page have a record without a node.
 
 use crate::filling::FreePages;
-use crate::sheet::fields::{Placed, address, end};
+use crate::sheet::fields::{Placed, Row, address, end};
 use crate::sheet::written::Written;
 use csv::{Writer, WriterBuilder};
 use itoa::Buffer;
-use numa_space::{RangeRecord, Run};
 use std::alloc::{AllocError, Global};
 
 /// The record of the names.
@@ -125,36 +124,31 @@ fn records(
     }
 }
 
+/// Writes the records of pages, and of what is left.
+fn put_all(text: &mut Written, front: &Front<'_>, placed: Placed<'_>, left: &[FreePages]) {
+    match records(text.alloc(), front, placed, left) {
+        Ok(part) => text.put(part.as_slice()),
+        Err(_) => text.lack(),
+    }
+}
+
 /// The records of a range.
-pub(crate) fn put_range(
-    alloc: Global,
-    text: &mut Written,
-    range: &Run<RangeRecord>,
-    policy: &str,
-    placed: Placed<'_>,
-) -> Result<(), AllocError> {
+pub(crate) fn put_range(text: &mut Written, row: Row<'_>) {
     let mut first = Buffer::new();
     let mut last = Buffer::new();
     let mut all = Buffer::new();
     let front = Front {
-        start: first.format(address(range.first)),
-        end: last.format(end(range)),
-        policy,
-        all: all.format(placed.pages),
+        start: first.format(address(row.range.first)),
+        end: last.format(end(row.range)),
+        policy: row.policy,
+        all: all.format(row.placed.pages),
     };
-    let part = records(alloc, &front, placed, &[])?;
-    text.put(part.as_slice());
-    Ok(())
+    put_all(text, &front, row.placed, &[]);
 }
 
 /// The records of all pages: their policy is `total`, and they have no addresses; behind them those
 /// of what is left, with the policy `left`, where some nodes are named.
-pub(crate) fn put_total(
-    alloc: Global,
-    text: &mut Written,
-    placed: Placed<'_>,
-    left: &[FreePages],
-) -> Result<(), AllocError> {
+pub(crate) fn put_total(text: &mut Written, placed: Placed<'_>, left: &[FreePages]) {
     let mut all = Buffer::new();
     let front = Front {
         start: "",
@@ -162,7 +156,5 @@ pub(crate) fn put_total(
         policy: "total",
         all: all.format(placed.pages),
     };
-    let part = records(alloc, &front, placed, left)?;
-    text.put(part.as_slice());
-    Ok(())
+    put_all(text, &front, placed, left);
 }

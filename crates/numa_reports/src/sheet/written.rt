@@ -4,12 +4,22 @@ use itoa::Buffer;
 use std::alloc::{AllocError, Global};
 use std::mem::replace;
 
-/// The digits of hexadecimal numbers.
-static DIGITS: [u8; 16] = *b"0123456789abcdef";
+/// The last eight hexadecimal digits of a number.
+fn last_digits(number: u64) -> [u8; 8] {
+    let low = number & 0xFFFF_FFFF;
+    let halves = (low | (low << 16)) & 0x0000_FFFF_0000_FFFF;
+    let pairs = (halves | (halves << 8)) & 0x00FF_00FF_00FF_00FF;
+    let values = (pairs | (pairs << 4)) & 0x0F0F_0F0F_0F0F_0F0F;
+    // Has 1 in each byte whose digit is a letter. The letters stand 39 places behind the digit 9.
+    let letters = (values.wrapping_add(0x0606_0606_0606_0606) >> 4) & 0x0101_0101_0101_0101;
+    let digits = values.wrapping_add(letters.wrapping_mul(39));
+    digits.wrapping_add(0x3030_3030_3030_3030).to_be_bytes()
+}
 
 /// What is written so far. Once there was no memory for a part, no more is written.
 #[derive(Drop)]
 pub(crate) struct Written {
+    alloc: Global,
     text: Vec<u8>,
     lacks_memory: bool,
 }
@@ -18,13 +28,24 @@ impl Written {
     /// An empty text.
     pub(crate) fn new(alloc: Global) -> Written {
         Written {
+            alloc,
             text: Vec::new(alloc),
             lacks_memory: false,
         }
     }
 
+    /// Where its memory comes from.
+    pub(crate) fn alloc(&self) -> Global {
+        self.alloc
+    }
+
+    /// Remembers that there was no memory for a part.
+    pub(crate) fn lack(&mut self) {
+        self.lacks_memory = true;
+    }
+
     /// Writes a part.
-    #[inline]
+    #[inline(always)]
     pub(crate) fn put(&mut self, part: &[u8]) {
         if !self.lacks_memory {
             self.lacks_memory = self.text.extend_from_slice(part).is_err();
@@ -33,19 +54,22 @@ impl Written {
 
     /// Writes a number in decimal digits.
     pub(crate) fn put_number(&mut self, number: u64) {
+        if number < 10 {
+            self.put(&[b'0' + number as u8]);
+            return;
+        }
         let mut buffer = Buffer::new();
         self.put(buffer.format(number).as_bytes());
     }
 
     /// Writes a number in hexadecimal digits, eight at least.
     pub(crate) fn put_address(&mut self, number: u64) {
-        let mut digits = [0u8; 16];
-        for place in 0..16u32 {
-            let high = number >> (60 - 4 * place);
-            digits[place as usize] = DIGITS[(high & 15) as usize];
-        }
         let zeros = (number.leading_zeros() / 4) as usize;
-        self.put(&digits[zeros.min(8)..]);
+        if zeros < 8 {
+            let digits = last_digits(number >> 32);
+            self.put(&digits[zeros..]);
+        }
+        self.put(&last_digits(number));
     }
 
     /// Writes a form, with the next of the numbers for each `$`.
@@ -70,8 +94,8 @@ impl Written {
     }
 
     /// The whole text, which is empty then.
-    pub(crate) fn take(&mut self, alloc: Global) -> Result<Vec<u8>, AllocError> {
+    pub(crate) fn take(&mut self) -> Result<Vec<u8>, AllocError> {
         self.checked()?;
-        Ok(replace(&mut self.text, Vec::new(alloc)))
+        Ok(replace(&mut self.text, Vec::new(self.alloc)))
     }
 }
