@@ -10,6 +10,10 @@ use Rattle.numa_space.specs.declared.command.Command.{Command}
 use Rattle.numa_compile.specs.Spans.{meant_count}
 use Rattle.numa_reports.specs.declared.prediction.RangePrediction.{RangePrediction}
 
+-- no node has a page
+abbrev pub AreNone : List ℕ → Type 0
+AreNone counts = (node : ℕ) → node < 256 → slice_index counts node ≡ 0
+
 -- each node's count has as many more as pages of the span go there first by the plan
 abbrev pub AddsSpan : PlanData → ℕ → ℕ → ℕ → ℕ → List ℕ → List ℕ → Type 0
 AddsSpan plan task cpu first pages old new =

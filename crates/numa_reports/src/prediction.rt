@@ -14,11 +14,11 @@ ghost use Rattle.numa_space.specs.declared.command.Command.{Command};
 ghost use Rattle.numa_space.specs.declared.refusal.PlaceRefusal.TheVariants.{BadCpu};
 ghost use Rattle.numa_reports.specs.declared.fault.ReportFault.TheVariants.{Memory, Refused};
 ghost use Rattle.numa_reports.specs.Failing.{FailsBy, FailsForNode};
-ghost use Rattle.numa_reports.specs.Predicted.{AddsSpan, AreFirsts, IsPrediction};
+ghost use Rattle.numa_reports.specs.Predicted.{AddsSpan, AreFirsts, AreNone, IsPrediction};
 ghost use Rattle.numa_reports.specs.Told.{LacksOne, ToldEach, ToldOne};
 
 use crate::fault::ReportFault;
-use crate::tally::add_span;
+use crate::tally::{count_span, move_counts};
 use crate::touch::{Touch, has_node};
 use numa_mode::Record;
 use numa_plan::Plan;
@@ -119,22 +119,26 @@ pub(crate) fn policy_of(space: &Space, task: u32, range: &Run<RangeRecord>) -> O
     }
 }
 
-/// Adds the pages of a range to the counts of all, and tells the taker of it.
+/// Tells the taker of a range, and adds its pages to the counts of all. There are no counts of a
+/// range before, nor afterwards.
 fn predict_next<T: TakeRange>(
     space: &Space,
     plan: &Plan,
     touch: Touch,
     range: &Run<RangeRecord>,
-    counts: &mut [u64; 256],
     taker: &mut T,
+    counts: &mut [u64; 256],
+    all: &mut [u64; 256],
 ) -> Result<(), ReportFault>
     requires own { option_and_then (λ at. at.1) (page_at space.now.ranges range.now.first)
         ≡ range.now.value }
     requires known { touch.cpu < space.now.machine.nodes }
-    requires room { HasRoom counts.old
+    requires none { AreNone counts.old }
+    requires room { HasRoom all.old
         (planned_count plan.now touch.task touch.cpu range.now.first range.now.pages) }
-    ensures counts { OnOk result (AddsSpan plan.now touch.task touch.cpu
-        range.now.first range.now.pages counts.old counts.new) }
+    ensures none { OnOk result (AreNone counts.new) }
+    ensures all { OnOk result (AddsSpan plan.now touch.task touch.cpu
+        range.now.first range.now.pages all.old all.new) }
     ensures told { (history : List Command) → StandsFor space.now history
         → PlanStandsFor space.now.machine plan.now history → OnOk result
         (ToldOne T.told (IsPrediction space.now.machine history touch.task touch.cpu)
@@ -143,9 +147,9 @@ fn predict_next<T: TakeRange>(
         (FailsBy (RefusesSpan plan.now range.now.first range.now.pages touch.cpu)) }
     ensures lack { IfErr result (λ why. why ≡ Memory → T.lacks taker.old range.now) }
 {
-    let mut more = [0u64; 256];
-    add_span(plan, touch, range.first, range.pages, &mut more, counts)?;
-    taker.take(range, policy_of(space, touch.task, range), &more)?;
+    count_span(plan, touch, range.first, range.pages, counts)?;
+    taker.take(range, policy_of(space, touch.task, range), counts)?;
+    move_counts(counts, range.pages, all);
     Ok(())
 }
 
@@ -178,9 +182,10 @@ pub fn predict_all<T: TakeRange>(
         return Err(ReportFault::Refused(PlaceRefusal::BadCpu));
     }
     let mut counts = [0u64; 256];
+    let mut all = [0u64; 256];
     let touch = Touch { task, cpu };
     for range in space.range_iter() {
-        predict_next(space, plan, touch, &range, &mut counts, taker)?;
+        predict_next(space, plan, touch, &range, taker, &mut counts, &mut all)?;
     }
-    Ok(counts)
+    Ok(all)
 }

@@ -1,8 +1,8 @@
-//! Counts by node, added up.
-ghost use Rattle.std.specs.Prelude.{◌≤◌, length, slice_index, IfErr, OnOk};
-ghost use Rattle.numa_plan.specs.Meaning.{RefusesSpan, planned_count};
+//! Counts by node.
+ghost use Rattle.std.specs.Prelude.{◌≤◌, length, slice_index, sum, IfErr, OnOk};
+ghost use Rattle.numa_plan.specs.Meaning.{CountsFirsts, RefusesSpan};
 ghost use Rattle.numa_plan.specs.Tally.{Adds, HasRoom};
-ghost use Rattle.numa_reports.specs.Predicted.{AddsSpan};
+ghost use Rattle.numa_reports.specs.Predicted.{AreNone};
 
 use crate::touch::Touch;
 use numa_lanes::tally;
@@ -12,70 +12,60 @@ use numa_space::PlaceRefusal;
 /// How many pages are looked at one by one; where there are more, they are counted together.
 const FEW: usize = 64;
 
-/// Adds to each node's count as many pages as the other has.
-pub(crate) fn add_counts(counts: &mut [u64; 256], more: &[u64; 256])
-    requires { HasRoom counts.old (λ node. slice_index more.now node) }
-    ensures { Adds counts.old counts.new (λ node. slice_index more.now node) }
-{
-    for node in 0..256 {
-        counts[node] += more[node];
-    }
-}
-
-/// Adds the pages of a span, as many as the list has places, to the counts of a range and of all.
-fn add_filled(
+/// Counts the pages of a span, as many as the list has places, by node.
+fn count_filled(
     plan: &Plan,
     touch: Touch,
     first: u64,
     nodes: &mut [u8],
     counts: &mut [u64; 256],
-    all: &mut [u64; 256],
 ) -> Result<(), PlaceRefusal>
-    requires room { HasRoom counts.old
-        (planned_count plan.now touch.task touch.cpu first (length nodes.old)) }
-    requires room_all { HasRoom all.old
-        (planned_count plan.now touch.task touch.cpu first (length nodes.old)) }
-    ensures counts { OnOk result
-        (AddsSpan plan.now touch.task touch.cpu first (length nodes.old) counts.old counts.new) }
-    ensures all { OnOk result
-        (AddsSpan plan.now touch.task touch.cpu first (length nodes.old) all.old all.new) }
+    requires few { length nodes.old ≤ 64 }
+    requires none { AreNone counts.old }
+    ensures ok { OnOk result
+        (CountsFirsts plan.now touch.task touch.cpu first (length nodes.old) counts.new) }
     ensures err { IfErr result (RefusesSpan plan.now first (length nodes.old) touch.cpu) }
 {
     plan.fill(touch.task, touch.cpu, first, nodes)?;
     tally(nodes, counts);
-    tally(nodes, all);
     Ok(())
 }
 
-/// Adds the pages of a span to the counts of a range and of all.
-pub(crate) fn add_span(
+/// Counts the pages of a span by node.
+pub(crate) fn count_span(
     plan: &Plan,
     touch: Touch,
     first: u64,
     pages: u64,
     counts: &mut [u64; 256],
-    all: &mut [u64; 256],
 ) -> Result<(), PlaceRefusal>
-    requires room { HasRoom counts.old (planned_count plan.now touch.task touch.cpu first pages) }
-    requires room_all { HasRoom all.old (planned_count plan.now touch.task touch.cpu first pages) }
-    ensures counts { OnOk result
-        (AddsSpan plan.now touch.task touch.cpu first pages counts.old counts.new) }
-    ensures all { OnOk result (AddsSpan plan.now touch.task touch.cpu first pages all.old all.new) }
+    requires { AreNone counts.old }
+    ensures ok { OnOk result
+        (CountsFirsts plan.now touch.task touch.cpu first pages counts.new) }
     ensures err { IfErr result (RefusesSpan plan.now first pages touch.cpu) }
 {
     if pages <= FEW as u64 {
         let mut nodes = [0u8; FEW];
-        return add_filled(
-            plan,
-            touch,
-            first,
-            &mut nodes[..pages as usize],
-            counts,
-            all,
-        );
+        return count_filled(plan, touch, first, &mut nodes[..pages as usize], counts);
     }
-    let more = plan.counts(touch.task, touch.cpu, first, pages)?;
-    add_counts(counts, &more);
-    add_counts(all, &more);
+    *counts = plan.counts(touch.task, touch.cpu, first, pages)?;
     Ok(())
+}
+
+/// Moves the counts of so many pages to those of all, the lowest nodes first, so that none is left.
+pub(crate) fn move_counts(counts: &mut [u64; 256], pages: u64, all: &mut [u64; 256])
+    requires few { sum counts.old ≤ pages }
+    requires room { HasRoom all.old (λ node. slice_index counts.old node) }
+    ensures moved { Adds all.old all.new (λ node. slice_index counts.old node) }
+    ensures none { AreNone counts.new }
+{
+    let mut left = pages;
+    let mut node = 0;
+    while left > 0 && node < 256 {
+        let count = counts[node];
+        all[node] += count;
+        counts[node] = 0;
+        left -= count;
+        node += 1;
+    }
 }

@@ -17,7 +17,8 @@ pub loop-range-init : goal.loop-range-init
 loop-range-init g c =
     let runs : c.into_iter-range-iterator.result ≡ c.args.space.now.ranges = c.into_iter-range-iterator.ensures.into_iter_gives ∙ c.range_iter-range-items.ensures.runs in
     record {
-      counts = λ node small.
+      none = λ node small. get_or-replicate {A = ℕ} 256 node 0 0 small;
+      all = λ node small.
           let test : ℕ → Bool = λ page. is_number node (planned_first c.args.plan.now c.args.task page c.args.cpu) in
           omega (arith, get_or-replicate {A = ℕ} 256 node 0 0 small, ap (λ (runs : List (Run (Option PolicyRecord))). count_runs test runs) runs);
       apart = c.range_iter-range-items.ensures.rising;
@@ -31,7 +32,7 @@ pub predict_next-requires-clause-room : goal.predict_next-requires-clause-room
 predict_next-requires-clause-room g c node small =
     let test : ℕ → Bool = λ page. is_number node (planned_first c.args.plan.now c.args.task page c.args.cpu) in
     let step = ap (λ (runs : List (Run (Option PolicyRecord))). count_runs test runs) c.in-Some.ensures.steps in
-    omega (arith, step, c.loop-range.invariant.counts node small, runs-most test 0 c.args.space.now.ranges c.loop-range.invariant.apart, sum_by-cons (λ run. count_pages test run.first run.pages) c.in-Some.range c.next.new.self)
+    omega (arith, step, c.loop-range.invariant.all node small, runs-most test 0 c.args.space.now.ranges c.loop-range.invariant.apart, sum_by-cons (λ run. count_pages test run.first run.pages) c.in-Some.range c.next.new.self)
 
 pub predict_next-requires-clause-known : goal.predict_next-requires-clause-known
 predict_next-requires-clause-known g c = grind (arith, nat_tests)
@@ -41,10 +42,11 @@ predict_next-requires-clause-own g c = left-value c.loop-range.range-iterator c.
 
 pub loop-range-preserved : goal.loop-range-preserved
 loop-range-preserved g c = record {
-  counts = λ node small.
+  none = c.in_ok-predict_next.ensures.none;
+  all = λ node small.
       let test : ℕ → Bool = λ page. is_number node (planned_first c.args.plan.now c.args.task page c.args.cpu) in
       let step = ap (λ (runs : List (Run (Option PolicyRecord))). count_runs test runs) c.in-Some.ensures.steps in
-      omega (arith, step, c.in_ok-predict_next.ensures.counts node small, c.loop-range.invariant.counts node small, sum_by-cons (λ run. count_pages test run.first run.pages) c.in-Some.range c.next.new.self);
+      omega (arith, step, c.in_ok-predict_next.ensures.all node small, c.loop-range.invariant.all node small, sum_by-cons (λ run. count_pages test run.first run.pages) c.in-Some.range c.next.new.self);
   apart = c.loop-range.invariant.apart;
   rest = left-next c.loop-range.range-iterator c.args.space.now.ranges c.next.new.self c.in-Some.range c.loop-range.invariant.rest c.in-Some.ensures.steps;
   lack = λ has. c.loop-range.invariant.lack (subst (λ (runs : List (Run (Option PolicyRecord))). LacksOne g.T.TakeRange.lacks runs) (sym c.in-Some.ensures.steps) (inr has));
@@ -59,7 +61,7 @@ returns-clause-ok g c history stands planned node small =
     let known : c.args.cpu < c.args.space.now.machine.nodes = grind (arith, nat_tests) in
     let lt : c.args.cpu < c.args.plan.now.nodes = omega (arith, planned.nodes) in
     let test : ℕ → Bool = λ page. is_number node (planned_first c.args.plan.now c.args.task page c.args.cpu) in
-    omega (arith, c.loop-range.invariant.counts node small, runs-none test c.loop-range.range-iterator (ap length c.in-None.ensures.steps.0), counted-all c.args.space.now c.args.plan.now history c.args.task c.args.cpu node stands planned lt c.loop-range.invariant.apart)
+    omega (arith, c.loop-range.invariant.all node small, runs-none test c.loop-range.range-iterator (ap length c.in-None.ensures.steps.0), counted-all c.args.space.now c.args.plan.now history c.args.task c.args.cpu node stands planned lt c.loop-range.invariant.apart)
 
 pub returns-clause-told : goal.returns-clause-told
 returns-clause-told g c history stands planned = c.loop-range.invariant.told history stands planned c.loop-range.taker

@@ -4,7 +4,7 @@ use Rattle.numa_ranges.specs.Runs.{AreApart}
 use Rattle.numa_space.specs.Standing.{StandsFor}
 use Rattle.numa_space.specs.declared.command.Command.{Command}
 use Rattle.numa_compile.specs.Standing.{PlanStandsFor}
-use Rattle.numa_reports.specs.Predicted.{IsPrediction}
+use Rattle.numa_reports.specs.Predicted.{AreNone, IsPrediction}
 use Rattle.numa_reports.specs.Told.{LacksOne, ToldEach}
 use Rattle.numa_reports.proofs.Refusing.{AreLeft}
 use Rattle.numa_reports.proofs.Tiling.{count_runs}
@@ -12,11 +12,12 @@ use Rattle.numa_reports.proofs.prediction.predict_all.Given as goal
 
 abbrev pub invariant-loop-range : goal.invariant-loop-range
 invariant-loop-range g l = record {
-  counts : (node : ℕ) → node < 256 → get_or l.counts node 0 + count_runs (λ page. is_number node (planned_first l.plan l.task page l.cpu)) l.range-iterator ≡ count_runs (λ page. is_number node (planned_first l.plan l.task page l.cpu)) l.space.ranges;
+  none : AreNone l.counts;
+  all : (node : ℕ) → node < 256 → get_or l.all node 0 + count_runs (λ page. is_number node (planned_first l.plan l.task page l.cpu)) l.range-iterator ≡ count_runs (λ page. is_number node (planned_first l.plan l.task page l.cpu)) l.space.ranges;
   apart : AreApart 0 l.space.ranges;
   rest : AreLeft l.range-iterator l.space.ranges;
   lack : LacksOne g.T.TakeRange.lacks l.range-iterator → LacksOne g.T.TakeRange.lacks l.space.ranges;
-  long : length l.counts ≡ 256;
+  long : length l.all ≡ 256;
   told : (history : List Command) → StandsFor l.space history → PlanStandsFor l.space.machine l.plan history → (end : g.row.T.Denot)
       → ToldEach g.T.TakeRange.told (IsPrediction l.space.machine history l.task l.cpu) l.range-iterator l.taker end
       → ToldEach g.T.TakeRange.told (IsPrediction l.space.machine history l.task l.cpu) l.space.ranges l.fn.taker end;

@@ -1,35 +1,41 @@
-use Rattle.std.proofs.Common.{ℕ, ◌<◌, arith}
-use Rattle.std.proofs.lemmas.Simd.{get_or-replicate}
+use Rattle.std.proofs.Common.{◌<◌, arith}
 use Rattle.std.proofs.lemmas.Result.{err_from_is_err_and}
 use Rattle.numa_compile.proofs.Replies.{counts-meant}
+use Rattle.numa_reports.proofs.Placed.{few-planned}
 use Rattle.numa_reports.proofs.prediction.predict_next.Goals as goal
 
-pub add_span-requires-clause-room : goal.add_span-requires-clause-room
-add_span-requires-clause-room g c node small = omega (arith, get_or-replicate {A = ℕ} 256 node 0 0 small, c.requires.room node small)
+pub move_counts-requires-clause-few : goal.move_counts-requires-clause-few
+move_counts-requires-clause-few g c = few-planned c.args.plan.now c.args.touch.task c.args.touch.cpu c.args.range.now.first c.args.range.now.pages c.count_span.new.counts (omega arith) c.in_ok-count_span.ensures.ok
+
+pub move_counts-requires-clause-room : goal.move_counts-requires-clause-room
+move_counts-requires-clause-room g c node small = omega (arith, c.in_ok-count_span.ensures.ok node small, c.requires.room node small)
+
+pub returns-clause-all : goal.returns-clause-all
+returns-clause-all g c node small = omega (arith, c.in_ok-count_span.ensures.ok node small, c.move_counts.ensures.moved node small)
 
 pub returns-clause-told : goal.returns-clause-told
 returns-clause-told g c history stands planned =
     let lt : c.args.touch.cpu < c.args.plan.now.nodes = omega (arith, planned.nodes, c.requires.known) in (
-      record { policy = c.policy_of.result; counts = c.add_span.new.counts },
+      record { policy = c.policy_of.result; counts = c.count_span.new.counts },
       record {
         policy = c.policy_of.ensures history stands;
-        counts = λ node small. omega (arith, get_or-replicate {A = ℕ} 256 node 0 0 small, c.in_ok-add_span.ensures.counts node small, counts-meant c.args.space.now.machine c.args.plan.now history planned c.args.touch.task c.args.touch.cpu c.args.range.now.first c.args.range.now.pages node lt);
+        counts = λ node small. omega (arith, c.in_ok-count_span.ensures.ok node small, counts-meant c.args.space.now.machine c.args.plan.now history planned c.args.touch.task c.args.touch.cpu c.args.range.now.first c.args.range.now.pages node lt);
       },
       c.in_ok-take.ensures.tells,
     )
 
-pub returns-in_err-add_span-clause-err : goal.returns-in_err-add_span-clause-err
-returns-in_err-add_span-clause-err g c =
+pub returns-in_err-count_span-clause-err : goal.returns-in_err-count_span-clause-err
+returns-in_err-count_span-clause-err g c =
     let exit = err_from_is_err_and c.from_residual.result c.from_residual.ensures.1 in
-    rw (exit.1, exit.2) c.in_err-add_span.ensures.err
+    rw (exit.1, exit.2) c.in_err-count_span.ensures.err
 
 pub returns-in_err-take-clause-err : goal.returns-in_err-take-clause-err
 returns-in_err-take-clause-err g c =
     let exit = err_from_is_err_and c.from_residual-in_err-take.result c.from_residual-in_err-take.ensures.1 in
     rw (exit.1, exit.2) tt
 
-pub returns-in_err-add_span-clause-lack : goal.returns-in_err-add_span-clause-lack
-returns-in_err-add_span-clause-lack g c =
+pub returns-in_err-count_span-clause-lack : goal.returns-in_err-count_span-clause-lack
+returns-in_err-count_span-clause-lack g c =
     let exit = err_from_is_err_and c.from_residual.result c.from_residual.ensures.1 in
     rw (exit.1, exit.2) (λ is. absurd (let odd = is in cc))
 
