@@ -1,4 +1,5 @@
 pub mod Asked
+pub mod Calls
 pub mod Dialogs
 pub mod Held
 pub mod Kinds

@@ -11,13 +11,13 @@ abbrev pub seat_in : SeatHandle → Option Seated
 seat_in h = seat_of h.handle.held.kept
 
 -- a frame of the first listed node that has one was taken, or none was found
-abbrev pub Takes : Option Seated → List ℕ → Option (ℕ × Frame) → Option Seated → Type 0
-Takes old nodes found new = (before : Seated) → old ≡ Some before →
+abbrev pub Takes : List ℕ → Option Seated → Option Seated → Option (ℕ × Frame) → Type 0
+Takes nodes old new found = (before : Seated) → old ≡ Some before →
     (after : Seated) × (new ≡ Some after) × TakesAlong nodes found before after
 
 -- the frame was given back, where the seat holds it
-abbrev pub Returns : Option Seated → Frame → Bool → Option Seated → Type 0
-Returns old frame held new = (before : Seated) → old ≡ Some before →
+abbrev pub Returns : Frame → Option Seated → Option Seated → Bool → Type 0
+Returns frame old new held = (before : Seated) → old ≡ Some before →
     (after : Seated) × (new ≡ Some after) × Gives frame held before after
 
 -- a seat at the same pools, which holds nothing, was split off

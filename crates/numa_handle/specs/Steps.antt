@@ -29,9 +29,9 @@ pub record IsStep (before : CoreState) (event : Event) (answer : Result CoreRepl
   pub setup : setup_of after ≡ setup_of before
 
 -- the same of what is kept: a core before and a core after
-abbrev pub Steps : Option CoreState → Event → Result CoreReply CoreRefusal → Option CoreState
+abbrev pub Steps : Event → Option CoreState → Option CoreState → Result CoreReply CoreRefusal
     → Type 0
-Steps old event answer new =
+Steps event old new answer =
     (before : CoreState) → old ≡ Some before →
     (after : CoreState) × (new ≡ Some after) × IsStep before event answer after
 
@@ -44,9 +44,9 @@ pub record IsTouched (before : CoreState) (worker : ℕ) (request : Request)
   pub unchanged : OnErr answer (after ≡ before)
   pub setup : setup_of after ≡ setup_of before
 
-abbrev pub Touches : Option CoreState → ℕ → Request → Result CoreReply CoreRefusal
-    → Option CoreState → Type 0
-Touches old worker request answer new =
+abbrev pub Touches : ℕ → Request → Option CoreState → Option CoreState
+    → Result CoreReply CoreRefusal → Type 0
+Touches worker request old new answer =
     (before : CoreState) → old ≡ Some before →
     (after : CoreState) × (new ≡ Some after) × IsTouched before worker request answer after
 

@@ -1,5 +1,6 @@
 //! A handle of a core.
-ghost use Rattle.std.specs.Prelude.{◌≡◌, Some, None, true, MatchOption, IfOk, OnOk, OnErr, is_some};
+ghost use Rattle.std.specs.Prelude.{◌≡◌, Some, None, true, MatchOption, IfOk};
+ghost use Rattle.numa_handle.specs.Calls.{Calls, Keeps};
 ghost use Rattle.numa_handle.specs.Kinds.{core_of, is_core};
 ghost use Rattle.numa_handle.specs.Steps.{core_in, Steps, Touches, Compiles, HasVersions};
 
@@ -14,7 +15,7 @@ use std::alloc::{AllocError, Global};
 fn step_kept(kept: &mut Kept, event: Event) -> Result<CoreReply, CoreRefusal>
     requires core { is_core (Some kept.old) ≡ true }
     ensures core { is_core (Some kept.new) ≡ true }
-    ensures steps { Steps (core_of (Some kept.old)) event result (core_of (Some kept.new)) }
+    ensures steps { Steps event (core_of (Some kept.old)) (core_of (Some kept.new)) result }
 {
     match kept {
         Kept::Core(core) => core.step(event),
@@ -26,8 +27,8 @@ fn step_kept(kept: &mut Kept, event: Event) -> Result<CoreReply, CoreRefusal>
 fn touch_kept(kept: &mut Kept, worker: u32, request: Request) -> Result<CoreReply, CoreRefusal>
     requires core { is_core (Some kept.old) ≡ true }
     ensures core { is_core (Some kept.new) ≡ true }
-    ensures touches { Touches (core_of (Some kept.old)) worker request result
-        (core_of (Some kept.new)) }
+    ensures touches { Touches worker request (core_of (Some kept.old)) (core_of (Some kept.new))
+        result }
 {
     match kept {
         Kept::Core(core) => core.touch(worker, request),
@@ -68,37 +69,20 @@ fn compile_kept(kept: &mut Kept, alloc: Global) -> Result<Plan, NoMemory>
 }
 
 impl CoreHandle {
-    /// Whether it keeps a core.
-    pub fn is_open(&self) -> bool
-        ensures { result ≡ is_some (core_in self.now) }
-    {
-        self.handle.is_open()
-    }
-
     /// Keeps a core, where it keeps none.
     ///
     /// # Errors
-    /// The core again, where there was no memory for it.
+    /// There was no memory for it, and the core is dropped.
     pub fn open(&mut self, alloc: Global, core: Core) -> Result<(), AllocError>
         requires closed { core_in self.old ≡ None }
-        ensures ok { OnOk result (core_in self.new ≡ Some core) }
-        ensures err { OnErr result (core_in self.new ≡ None) }
+        ensures { Keeps core result (core_in self.new) }
     {
         self.handle.keep(alloc, Kept::Core(core))
     }
 
-    /// Frees the core, where it keeps one.
-    pub fn close(&mut self, alloc: Global)
-        ensures { core_in self.new ≡ None }
-    {
-        self.handle.close(alloc);
-    }
-
     /// An event of the core, with its answer; None where it keeps no core.
     pub fn step(&mut self, alloc: Global, event: Event) -> Option<Result<CoreReply, CoreRefusal>>
-        ensures closed { core_in self.old ≡ None → (result ≡ None) × (core_in self.new ≡ None) }
-        ensures open { MatchOption result (core_in self.old ≡ None)
-            (λ answer. Steps (core_in self.old) event answer (core_in self.new)) }
+        ensures { Calls (Steps event) (core_in self.old) result (core_in self.new) }
     {
         let mut kept = self.handle.take(alloc)?;
         let answer = step_kept(&mut kept, event);
@@ -113,9 +97,7 @@ impl CoreHandle {
         worker: u32,
         request: Request,
     ) -> Option<Result<CoreReply, CoreRefusal>>
-        ensures closed { core_in self.old ≡ None → (result ≡ None) × (core_in self.new ≡ None) }
-        ensures open { MatchOption result (core_in self.old ≡ None)
-            (λ answer. Touches (core_in self.old) worker request answer (core_in self.new)) }
+        ensures { Calls (Touches worker request) (core_in self.old) result (core_in self.new) }
     {
         let mut kept = self.handle.take(alloc)?;
         let answer = touch_kept(&mut kept, worker, request);

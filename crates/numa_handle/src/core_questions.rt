@@ -1,11 +1,12 @@
 //! What a handle of a core answers: a copy of the core, its ranges, and their listing.
 ghost use Rattle.std.specs.Prelude.{◌≡◌, ◌≤◌, ◌^◌, Some, None, true, MatchOption, IfSome, List};
-ghost use Rattle.std.specs.Prelude.{IfOk, OnOk, OnErr, is_some, length, slice_get};
+ghost use Rattle.std.specs.Prelude.{IfOk, length, slice_get};
 ghost use Rattle.numa_maps.specs.Listing.{AreRangesOf, IsListing, listing_in};
 ghost use Rattle.numa_ranges.specs.Runs.{end_of};
 ghost use Rattle.numa_space.specs.Standing.{StandsFor};
 ghost use Rattle.numa_space.specs.declared.command.Command.{Command};
 ghost use Rattle.numa_handle.specs.Asked.{HasRanges, HasRangeAt, HasListing};
+ghost use Rattle.numa_handle.specs.Calls.{IsShared};
 ghost use Rattle.numa_handle.specs.Kinds.{core_of, is_core};
 ghost use Rattle.numa_handle.specs.Steps.{core_in, Publishes};
 
@@ -27,19 +28,6 @@ pub(crate) fn core_kept(kept: &Kept) -> &Core
         unreachable!()
     };
     core
-}
-
-/// A kept core once more.
-fn copy_kept(kept: &Kept, alloc: Global) -> Result<Box<Kept>, AllocError>
-    requires core { is_core (Some kept.now) ≡ true }
-    ensures core { IfOk result (λ other. is_core (Some other.value) ≡ true) }
-    ensures same { IfOk result (λ other.
-        core_of (Some other.value) ≡ core_of (Some kept.now)) }
-{
-    let Ok(other) = core_kept(kept).copy() else {
-        return Err(AllocError);
-    };
-    Kept::Core(other).on_heap(alloc).ok_or(AllocError)
 }
 
 /// The range at a place, the lowest being at 0.
@@ -83,17 +71,9 @@ impl CoreHandle {
     pub fn copy(&mut self, alloc: Global, other: &mut CoreHandle) -> Option<Result<(), AllocError>>
         requires closed { core_in other.old ≡ None }
         ensures same { core_in self.new ≡ core_in self.old }
-        ensures closed { core_in self.old ≡ None → result ≡ None }
-        ensures open { MatchOption result (core_in self.old ≡ None)
-            (λ answer. is_some (core_in self.old) ≡ true) }
-        ensures copied { MatchOption result (core_in other.new ≡ None) (λ answer.
-            (OnOk answer (core_in other.new ≡ core_in self.old))
-            × (OnErr answer (core_in other.new ≡ None))) }
+        ensures copied { IsShared (core_in self.old) result (core_in other.new) }
     {
-        let kept = self.handle.take(alloc)?;
-        let copied = copy_kept(&kept, alloc);
-        self.handle.put(kept);
-        Some(other.handle.put_made(copied))
+        self.handle.share(alloc, &mut other.handle)
     }
 
     /// The plan of the published commands, once more; None where it keeps no core. It takes no

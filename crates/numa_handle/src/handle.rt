@@ -1,6 +1,8 @@
 //! A handle of any kind.
-ghost use Rattle.std.specs.Prelude.{◌≡◌, Some, None, MatchOption, is_some};
+ghost use Rattle.std.specs.Prelude.{◌≡◌, Some, None, MatchOption, is_some, true};
 ghost use Rattle.std.specs.Prelude.{Ok, Err, MatchResult, OnOk, OnErr};
+ghost use Rattle.numa_handle.specs.Calls.{IsShared};
+ghost use Rattle.numa_handle.specs.Kinds.{core_of, is_core, is_plan, plan_of};
 
 use crate::held::Held;
 use crate::kept::Kept;
@@ -67,7 +69,7 @@ impl Handle {
     }
 
     /// Frees what it keeps, where it keeps something.
-    pub(crate) fn close(&mut self, alloc: Global)
+    pub fn close(&mut self, alloc: Global)
         ensures { self.new.held.kept ≡ None }
     {
         drop(self.take(alloc));
@@ -104,6 +106,28 @@ impl Handle {
         ensures err { OnErr result (self.new ≡ self.old) }
     {
         self.put_made(kept.on_heap(alloc).ok_or(AllocError))
+    }
+
+    /// Keeps the core or the plan once more in another handle, which is closed; None where this
+    /// keeps nothing.
+    pub(crate) fn share(
+        &mut self,
+        alloc: Global,
+        other: &mut Handle,
+    ) -> Option<Result<(), AllocError>>
+        requires closed { other.old.held.kept ≡ None }
+        ensures same { self.new.held.kept ≡ self.old.held.kept }
+        ensures core { is_core self.old.held.kept ≡ true →
+            (is_core other.new.held.kept ≡ true)
+            × IsShared (core_of self.old.held.kept) result (core_of other.new.held.kept) }
+        ensures plan { is_plan self.old.held.kept ≡ true →
+            (is_plan other.new.held.kept ≡ true)
+            × IsShared (plan_of self.old.held.kept) result (plan_of other.new.held.kept) }
+    {
+        let kept = self.take(alloc)?;
+        let again = kept.again(alloc);
+        self.put(kept);
+        Some(other.put_made(again.ok_or(AllocError)))
     }
 }
 

@@ -7,27 +7,27 @@ use crate::handle::Handle;
 /// A core that a C caller keeps, or none.
 #[repr(C)]
 pub struct CoreHandle {
-    pub(crate) handle: Handle,
+    pub handle: Handle,
     ghost kind: { is_core handle.held.kept ≡ true },
 }
 
 /// A plan that a C caller keeps, or none. Handles of several threads may keep the same plan.
 #[repr(C)]
 pub struct PlanHandle {
-    pub(crate) handle: Handle,
+    pub handle: Handle,
     ghost kind: { is_plan handle.held.kept ≡ true },
 }
 
 /// A seat at pools of frames that a C caller keeps, or none.
 #[repr(C)]
 pub struct SeatHandle {
-    pub(crate) handle: Handle,
+    pub handle: Handle,
     ghost kind: { is_seat handle.held.kept ≡ true },
 }
 
 /// A script that a C caller is giving, line by line, or none.
 #[repr(C)]
 pub struct ScriptHandle {
-    pub(crate) handle: Handle,
+    pub handle: Handle,
     ghost kind: { is_script handle.held.kept ≡ true },
 }

@@ -1,5 +1,5 @@
 //! What a handle may keep.
-ghost use Rattle.std.specs.Prelude.{◌≡◌, IfSome};
+ghost use Rattle.std.specs.Prelude.{◌≡◌, Some, IfSome, true};
 
 use crate::dialog::Dialog;
 use numa_core::Core;
@@ -22,10 +22,38 @@ pub enum Kept {
 }
 
 impl Kept {
+    ghost use Rattle.numa_handle.specs.Kinds.{core_of, is_core, is_plan, plan_of};
+
     /// The same on the heap, where there is memory for it; else it is dropped.
     pub(crate) fn on_heap(self, alloc: Global) -> Option<Box<Kept>>
         ensures { IfSome result (λ kept. kept.value ≡ self) }
     {
         Box::new(alloc, self).ok()
+    }
+
+    /// A core or a plan once more, where there is memory for it: a copy of the core, the same plan.
+    pub(crate) fn again(&self, alloc: Global) -> Option<Box<Kept>>
+        ensures core { is_core (Some self.now) ≡ true → IfSome result (λ other.
+            (is_core (Some other.value) ≡ true)
+            × (core_of (Some other.value) ≡ core_of (Some self.now))) }
+        ensures plan { is_plan (Some self.now) ≡ true → IfSome result (λ other.
+            (is_plan (Some other.value) ≡ true)
+            × (plan_of (Some other.value) ≡ plan_of (Some self.now))) }
+    {
+        match self {
+            Kept::Core(core) => {
+                let Ok(other) = core.copy() else {
+                    return None;
+                };
+                Kept::Core(other).on_heap(alloc)
+            }
+            Kept::Plan(plan) => {
+                let Ok(other) = Arc::try_clone(plan) else {
+                    return None;
+                };
+                Kept::Plan(other).on_heap(alloc)
+            }
+            _ => None,
+        }
     }
 }

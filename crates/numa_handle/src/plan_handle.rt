@@ -1,8 +1,6 @@
 //! A handle of a plan.
-ghost use Rattle.std.specs.Prelude.{◌≡◌, Some, None, MatchOption, IfSome, is_some, true};
-ghost use Rattle.std.specs.Prelude.{OnOk, OnErr, IfOk, IfErr, length, take, drop};
-ghost use Rattle.numa_plan.specs.Meaning.{PlanData, place_refusal};
-ghost use Rattle.numa_plan.specs.Meaning.{CountsFirsts, RefusesSpan};
+ghost use Rattle.std.specs.Prelude.{◌≡◌, Some, None, IfSome, true};
+ghost use Rattle.numa_handle.specs.Calls.{Asks, IsShared, Keeps};
 ghost use Rattle.numa_handle.specs.Kinds.{plan_of, is_plan};
 ghost use Rattle.numa_handle.specs.Plans.{plan_in, IsListOf, Chooses, Fills, Counts};
 
@@ -52,50 +50,19 @@ fn choose_kept(
     copy_bytes(list, nodes).map_err(ChoiceRefusal::TooShort)
 }
 
-/// A kept plan once more.
-fn share_kept(kept: &Kept, alloc: Global) -> Result<Box<Kept>, AllocError>
-    requires plan { is_plan (Some kept.now) ≡ true }
-    ensures plan { IfOk result (λ other. is_plan (Some other.value) ≡ true) }
-    ensures same { IfOk result (λ other.
-        plan_of (Some other.value) ≡ plan_of (Some kept.now)) }
-{
-    let Kept::Plan(plan) = kept else {
-        unreachable!()
-    };
-    let Ok(other) = Arc::try_clone(plan) else {
-        return Err(AllocError);
-    };
-    Kept::Plan(other).on_heap(alloc).ok_or(AllocError)
-}
-
 impl PlanHandle {
-    /// Whether it keeps a plan.
-    pub fn is_open(&self) -> bool
-        ensures { result ≡ is_some (plan_in self.now) }
-    {
-        self.handle.is_open()
-    }
-
     /// Keeps a plan, where it keeps none.
     ///
     /// # Errors
     /// There was no memory for it, and the plan is freed.
     pub fn open(&mut self, alloc: Global, plan: Plan) -> Result<(), AllocError>
         requires closed { plan_in self.old ≡ None }
-        ensures ok { OnOk result (plan_in self.new ≡ Some plan) }
-        ensures err { OnErr result (plan_in self.new ≡ None) }
+        ensures { Keeps plan result (plan_in self.new) }
     {
         let Some(plan) = Arc::new(alloc, plan).ok() else {
             return Err(AllocError);
         };
         self.handle.keep(alloc, Kept::Plan(plan))
-    }
-
-    /// Lets go of the plan, where it keeps one, and frees it where no other handle keeps it.
-    pub fn close(&mut self, alloc: Global)
-        ensures { plan_in self.new ≡ None }
-    {
-        self.handle.close(alloc);
     }
 
     /// Keeps the same plan in another handle, where that keeps none; None where this keeps none.
@@ -105,25 +72,15 @@ impl PlanHandle {
     pub fn share(&mut self, alloc: Global, other: &mut PlanHandle) -> Option<Result<(), AllocError>>
         requires closed { plan_in other.old ≡ None }
         ensures same { plan_in self.new ≡ plan_in self.old }
-        ensures closed { plan_in self.old ≡ None → result ≡ None }
-        ensures open { MatchOption result (plan_in self.old ≡ None)
-            (λ answer. is_some (plan_in self.old) ≡ true) }
-        ensures shared { MatchOption result (plan_in other.new ≡ None) (λ answer.
-            (OnOk answer (plan_in other.new ≡ plan_in self.old))
-            × (OnErr answer (plan_in other.new ≡ None))) }
+        ensures shared { IsShared (plan_in self.old) result (plan_in other.new) }
     {
-        let kept = self.handle.take(alloc)?;
-        let shared = share_kept(&kept, alloc);
-        self.handle.put(kept);
-        Some(other.handle.put_made(shared))
+        self.handle.share(alloc, &mut other.handle)
     }
 
     /// The version of the plan; None where it keeps none.
     pub fn version(&mut self, alloc: Global) -> Option<u64>
-        ensures same { plan_in self.new ≡ plan_in self.old }
-        ensures closed { plan_in self.old ≡ None → result ≡ None }
-        ensures version { MatchOption result (plan_in self.old ≡ None)
-            (λ version. IfSome (plan_in self.old) (λ plan. version ≡ plan.version)) }
+        ensures { Asks (λ version. IfSome (plan_in self.old) (λ plan. version ≡ plan.version))
+            (plan_in self.old) result (plan_in self.new) }
     {
         let kept = self.handle.take(alloc)?;
         let version = plan_kept(&kept).version();
@@ -144,11 +101,10 @@ impl PlanHandle {
         cpu: u32,
         nodes: &mut [u8],
     ) -> Option<Result<usize, ChoiceRefusal>>
-        ensures same { plan_in self.new ≡ plan_in self.old }
-        ensures closed { plan_in self.old ≡ None →
-            (result ≡ None) × (nodes.new ≡ nodes.old) }
-        ensures chooses { MatchOption result (plan_in self.old ≡ None)
-            (λ answer. Chooses (plan_in self.old) task page cpu answer nodes.old nodes.new) }
+        ensures chooses { Asks (λ answer.
+            Chooses (plan_in self.old) task page cpu answer nodes.old nodes.new)
+            (plan_in self.old) result (plan_in self.new) }
+        ensures closed { plan_in self.old ≡ None → nodes.new ≡ nodes.old }
     {
         let kept = self.handle.take(alloc)?;
         let answer = choose_kept(&kept, task, page, cpu, nodes);
@@ -169,11 +125,10 @@ impl PlanHandle {
         first: u64,
         nodes: &mut [u8],
     ) -> Option<Result<(), PlaceRefusal>>
-        ensures same { plan_in self.new ≡ plan_in self.old }
-        ensures closed { plan_in self.old ≡ None →
-            (result ≡ None) × (nodes.new ≡ nodes.old) }
-        ensures fills { MatchOption result (plan_in self.old ≡ None)
-            (λ answer. Fills (plan_in self.old) task cpu first answer nodes.old nodes.new) }
+        ensures fills { Asks (λ answer.
+            Fills (plan_in self.old) task cpu first answer nodes.old nodes.new)
+            (plan_in self.old) result (plan_in self.new) }
+        ensures closed { plan_in self.old ≡ None → nodes.new ≡ nodes.old }
     {
         let kept = self.handle.take(alloc)?;
         let answer = plan_kept(&kept).fill(task, cpu, first, nodes);
@@ -194,10 +149,8 @@ impl PlanHandle {
         first: u64,
         pages: u64,
     ) -> Option<Result<[u64; 256], PlaceRefusal>>
-        ensures same { plan_in self.new ≡ plan_in self.old }
-        ensures closed { plan_in self.old ≡ None → result ≡ None }
-        ensures counts { MatchOption result (plan_in self.old ≡ None)
-            (λ answer. Counts (plan_in self.old) task cpu first pages answer) }
+        ensures { Asks (Counts (plan_in self.old) task cpu first pages)
+            (plan_in self.old) result (plan_in self.new) }
     {
         let kept = self.handle.take(alloc)?;
         let answer = plan_kept(&kept).counts(task, cpu, first, pages);

@@ -34,13 +34,6 @@ fn copy_kept(kept: &Kept, room: &mut [u8]) -> Result<usize, usize>
 }
 
 impl ScriptHandle {
-    /// Whether it keeps a script.
-    pub fn is_open(&self) -> bool
-        ensures { result ≡ is_some (dialog_in self.now) }
-    {
-        self.handle.is_open()
-    }
-
     /// Keeps a script before its first line, where it keeps none.
     ///
     /// # Errors
@@ -51,13 +44,6 @@ impl ScriptHandle {
         ensures fresh { IfSome (dialog_in self.new) IsFresh }
     {
         self.handle.keep(alloc, Kept::Script(Dialog::new(alloc)))
-    }
-
-    /// Frees the script, where it keeps one.
-    pub fn close(&mut self, alloc: Global)
-        ensures { dialog_in self.new ≡ None }
-    {
-        self.handle.close(alloc);
     }
 
     /// Serves a line, keeps its answer, and tells how long that is; None where it keeps no script.

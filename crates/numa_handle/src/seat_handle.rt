@@ -1,6 +1,7 @@
 //! A handle of a seat at pools of frames.
 ghost use Rattle.std.specs.Prelude.{◌≡◌, ◌&&◌, Some, None, MatchOption, IfOk, OnOk, OnErr, is_some};
 ghost use Rattle.std.specs.Prelude.{true, false};
+ghost use Rattle.numa_handle.specs.Calls.{Calls, Keeps};
 ghost use Rattle.numa_handle.specs.Kinds.{seat_of, is_seat};
 ghost use Rattle.numa_handle.specs.Seats.{seat_in, Takes, Returns, Splits, Stays, Joins};
 ghost use Rattle.numa_handle.specs.Seats.{AreTogether};
@@ -15,7 +16,7 @@ use std::alloc::{AllocError, Global};
 fn take_kept(kept: &mut Kept, nodes: &[u8]) -> Option<(usize, Frame)>
     requires seat { is_seat (Some kept.old) ≡ true }
     ensures seat { is_seat (Some kept.new) ≡ true }
-    ensures takes { Takes (seat_of (Some kept.old)) nodes.now result (seat_of (Some kept.new)) }
+    ensures takes { Takes nodes.now (seat_of (Some kept.old)) (seat_of (Some kept.new)) result }
 {
     match kept {
         Kept::Seat(seat) => seat.take(nodes),
@@ -27,7 +28,7 @@ fn take_kept(kept: &mut Kept, nodes: &[u8]) -> Option<(usize, Frame)>
 fn give_kept(kept: &mut Kept, frame: Frame) -> bool
     requires seat { is_seat (Some kept.old) ≡ true }
     ensures seat { is_seat (Some kept.new) ≡ true }
-    ensures returns { Returns (seat_of (Some kept.old)) frame result (seat_of (Some kept.new)) }
+    ensures returns { Returns frame (seat_of (Some kept.old)) (seat_of (Some kept.new)) result }
 {
     match kept {
         Kept::Seat(seat) => seat.give(frame),
@@ -73,39 +74,21 @@ fn join_kept(kept: &mut Kept, other: Kept)
 }
 
 impl SeatHandle {
-    /// Whether it keeps a seat.
-    pub fn is_open(&self) -> bool
-        ensures { result ≡ is_some (seat_in self.now) }
-    {
-        self.handle.is_open()
-    }
-
     /// Keeps a seat, where it keeps none.
     ///
     /// # Errors
     /// There was no memory for it, and the seat is dropped.
     pub fn open(&mut self, alloc: Global, seat: Seat) -> Result<(), AllocError>
         requires closed { seat_in self.old ≡ None }
-        ensures ok { OnOk result (seat_in self.new ≡ Some seat) }
-        ensures err { OnErr result (seat_in self.new ≡ None) }
+        ensures { Keeps seat result (seat_in self.new) }
     {
         self.handle.keep(alloc, Kept::Seat(seat))
-    }
-
-    /// Drops the seat, where it keeps one. Frames that the seat holds stay taken; the pools are
-    /// freed with their last seat.
-    pub fn close(&mut self, alloc: Global)
-        ensures { seat_in self.new ≡ None }
-    {
-        self.handle.close(alloc);
     }
 
     /// Takes a frame of the first listed node that has one, as [`Seat::take`]; None where it keeps
     /// no seat.
     pub fn take(&mut self, alloc: Global, nodes: &[u8]) -> Option<Option<(usize, Frame)>>
-        ensures closed { seat_in self.old ≡ None → (result ≡ None) × (seat_in self.new ≡ None) }
-        ensures open { MatchOption result (seat_in self.old ≡ None)
-            (λ found. Takes (seat_in self.old) nodes.now found (seat_in self.new)) }
+        ensures { Calls (Takes nodes.now) (seat_in self.old) result (seat_in self.new) }
     {
         let mut kept = self.handle.take(alloc)?;
         let found = take_kept(&mut kept, nodes);
@@ -116,9 +99,7 @@ impl SeatHandle {
     /// Gives back a frame, as [`Seat::give`], and tells whether the seat held it; None where it
     /// keeps no seat.
     pub fn give(&mut self, alloc: Global, frame: Frame) -> Option<bool>
-        ensures closed { seat_in self.old ≡ None → (result ≡ None) × (seat_in self.new ≡ None) }
-        ensures open { MatchOption result (seat_in self.old ≡ None)
-            (λ held. Returns (seat_in self.old) frame held (seat_in self.new)) }
+        ensures { Calls (Returns frame) (seat_in self.old) result (seat_in self.new) }
     {
         let mut kept = self.handle.take(alloc)?;
         let held = give_kept(&mut kept, frame);
@@ -159,7 +140,7 @@ impl SeatHandle {
         ensures same { result ≡ false → (seat_in self.new ≡ seat_in self.old)
             × (seat_in other.new ≡ seat_in other.old) }
     {
-        if !self.is_open() || !other.is_open() {
+        if !self.handle.is_open() || !other.handle.is_open() {
             return false;
         }
         let Some(mut kept) = self.handle.take(alloc) else {

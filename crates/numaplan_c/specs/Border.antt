@@ -1,7 +1,7 @@
 -- What an exported call answers and does, in terms of the calls below it.
 use Rattle.std.specs.Prelude.{◌≡◌, ◌≢◌, ◌==◌, ◌&&◌, ◌||◌, ℕ, Bool, true, not, nat_le, nat_lt}
 use Rattle.std.specs.Prelude.{if◌then◌else◌, List, length, is_some, MatchResult}
-use Rattle.std.specs.Prelude.{Option, Some, None, Result, Ok, Err}
+use Rattle.std.specs.Prelude.{Option, Some, None, IfSome, Result, Ok, Err}
 use Rattle.numa_mask.specs.declared.list.ListFault.{ListFault}
 use Rattle.numa_space.specs.declared.command.Command.{Command}
 use Rattle.numa_space.specs.declared.event.Event.{Event}
@@ -15,8 +15,11 @@ use Rattle.numa_core.specs.World.{Setup}
 use Rattle.numa_space.specs.Limited.{Bounds}
 use Rattle.numa_space.specs.declared.request.Request.{Request}
 use Rattle.numa_space.specs.declared.event.CoreReply.TheVariants as reply
-use Rattle.numa_handle.specs.Steps.{Steps, Touches}
+use Rattle.numa_plan.specs.Meaning.{PlanData}
+use Rattle.numa_handle.specs.Steps.{Steps, Touches, Compiles, Publishes}
 use Rattle.numaplan_c.specs.declared.opening.NpLimits.{NpLimits}
+use Rattle.numaplan_c.specs.declared.plans.Commands.{Commands}
+use Rattle.numaplan_c.specs.declared.plans.Commands.TheVariants as commands
 use Rattle.numaplan_c.specs.declared.workers.NpPlacement.{NpPlacement}
 use Rattle.numaplan_c.specs.Codes.{answer_code, list_code, machine_code}
 
@@ -25,7 +28,7 @@ use Rattle.numaplan_c.specs.Codes.{answer_code, list_code, machine_code}
 abbrev pub Answers : Option CoreState → Event → ℕ → Option CoreState → Type 0
 Answers old event code new = (old ≡ None → (code ≡ 1) × (new ≡ None))
     × ((core : CoreState) → old ≡ Some core → (answer : Result CoreReply CoreRefusal)
-    × (code ≡ answer_code answer) × Steps old event answer new)
+    × (code ≡ answer_code answer) × Steps event old new answer)
 
 -- the same for a command with a word that is read first: a faulty word is told, by `code_of` its
 -- fault, and changes nothing
@@ -59,7 +62,7 @@ abbrev pub Touched : Option CoreState → ℕ → Request → ℕ → Option Cor
 Touched old worker request code new before after =
     (old ≡ None → (code ≡ 1) × (new ≡ None) × (after ≡ before))
     × ((core : CoreState) → old ≡ Some core → (answer : Result CoreReply CoreRefusal)
-    × (code ≡ answer_code answer) × Touches old worker request answer new
+    × (code ≡ answer_code answer) × Touches worker request old new answer
     × Places answer before after)
 
 abbrev pub Tried : Option CoreState → Event → ℕ → Option CoreState → NpPlacement → NpPlacement
@@ -67,7 +70,7 @@ abbrev pub Tried : Option CoreState → Event → ℕ → Option CoreState → N
 Tried old event code new before after =
     (old ≡ None → (code ≡ 1) × (new ≡ None) × (after ≡ before))
     × ((core : CoreState) → old ≡ Some core → (answer : Result CoreReply CoreRefusal)
-    × (code ≡ answer_code answer) × Steps old event answer new × Places answer before after)
+    × (code ≡ answer_code answer) × Steps event old new answer × Places answer before after)
 
 -- the machine of a description, whose list of nodes with memory is a text
 abbrev pub IsMachineOf : Result ℕ ListFault → List ℕ → List ℕ → Hardware → Type 0
@@ -136,3 +139,20 @@ AnswersKeeping {A} from old code = (is_some old ≡ true → code ≡ 2)
 abbrev pub Shares : {A : Type 0} → Option A → Option A → ℕ → Option A → Type 0
 Shares from old code new = (code ≡ 0 → (new ≡ from) × (is_some from ≡ true))
     × (code ≢ 0 → new ≡ old) × AnswersKeeping from old code
+
+-- a handle is to keep what is made of what another one keeps, of which `made` tells
+abbrev pub Makes : {A B : Type 0} → (Option A → B → Type 0) → Option A → Option B → ℕ → Option B
+    → Type 0
+Makes made from old code new = Opens old code new × AnswersKeeping from old code
+    × (old ≡ None → IfSome new (made from))
+
+-- the plan is that of these commands of a core
+abbrev pub IsPlanBy : Commands → Option CoreState → PlanData → Type 0
+IsPlanBy commands.Accepted core plan = Compiles core plan
+IsPlanBy commands.Published core plan = Publishes core plan
+
+-- a question leaves what a handle keeps as it was, and `told` says what is told of it; a closed
+-- handle answers 1, and nothing is told, which is `untold`
+abbrev pub Asked : {A : Type 0} → Option A → Option A → ℕ → Type 0 → (A → Type 0) → Type 0
+Asked {A} old new code untold told = (new ≡ old) × (old ≡ None → (code ≡ 1) × untold)
+    × ((kept : A) → old ≡ Some kept → told kept)

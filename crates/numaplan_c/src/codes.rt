@@ -9,48 +9,65 @@ use numa_mask::ListFault;
 use numa_script::WordFault;
 use numa_space::{PlaceRefusal, Refusal};
 
-/// The handle keeps nothing.
-pub(crate) const CLOSED: u32 = 1;
-
-/// The handle keeps something.
-pub(crate) const OPEN: u32 = 2;
-
-/// Out of memory.
-pub(crate) const NO_MEMORY: u32 = 3;
-
-/// The answer is longer than the room for it.
-pub(crate) const NO_ROOM: u32 = 4;
-
-/// No answer has this number.
-pub(crate) const UNKNOWN: u32 = 5;
-
-/// The line was served, and there was no memory for its whole answer.
-pub(crate) const ANSWER_LOST: u32 = 6;
-
-/// The seat doesn't hold the frame.
-pub(crate) const NOT_OWNED: u32 = 34;
-
-/// There is no range at this place.
-pub(crate) const NO_RANGE: u32 = 37;
-
-/// Two placements are of one page.
-pub(crate) const PLACED_TWICE: u32 = 38;
-
-/// Each frame of each listed node was found taken.
-pub(crate) const ALL_TAKEN: u32 = 42;
-
-/// The policy word says that there is no policy.
-pub(crate) const NO_POLICY: u32 = 75;
-
-/// No node is allowed.
-pub(crate) const NO_NODE_ALLOWED: u32 = 76;
+/// The answers that have a name here, by the numbers that the header gives them. The refusals of
+/// commands and questions, and the faults of machines, lists and policies, are counted from the
+/// first of their kind.
+#[derive(Clone, Copy)]
+pub(crate) enum Code {
+    /// The handle keeps nothing.
+    Closed = 1,
+    /// The handle keeps something.
+    Open = 2,
+    /// Out of memory.
+    NoMemory = 3,
+    /// The answer is longer than the room for it.
+    NoRoom = 4,
+    /// No answer has this number.
+    Unknown = 5,
+    /// The line was served, and there was no memory for its whole answer.
+    AnswerLost = 6,
+    /// There are not so many workers.
+    NoSuchWorker = 30,
+    /// The worker still looks for a frame.
+    Busy = 31,
+    /// The worker looks for no frame.
+    Idle = 32,
+    /// A frame, or a word of frames, that the worker can't try now.
+    BadTry = 33,
+    /// The frame isn't the worker's, or the seat doesn't hold it.
+    NotOwned = 34,
+    /// The faulting node is none of the machine's.
+    BadCpu = 35,
+    /// The page isn't mapped.
+    Unmapped = 36,
+    /// There is no range at this place.
+    NoRange = 37,
+    /// Two placements are of one page.
+    PlacedTwice = 38,
+    /// The worker goes on.
+    Still = 40,
+    /// Each frame of each listed node was met, and the worker is idle.
+    Exhausted = 41,
+    /// Each frame of each listed node was found taken.
+    AllTaken = 42,
+    /// There are too many nodes.
+    BadNodeCount = 50,
+    /// The limits are above those of any core.
+    BadLimits = 54,
+    /// No worker, or more than 16.
+    BadWorkers = 55,
+    /// The policy word says that there is no policy.
+    NoPolicy = 75,
+    /// No node is allowed.
+    NoNodeAllowed = 76,
+}
 
 /// The number of a command's refusal: but for want of memory they stand in order from 10.
 pub(crate) fn refusal_code(refusal: Refusal) -> u32
     ensures { result ≡ refusal_code refusal }
 {
     match refusal {
-        Refusal::NoMemory => NO_MEMORY,
+        Refusal::NoMemory => Code::NoMemory as u32,
         refusal => 10 + refusal as u32,
     }
 }
@@ -61,14 +78,14 @@ fn cause_code(cause: CoreRefusal) -> u32
 {
     match cause {
         CoreRefusal::Command(refusal) => refusal_code(refusal),
-        CoreRefusal::NoSuchWorker => 30,
-        CoreRefusal::Busy => 31,
-        CoreRefusal::Idle => 32,
-        CoreRefusal::BadTry => 33,
-        CoreRefusal::NotOwned => NOT_OWNED,
-        CoreRefusal::BadCpu => 35,
-        CoreRefusal::Unmapped(_) => 36,
-        CoreRefusal::NoMemory => NO_MEMORY,
+        CoreRefusal::NoSuchWorker => Code::NoSuchWorker as u32,
+        CoreRefusal::Busy => Code::Busy as u32,
+        CoreRefusal::Idle => Code::Idle as u32,
+        CoreRefusal::BadTry => Code::BadTry as u32,
+        CoreRefusal::NotOwned => Code::NotOwned as u32,
+        CoreRefusal::BadCpu => Code::BadCpu as u32,
+        CoreRefusal::Unmapped(_) => Code::Unmapped as u32,
+        CoreRefusal::NoMemory => Code::NoMemory as u32,
     }
 }
 
@@ -77,8 +94,8 @@ pub(crate) fn answer_code(answer: &Result<CoreReply, CoreRefusal>) -> u32
     ensures { result ≡ answer_code answer.now }
 {
     match answer {
-        Ok(CoreReply::Still) => 40,
-        Ok(CoreReply::Exhausted(_)) => 41,
+        Ok(CoreReply::Still) => Code::Still as u32,
+        Ok(CoreReply::Exhausted(_)) => Code::Exhausted as u32,
         Ok(_) => 0,
         Err(cause) => cause_code(*cause),
     }
@@ -92,23 +109,23 @@ pub(crate) fn place_code(refusal: PlaceRefusal) -> u32
     35 + refusal as u32
 }
 
-/// The number of a machine's fault: but for want of memory they stand in order from 50.
-pub(crate) fn machine_code(fault: MachineFault) -> u32
-    ensures code { result ≡ machine_code fault }
-    ensures refused { result ≢ 0 }
-{
-    match fault {
-        MachineFault::NoMemory => NO_MEMORY,
-        fault => 50 + fault as u32,
-    }
-}
-
 /// The number of a list's fault: they stand in order from 60.
 pub(crate) fn list_code(fault: ListFault) -> u32
     ensures code { result ≡ list_code fault }
     ensures refused { result ≢ 0 }
 {
     60 + fault as u32
+}
+
+/// The number of a machine's fault: but for want of memory they stand in order from 50.
+pub(crate) fn machine_code(fault: MachineFault) -> u32
+    ensures code { result ≡ machine_code fault }
+    ensures refused { result ≢ 0 }
+{
+    match fault {
+        MachineFault::NoMemory => Code::NoMemory as u32,
+        fault => 50 + fault as u32,
+    }
 }
 
 /// The number of a policy word's fault: a policy's stand in order from 70.

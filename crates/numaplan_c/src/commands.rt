@@ -7,7 +7,7 @@ ghost use Rattle.numa_space.specs.declared.command.Command.{Command};
 ghost use Rattle.numaplan_c.specs.Border.{Answers, AnswersRead};
 ghost use Rattle.numaplan_c.specs.Codes.{word_code, list_code};
 
-use crate::codes::{CLOSED, answer_code, list_code, word_code};
+use crate::codes::{Code, answer_code, list_code, word_code};
 use numa_core::Event;
 use numa_handle::CoreHandle;
 use numa_mask::read_list;
@@ -20,7 +20,7 @@ pub(crate) fn answer(alloc: Global, core: &mut CoreHandle, event: Event) -> u32
     ensures { Answers (core_in core.old) event result (core_in core.new) }
 {
     match core.step(alloc, event) {
-        None => CLOSED,
+        None => Code::Closed as u32,
         Some(answer) => answer_code(&answer),
     }
 }

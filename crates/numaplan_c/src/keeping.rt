@@ -2,7 +2,7 @@
 ghost use Rattle.std.specs.Prelude.{◌≡◌};
 ghost use Rattle.numaplan_c.specs.Codes.{kept_code, memory_code};
 
-use crate::codes::{CLOSED, NO_MEMORY};
+use crate::codes::Code;
 
 /// The number of an answer that is refused for want of memory alone.
 pub(crate) fn memory_code<E: Drop>(answer: Result<(), E>) -> u32
@@ -10,7 +10,7 @@ pub(crate) fn memory_code<E: Drop>(answer: Result<(), E>) -> u32
 {
     match answer {
         Ok(()) => 0,
-        Err(_) => NO_MEMORY,
+        Err(_) => Code::NoMemory as u32,
     }
 }
 
@@ -19,7 +19,7 @@ pub(crate) fn kept_code<E: Drop>(answer: Option<Result<(), E>>) -> u32
     ensures { result ≡ kept_code answer }
 {
     match answer {
-        None => CLOSED,
+        None => Code::Closed as u32,
         Some(answer) => memory_code(answer),
     }
 }

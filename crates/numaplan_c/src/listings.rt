@@ -6,9 +6,10 @@ ghost use Rattle.numa_handle.specs.Asked.{HasListing};
 ghost use Rattle.numa_handle.specs.Steps.{core_in};
 ghost use Rattle.numa_maps.specs.Residents.{IsRising, placed_at};
 ghost use Rattle.numaplan_c.specs.Ranges.{ArePlaced, Lists, RefusesPlaced, TellsListing};
+ghost use Rattle.numaplan_c.specs.Border.{Asked};
 ghost use Rattle.numaplan_c.specs.Ranges.{placement_of};
 
-use crate::codes::{CLOSED, NO_MEMORY, PLACED_TWICE};
+use crate::codes::Code;
 use crate::texts::write;
 use crate::workers::NpPlacement;
 use numa_core::{Frame, Placement};
@@ -110,20 +111,18 @@ pub extern "C" fn np_core_maps(
     text: &mut [u8],
     length: &mut usize,
 ) -> u32
-    ensures same { core_in core.new ≡ core_in core.old }
-    ensures closed { core_in core.old ≡ None → (result ≡ 1) × (text.new ≡ text.old)
-        × (length.new ≡ length.old) }
-    ensures told { (kept : CoreState) → core_in core.old ≡ Some kept →
-        (answer : Result (List ℕ) MapsRefusal)
+    ensures { Asked (core_in core.old) (core_in core.new) result
+        ((text.new ≡ text.old) × (length.new ≡ length.old))
+        (λ kept. (answer : Result (List ℕ) MapsRefusal)
         × Lists (core_in core.old) task placements.now answer
-        × TellsListing answer result text.old text.new length.old length.new }
+        × TellsListing answer result text.old text.new length.old length.new) }
 {
-    if !core.is_open() {
-        return CLOSED;
+    if !core.handle.is_open() {
+        return Code::Closed as u32;
     }
     match list(alloc, core, task, placements) {
         Ok(found) => write(found.as_slice(), text, length),
-        Err(MapsRefusal::Twice) => PLACED_TWICE,
-        Err(MapsRefusal::NoMemory) => NO_MEMORY,
+        Err(MapsRefusal::Twice) => Code::PlacedTwice as u32,
+        Err(MapsRefusal::NoMemory) => Code::NoMemory as u32,
     }
 }

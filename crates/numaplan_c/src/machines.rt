@@ -4,7 +4,7 @@ ghost use Rattle.std.specs.Prelude.{IfOk, IfErr, IfSome, OnOk, MatchOption};
 ghost use Rattle.numa_mask.specs.Lists.{list_of};
 ghost use Rattle.numaplan_c.specs.Border.{IsMachineOf, described_cause};
 
-use crate::codes::{list_code, machine_code};
+use crate::codes::{Code, list_code, machine_code};
 use numa_machine::Machine;
 use numa_mask::read_list;
 use std::alloc::Global;
@@ -32,7 +32,7 @@ pub(crate) fn machine_of(
         Err(fault) => return Err(list_code(fault)),
     };
     if frames.len() > 256 {
-        return Err(50);
+        return Err(Code::BadNodeCount as u32);
     }
     if let Some(code) = others {
         return Err(code);

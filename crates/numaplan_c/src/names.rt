@@ -4,7 +4,7 @@ ghost use Rattle.numaplan_c.specs.Names.{answer_name, answer_errno, errno_number
 ghost use Rattle.numaplan_c.specs.Names.{name_in, refusal_numbered, row_of};
 ghost use Rattle.numaplan_c.specs.Texts.{IsWritten};
 
-use crate::codes::UNKNOWN;
+use crate::codes::Code;
 use crate::texts::write;
 use numa_script::names::Named;
 use numa_space::{Errno, Refusal};
@@ -111,7 +111,7 @@ pub extern "C" fn np_answer_name(code: u32, room: &mut [u8], length: &mut usize)
 {
     let name = answer_name(code);
     if name.is_empty() {
-        return UNKNOWN;
+        return Code::Unknown as u32;
     }
     write(name, room, length)
 }
@@ -152,7 +152,7 @@ pub extern "C" fn np_answer_errno(code: u32, number: &mut u32) -> u32
     ensures unknown { answer_name code ≡ [] → (result ≡ 5) × (number.new ≡ number.old) }
 {
     if answer_name(code).is_empty() {
-        return UNKNOWN;
+        return Code::Unknown as u32;
     }
     *number = answer_errno(code);
     0

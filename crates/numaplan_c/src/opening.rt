@@ -1,12 +1,13 @@
 //! Opening and closing of cores, and their versions.
 ghost use Rattle.std.specs.Prelude.{◌≡◌, ◌≢◌, ◌≤◌, [], Some, None, true, is_some};
 ghost use Rattle.std.specs.Prelude.{IfOk, IfErr, IfSome, MatchOption};
-ghost use Rattle.numa_core.specs.Standing.{CoreState, LeadsTo, setup_of};
+ghost use Rattle.numa_core.specs.Standing.{LeadsTo, setup_of};
 ghost use Rattle.numa_handle.specs.Steps.{core_in};
 ghost use Rattle.numa_mask.specs.Lists.{list_of};
-ghost use Rattle.numaplan_c.specs.Border.{IsSetUp, Opens, bounds_of, limits_cause, opening_cause};
+ghost use Rattle.numaplan_c.specs.Border.{Asked, IsSetUp, Opens, bounds_of, limits_cause};
+ghost use Rattle.numaplan_c.specs.Border.{opening_cause};
 
-use crate::codes::{CLOSED, NO_MEMORY, OPEN};
+use crate::codes::Code;
 use crate::keeping::memory_code;
 use crate::machines::machine_of;
 use numa_core::Core;
@@ -33,10 +34,10 @@ fn limits_cause(limits: NpLimits, workers: u32) -> Option<u32>
     ensures refused { IfSome result (λ code. code ≢ 0) }
 {
     if !(limits.max_ranges <= 65_536 && limits.max_tasks <= 1_024) {
-        return Some(54);
+        return Some(Code::BadLimits as u32);
     }
     if !(1 <= workers && workers <= 16) {
-        return Some(55);
+        return Some(Code::BadWorkers as u32);
     }
     None
 }
@@ -70,7 +71,7 @@ fn make(
     };
     match Core::new(alloc, machine, limits, workers) {
         Ok(core) => Ok(core),
-        Err(_) => Err(NO_MEMORY),
+        Err(_) => Err(Code::NoMemory as u32),
     }
 }
 
@@ -97,21 +98,13 @@ pub extern "C" fn np_core_open(
         (bounds_of limits.now) workers ≡ None }
     ensures open { is_some (core_in core.old) ≡ true → result ≡ 2 }
 {
-    if core.is_open() {
-        return OPEN;
+    if core.handle.is_open() {
+        return Code::Open as u32;
     }
     match make(alloc, memory, frames, distances, *limits, workers) {
         Ok(made) => memory_code(core.open(alloc, made)),
         Err(code) => code,
     }
-}
-
-/// Frees a core.
-#[unsafe(no_mangle)]
-pub extern "C" fn np_core_close(alloc: Global, core: &mut CoreHandle)
-    ensures { core_in core.new ≡ None }
-{
-    core.close(alloc)
 }
 
 /// How many commands are accepted, and how many of them are published.
@@ -122,18 +115,25 @@ pub extern "C" fn np_core_versions(
     accepted: &mut u64,
     published: &mut u64,
 ) -> u32
-    ensures same { core_in core.new ≡ core_in core.old }
-    ensures closed { core_in core.old ≡ None → (result ≡ 1)
-        × (accepted.new ≡ accepted.old) × (published.new ≡ published.old) }
-    ensures told { (kept : CoreState) → core_in core.old ≡ Some kept → (result ≡ 0)
-        × (accepted.new ≡ kept.space.version) × (published.new ≡ kept.plan.version) }
+    ensures { Asked (core_in core.old) (core_in core.new) result
+        ((accepted.new ≡ accepted.old) × (published.new ≡ published.old))
+        (λ kept. (result ≡ 0) × (accepted.new ≡ kept.space.version)
+        × (published.new ≡ kept.plan.version)) }
 {
     match core.versions(alloc) {
-        None => CLOSED,
+        None => Code::Closed as u32,
         Some(versions) => {
             *accepted = versions.0;
             *published = versions.1;
             0
         }
     }
+}
+
+/// Frees a core.
+#[unsafe(no_mangle)]
+pub extern "C" fn np_core_close(alloc: Global, core: &mut CoreHandle)
+    ensures { core_in core.new ≡ None }
+{
+    core.handle.close(alloc)
 }

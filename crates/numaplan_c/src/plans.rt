@@ -1,8 +1,9 @@
 //! Plans.
 ghost use Rattle.std.specs.Prelude.{◌≡◌, ◌≢◌, Some, None, IfSome, is_some, true, Result, Ok, Err};
-ghost use Rattle.std.specs.Prelude.{ℕ};
+ghost use Rattle.std.specs.Prelude.{ℕ, IfOk, MatchOption};
 ghost use Rattle.numa_plan.specs.Meaning.{PlanData};
-ghost use Rattle.numaplan_c.specs.Border.{AnswersKeeping, Opens, Shares, is_done};
+ghost use Rattle.numaplan_c.specs.Border.{AnswersKeeping, Asked, IsPlanBy, Makes, Opens};
+ghost use Rattle.numaplan_c.specs.Border.{Shares, is_done};
 ghost use Rattle.numa_handle.specs.Steps.{core_in, Compiles, Publishes};
 ghost use Rattle.numa_handle.specs.Plans.{plan_in, Chooses, Fills, Counts};
 ghost use Rattle.numa_handle.specs.declared.plan_handle.ChoiceRefusal.{ChoiceRefusal};
@@ -10,13 +11,39 @@ ghost use Rattle.numa_space.specs.declared.refusal.PlaceRefusal.{PlaceRefusal};
 ghost use Rattle.numaplan_c.specs.Codes.{place_code};
 ghost use Rattle.numaplan_c.specs.Questions.{choice_code, fill_code, AreTold};
 
-use crate::codes::{CLOSED, NO_MEMORY, NO_ROOM, OPEN, place_code};
+use crate::codes::{Code, place_code};
 use crate::keeping::{kept_code, memory_code};
 use numa_handle::{ChoiceRefusal, CoreHandle, PlanHandle};
 use numa_machine::NoMemory;
 use numa_plan::Plan;
 use numa_space::PlaceRefusal;
 use std::alloc::Global;
+
+/// Which commands of a core a plan is of.
+#[derive(Clone, Copy)]
+pub enum Commands {
+    /// All that were accepted.
+    Accepted,
+    /// Those that are published.
+    Published,
+}
+
+/// The plan of these commands of a core.
+fn plan_by(
+    alloc: Global,
+    core: &mut CoreHandle,
+    commands: Commands,
+) -> Option<Result<Plan, NoMemory>>
+    ensures same { core_in core.new ≡ core_in core.old }
+    ensures closed { core_in core.old ≡ None → result ≡ None }
+    ensures made { MatchOption result (core_in core.old ≡ None)
+        (λ answer. IfOk answer (IsPlanBy commands (core_in core.old))) }
+{
+    match commands {
+        Commands::Accepted => core.compile(alloc),
+        Commands::Published => core.published_plan(alloc),
+    }
+}
 
 /// Keeps a plan that was made of a core, where there is one.
 fn keep(alloc: Global, made: Option<Result<Plan, NoMemory>>, plan: &mut PlanHandle) -> u32
@@ -27,10 +54,35 @@ fn keep(alloc: Global, made: Option<Result<Plan, NoMemory>>, plan: &mut PlanHand
     ensures done { is_some made ≡ true → is_done result ≡ true }
 {
     match made {
-        None => CLOSED,
-        Some(Err(_)) => NO_MEMORY,
+        None => Code::Closed as u32,
+        Some(Err(_)) => Code::NoMemory as u32,
         Some(Ok(made)) => memory_code(plan.open(alloc, made)),
     }
+}
+
+/// Keeps the plan of these commands of a core, where the handle for it is closed.
+fn keep_plan(alloc: Global, core: &mut CoreHandle, commands: Commands, plan: &mut PlanHandle) -> u32
+    ensures same { core_in core.new ≡ core_in core.old }
+    ensures opens { Opens (plan_in plan.old) result (plan_in plan.new) }
+    ensures code { AnswersKeeping (core_in core.old) (plan_in plan.old) result }
+    ensures made { plan_in plan.old ≡ None →
+        IfSome (plan_in plan.new) (IsPlanBy commands (core_in core.old)) }
+{
+    if plan.handle.is_open() {
+        return Code::Open as u32;
+    }
+    let made = plan_by(alloc, core, commands);
+    keep(alloc, made, plan)
+}
+
+/// Keeps the plan of the published commands of a core.
+#[unsafe(no_mangle)]
+pub extern "C" fn np_core_plan(alloc: Global, core: &mut CoreHandle, plan: &mut PlanHandle) -> u32
+    ensures same { core_in core.new ≡ core_in core.old }
+    ensures published { Makes Publishes (core_in core.old) (plan_in plan.old) result
+        (plan_in plan.new) }
+{
+    keep_plan(alloc, core, Commands::Published, plan)
 }
 
 /// Compiles the accepted commands of a core.
@@ -41,32 +93,10 @@ pub extern "C" fn np_core_compile(
     plan: &mut PlanHandle,
 ) -> u32
     ensures same { core_in core.new ≡ core_in core.old }
-    ensures compiled { plan_in plan.old ≡ None →
-        IfSome (plan_in plan.new) (Compiles (core_in core.old)) }
-    ensures opens { Opens (plan_in plan.old) result (plan_in plan.new) }
-    ensures code { AnswersKeeping (core_in core.old) (plan_in plan.old) result }
+    ensures compiled { Makes Compiles (core_in core.old) (plan_in plan.old) result
+        (plan_in plan.new) }
 {
-    if plan.is_open() {
-        return OPEN;
-    }
-    let made = core.compile(alloc);
-    keep(alloc, made, plan)
-}
-
-/// Keeps the plan of the published commands of a core.
-#[unsafe(no_mangle)]
-pub extern "C" fn np_core_plan(alloc: Global, core: &mut CoreHandle, plan: &mut PlanHandle) -> u32
-    ensures same { core_in core.new ≡ core_in core.old }
-    ensures published { plan_in plan.old ≡ None →
-        IfSome (plan_in plan.new) (Publishes (core_in core.old)) }
-    ensures opens { Opens (plan_in plan.old) result (plan_in plan.new) }
-    ensures code { AnswersKeeping (core_in core.old) (plan_in plan.old) result }
-{
-    if plan.is_open() {
-        return OPEN;
-    }
-    let made = core.published_plan(alloc);
-    keep(alloc, made, plan)
+    keep_plan(alloc, core, Commands::Accepted, plan)
 }
 
 /// Keeps a plan in another handle too.
@@ -75,30 +105,20 @@ pub extern "C" fn np_plan_share(alloc: Global, plan: &mut PlanHandle, other: &mu
     ensures same { plan_in plan.new ≡ plan_in plan.old }
     ensures shared { Shares (plan_in plan.old) (plan_in other.old) result (plan_in other.new) }
 {
-    if other.is_open() {
-        return OPEN;
+    if other.handle.is_open() {
+        return Code::Open as u32;
     }
     kept_code(plan.share(alloc, other))
-}
-
-/// Lets go of a plan.
-#[unsafe(no_mangle)]
-pub extern "C" fn np_plan_close(alloc: Global, plan: &mut PlanHandle)
-    ensures { plan_in plan.new ≡ None }
-{
-    plan.close(alloc)
 }
 
 /// The version of a plan.
 #[unsafe(no_mangle)]
 pub extern "C" fn np_plan_version(alloc: Global, plan: &mut PlanHandle, version: &mut u64) -> u32
-    ensures same { plan_in plan.new ≡ plan_in plan.old }
-    ensures closed { plan_in plan.old ≡ None → (result ≡ 1) × (version.new ≡ version.old) }
-    ensures told { (kept : PlanData) → plan_in plan.old ≡ Some kept →
-        (result ≡ 0) × (version.new ≡ kept.version) }
+    ensures { Asked (plan_in plan.old) (plan_in plan.new) result (version.new ≡ version.old)
+        (λ kept. (result ≡ 0) × (version.new ≡ kept.version)) }
 {
     match plan.version(alloc) {
-        None => CLOSED,
+        None => Code::Closed as u32,
         Some(found) => {
             *version = found;
             0
@@ -112,7 +132,7 @@ fn choice_code(answer: Result<usize, ChoiceRefusal>) -> u32
 {
     match answer {
         Ok(_) => 0,
-        Err(ChoiceRefusal::TooShort(_)) => NO_ROOM,
+        Err(ChoiceRefusal::TooShort(_)) => Code::NoRoom as u32,
         Err(ChoiceRefusal::Place(refusal)) => place_code(refusal),
     }
 }
@@ -139,16 +159,14 @@ pub extern "C" fn np_plan_choice(
     nodes: &mut [u8],
     count: &mut usize,
 ) -> u32
-    ensures same { plan_in plan.new ≡ plan_in plan.old }
-    ensures closed { plan_in plan.old ≡ None →
-        (result ≡ 1) × (nodes.new ≡ nodes.old) × (count.new ≡ count.old) }
-    ensures chooses { (kept : PlanData) → plan_in plan.old ≡ Some kept →
-        (answer : Result ℕ ChoiceRefusal) × (result ≡ choice_code answer)
+    ensures { Asked (plan_in plan.old) (plan_in plan.new) result
+        ((nodes.new ≡ nodes.old) × (count.new ≡ count.old))
+        (λ kept. (answer : Result ℕ ChoiceRefusal) × (result ≡ choice_code answer)
         × Chooses (plan_in plan.old) task page cpu answer nodes.old nodes.new
-        × AreTold answer count.old count.new }
+        × AreTold answer count.old count.new) }
 {
     match plan.choose(alloc, task, page, cpu, nodes) {
-        None => CLOSED,
+        None => Code::Closed as u32,
         Some(answer) => {
             *count = told(answer, *count);
             choice_code(answer)
@@ -176,14 +194,12 @@ pub extern "C" fn np_plan_fill(
     first: u64,
     nodes: &mut [u8],
 ) -> u32
-    ensures same { plan_in plan.new ≡ plan_in plan.old }
-    ensures closed { plan_in plan.old ≡ None → (result ≡ 1) × (nodes.new ≡ nodes.old) }
-    ensures fills { (kept : PlanData) → plan_in plan.old ≡ Some kept →
-        (answer : Result (Unit {0}) PlaceRefusal) × (result ≡ fill_code answer)
-        × Fills (plan_in plan.old) task cpu first answer nodes.old nodes.new }
+    ensures { Asked (plan_in plan.old) (plan_in plan.new) result (nodes.new ≡ nodes.old)
+        (λ kept. (answer : Result (Unit {0}) PlaceRefusal) × (result ≡ fill_code answer)
+        × Fills (plan_in plan.old) task cpu first answer nodes.old nodes.new) }
 {
     match plan.fill(alloc, task, cpu, first, nodes) {
-        None => CLOSED,
+        None => Code::Closed as u32,
         Some(answer) => fill_code(answer),
     }
 }
@@ -209,13 +225,21 @@ pub extern "C" fn np_plan_counts(
         × Counts (plan_in plan.old) task cpu first pages (Err cause) }
 {
     match plan.counts(alloc, task, cpu, first, pages) {
-        None => CLOSED,
+        None => Code::Closed as u32,
         Some(Ok(found)) => {
             counts.pages = found;
             0
         }
         Some(Err(refusal)) => place_code(refusal),
     }
+}
+
+/// Lets go of a plan.
+#[unsafe(no_mangle)]
+pub extern "C" fn np_plan_close(alloc: Global, plan: &mut PlanHandle)
+    ensures { plan_in plan.new ≡ None }
+{
+    plan.handle.close(alloc)
 }
 
 /// How many pages have each node first: as many numbers as there can be nodes.

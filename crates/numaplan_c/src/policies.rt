@@ -5,7 +5,7 @@ ghost use Rattle.numa_mode.specs.Policy.{policy_text};
 ghost use Rattle.numaplan_c.specs.Policies.{record_of, standing, rebound, TellsNodes};
 ghost use Rattle.numaplan_c.specs.Texts.{IsWritten};
 
-use crate::codes::{NO_NODE_ALLOWED, NO_POLICY, list_code, refusal_code, word_code};
+use crate::codes::{Code, list_code, refusal_code, word_code};
 use crate::nodes::NpNodes;
 use crate::texts::write;
 use numa_mask::{NodeMask, read_list};
@@ -18,10 +18,10 @@ fn record_of(spec: PolicySpec, allowed: &NodeMask) -> Result<Record, u32>
     ensures { result ≡ record_of spec allowed.now }
 {
     if spec.is_default() {
-        return Err(NO_POLICY);
+        return Err(Code::NoPolicy as u32);
     }
     if allowed.is_empty() {
-        return Err(NO_NODE_ALLOWED);
+        return Err(Code::NoNodeAllowed as u32);
     }
     match Record::set(spec, allowed) {
         Ok(record) => Ok(record),
@@ -60,7 +60,7 @@ fn rebound(standing: Result<Record, u32>, old: &[u8], new: &[u8]) -> Result<Reco
         Err(fault) => return Err(list_code(fault)),
     };
     if new.is_empty() {
-        return Err(NO_NODE_ALLOWED);
+        return Err(Code::NoNodeAllowed as u32);
     }
     Ok(standing.rebind(&old, &new))
 }

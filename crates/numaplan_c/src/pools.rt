@@ -9,7 +9,7 @@ ghost use Rattle.numa_handle.specs.Seats.{AreTogether};
 ghost use Rattle.numaplan_c.specs.Border.{AnswersKeeping, Opens, described_cause};
 ghost use Rattle.numaplan_c.specs.Pools.{found_code, returned_code, Tells};
 
-use crate::codes::{ALL_TAKEN, CLOSED, NO_MEMORY, NOT_OWNED, OPEN};
+use crate::codes::Code;
 use crate::keeping::{kept_code, memory_code};
 use crate::machines::machine_of;
 use numa_handle::SeatHandle;
@@ -45,7 +45,7 @@ fn make(alloc: Global, memory: &[u8], frames: &[u32], distances: &[u8]) -> Resul
     drop(machine);
     match opened {
         Ok(seat) => Ok(seat),
-        Err(_) => Err(NO_MEMORY),
+        Err(_) => Err(Code::NoMemory as u32),
     }
 }
 
@@ -68,21 +68,13 @@ pub extern "C" fn np_seat_open(
         described_cause (list_of memory.now) frames.now distances.now None ≡ None }
     ensures open { is_some (seat_in seat.old) ≡ true → result ≡ 2 }
 {
-    if seat.is_open() {
-        return OPEN;
+    if seat.handle.is_open() {
+        return Code::Open as u32;
     }
     match make(alloc, memory, frames, distances) {
         Ok(made) => memory_code(seat.open(alloc, made)),
         Err(code) => code,
     }
-}
-
-/// Lets go of a seat.
-#[unsafe(no_mangle)]
-pub extern "C" fn np_seat_close(alloc: Global, seat: &mut SeatHandle)
-    ensures { seat_in seat.new ≡ None }
-{
-    seat.close(alloc)
 }
 
 /// Splits off a seat at the same pools.
@@ -96,8 +88,8 @@ pub extern "C" fn np_seat_split(alloc: Global, seat: &mut SeatHandle, other: &mu
     ensures open { is_some (seat_in other.old) ≡ true → seat_in seat.new ≡ seat_in seat.old }
     ensures closed { seat_in seat.old ≡ None → seat_in seat.new ≡ None }
 {
-    if other.is_open() {
-        return OPEN;
+    if other.handle.is_open() {
+        return Code::Open as u32;
     }
     kept_code(seat.split(alloc, other))
 }
@@ -115,12 +107,12 @@ pub extern "C" fn np_seat_take(
         × (frame.new ≡ frame.old) × (rank.new ≡ rank.old) }
     ensures takes { (kept : Seated) → seat_in seat.old ≡ Some kept →
         (found : Option (ℕ × Frame)) × (result ≡ found_code found)
-        × Takes (seat_in seat.old) nodes.now found (seat_in seat.new)
+        × Takes nodes.now (seat_in seat.old) (seat_in seat.new) found
         × Tells found frame.old frame.new rank.old rank.new }
 {
     match seat.take(alloc, nodes) {
-        None => CLOSED,
-        Some(None) => ALL_TAKEN,
+        None => Code::Closed as u32,
+        Some(None) => Code::AllTaken as u32,
         Some(Some(found)) => {
             *frame = NpFrame {
                 node: found.1.node,
@@ -138,13 +130,13 @@ pub extern "C" fn np_seat_give(alloc: Global, seat: &mut SeatHandle, node: u8, n
     ensures closed { seat_in seat.old ≡ None → (result ≡ 1) × (seat_in seat.new ≡ None) }
     ensures returns { (kept : Seated) → seat_in seat.old ≡ Some kept →
         (held : Bool) × (result ≡ returned_code held)
-        × Returns (seat_in seat.old) (record { node = node; number = number }) held
-        (seat_in seat.new) }
+        × Returns (record { node = node; number = number }) (seat_in seat.old) (seat_in seat.new)
+        held }
 {
     match seat.give(alloc, Frame { node, number }) {
-        None => CLOSED,
+        None => Code::Closed as u32,
         Some(true) => 0,
-        Some(false) => NOT_OWNED,
+        Some(false) => Code::NotOwned as u32,
     }
 }
 
@@ -164,5 +156,13 @@ pub extern "C" fn np_seat_join(alloc: Global, seat: &mut SeatHandle, other: &mut
     if seat.join(alloc, other) {
         return 0;
     }
-    CLOSED
+    Code::Closed as u32
+}
+
+/// Lets go of a seat.
+#[unsafe(no_mangle)]
+pub extern "C" fn np_seat_close(alloc: Global, seat: &mut SeatHandle)
+    ensures { seat_in seat.new ≡ None }
+{
+    seat.handle.close(alloc)
 }

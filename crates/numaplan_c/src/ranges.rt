@@ -8,11 +8,11 @@ ghost use Rattle.numa_maps.specs.Listing.{AreRangesOf};
 ghost use Rattle.numa_ranges.specs.Runs.{end_of};
 ghost use Rattle.numa_space.specs.Standing.{StandsFor};
 ghost use Rattle.numa_space.specs.declared.command.Command.{Command};
-ghost use Rattle.numaplan_c.specs.Border.{Shares};
+ghost use Rattle.numaplan_c.specs.Border.{Asked, Shares};
 ghost use Rattle.numaplan_c.specs.Ranges.{TellsRange, own_word, range_span};
 ghost use Rattle.numaplan_c.specs.Texts.{IsWritten};
 
-use crate::codes::{CLOSED, NO_RANGE, OPEN};
+use crate::codes::Code;
 use crate::keeping::kept_code;
 use crate::texts::write;
 use numa_handle::CoreHandle;
@@ -26,8 +26,8 @@ pub extern "C" fn np_core_copy(alloc: Global, core: &mut CoreHandle, copy: &mut 
     ensures same { core_in core.new ≡ core_in core.old }
     ensures copied { Shares (core_in core.old) (core_in copy.old) result (core_in copy.new) }
 {
-    if copy.is_open() {
-        return OPEN;
+    if copy.handle.is_open() {
+        return Code::Open as u32;
     }
     kept_code(core.copy(alloc, copy))
 }
@@ -35,13 +35,11 @@ pub extern "C" fn np_core_copy(alloc: Global, core: &mut CoreHandle, copy: &mut 
 /// How many ranges of pages there are.
 #[unsafe(no_mangle)]
 pub extern "C" fn np_core_ranges(alloc: Global, core: &mut CoreHandle, count: &mut usize) -> u32
-    ensures same { core_in core.new ≡ core_in core.old }
-    ensures closed { core_in core.old ≡ None → (result ≡ 1) × (count.new ≡ count.old) }
-    ensures told { is_some (core_in core.old) ≡ true → (result ≡ 0)
-        × HasRanges (core_in core.old) count.new }
+    ensures { Asked (core_in core.old) (core_in core.new) result (count.new ≡ count.old)
+        (λ kept. (result ≡ 0) × HasRanges (core_in core.old) count.new) }
 {
     match core.ranges(alloc) {
-        None => CLOSED,
+        None => Code::Closed as u32,
         Some(found) => {
             *count = found;
             0
@@ -104,19 +102,17 @@ pub extern "C" fn np_core_range(
     policy: &mut [u8],
     length: &mut usize,
 ) -> u32
-    ensures same { core_in core.new ≡ core_in core.old }
-    ensures closed { core_in core.old ≡ None → (result ≡ 1) × (range.new ≡ range.old)
-        × (policy.new ≡ policy.old) × (length.new ≡ length.old) }
-    ensures told { (kept : CoreState) → core_in core.old ≡ Some kept →
-        TellsRange (slice_get kept.space.ranges index) result range.old range.new
-        policy.old policy.new length.old length.new }
+    ensures told { Asked (core_in core.old) (core_in core.new) result
+        ((range.new ≡ range.old) × (policy.new ≡ policy.old) × (length.new ≡ length.old))
+        (λ kept. TellsRange (slice_get kept.space.ranges index) result range.old range.new
+        policy.old policy.new length.old length.new) }
     ensures meaning { (kept : CoreState) → core_in core.old ≡ Some kept →
         (history : List Command) → StandsFor kept.space history
         → AreRangesOf kept.space.machine history kept.space.ranges }
 {
     match core.range(alloc, index) {
-        None => CLOSED,
-        Some(None) => NO_RANGE,
+        None => Code::Closed as u32,
+        Some(None) => Code::NoRange as u32,
         Some(Some(found)) => tell_range(&found, range, policy, length),
     }
 }

@@ -4,11 +4,11 @@ ghost use Rattle.std.specs.Prelude.{is_some, IfSome};
 ghost use Rattle.numa_handle.specs.Dialogs.{dialog_in, IsFresh, ServesKept};
 ghost use Rattle.numa_handle.specs.declared.dialog.Dialog.{Dialog};
 ghost use Rattle.numa_handle.specs.declared.dialog.LineRefusal.{LineRefusal};
-ghost use Rattle.numaplan_c.specs.Border.{Opens, is_done};
+ghost use Rattle.numaplan_c.specs.Border.{Asked, Opens, is_done};
 ghost use Rattle.numaplan_c.specs.Scripts.{AreAnswers, line_code, length_told};
 ghost use Rattle.numaplan_c.specs.Texts.{IsWritten};
 
-use crate::codes::{ANSWER_LOST, CLOSED, NO_MEMORY, OPEN};
+use crate::codes::Code;
 use crate::keeping::memory_code;
 use crate::texts::{copy_code, length_copied, write};
 use line_server::Watched;
@@ -42,7 +42,7 @@ pub extern "C" fn np_script_run(
 {
     match answers_to(alloc, script) {
         Some(answers) => write(&answers, room, length),
-        None => NO_MEMORY,
+        None => Code::NoMemory as u32,
     }
 }
 
@@ -54,18 +54,10 @@ pub extern "C" fn np_script_open(alloc: Global, script: &mut ScriptHandle) -> u3
     ensures open { is_some (dialog_in script.old) ≡ true → result ≡ 2 }
     ensures done { dialog_in script.old ≡ None → is_done result ≡ true }
 {
-    if script.is_open() {
-        return OPEN;
+    if script.handle.is_open() {
+        return Code::Open as u32;
     }
     memory_code(script.open(alloc))
-}
-
-/// Frees a script.
-#[unsafe(no_mangle)]
-pub extern "C" fn np_script_close(alloc: Global, script: &mut ScriptHandle)
-    ensures { dialog_in script.new ≡ None }
-{
-    script.close(alloc)
 }
 
 /// The number of an answer to a line.
@@ -74,8 +66,8 @@ fn line_code(answer: Result<usize, LineRefusal>) -> u32
 {
     match answer {
         Ok(_) => 0,
-        Err(LineRefusal::NoMemory) => NO_MEMORY,
-        Err(LineRefusal::AnswerLost) => ANSWER_LOST,
+        Err(LineRefusal::NoMemory) => Code::NoMemory as u32,
+        Err(LineRefusal::AnswerLost) => Code::AnswerLost as u32,
     }
 }
 
@@ -105,7 +97,7 @@ pub extern "C" fn np_script_line(
         × (length.new ≡ length_told answer length.old) }
 {
     match script.line(alloc, line) {
-        None => CLOSED,
+        None => Code::Closed as u32,
         Some(answer) => {
             *length = length_told(answer, *length);
             line_code(answer)
@@ -121,17 +113,23 @@ pub extern "C" fn np_script_answer(
     room: &mut [u8],
     length: &mut usize,
 ) -> u32
-    ensures same { dialog_in script.new ≡ dialog_in script.old }
-    ensures closed { dialog_in script.old ≡ None → (result ≡ 1) × (room.new ≡ room.old)
-        × (length.new ≡ length.old) }
-    ensures copies { (kept : Dialog) → dialog_in script.old ≡ Some kept →
-        IsWritten kept.answer.items result room.old room.new length.new }
+    ensures { Asked (dialog_in script.old) (dialog_in script.new) result
+        ((room.new ≡ room.old) × (length.new ≡ length.old))
+        (λ kept. IsWritten kept.answer.items result room.old room.new length.new) }
 {
     match script.answer(alloc, room) {
-        None => CLOSED,
+        None => Code::Closed as u32,
         Some(told) => {
             *length = length_copied(told);
             copy_code(told)
         }
     }
+}
+
+/// Frees a script.
+#[unsafe(no_mangle)]
+pub extern "C" fn np_script_close(alloc: Global, script: &mut ScriptHandle)
+    ensures { dialog_in script.new ≡ None }
+{
+    script.handle.close(alloc)
 }

@@ -2,7 +2,7 @@
 ghost use Rattle.std.specs.Prelude.{◌≡◌};
 ghost use Rattle.numaplan_c.specs.Texts.{IsWritten, copy_code, length_copied};
 
-use crate::codes::NO_ROOM;
+use crate::codes::Code;
 use numa_handle::copy_bytes;
 
 /// The number of an answer to a copy.
@@ -11,7 +11,7 @@ pub(crate) fn copy_code(told: Result<usize, usize>) -> u32
 {
     match told {
         Ok(_) => 0,
-        Err(_) => NO_ROOM,
+        Err(_) => Code::NoRoom as u32,
     }
 }
 

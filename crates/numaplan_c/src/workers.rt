@@ -3,8 +3,9 @@ ghost use Rattle.std.specs.Prelude.{◌≡◌};
 ghost use Rattle.numa_handle.specs.Steps.{core_in};
 ghost use Rattle.numa_space.specs.declared.event.Event.{Event};
 ghost use Rattle.numaplan_c.specs.Border.{Answers, Places, Touched, Tried};
+ghost use Rattle.numaplan_c.specs.Codes.{answer_code};
 
-use crate::codes::{CLOSED, answer_code};
+use crate::codes::{Code, answer_code};
 use crate::commands::answer;
 use numa_core::{CoreRefusal, CoreReply, Event, Frame, Request};
 use numa_handle::CoreHandle;
@@ -24,9 +25,10 @@ pub struct NpPlacement {
 
 const _: () = prove!(size_of::<NpPlacement>() == 32);
 
-/// Tells where a page was placed, where it was.
-fn place(answer: &Result<CoreReply, CoreRefusal>, placed: &mut NpPlacement)
-    ensures { Places answer.now placed.old placed.new }
+/// Tells where a page was placed, where it was, and the number of the answer.
+fn tell(answer: &Result<CoreReply, CoreRefusal>, placed: &mut NpPlacement) -> u32
+    ensures code { result ≡ answer_code answer.now }
+    ensures places { Places answer.now placed.old placed.new }
 {
     match answer {
         Ok(CoreReply::Won(won)) => {
@@ -38,8 +40,9 @@ fn place(answer: &Result<CoreReply, CoreRefusal>, placed: &mut NpPlacement)
                 frame: won.frame.number,
                 node: won.node,
             };
+            0
         }
-        _ => {}
+        _ => answer_code(answer),
     }
 }
 
@@ -58,11 +61,8 @@ pub extern "C" fn np_core_touch(
         result (core_in core.new) placed.old placed.new }
 {
     match core.touch(alloc, worker, Request { task, page, cpu }) {
-        None => CLOSED,
-        Some(answer) => {
-            place(&answer, placed);
-            answer_code(&answer)
-        }
+        None => Code::Closed as u32,
+        Some(answer) => tell(&answer, placed),
     }
 }
 
@@ -114,11 +114,8 @@ pub extern "C" fn np_core_try(
         number: frame,
     };
     match core.step(alloc, Event::Try(worker, frame)) {
-        None => CLOSED,
-        Some(answer) => {
-            place(&answer, placed);
-            answer_code(&answer)
-        }
+        None => Code::Closed as u32,
+        Some(answer) => tell(&answer, placed),
     }
 }
 
