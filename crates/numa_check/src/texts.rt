@@ -11,173 +11,193 @@ use numa_script::{Cause, Form, Misfit, Parameter, WordFault};
 use numa_space::Refusal;
 use std::alloc::AllocError;
 
-/// Appends a text.
-fn put(text: &mut Vec<u8>, words: &str) -> Result<(), AllocError> {
-    text.extend_from_slice(words.as_bytes())?;
-    Ok(())
+/// What FRAMES isn't.
+const FRAMES_FORM: &str = " are no decimal numbers below 2^32 with commas between them";
+
+/// What DIST isn't.
+const DISTANCES_FORM: &str =
+    " is neither flat nor decimal numbers of at most 255 with commas and semicolons";
+
+/// What stands behind a page that is mapped and isn't published.
+const UNPUBLISHED: &str = " is mapped, but not published yet; publish first";
+
+/// The digits of hexadecimal numbers.
+static DIGITS: [u8; 16] = *b"0123456789abcdef";
+
+/// A text that is being appended to. Once there was no memory for a part, no more is appended.
+struct Text<'a> {
+    bytes: &'a mut Vec<u8>,
+    outcome: Result<(), AllocError>,
 }
 
-/// Appends a text, and a number in decimal behind it.
-fn put_number(text: &mut Vec<u8>, words: &str, number: u64) -> Result<(), AllocError> {
-    let mut buffer = Buffer::new();
-    put(text, words)?;
-    put(text, buffer.format(number))
-}
-
-/// Appends a digit in hexadecimal.
-fn put_digit(text: &mut Vec<u8>, digit: u64) -> Result<(), AllocError> {
-    let digits = b"0123456789abcdef";
-    text.push(digits[(digit % 16) as usize])?;
-    Ok(())
-}
-
-/// Appends a number as `0x` and hexadecimal digits.
-fn put_hex(text: &mut Vec<u8>, number: u64) -> Result<(), AllocError> {
-    put(text, "0x")?;
-    let mut begun = false;
-    for place in 0..16u32 {
-        let digit = (number >> (60 - 4 * place)) % 16;
-        begun = begun || digit > 0 || place == 15;
-        if begun {
-            put_digit(text, digit)?;
+impl<'a> Text<'a> {
+    /// Nothing is appended yet.
+    fn of(bytes: &'a mut Vec<u8>) -> Text<'a> {
+        Text {
+            bytes,
+            outcome: Ok(()),
         }
     }
-    Ok(())
-}
 
-/// Appends a page by its address.
-fn put_page(text: &mut Vec<u8>, page: u64) -> Result<(), AllocError> {
-    put(text, "page ")?;
-    put_hex(text, page.saturating_mul(4096))
+    /// Appends some bytes.
+    fn put_bytes(&mut self, bytes: &[u8]) {
+        if let Ok(()) = self.outcome {
+            self.outcome = self.bytes.extend_from_slice(bytes);
+        }
+    }
+
+    /// Appends words.
+    fn put(&mut self, words: &str) {
+        self.put_bytes(words.as_bytes());
+    }
+
+    /// Appends words, and a number in decimal behind them.
+    fn put_number(&mut self, words: &str, number: u64) {
+        let mut buffer = Buffer::new();
+        self.put(words);
+        self.put(buffer.format(number));
+    }
+
+    /// Appends words, and a number as `0x` and hexadecimal digits behind them.
+    fn put_hex(&mut self, words: &str, number: u64) {
+        let zeros = number.leading_zeros() / 4;
+        self.put(words);
+        self.put("0x");
+        for place in zeros.min(15)..16 {
+            let digit = (number >> (60 - 4 * place)) % 16;
+            self.put_bytes(&[DIGITS[digit as usize]]);
+        }
+    }
+
+    /// Whether there was memory for all of it.
+    fn end(self) -> Result<(), AllocError> {
+        let Text { bytes: _, outcome } = self;
+        outcome
+    }
 }
 
 /// Appends how a keyword's lines are written, behind a semicolon.
-fn put_usage(text: &mut Vec<u8>, keyword: Keyword) -> Result<(), AllocError> {
-    put(text, "; ")?;
-    put(text, keyword.name())?;
+fn put_usage(text: &mut Text<'_>, keyword: Keyword) {
+    text.put("; ");
+    text.put(keyword.name());
     let wanted = parameters(keyword);
-    if wanted.is_empty() {
-        return put(text, " stands alone");
-    }
-    put(text, " wants")?;
+    text.put(if wanted.is_empty() {
+        " stands alone"
+    } else {
+        " wants"
+    });
     for parameter in wanted {
-        put(text, " ")?;
-        put(text, parameter.name())?;
+        text.put(" ");
+        text.put(parameter.name());
     }
-    Ok(())
 }
 
 /// Appends what a word has to be.
-fn put_form(text: &mut Vec<u8>, parameter: Parameter) -> Result<(), AllocError> {
-    put(text, parameter.name())?;
+fn put_form(text: &mut Text<'_>, parameter: Parameter) {
+    text.put(parameter.name());
     match parameter.form() {
-        Form::Number(greatest) => put_number(text, " is no number from 0 to ", greatest),
-        Form::Frames => put(
-            text,
-            " are no decimal numbers below 2^32 with commas between them",
-        ),
-        Form::Distances => put(
-            text,
-            " is neither flat nor decimal numbers of at most 255 with commas and semicolons",
-        ),
-        Form::Any => Ok(()),
+        Form::Number(greatest) => text.put_number(" is no number from 0 to ", greatest),
+        Form::Frames => text.put(FRAMES_FORM),
+        Form::Distances => text.put(DISTANCES_FORM),
+        Form::Any => {}
     }
 }
 
 /// Appends what is wrong with a word.
-fn put_misfit(
-    text: &mut Vec<u8>,
-    keyword: Keyword,
-    parameter: Parameter,
-    misfit: Misfit,
-) -> Result<(), AllocError> {
+fn put_misfit(text: &mut Text<'_>, parameter: Parameter, misfit: Misfit) {
     match (misfit, parameter.form()) {
         (Misfit::TooGreat, Form::Number(greatest)) => {
-            put(text, parameter.name())?;
-            put_number(text, " is above ", greatest)?;
+            text.put(parameter.name());
+            text.put_number(" is above ", greatest);
         }
-        _ => put_form(text, parameter)?,
+        _ => put_form(text, parameter),
     }
-    put_usage(text, keyword)
 }
 
 /// Appends a byte that no word has.
-fn put_byte(text: &mut Vec<u8>, byte: u8) -> Result<(), AllocError> {
+fn put_byte(text: &mut Text<'_>, byte: u8) {
     match byte {
-        b'\r' => put(text, "a carriage return; lines end with a line feed alone"),
-        b'\t' => put(text, "a tab; words stand between single spaces"),
+        b'\r' => text.put("a carriage return; lines end with a line feed alone"),
+        b'\t' => text.put("a tab; words stand between single spaces"),
         _ => {
-            put(text, "the byte ")?;
-            put_hex(text, u64::from(byte))?;
-            put(text, ", which no word has")
+            text.put_hex("the byte ", u64::from(byte));
+            text.put(", which no word has");
         }
+    }
+}
+
+/// What is wrong with a malformed line, where more words follow: those before them.
+fn cause_words(cause: Cause) -> &'static str {
+    match cause {
+        Cause::TooLong => "the line has more than 4096 bytes",
+        Cause::LeadingSpace => "a space at the beginning of the line",
+        Cause::TrailingSpace => "a space at the end of the line",
+        Cause::TwoSpaces => "two spaces in a row",
+        Cause::UnknownWord => "no line begins with this word",
+        Cause::TooFewWords(_) => "too few words",
+        Cause::TooManyWords(_) => "too many words",
+        Cause::StrayByte(_) | Cause::BadWord(..) => "",
     }
 }
 
 /// Appends why a line is malformed.
-fn put_cause(text: &mut Vec<u8>, cause: Cause) -> Result<(), AllocError> {
+fn put_cause(text: &mut Text<'_>, cause: Cause) {
+    text.put(cause_words(cause));
     match cause {
-        Cause::TooLong => put(text, "the line has more than 4096 bytes"),
         Cause::StrayByte(byte) => put_byte(text, byte),
-        Cause::LeadingSpace => put(text, "a space at the beginning of the line"),
-        Cause::TrailingSpace => put(text, "a space at the end of the line"),
-        Cause::TwoSpaces => put(text, "two spaces in a row"),
-        Cause::UnknownWord => put(text, "no line begins with this word"),
-        Cause::TooFewWords(keyword) => {
-            put(text, "too few words")?;
-            put_usage(text, keyword)
+        Cause::TooFewWords(keyword) => put_usage(text, keyword),
+        Cause::TooManyWords(keyword) => put_usage(text, keyword),
+        Cause::BadWord(keyword, parameter, misfit) => {
+            put_misfit(text, parameter, misfit);
+            put_usage(text, keyword);
         }
-        Cause::TooManyWords(keyword) => {
-            put(text, "too many words")?;
-            put_usage(text, keyword)
-        }
-        Cause::BadWord(keyword, parameter, misfit) => put_misfit(text, keyword, parameter, misfit),
+        _ => {}
     }
 }
 
 /// Appends a fault by its head, its name and why.
-fn put_fault(text: &mut Vec<u8>, head: &str, fault: Named, words: &str) -> Result<(), AllocError> {
-    put(text, head)?;
-    text.extend_from_slice(fault.name())?;
-    put(text, ": ")?;
-    put(text, words)
+fn put_fault(text: &mut Text<'_>, head: &str, fault: Named, words: &str) {
+    text.put(head);
+    text.put_bytes(fault.name());
+    text.put(": ");
+    text.put(words);
 }
 
 /// Appends a fault of a node list or a policy: its name, and why.
-fn put_word_fault(text: &mut Vec<u8>, fault: WordFault) -> Result<(), AllocError> {
+fn put_word_fault(text: &mut Text<'_>, fault: WordFault) {
     match fault {
         WordFault::List(fault) => {
-            put_fault(text, "bad list ", Named::List(fault), list_words(fault))
+            put_fault(text, "bad list ", Named::List(fault), list_words(fault));
         }
         WordFault::Policy(fault) => {
-            put_fault(
-                text,
-                "bad policy ",
-                Named::Policy(fault),
-                policy_words(fault),
-            )
+            let named = Named::Policy(fault);
+            put_fault(text, "bad policy ", named, policy_words(fault));
         }
     }
 }
 
-/// Appends the name of a refusal.
-fn put_refusal_name(text: &mut Vec<u8>, cause: CoreRefusal) -> Result<(), AllocError> {
-    put(text, "refused ")?;
+/// The name of a refusal; that of a command has its error number behind it.
+fn name_of(cause: CoreRefusal) -> &'static [u8] {
     match cause {
-        CoreRefusal::Command(refusal) => {
-            text.extend_from_slice(Named::Refusal(refusal).name())?;
-            put(text, " ")?;
-            text.extend_from_slice(Named::Errno(refusal.errno()).name())?;
-            Ok(())
-        }
-        CoreRefusal::NoSuchWorker => put(text, "NoSuchWorker"),
-        CoreRefusal::Busy => put(text, "Busy"),
-        CoreRefusal::Idle => put(text, "Idle"),
-        CoreRefusal::BadTry => put(text, "BadTry"),
-        CoreRefusal::NotOwned => put(text, "NotOwned"),
-        CoreRefusal::BadCpu => put(text, "BadCpu"),
-        CoreRefusal::Unmapped(_) => put(text, "Unmapped"),
-        CoreRefusal::NoMemory => put(text, "NoMemory"),
+        CoreRefusal::Command(refusal) => Named::Refusal(refusal).name(),
+        CoreRefusal::NoSuchWorker => b"NoSuchWorker",
+        CoreRefusal::Busy => b"Busy",
+        CoreRefusal::Idle => b"Idle",
+        CoreRefusal::BadTry => b"BadTry",
+        CoreRefusal::NotOwned => b"NotOwned",
+        CoreRefusal::BadCpu => b"BadCpu",
+        CoreRefusal::Unmapped(_) => b"Unmapped",
+        CoreRefusal::NoMemory => b"NoMemory",
+    }
+}
+
+/// Appends the name of a refusal.
+fn put_refusal_name(text: &mut Text<'_>, cause: CoreRefusal) {
+    text.put("refused ");
+    text.put_bytes(name_of(cause));
+    if let CoreRefusal::Command(refusal) = cause {
+        text.put(" ");
+        text.put_bytes(Named::Errno(refusal.errno()).name());
     }
 }
 
@@ -194,93 +214,92 @@ fn page_words(cause: CoreRefusal) -> &'static str {
     }
 }
 
+/// Appends why a line is refused for a page, and what stands behind the page's address.
+fn put_page(text: &mut Text<'_>, page: u64, words: &str) {
+    text.put_hex("page ", page.saturating_mul(4096));
+    text.put(words);
+}
+
+/// Appends why a line is refused, and a number with words before and behind it.
+fn put_counted(text: &mut Text<'_>, cause: CoreRefusal, words: &str, number: u64, behind: &str) {
+    text.put(worker_words(cause));
+    text.put_number(words, number);
+    text.put(behind);
+}
+
 /// Appends why a line is refused.
-fn put_refusal(text: &mut Vec<u8>, cause: CoreRefusal, detail: Detail) -> Result<(), AllocError> {
+fn put_refusal(text: &mut Text<'_>, cause: CoreRefusal, detail: Detail) {
     match detail {
-        Detail::Page(page) => {
-            put_page(text, page)?;
-            put(text, page_words(cause))
-        }
-        Detail::Unpublished(page) => {
-            put_page(text, page)?;
-            put(text, " is mapped, but not published yet; publish first")
-        }
+        Detail::Page(page) => put_page(text, page, page_words(cause)),
+        Detail::Unpublished(page) => put_page(text, page, UNPUBLISHED),
         Detail::LastNode(node) => {
-            put(text, worker_words(cause))?;
-            put_number(text, "; its nodes are 0 to ", u64::from(node))
+            put_counted(text, cause, "; its nodes are 0 to ", u64::from(node), "");
         }
-        Detail::Count(count) => {
-            put(text, worker_words(cause))?;
-            put_number(text, " (now ", count)?;
-            put(text, ")")
-        }
-        Detail::Mems => put(text, "none of these nodes has memory; name one that has"),
-        _ => put(text, worker_words(cause)),
+        Detail::Count(count) => put_counted(text, cause, " (now ", count, ")"),
+        Detail::Mems => text.put("none of these nodes has memory; name one that has"),
+        _ => text.put(worker_words(cause)),
     }
 }
 
 /// Appends a refusal: its name, and why.
-fn put_refused(text: &mut Vec<u8>, cause: CoreRefusal, detail: Detail) -> Result<(), AllocError> {
-    put_refusal_name(text, cause)?;
-    put(text, ": ")?;
-    put_refusal(text, cause, detail)
+fn put_refused(text: &mut Text<'_>, cause: CoreRefusal, detail: Detail) {
+    put_refusal_name(text, cause);
+    text.put(": ");
+    put_refusal(text, cause, detail);
 }
 
 /// Appends the fault or the refusal that a line is answered, and why.
-fn put_answer(text: &mut Vec<u8>, fault: Reply, detail: Detail) -> Result<(), AllocError> {
+fn put_answer(text: &mut Text<'_>, fault: Reply, detail: Detail) {
     match fault {
-        Reply::BadWords => put(text, "bad words"),
-        Reply::BadState => put(text, "bad state"),
-        Reply::BadLimits => put(
-            text,
-            "bad limits: R is above 65536 or T above 1024; use less",
-        ),
+        Reply::BadWords => text.put("bad words"),
+        Reply::BadState => text.put("bad state"),
+        Reply::BadLimits => text.put("bad limits: R is above 65536 or T above 1024; use less"),
         Reply::BadMachine(fault) => {
-            put_fault(
-                text,
-                "bad machine ",
-                Named::Machine(fault),
-                machine_words(fault),
-            )
+            let named = Named::Machine(fault);
+            put_fault(text, "bad machine ", named, machine_words(fault));
         }
         Reply::BadWord(fault) => put_word_fault(text, fault),
         Reply::Refused(cause) => put_refused(text, cause, detail),
-        _ => Ok(()),
+        _ => {}
     }
 }
 
-/// Appends what is known of a fault of words or of the state.
-fn put_detail(text: &mut Vec<u8>, detail: Detail) -> Result<(), AllocError> {
+/// What is known of a fault of words or of the state.
+fn detail_words(detail: Detail) -> &'static str {
     match detail {
-        Detail::Malformed(malformed) => {
-            put(text, ": ")?;
-            put_cause(text, malformed.cause)
-        }
-        Detail::NoMachine => put(text, ": no machine is ready; limits and machine come first"),
-        Detail::MachineReady => put(
-            text,
-            ": a machine is ready already; limits and machine come before it",
-        ),
-        Detail::CarriageReturn => put(text, "; the line ends with a carriage return"),
-        _ => Ok(()),
+        Detail::Malformed(_) => ": ",
+        Detail::NoMachine => ": no machine is ready; limits and machine come first",
+        Detail::MachineReady => ": a machine is ready already; limits and machine come before it",
+        Detail::CarriageReturn => "; the line ends with a carriage return",
+        _ => "",
+    }
+}
+
+/// Appends what is wrong with a line.
+fn put_finding(text: &mut Text<'_>, finding: &Finding) {
+    put_answer(text, finding.fault, finding.detail);
+    text.put(detail_words(finding.detail));
+    if let Detail::Malformed(malformed) = finding.detail {
+        put_cause(text, malformed.cause);
     }
 }
 
 /// Appends what is wrong with a line: its answer, and why, with what to do, where there is
 /// something.
 pub fn say(text: &mut Vec<u8>, finding: &Finding) -> Result<(), AllocError> {
-    put_answer(text, finding.fault, finding.detail)?;
-    put_detail(text, finding.detail)
+    let mut text = Text::of(text);
+    put_finding(&mut text, finding);
+    text.end()
 }
 
 /// Appends where a finding stands: the name of the text, the line, and for bad words the column.
-fn put_place(text: &mut Vec<u8>, name: &str, place: u64, detail: Detail) -> Result<(), AllocError> {
-    put(text, name)?;
-    put_number(text, ":", place)?;
+fn put_place(text: &mut Text<'_>, name: &str, place: u64, detail: Detail) {
+    text.put(name);
+    text.put_number(":", place);
     if let Detail::Malformed(malformed) = detail {
-        put_number(text, ":", malformed.column as u64)?;
+        text.put_number(":", malformed.column as u64);
     }
-    put(text, ": ")
+    text.put(": ");
 }
 
 /// Appends a line about a line: where it stands, by the name of its text and its place there from
@@ -291,13 +310,17 @@ pub fn say_line(
     place: u64,
     finding: &Finding,
 ) -> Result<(), AllocError> {
-    put_place(text, name, place, finding.detail)?;
-    say(text, finding)?;
-    put(text, "\n")
+    let mut text = Text::of(text);
+    put_place(&mut text, name, place, finding.detail);
+    put_finding(&mut text, finding);
+    text.put("\n");
+    text.end()
 }
 
 /// Appends a line about so many lines that weren't judged.
 pub fn say_unjudged(text: &mut Vec<u8>, count: u64) -> Result<(), AllocError> {
-    put_number(text, "not judged, since no machine was ready: ", count)?;
-    put(text, "\n")
+    let mut text = Text::of(text);
+    text.put_number("not judged, since no machine was ready: ", count);
+    text.put("\n");
+    text.end()
 }
