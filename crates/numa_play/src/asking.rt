@@ -1,7 +1,7 @@
 //! Where pages would go after scripts.
 use crate::findings::Findings;
 use crate::halt::{Halt, halt_of};
-use crate::question::{Question, ask};
+use crate::question::{Question, ask, space_after, space_of};
 use numa_compile::compile;
 use numa_files::{Stop, TakeLine};
 use numa_plan::Plan;
@@ -24,17 +24,12 @@ pub struct Asked {
     pub cpu: u32,
 }
 
-/// The space that a script has led to.
-pub(crate) fn space_of(script: &Script) -> Result<&Space, Halt> {
-    match script.core() {
-        Some(core) => Ok(core.space()),
-        None => Err(Halt::NoMachine),
-    }
-}
-
 /// What stands in the space that a script has led to.
 fn outlook_in(alloc: Global, script: &Script) -> Result<Outlook, Halt> {
-    let space = space_of(script)?;
+    let space = match space_of(script) {
+        Ok(space) => space,
+        Err(halt) => return Err(halt),
+    };
     match outlook_of(alloc, space) {
         Ok(outlook) => Ok(outlook),
         Err(fault) => Err(halt_of(fault, space.machine().nodes())),
@@ -43,11 +38,13 @@ fn outlook_in(alloc: Global, script: &Script) -> Result<Outlook, Halt> {
 
 /// The first node of free pages that a machine of so many nodes lacks.
 fn lacking_node(free: &[FreePages], nodes: u32) -> Option<u8> {
-    let lacking = free.iter().find(|one| u32::from(one.node) >= nodes)?;
-    Some(lacking.node)
+    match free.iter().find(|one| u32::from(one.node) >= nodes) {
+        Some(lacking) => Some(lacking.node),
+        None => None,
+    }
 }
 
-/// Where the mapped pages of a space would go, as a text.
+/// Where the mapped pages of a space would go by its plan, as a text.
 fn text_of(
     alloc: Global,
     space: &Space,
@@ -62,15 +59,14 @@ fn text_of(
     filling_text(alloc, space, plan, asked.task, asked.cpu, format, free)
 }
 
-/// Where the mapped pages of a script's space would go, as a text.
+/// Where the mapped pages of a space would go, as a text.
 fn prediction_of(
     alloc: Global,
-    script: &Script,
+    space: &Space,
     asked: Asked,
     format: Format,
     free: &[FreePages],
 ) -> Result<Vec<u8>, Halt> {
-    let space = space_of(script)?;
     if let Some(node) = lacking_node(free, space.machine().nodes()) {
         return Err(Halt::NoFreeNode(node, space.machine().nodes()));
     }
@@ -95,8 +91,10 @@ struct Prediction<'a> {
 
 impl Question for Prediction<'_> {
     fn answer<T: Write>(self, alloc: Global, findings: &mut Findings<T>) -> Result<Vec<u8>, Halt> {
-        findings.end()?;
-        prediction_of(alloc, findings.script(), self.asked, self.format, self.free)
+        match space_after(findings) {
+            Ok(space) => prediction_of(alloc, space, self.asked, self.format, self.free),
+            Err(halt) => Err(halt),
+        }
     }
 }
 
@@ -128,7 +126,9 @@ pub fn predict<R: Read + Drop, W: Write, T: Write + Drop>(
 fn play_lines<T: Write>(findings: &mut Findings<T>, lines: &[String]) -> Result<(), Stop> {
     let mut place = 1u64;
     for line in lines {
-        findings.take(ADDED, place, line.as_str().as_bytes())?;
+        if let Err(why) = findings.take(ADDED, place, line.as_str().as_bytes()) {
+            return Err(why);
+        }
         place = place.saturating_add(1);
     }
     findings.end()
@@ -141,8 +141,14 @@ fn difference_of(
     script: &Script,
     asked: Asked,
 ) -> Result<Vec<u8>, Halt> {
-    let nodes = space_of(script)?.machine().nodes();
-    let after = outlook_in(alloc, script)?;
+    let nodes = match space_of(script) {
+        Ok(space) => space.machine().nodes(),
+        Err(halt) => return Err(halt),
+    };
+    let after = match outlook_in(alloc, script) {
+        Ok(after) => after,
+        Err(halt) => return Err(halt),
+    };
     let text = difference_text(alloc, before, &after, nodes, asked.task, asked.cpu);
     drop(after);
     match text {
@@ -156,10 +162,10 @@ fn difference_of(
 fn outlook_before<T: Write>(alloc: Global, findings: &mut Findings<T>) -> Result<Outlook, Halt> {
     match outlook_in(alloc, findings.script()) {
         Ok(outlook) => Ok(outlook),
-        Err(halt) => {
-            findings.end()?;
-            Err(halt)
-        }
+        Err(halt) => match findings.end() {
+            Ok(()) => Err(halt),
+            Err(why) => Err(Halt::Stopped(why)),
+        },
     }
 }
 
@@ -171,8 +177,10 @@ fn difference_from<T: Write>(
     lines: &[String],
     asked: Asked,
 ) -> Result<Vec<u8>, Halt> {
-    play_lines(findings, lines)?;
-    difference_of(alloc, before, findings.script(), asked)
+    match play_lines(findings, lines) {
+        Ok(()) => difference_of(alloc, before, findings.script(), asked),
+        Err(why) => Err(Halt::Stopped(why)),
+    }
 }
 
 /// Which pages would go elsewhere after lines that are added.
@@ -184,7 +192,10 @@ struct Difference<'a> {
 
 impl Question for Difference<'_> {
     fn answer<T: Write>(self, alloc: Global, findings: &mut Findings<T>) -> Result<Vec<u8>, Halt> {
-        let before = outlook_before(alloc, findings)?;
+        let before = match outlook_before(alloc, findings) {
+            Ok(before) => before,
+            Err(halt) => return Err(halt),
+        };
         let text = difference_from(alloc, &before, findings, self.lines, self.asked);
         drop(before);
         text

@@ -1,26 +1,29 @@
 //! Why a page goes where it goes, after scripts.
-use crate::asking::{Asked, space_of};
+use crate::asking::Asked;
 use crate::findings::Findings;
 use crate::halt::Halt;
-use crate::question::{Question, ask};
+use crate::question::{Question, ask, space_after};
 use numa_files::Stop;
 use numa_machine::Machine;
 use numa_reasons::{Explanation, ReasonFault, say};
-use numa_run::Script;
-use numa_space::PlaceRefusal;
+use numa_space::{PlaceRefusal, Space};
 use std::alloc::Global;
 use std::io::{Read, Write};
 
 /// Reasons as a text.
 fn text_of(alloc: Global, machine: &Machine, said: &Explanation) -> Result<Vec<u8>, Halt> {
     let mut text = String::new(alloc);
-    say(&mut text, machine, said)?;
-    Ok(text.into_bytes())
+    match say(&mut text, machine, said) {
+        Ok(()) => Ok(text.into_bytes()),
+        Err(_) => {
+            drop(text);
+            Err(Halt::Stopped(Stop::Memory))
+        }
+    }
 }
 
-/// Why a page goes where it goes in the space that a script has led to, as a text.
-fn reasons_of(alloc: Global, script: &Script, asked: Asked, page: u64) -> Result<Vec<u8>, Halt> {
-    let space = space_of(script)?;
+/// Why a page goes where it goes in a space, as a text.
+fn reasons_of(alloc: Global, space: &Space, asked: Asked, page: u64) -> Result<Vec<u8>, Halt> {
     match numa_reasons::explain(alloc, space, asked.task, page, asked.cpu) {
         Ok(said) => {
             let text = text_of(alloc, space.machine(), &said);
@@ -44,8 +47,10 @@ struct Reasons {
 
 impl Question for Reasons {
     fn answer<T: Write>(self, alloc: Global, findings: &mut Findings<T>) -> Result<Vec<u8>, Halt> {
-        findings.end()?;
-        reasons_of(alloc, findings.script(), self.asked, self.page)
+        match space_after(findings) {
+            Ok(space) => reasons_of(alloc, space, self.asked, self.page),
+            Err(halt) => Err(halt),
+        }
     }
 }
 

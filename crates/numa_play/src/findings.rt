@@ -50,7 +50,7 @@ impl<W: Write> Findings<W> {
         if self.text.is_empty() {
             return Ok(());
         }
-        if self.output.write_all(self.text.as_slice()).is_err() {
+        if let Err(_) = self.output.write_all(self.text.as_slice()) {
             return Err(Stop::Write);
         }
         self.text.clear();
@@ -59,7 +59,9 @@ impl<W: Write> Findings<W> {
 
     /// Tells what was found in a line.
     fn tell(&mut self, name: &str, place: u64, finding: &Finding) -> Result<(), Stop> {
-        say_line(&mut self.text, name, place, finding)?;
+        if let Err(_) = say_line(&mut self.text, name, place, finding) {
+            return Err(Stop::Memory);
+        }
         self.told = self.told.saturating_add(1);
         if self.text.len() >= GATHERED {
             return self.flush();
@@ -70,7 +72,9 @@ impl<W: Write> Findings<W> {
     /// Tells how many lines weren't judged, where some weren't, and writes what is to be written.
     pub fn end(&mut self) -> Result<(), Stop> {
         if self.unjudged > 0 {
-            say_unjudged(&mut self.text, self.unjudged)?;
+            if let Err(_) = say_unjudged(&mut self.text, self.unjudged) {
+                return Err(Stop::Memory);
+            }
         }
         self.flush()
     }

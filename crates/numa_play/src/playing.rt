@@ -16,8 +16,10 @@ impl<W: Write> TakeText for Checking<W> {
     }
 
     fn take(&mut self, piece: &[u8]) -> Result<(), Stop> {
-        self.lines.take(piece)?;
-        self.lines.taker.flush()
+        match self.lines.take(piece) {
+            Ok(()) => self.lines.taker.flush(),
+            Err(why) => Err(why),
+        }
     }
 
     fn end(&mut self) -> Result<(), Stop> {
@@ -50,8 +52,10 @@ pub fn play<R: Read + Drop, W: Write + Drop>(
 
 /// Ends what is told. Whether nothing was.
 fn find_nothing<W: Write>(findings: &mut Findings<W>) -> Result<bool, Stop> {
-    findings.end()?;
-    Ok(!findings.has_faults())
+    match findings.end() {
+        Ok(()) => Ok(!findings.has_faults()),
+        Err(why) => Err(why),
+    }
 }
 
 /// Reads the texts in turn, as one script, and tells the writer what is wrong with their lines.
@@ -64,7 +68,10 @@ pub fn check<R: Read + Drop, W: Write + Drop>(
     texts: Vec<(String, R)>,
     output: W,
 ) -> Result<bool, Stop> {
-    let mut findings = play(alloc, texts, output)?;
+    let mut findings = match play(alloc, texts, output) {
+        Ok(findings) => findings,
+        Err(why) => return Err(why),
+    };
     let is_fine = find_nothing(&mut findings);
     drop(findings);
     is_fine

@@ -3,6 +3,8 @@ use crate::findings::Findings;
 use crate::halt::Halt;
 use crate::playing::play;
 use numa_files::Stop;
+use numa_run::Script;
+use numa_space::Space;
 use std::alloc::Global;
 use std::io::{Read, Write};
 
@@ -10,6 +12,22 @@ use std::io::{Read, Write};
 pub(crate) trait Question {
     /// Ends what is told of the played scripts, and gives the answer as a text.
     fn answer<T: Write>(self, alloc: Global, findings: &mut Findings<T>) -> Result<Vec<u8>, Halt>;
+}
+
+/// Ends what is told, and gives the space that the scripts have led to.
+pub(crate) fn space_after<T: Write>(findings: &mut Findings<T>) -> Result<&Space, Halt> {
+    match findings.end() {
+        Ok(()) => space_of(findings.script()),
+        Err(why) => Err(Halt::Stopped(why)),
+    }
+}
+
+/// The space that a script has led to.
+pub(crate) fn space_of(script: &Script) -> Result<&Space, Halt> {
+    match script.core() {
+        Some(core) => Ok(core.space()),
+        None => Err(Halt::NoMachine),
+    }
 }
 
 /// Writes an answer.
@@ -27,8 +45,14 @@ fn write_answer<Q: Question, W: Write, T: Write>(
     findings: &mut Findings<T>,
     output: &mut W,
 ) -> Result<(), Halt> {
-    let text = question.answer(alloc, findings)?;
-    write(text.as_slice(), output)
+    match question.answer(alloc, findings) {
+        Ok(text) => {
+            let written = write(text.as_slice(), output);
+            drop(text);
+            written
+        }
+        Err(halt) => Err(halt),
+    }
 }
 
 /// Plays the texts as one script, and writes the answer to a question about the state that they
@@ -41,7 +65,13 @@ pub(crate) fn ask<R: Read + Drop, Q: Question + Drop, W: Write, T: Write + Drop>
     output: &mut W,
     told: T,
 ) -> Result<(), Halt> {
-    let mut findings = play(alloc, texts, told)?;
+    let mut findings = match play(alloc, texts, told) {
+        Ok(findings) => findings,
+        Err(why) => {
+            drop(question);
+            return Err(Halt::Stopped(why));
+        }
+    };
     let written = write_answer(alloc, question, &mut findings, output);
     drop(findings);
     written

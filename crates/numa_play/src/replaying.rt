@@ -1,18 +1,16 @@
 //! Traces that are replayed after scripts.
-use crate::asking::space_of;
 use crate::findings::Findings;
 use crate::halt::Halt;
-use crate::question::{Question, ask};
+use crate::question::{Question, ask, space_after};
 use numa_compile::compile;
 use numa_files::Stop;
-use numa_run::Script;
+use numa_space::Space;
 use numa_traces::{Replaying, Shape, replay_lines, report_text};
 use std::alloc::Global;
 use std::io::{Read, Write};
 
-/// A replay in the space that a script has led to, before its first line.
-fn replaying_of(alloc: Global, script: &Script) -> Result<Replaying, Halt> {
-    let space = space_of(script)?;
+/// A replay in a space, before its first line.
+fn replaying_of(alloc: Global, space: &Space) -> Result<Replaying, Halt> {
     let Ok(plan) = compile(alloc, space) else {
         return Err(Halt::Stopped(Stop::Memory));
     };
@@ -22,37 +20,39 @@ fn replaying_of(alloc: Global, script: &Script) -> Result<Replaying, Halt> {
     }
 }
 
-/// What a trace met on the machine of a script, as a text.
+/// What a trace met on the machine of a space, as a text.
 fn met(
     alloc: Global,
-    script: &Script,
+    space: &Space,
     replaying: &Replaying,
     format: Shape,
 ) -> Result<Vec<u8>, Halt> {
     if let Some((place, fault)) = replaying.fault() {
         return Err(Halt::BadAccess(place, fault));
     }
-    let space = space_of(script)?;
     match report_text(alloc, space.machine(), replaying.replay(), format) {
         Ok(text) => Ok(text.into_bytes()),
         Err(_) => Err(Halt::Stopped(Stop::Memory)),
     }
 }
 
-/// Replays a trace in the space that a script has led to, and gives what it met as a text.
+/// Replays a trace in a space, and gives what it met as a text.
 fn replayed<S: Read + Drop>(
     alloc: Global,
-    script: &Script,
+    space: &Space,
     trace: Vec<(String, S)>,
     format: Shape,
 ) -> Result<Vec<u8>, Halt> {
-    let replaying = match replaying_of(alloc, script) {
+    let replaying = match replaying_of(alloc, space) {
         Ok(replaying) => replaying,
-        Err(halt) => return Err(halt),
+        Err(halt) => {
+            drop(trace);
+            return Err(halt);
+        }
     };
     match replay_lines(alloc, trace, replaying) {
         Ok(replaying) => {
-            let text = met(alloc, script, &replaying, format);
+            let text = met(alloc, space, &replaying, format);
             drop(replaying);
             text
         }
@@ -69,10 +69,13 @@ struct Trace<S> {
 
 impl<S: Read + Drop> Question for Trace<S> {
     fn answer<T: Write>(self, alloc: Global, findings: &mut Findings<T>) -> Result<Vec<u8>, Halt> {
-        if let Err(why) = findings.end() {
-            return Err(Halt::Stopped(why));
+        match space_after(findings) {
+            Ok(space) => replayed(alloc, space, self.texts, self.format),
+            Err(halt) => {
+                drop(self);
+                Err(halt)
+            }
         }
-        replayed(alloc, findings.script(), self.texts, self.format)
     }
 }
 
