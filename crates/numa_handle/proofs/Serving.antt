@@ -17,7 +17,7 @@ serves-kept old found before later line answer e is serves =
     subst (λ (d : Dialog). Serves d line answer later) (same found before (sym (ap (λ (k : Kept). dialog_of (Some k)) e) ∙ is)) serves
 
 -- the same handle's value, before it was taken out and after it was put back
-pub serves-same : (old old_kept new new_kept : Option Dialog) (line : List ℕ) (answer : Result ℕ LineRefusal) → old ≡ old_kept → new ≡ new_kept → ServesKept old_kept line answer new_kept
-    → ServesKept old line answer new
+pub serves-same : (old old_kept new new_kept : Option Dialog) (line : List ℕ) (answer : Result ℕ LineRefusal) → old ≡ old_kept → new ≡ new_kept → ServesKept line old_kept new_kept answer
+    → ServesKept line old new answer
 serves-same old old_kept new new_kept line answer e f serves =
-    subst (λ (d : Option Dialog). ServesKept d line answer new) (sym e) (subst (λ (d : Option Dialog). ServesKept old_kept line answer d) (sym f) serves)
+    subst (λ (d : Option Dialog). ServesKept line d new answer) (sym e) (subst (λ (d : Option Dialog). ServesKept line old_kept d answer) (sym f) serves)

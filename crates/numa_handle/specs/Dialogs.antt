@@ -35,8 +35,8 @@ Serves before line (Err refused.AnswerLost) later = (later.answer.items ≡ [])
     × IsServed before line later (λ answer. Unit {0})
 
 -- the same of what is kept: a script before and a script after
-abbrev pub ServesKept : Option Dialog → List ℕ → Result ℕ LineRefusal → Option Dialog → Type 0
-ServesKept old line answer new = (before : Dialog) → old ≡ Some before →
+abbrev pub ServesKept : List ℕ → Option Dialog → Option Dialog → Result ℕ LineRefusal → Type 0
+ServesKept line old new answer = (before : Dialog) → old ≡ Some before →
     (later : Dialog) × (new ≡ Some later) × Serves before line answer later
 
 -- the answer stands in front of the room, which held `old`, or it is longer than the room

@@ -1,6 +1,6 @@
 //! A handle of a core.
-ghost use Rattle.std.specs.Prelude.{◌≡◌, Some, None, true, MatchOption, IfOk};
-ghost use Rattle.numa_handle.specs.Calls.{Calls, Keeps};
+ghost use Rattle.std.specs.Prelude.{◌≡◌, Some, None, true, IfOk};
+ghost use Rattle.numa_handle.specs.Calls.{Asks, Calls, Keeps};
 ghost use Rattle.numa_handle.specs.Kinds.{core_of, is_core};
 ghost use Rattle.numa_handle.specs.Steps.{core_in, Steps, Touches, Compiles, HasVersions};
 
@@ -111,10 +111,8 @@ impl CoreHandle {
     /// # Errors
     /// `NoMemory` where there is none for the plan.
     pub fn compile(&mut self, alloc: Global) -> Option<Result<Plan, NoMemory>>
-        ensures same { core_in self.new ≡ core_in self.old }
-        ensures closed { core_in self.old ≡ None → result ≡ None }
-        ensures plan { MatchOption result (core_in self.old ≡ None)
-            (λ answer. IfOk answer (Compiles (core_in self.old))) }
+        ensures { Asks (λ answer. IfOk answer (Compiles (core_in self.old))) (core_in self.old)
+            result (core_in self.new) }
     {
         let mut kept = self.handle.take(alloc)?;
         let answer = compile_kept(&mut kept, alloc);
@@ -125,10 +123,8 @@ impl CoreHandle {
     /// How many commands were accepted, and how many of them are published; None where it keeps no
     /// core.
     pub fn versions(&mut self, alloc: Global) -> Option<(u64, u64)>
-        ensures same { core_in self.new ≡ core_in self.old }
-        ensures closed { core_in self.old ≡ None → result ≡ None }
-        ensures versions { MatchOption result (core_in self.old ≡ None)
-            (λ both. HasVersions (core_in self.old) both.0 both.1) }
+        ensures { Asks (λ both. HasVersions (core_in self.old) both.0 both.1) (core_in self.old)
+            result (core_in self.new) }
     {
         let kept = self.handle.take(alloc)?;
         let core = core_kept(&kept);

@@ -1,12 +1,12 @@
 //! What a handle of a core answers: a copy of the core, its ranges, and their listing.
-ghost use Rattle.std.specs.Prelude.{◌≡◌, ◌≤◌, ◌^◌, Some, None, true, MatchOption, IfSome, List};
+ghost use Rattle.std.specs.Prelude.{◌≡◌, ◌≤◌, ◌^◌, Some, None, true, IfSome, List};
 ghost use Rattle.std.specs.Prelude.{IfOk, length, slice_get};
 ghost use Rattle.numa_maps.specs.Listing.{AreRangesOf, IsListing, listing_in};
 ghost use Rattle.numa_ranges.specs.Runs.{end_of};
 ghost use Rattle.numa_space.specs.Standing.{StandsFor};
 ghost use Rattle.numa_space.specs.declared.command.Command.{Command};
 ghost use Rattle.numa_handle.specs.Asked.{HasRanges, HasRangeAt, HasListing};
-ghost use Rattle.numa_handle.specs.Calls.{IsShared};
+ghost use Rattle.numa_handle.specs.Calls.{Asks, IsShared};
 ghost use Rattle.numa_handle.specs.Kinds.{core_of, is_core};
 ghost use Rattle.numa_handle.specs.Steps.{core_in, Publishes};
 
@@ -82,10 +82,8 @@ impl CoreHandle {
     /// # Errors
     /// There was no memory for it.
     pub fn published_plan(&mut self, alloc: Global) -> Option<Result<Plan, NoMemory>>
-        ensures same { core_in self.new ≡ core_in self.old }
-        ensures closed { core_in self.old ≡ None → result ≡ None }
-        ensures plan { MatchOption result (core_in self.old ≡ None)
-            (λ answer. IfOk answer (Publishes (core_in self.old))) }
+        ensures { Asks (λ answer. IfOk answer (Publishes (core_in self.old))) (core_in self.old)
+            result (core_in self.new) }
     {
         let kept = self.handle.take(alloc)?;
         let answer = core_kept(&kept).plan().copy(alloc);
@@ -95,10 +93,7 @@ impl CoreHandle {
 
     /// How many ranges of pages there are, by all accepted commands; None where it keeps no core.
     pub fn ranges(&mut self, alloc: Global) -> Option<usize>
-        ensures same { core_in self.new ≡ core_in self.old }
-        ensures closed { core_in self.old ≡ None → result ≡ None }
-        ensures ranges { MatchOption result (core_in self.old ≡ None)
-            (λ count. HasRanges (core_in self.old) count) }
+        ensures { Asks (HasRanges (core_in self.old)) (core_in self.old) result (core_in self.new) }
     {
         let kept = self.handle.take(alloc)?;
         let count = core_kept(&kept).space().ranges();
@@ -108,10 +103,8 @@ impl CoreHandle {
 
     /// The range at a place, the lowest being at 0, or no range; None where it keeps no core.
     pub fn range(&mut self, alloc: Global, place: usize) -> Option<Option<Run<RangeRecord>>>
-        ensures same { core_in self.new ≡ core_in self.old }
-        ensures closed { core_in self.old ≡ None → result ≡ None }
-        ensures range { MatchOption result (core_in self.old ≡ None)
-            (λ found. HasRangeAt (core_in self.old) place found) }
+        ensures range { Asks (HasRangeAt (core_in self.old) place) (core_in self.old) result
+            (core_in self.new) }
         ensures end { IfSome result (λ found. IfSome found (λ range. end_of range ≤ 2 ^ 35)) }
     {
         let kept = self.handle.take(alloc)?;
@@ -131,10 +124,9 @@ impl CoreHandle {
         task: u32,
         placed: &Resident,
     ) -> Option<Result<Vec<u8>, AllocError>>
-        ensures same { core_in self.new ≡ core_in self.old }
-        ensures closed { core_in self.old ≡ None → result ≡ None }
-        ensures text { MatchOption result (core_in self.old ≡ None) (λ answer.
-            IfOk answer (λ text. HasListing (core_in self.old) task placed.now text.items)) }
+        ensures { Asks (λ answer. IfOk answer (λ text.
+            HasListing (core_in self.old) task placed.now text.items)) (core_in self.old) result
+            (core_in self.new) }
     {
         let kept = self.handle.take(alloc)?;
         let answer = listing_of(alloc, core_kept(&kept).space(), task, placed);

@@ -1,4 +1,5 @@
-//! The handles of each kind.
+//! The handles of each kind. Whether one is open, and its closing, are the same for all: calls of
+//! its `handle`.
 ghost use Rattle.std.specs.Prelude.{◌≡◌, true};
 ghost use Rattle.numa_handle.specs.Kinds.{is_core, is_plan, is_script, is_seat};
 

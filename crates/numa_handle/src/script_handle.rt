@@ -1,6 +1,7 @@
 //! A handle of a script.
-ghost use Rattle.std.specs.Prelude.{◌≡◌, [], Some, None, true, MatchOption, IfSome, OnOk, OnErr};
+ghost use Rattle.std.specs.Prelude.{◌≡◌, Some, None, true, IfSome};
 ghost use Rattle.std.specs.Prelude.{is_some, is_ok};
+ghost use Rattle.numa_handle.specs.Calls.{Asks, Calls};
 ghost use Rattle.numa_handle.specs.Dialogs.{dialog_in, IsFresh, ServesKept, CopiesKept};
 ghost use Rattle.numa_handle.specs.Kinds.{dialog_of, is_script};
 
@@ -13,8 +14,8 @@ use std::alloc::{AllocError, Global};
 fn line_kept(kept: &mut Kept, alloc: Global, line: &[u8]) -> Result<usize, LineRefusal>
     requires script { is_script (Some kept.old) ≡ true }
     ensures script { is_script (Some kept.new) ≡ true }
-    ensures serves { ServesKept (dialog_of (Some kept.old)) line.now result
-        (dialog_of (Some kept.new)) }
+    ensures serves { ServesKept line.now (dialog_of (Some kept.old)) (dialog_of (Some kept.new))
+        result }
 {
     match kept {
         Kept::Script(dialog) => dialog.line(alloc, line),
@@ -52,10 +53,7 @@ impl ScriptHandle {
     /// `NoMemory` where nothing has changed; `AnswerLost` where the line was served and there was
     /// no memory for its answer: then no answer is kept.
     pub fn line(&mut self, alloc: Global, line: &[u8]) -> Option<Result<usize, LineRefusal>>
-        ensures closed { dialog_in self.old ≡ None → (result ≡ None)
-            × (dialog_in self.new ≡ None) }
-        ensures serves { MatchOption result (dialog_in self.old ≡ None) (λ answer.
-            ServesKept (dialog_in self.old) line.now answer (dialog_in self.new)) }
+        ensures { Calls (ServesKept line.now) (dialog_in self.old) result (dialog_in self.new) }
     {
         let mut kept = self.handle.take(alloc)?;
         let answer = line_kept(&mut kept, alloc, line);
@@ -68,10 +66,9 @@ impl ScriptHandle {
     /// # Errors
     /// How long it is, where it is longer than the room for it.
     pub fn answer(&mut self, alloc: Global, room: &mut [u8]) -> Option<Result<usize, usize>>
-        ensures same { dialog_in self.new ≡ dialog_in self.old }
-        ensures closed { dialog_in self.old ≡ None → (result ≡ None) × (room.new ≡ room.old) }
-        ensures copies { MatchOption result (dialog_in self.old ≡ None) (λ told.
-            CopiesKept (dialog_in self.old) told room.old room.new) }
+        ensures copies { Asks (λ told. CopiesKept (dialog_in self.old) told room.old room.new)
+            (dialog_in self.old) result (dialog_in self.new) }
+        ensures closed { dialog_in self.old ≡ None → room.new ≡ room.old }
     {
         let kept = self.handle.take(alloc)?;
         let told = copy_kept(&kept, room);

@@ -93,7 +93,7 @@ pub extern "C" fn np_script_line(
         × (length.new ≡ length.old) }
     ensures serves { (kept : Dialog) → dialog_in script.old ≡ Some kept →
         (answer : Result ℕ LineRefusal) × (result ≡ line_code answer)
-        × ServesKept (dialog_in script.old) line.now answer (dialog_in script.new)
+        × ServesKept line.now (dialog_in script.old) (dialog_in script.new) answer
         × (length.new ≡ length_told answer length.old) }
 {
     match script.line(alloc, line) {
