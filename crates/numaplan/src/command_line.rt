@@ -2,8 +2,10 @@
 ghost use Rattle.std.specs.Prelude.{IfOk};
 ghost use Rattle.numaplan.specs.Jobs.{CanBeDone};
 
-use crate::jobs::{Job, JobFault};
-use crate::words::{check, diff, expect, explain, predict, replay, run, storm};
+use crate::files;
+use crate::jobs::{Job, JobFault, Work};
+use crate::words::usage::with_word;
+use crate::words::{WORDS, diff, explain, predict, replay, storm};
 use clap::error::ErrorKind;
 use clap::{ArgMatches, Command, Error};
 use std::alloc::{AllocError, Global};
@@ -27,7 +29,7 @@ docs/COMMANDS.md.";
 /// What is told where there is no command.
 const NO_COMMAND: &str = "error: a command is missing\n\nFor more information, try '--help'.\n";
 
-/// A word that the program knows.
+/// A word that does something with scripts.
 #[derive(Clone, Copy)]
 enum Word {
     Run,
@@ -37,7 +39,6 @@ enum Word {
     Diff,
     Explain,
     Replay,
-    Storm,
 }
 
 /// The word of this name.
@@ -50,17 +51,8 @@ fn word_of(name: &str) -> Option<Word> {
         "diff" => Some(Word::Diff),
         "explain" => Some(Word::Explain),
         "replay" => Some(Word::Replay),
-        "storm" => Some(Word::Storm),
         _ => None,
     }
-}
-
-/// The program with one word more.
-fn with_word<'a>(
-    program: Result<Command<'a>, AllocError>,
-    word: Result<Command<'a>, AllocError>,
-) -> Result<Command<'a>, AllocError> {
-    program?.subcommand(word?)
 }
 
 /// The program before its first word.
@@ -75,14 +67,11 @@ fn bare_program<'a>(alloc: Global) -> Command<'a> {
 
 /// The commands that the program knows.
 fn command<'a>(alloc: Global) -> Result<Command<'a>, AllocError> {
-    let program = with_word(Ok(bare_program(alloc)), run::command(alloc));
-    let program = with_word(program, check::command(alloc));
-    let program = with_word(program, expect::command(alloc));
-    let program = with_word(program, predict::command(alloc));
-    let program = with_word(program, diff::command(alloc));
-    let program = with_word(program, explain::command(alloc));
-    let program = with_word(program, replay::command(alloc));
-    with_word(program, storm::command(alloc))
+    let mut program = bare_program(alloc);
+    for word in &WORDS {
+        program = with_word(alloc, program, word)?;
+    }
+    Ok(program)
 }
 
 /// What an error of the command line is.
@@ -98,19 +87,35 @@ fn fault(alloc: Global, error: &Error) -> JobFault {
     }
 }
 
-/// The job of a word.
+/// What a word asks to be done with scripts.
+fn work_of(alloc: Global, word: Word, matches: &ArgMatches<'_>) -> Result<Work, JobFault> {
+    match word {
+        Word::Run => Ok(Work::Run {
+            echo: matches.get_flag("echo"),
+        }),
+        Word::Check => Ok(Work::Check),
+        Word::Expect => Ok(Work::Expect),
+        Word::Predict => predict::work(alloc, matches),
+        Word::Diff => diff::work(alloc, matches),
+        Word::Explain => explain::work(alloc, matches),
+        Word::Replay => replay::work(alloc, matches),
+    }
+}
+
+/// The job of a word that does something with scripts.
 fn word_job(alloc: Global, word: Word, matches: &ArgMatches<'_>) -> Result<Job, JobFault>
     ensures { IfOk result CanBeDone }
 {
-    match word {
-        Word::Run => run::job(alloc, matches),
-        Word::Check => check::job(alloc, matches),
-        Word::Expect => expect::job(alloc, matches),
-        Word::Predict => predict::job(alloc, matches),
-        Word::Diff => diff::job(alloc, matches),
-        Word::Explain => explain::job(alloc, matches),
-        Word::Replay => replay::job(alloc, matches),
-        Word::Storm => storm::job(alloc, matches),
+    let work = match work_of(alloc, word, matches) {
+        Ok(work) => work,
+        Err(fault) => return Err(fault),
+    };
+    match files::named(alloc, matches) {
+        Ok(names) => Ok(Job::Scripts { files: names, work }),
+        Err(_) => {
+            drop(work);
+            Err(JobFault::NoMemory)
+        }
     }
 }
 
@@ -119,11 +124,14 @@ fn known_job(alloc: Global, matches: &ArgMatches<'_>) -> Result<Job, JobFault>
     ensures { IfOk result CanBeDone }
 {
     if let Some((name, words)) = matches.subcommand() {
+        if name == "storm" {
+            return storm::job(alloc, words);
+        }
         if let Some(word) = word_of(name) {
             return word_job(alloc, word, words);
         }
     }
-    Err(JobFault::Usage(String::from_str(alloc, NO_COMMAND)?))
+    Err(JobFault::usage(alloc, NO_COMMAND))
 }
 
 /// The job that the words of a command line ask for; the first word is the program's name. `Help`
@@ -132,8 +140,15 @@ fn known_job(alloc: Global, matches: &ArgMatches<'_>) -> Result<Job, JobFault>
 pub fn job(alloc: Global, words: &[String]) -> Result<Job, JobFault>
     ensures { IfOk result CanBeDone }
 {
-    match command(alloc)?.try_get_matches_from(words) {
-        Ok(matches) => known_job(alloc, &matches),
+    let Ok(command) = command(alloc) else {
+        return Err(JobFault::NoMemory);
+    };
+    match command.try_get_matches_from(words) {
+        Ok(matches) => {
+            let job = known_job(alloc, &matches);
+            drop(matches);
+            job
+        }
         Err(error) => Err(fault(alloc, &error)),
     }
 }

@@ -10,6 +10,12 @@ use std::process::ExitCode;
 /// The status where the scripts make no machine, or a line of the trace can't be replayed.
 const NOT_AS_ASKED: u8 = 3;
 
+/// What is told where no machine is ready.
+const NO_MACHINE: &str = "error: no machine is ready after the scripts";
+
+/// What is told where the page that is asked of isn't mapped.
+const NO_PAGE: &str = "error: the page of '<ADDRESS>' isn't mapped after the scripts";
+
 /// Standard error, as a writer of UTF-8.
 #[derive(Drop)]
 pub struct Told<'a, R> {
@@ -61,13 +67,29 @@ pub fn stop(rt: &impl Eprint, why: Stop) -> ExitCode {
     }
 }
 
+/// Ends with words on standard error, and this status.
+fn end_with(rt: &impl Eprint, status: u8, words: &str) -> ExitCode {
+    let _ = eprintln!(rt; "{words}");
+    ExitCode::from(status)
+}
+
+/// Ends where an option names a node, between these words, that the machine of so many lacks.
+fn lack_node(rt: &impl Eprint, words: &str, node: u32, behind: &str, nodes: u32) -> ExitCode {
+    let last = nodes.saturating_sub(1);
+    let _ = eprintln!(rt; "error: '{words}{node}{behind}': the machine's nodes are 0 to {last}");
+    ExitCode::from(2)
+}
+
+/// Ends where a line of the trace of this name can't be replayed.
+fn end_trace(rt: &impl Eprint, trace: &str, place: u64, why: &str) -> ExitCode {
+    let _ = eprintln!(rt; "{trace}:{place}: {why}");
+    ExitCode::from(NOT_AS_ASKED)
+}
+
 /// Ends with the answer to a question about played scripts, or with why there is none.
 pub fn answered(rt: &impl Eprint, asked: Asked, answer: Result<(), Halt>) -> ExitCode {
     if let Err(Halt::NoNode(nodes)) = answer {
-        let cpu = asked.cpu;
-        let last = nodes.saturating_sub(1);
-        let _ = eprintln!(rt; "error: '--cpu {cpu}': the machine's nodes are 0 to {last}");
-        return ExitCode::from(2);
+        return lack_node(rt, "--cpu ", asked.cpu, "", nodes);
     }
     ended(rt, "", answer)
 }
@@ -77,24 +99,12 @@ pub fn ended(rt: &impl Eprint, trace: &str, answer: Result<(), Halt>) -> ExitCod
     match answer {
         Ok(()) => ExitCode::SUCCESS,
         Err(Halt::Stopped(why)) => stop(rt, why),
-        Err(Halt::NoMachine) => {
-            let _ = eprintln!(rt; "error: no machine is ready after the scripts");
-            ExitCode::from(NOT_AS_ASKED)
-        }
+        Err(Halt::NoMachine) => end_with(rt, NOT_AS_ASKED, NO_MACHINE),
         Err(Halt::NoNode(_)) => ExitCode::from(2),
         Err(Halt::NoFreeNode(node, nodes)) => {
-            let last = nodes.saturating_sub(1);
-            let _ = eprintln!(rt; "error: '--free {node}=..': the machine's nodes are 0 to {last}");
-            ExitCode::from(2)
+            lack_node(rt, "--free ", u32::from(node), "=..", nodes)
         }
-        Err(Halt::Unmapped) => {
-            let _ = eprintln!(rt; "error: the page of '<ADDRESS>' isn't mapped after the scripts");
-            ExitCode::from(2)
-        }
-        Err(Halt::BadAccess(place, fault)) => {
-            let why = fault.text();
-            let _ = eprintln!(rt; "{trace}:{place}: {why}");
-            ExitCode::from(NOT_AS_ASKED)
-        }
+        Err(Halt::Unmapped) => end_with(rt, 2, NO_PAGE),
+        Err(Halt::BadAccess(place, fault)) => end_trace(rt, trace, place, fault.text()),
     }
 }

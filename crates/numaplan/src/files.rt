@@ -1,6 +1,6 @@
 //! The files that a word is given: `-` is standard input, which is also read where none is named.
 use crate::jobs::JobFault;
-use clap::{Arg, ArgAction, ArgMatches};
+use clap::ArgMatches;
 use std::alloc::{AllocError, Global};
 use std::fs::OpenFile;
 use std::io::{ErrorKind, IsTerminal, Read};
@@ -26,12 +26,12 @@ impl<F: Read, I: Read> Read for Source<F, I> {
     }
 }
 
-/// The argument `[FILE]..` of a word.
-pub fn argument<'a>(alloc: Global) -> Arg<'a> {
-    Arg::new(alloc, "FILE")
-        .help("Scripts, read in turn; - is standard input, which is read where none is named")
-        .num_args(0..)
-        .action(ArgAction::Append)
+/// Adds copies of texts.
+fn add_texts(alloc: Global, said: &[&str], texts: &mut Vec<String>) -> Result<(), AllocError> {
+    for text in said {
+        texts.push(String::from_str(alloc, text)?)?;
+    }
+    Ok(())
 }
 
 /// The values of an argument, as they were given.
@@ -41,10 +41,10 @@ pub fn texts_of(
     id: &str,
 ) -> Result<Vec<String>, AllocError> {
     let mut texts = Vec::new(alloc);
-    for text in matches.get_strs(id).unwrap_or(&[]) {
-        texts.push(String::from_str(alloc, text)?)?;
+    match add_texts(alloc, matches.get_strs(id).unwrap_or(&[]), &mut texts) {
+        Ok(()) => Ok(texts),
+        Err(error) => Err(error),
     }
-    Ok(texts)
 }
 
 /// The files that are named.
@@ -73,6 +73,17 @@ fn open_file<R: Files>(rt: &R, name: &str) -> io::Result<R::File> {
     Ok(file)
 }
 
+/// Why a file of this name can't be opened.
+fn open_fault(alloc: Global, name: &str, error: &io::Error) -> JobFault {
+    if error.kind() == ErrorKind::OutOfMemory {
+        return JobFault::NoMemory;
+    }
+    match format!(in alloc; "error: can't open '{name}': {error}\n") {
+        Ok(text) => JobFault::Usage(text),
+        Err(_) => JobFault::NoMemory,
+    }
+}
+
 /// Opens what has this name.
 fn open<R>(rt: &R, name: &str) -> Result<Source<R::File, R::Reader>, JobFault>
 where
@@ -84,10 +95,7 @@ where
     }
     match open_file(rt, name) {
         Ok(file) => Ok(Source::File(file)),
-        Err(error) if error.kind() == ErrorKind::OutOfMemory => Err(JobFault::NoMemory),
-        Err(error) => Err(JobFault::Usage(format!(in rt.alloc();
-            "error: can't open '{name}': {error}\n"
-        )?)),
+        Err(error) => Err(open_fault(rt.alloc(), name, &error)),
     }
 }
 
@@ -100,9 +108,19 @@ where
     R: Files + Input + Eprint + AllocGlobal,
     R::Reader: IsTerminal,
 {
-    let named = String::from_str(rt.alloc(), name)?;
-    texts.push((named, open(rt, name)?))?;
-    Ok(())
+    let Ok(named) = String::from_str(rt.alloc(), name) else {
+        return Err(JobFault::NoMemory);
+    };
+    match open(rt, name) {
+        Ok(source) => match texts.push((named, source)) {
+            Ok(()) => Ok(()),
+            Err(_) => Err(JobFault::NoMemory),
+        },
+        Err(fault) => {
+            drop(named);
+            Err(fault)
+        }
+    }
 }
 
 /// Opens the files in turn, and standard input where none is named.

@@ -1,6 +1,6 @@
 //! What the program is asked to do.
 use numa_play::{Asked, Format, FreePages, Shape};
-use std::alloc::{AllocError, AllocFailed};
+use std::alloc::{AllocError, Global};
 
 /// What is asked of pages that a task would touch.
 #[derive(Drop)]
@@ -16,31 +16,27 @@ pub enum Question {
     Explain(u64),
 }
 
+/// What is done with scripts, which are read in turn.
+#[derive(Drop)]
+pub enum Work {
+    /// To answer them; each line beside its answer, where `echo` says so.
+    Run { echo: bool },
+    /// To compare worked scripts with what their lines are answered.
+    Expect,
+    /// To tell what is wrong with them.
+    Check,
+    /// To answer a question about the state that they lead to.
+    Ask { asked: Asked, question: Question },
+    /// To replay the trace of the one file that `trace` names after them.
+    Replay { trace: Vec<String>, format: Shape },
+}
+
 /// What the program is asked to do.
 #[derive(Drop)]
 pub enum Job {
-    /// To answer the scripts of these files in turn, `-` being standard input, which is read where
-    /// none is named; each line beside its answer, where `echo` says so.
-    Run {
-        files: Vec<String>,
-        echo: bool,
-    },
-    /// To compare these worked scripts with what their lines are answered.
-    Expect(Vec<String>),
-    /// To tell what is wrong with the scripts of these files.
-    Check(Vec<String>),
-    /// To answer a question about the state that the scripts of these files lead to.
-    Ask {
-        files: Vec<String>,
-        asked: Asked,
-        question: Question,
-    },
-    /// To replay the trace of the one file that `trace` names after the scripts of these files.
-    Replay {
-        files: Vec<String>,
-        trace: Vec<String>,
-        format: Shape,
-    },
+    /// To do this with the scripts of these files, `-` being standard input, which is read where
+    /// none is named.
+    Scripts { files: Vec<String>, work: Work },
     /// To let so many workers place pages while policies change.
     Storm(u32),
 }
@@ -56,14 +52,18 @@ pub enum JobFault {
     NoMemory,
 }
 
-impl From<AllocError> for JobFault {
-    fn from(_error: AllocError) -> JobFault {
-        JobFault::NoMemory
+impl JobFault {
+    /// A faulty command line, and what to tell.
+    pub fn usage(alloc: Global, words: &str) -> JobFault {
+        match String::from_str(alloc, words) {
+            Ok(text) => JobFault::Usage(text),
+            Err(_) => JobFault::NoMemory,
+        }
     }
 }
 
-impl<T: Drop> From<AllocFailed<T>> for JobFault {
-    fn from(_failed: AllocFailed<T>) -> JobFault {
+impl From<AllocError> for JobFault {
+    fn from(_error: AllocError) -> JobFault {
         JobFault::NoMemory
     }
 }

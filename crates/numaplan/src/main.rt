@@ -16,9 +16,9 @@ mod words;
 
 use command_line::job;
 use endings::tell_fault;
-use jobs::{Job, JobFault};
+use jobs::{Job, JobFault, Work};
 use std::env::Env;
-use std::io::IsTerminal;
+use std::io::{IsTerminal, Read};
 use std::process::ExitCode;
 use std::rt::Files;
 use std::sync::Wait;
@@ -32,9 +32,12 @@ const NOT_UTF_8: &str = "error: an argument isn't UTF-8\n\nFor more information,
 /// The words of the command line, the program's name first. `Usage` where one of them isn't UTF-8.
 fn command_words<R: Env + AllocGlobal>(rt: &R) -> Result<Vec<String>, JobFault> {
     match env::args(rt) {
-        Ok(words) => Ok(words.collect(rt.alloc())?),
+        Ok(words) => match words.collect(rt.alloc()) {
+            Ok(words) => Ok(words),
+            Err(_) => Err(JobFault::NoMemory),
+        },
         Err(error) if error.kind() == io::ErrorKind::OutOfMemory => Err(JobFault::NoMemory),
-        Err(_) => Err(JobFault::Usage(String::from_str(rt.alloc(), NOT_UTF_8)?)),
+        Err(_) => Err(JobFault::usage(rt.alloc(), NOT_UTF_8)),
     }
 }
 
@@ -46,6 +49,34 @@ fn asked_job<R: Env + AllocGlobal>(rt: &R) -> Result<Job, JobFault>
     job(rt.alloc(), words.as_slice())
 }
 
+/// Does work with scripts.
+fn work_done<R, S>(rt: &R, texts: Vec<(String, S)>, work: &Work) -> Result<ExitCode, JobFault>
+where
+    R: Files + Input + Print + Eprint + AllocGlobal,
+    R::Reader: IsTerminal,
+    S: Read + Drop,
+{
+    match work {
+        Work::Run { echo } => Ok(run::answer(rt, texts, *echo)),
+        Work::Check => Ok(check::check(rt, texts)),
+        Work::Expect => Ok(expect::check(rt, texts)),
+        Work::Ask { asked, question } => Ok(asked::answer(rt, texts, *asked, question)),
+        Work::Replay { trace, format } => replay::answer(rt, texts, trace, *format),
+    }
+}
+
+/// Does work with the scripts of files.
+fn files_done<R>(rt: &R, names: &[String], work: &Work) -> Result<ExitCode, JobFault>
+where
+    R: Files + Input + Print + Eprint + AllocGlobal,
+    R::Reader: IsTerminal,
+{
+    match files::open_all(rt, names) {
+        Ok(texts) => work_done(rt, texts, work),
+        Err(fault) => Err(fault),
+    }
+}
+
 /// Does a job.
 fn done<R>(rt: &R, job: &Job) -> Result<ExitCode, JobFault>
 where
@@ -54,19 +85,7 @@ where
     requires { CanBeDone job.now }
 {
     match job {
-        Job::Run { files, echo } => run::answer(rt, files, *echo),
-        Job::Check(files) => check::check(rt, files),
-        Job::Expect(files) => expect::check(rt, files),
-        Job::Ask {
-            files,
-            asked,
-            question,
-        } => asked::answer(rt, files, *asked, question),
-        Job::Replay {
-            files,
-            trace,
-            format,
-        } => replay::answer(rt, files, trace, *format),
+        Job::Scripts { files, work } => files_done(rt, files, work),
         Job::Storm(workers) => Ok(storm::show(rt, *workers)),
     }
 }

@@ -1,59 +1,52 @@
 //! Words that ask about pages that a task would touch, by `--task T --cpu C`.
-ghost use Rattle.std.specs.Prelude.{IfOk};
-ghost use Rattle.numaplan.specs.Jobs.{CanBeDone};
-
 use crate::endings::{Told, answered};
-use crate::files;
-use crate::jobs::{Job, JobFault, Question};
-use crate::words::wanted::wanted;
-use crate::words::{command_of, with_arg};
-use clap::{Arg, ArgMatches, Command, value_parser};
+use crate::jobs::{JobFault, Question, Work};
+use crate::words::usage::{Argument, Takes};
+use clap::ArgMatches;
 use numa_play::{Asked, Halt};
-use std::alloc::{AllocError, Global};
+use std::alloc::Global;
 use std::io;
-use std::io::{IsTerminal, Read};
+use std::io::Read;
 use std::process::ExitCode;
-use std::rt::Files;
 
 /// What is told where a number is missing.
 const MISSING: &str = "error: '--task <T>' and '--cpu <C>' are wanted\n";
 
-/// An option that takes a number, and has to be there.
-fn number<'a>(alloc: Global, name: &'a str, value: &'a str, help: &'a str) -> Arg<'a> {
-    wanted(alloc, name, value, help).value_parser(value_parser!(u32))
-}
+/// The option `--task T`.
+pub const TASK: Argument = Argument {
+    name: "task",
+    value: "T",
+    help: "The task that touches the pages",
+    is_required: true,
+    takes: Takes::Number,
+};
 
-/// The command of a word that asks by both options, with what its help says: in a line, in full,
-/// and at its end.
-pub fn command<'a>(
-    alloc: Global,
-    word: &'a str,
-    line: &'a str,
-    about: &'a str,
-    more: &'a str,
-) -> Result<Command<'a>, AllocError> {
-    let task = number(alloc, "task", "T", "The task that touches the pages");
-    let cpu = number(alloc, "cpu", "C", "The node of the CPU on which it does");
-    with_arg(command_of(alloc, word, line, about, more).arg(task), cpu)
-}
+/// The option `--cpu C`.
+pub const CPU: Argument = Argument {
+    name: "cpu",
+    value: "C",
+    help: "The node of the CPU on which it does",
+    is_required: true,
+    takes: Takes::Number,
+};
 
 /// What the options say.
 fn asked(alloc: Global, matches: &ArgMatches<'_>) -> Result<Asked, JobFault> {
     match (matches.get_one("task"), matches.get_one("cpu")) {
         (Some(task), Some(cpu)) => Ok(Asked { task, cpu }),
-        _ => Err(JobFault::Usage(String::from_str(alloc, MISSING)?)),
+        _ => Err(JobFault::usage(alloc, MISSING)),
     }
 }
 
-/// The job that asks a question by the options.
-pub fn job(alloc: Global, matches: &ArgMatches<'_>, question: Question) -> Result<Job, JobFault>
-    ensures { IfOk result CanBeDone }
-{
-    Ok(Job::Ask {
-        files: files::named(alloc, matches)?,
-        asked: asked(alloc, matches)?,
-        question,
-    })
+/// To ask a question by the options.
+pub fn work(alloc: Global, matches: &ArgMatches<'_>, question: Question) -> Result<Work, JobFault> {
+    match asked(alloc, matches) {
+        Ok(asked) => Ok(Work::Ask { asked, question }),
+        Err(fault) => {
+            drop(question);
+            Err(fault)
+        }
+    }
 }
 
 /// Asks a question about the state that the texts lead to.
@@ -76,17 +69,11 @@ where
     }
 }
 
-/// Answers a question about the state that the scripts of files lead to.
-pub fn answer<R>(
-    rt: &R,
-    names: &[String],
-    asked: Asked,
-    question: &Question,
-) -> Result<ExitCode, JobFault>
+/// Answers a question about the state that the texts lead to.
+pub fn answer<R, S>(rt: &R, texts: Vec<(String, S)>, asked: Asked, question: &Question) -> ExitCode
 where
-    R: Files + Input + Print + Eprint + AllocGlobal,
-    R::Reader: IsTerminal,
+    R: Print + Eprint + AllocGlobal,
+    S: Read + Drop,
 {
-    let texts = files::open_all(rt, names)?;
-    Ok(answered(rt, asked, ask(rt, texts, asked, question)))
+    answered(rt, asked, ask(rt, texts, asked, question))
 }

@@ -1,17 +1,9 @@
 //! `numaplan check [FILE]..`: tells what is wrong with scripts.
-ghost use Rattle.std.specs.Prelude.{IfOk};
-ghost use Rattle.numaplan.specs.Jobs.{CanBeDone};
-
 use crate::endings::stop;
-use crate::files;
-use crate::jobs::{Job, JobFault};
-use crate::words::command_of;
-use clap::{ArgMatches, Command};
-use std::alloc::{AllocError, Global};
+use crate::words::usage::{FILES, Word};
 use std::io;
-use std::io::IsTerminal;
+use std::io::Read;
 use std::process::ExitCode;
-use std::rt::Files;
 
 /// What the help says in a line.
 const LINE: &str = "Tells what is wrong with scripts, and what to do about it";
@@ -30,28 +22,24 @@ const MORE: &str =
 /// The status where something was told.
 const TOLD: u8 = 3;
 
-/// The command.
-pub fn command<'a>(alloc: Global) -> Result<Command<'a>, AllocError> {
-    command_of(alloc, "check", LINE, ABOUT, MORE).arg(files::argument(alloc))
-}
-
-/// The job that its words ask for.
-pub fn job(alloc: Global, matches: &ArgMatches<'_>) -> Result<Job, JobFault>
-    ensures { IfOk result CanBeDone }
-{
-    Ok(Job::Check(files::named(alloc, matches)?))
-}
+/// The word.
+pub const WORD: Word = Word {
+    name: "check",
+    line: LINE,
+    about: ABOUT,
+    more: MORE,
+    arguments: &[FILES],
+};
 
 /// Checks the scripts.
-pub fn check<R>(rt: &R, names: &[String]) -> Result<ExitCode, JobFault>
+pub fn check<R, S>(rt: &R, texts: Vec<(String, S)>) -> ExitCode
 where
-    R: Files + Input + Print + Eprint + AllocGlobal,
-    R::Reader: IsTerminal,
+    R: Print + Eprint + AllocGlobal,
+    S: Read + Drop,
 {
-    let texts = files::open_all(rt, names)?;
     match numa_play::check(rt.alloc(), texts, io::writer(rt)) {
-        Ok(true) => Ok(ExitCode::SUCCESS),
-        Ok(false) => Ok(ExitCode::from(TOLD)),
-        Err(why) => Ok(stop(rt, why)),
+        Ok(true) => ExitCode::SUCCESS,
+        Ok(false) => ExitCode::from(TOLD),
+        Err(why) => stop(rt, why),
     }
 }

@@ -1,13 +1,11 @@
 //! `numaplan diff --task T --cpu C --then LINE [FILE]..`: tells which pages would go elsewhere.
-ghost use Rattle.std.specs.Prelude.{IfOk};
-ghost use Rattle.numaplan.specs.Jobs.{CanBeDone};
-
 use crate::files;
-use crate::jobs::{Job, JobFault, Question};
-use crate::words::wanted::wanted;
-use crate::words::{asked, with_arg};
-use clap::{ArgAction, ArgMatches, Command};
-use std::alloc::{AllocError, Global};
+use crate::jobs::{JobFault, Question, Work};
+use crate::words::asked;
+use crate::words::asked::{CPU, TASK};
+use crate::words::usage::{Argument, FILES, Takes, Word};
+use clap::ArgMatches;
+use std::alloc::Global;
 
 /// What the help says in a line.
 const LINE: &str = "Tells which pages would go elsewhere if lines were added to scripts";
@@ -25,23 +23,26 @@ const MORE: &str =
     "Example, from the top of the repository:\n  ./numaplan diff --task 1 --cpu 0 --then 'mems 0' \
 examples/homes.numaplan";
 
-/// The command.
-pub fn command<'a>(alloc: Global) -> Result<Command<'a>, AllocError> {
-    let word = asked::command(alloc, "diff", LINE, ABOUT, MORE);
-    let line = wanted(
-        alloc,
-        "then",
-        "LINE",
-        "A script line that is added; several in turn",
-    );
-    let word = with_arg(word, line.action(ArgAction::Append));
-    with_arg(word, files::argument(alloc))
-}
+/// The option `--then LINE`.
+const THEN: Argument = Argument {
+    name: "then",
+    value: "LINE",
+    help: "A script line that is added; several in turn",
+    is_required: true,
+    takes: Takes::Texts,
+};
 
-/// The job that its words ask for.
-pub fn job(alloc: Global, matches: &ArgMatches<'_>) -> Result<Job, JobFault>
-    ensures { IfOk result CanBeDone }
-{
+/// The word.
+pub const WORD: Word = Word {
+    name: "diff",
+    line: LINE,
+    about: ABOUT,
+    more: MORE,
+    arguments: &[TASK, CPU, THEN, FILES],
+};
+
+/// What its words ask for.
+pub fn work(alloc: Global, matches: &ArgMatches<'_>) -> Result<Work, JobFault> {
     let lines = files::texts_of(alloc, matches, "then")?;
-    asked::job(alloc, matches, Question::Diff(lines))
+    asked::work(alloc, matches, Question::Diff(lines))
 }

@@ -1,20 +1,11 @@
 //! `numaplan expect FILE..`: compares worked scripts with what their lines are answered.
-ghost use Rattle.std.specs.Prelude.{IfOk};
-ghost use Rattle.numaplan.specs.Jobs.{CanBeDone};
-
 use crate::answering::Answering;
 use crate::endings::stop;
-use crate::files;
-use crate::files::Source;
-use crate::jobs::{Job, JobFault};
-use crate::words::command_of;
-use clap::{ArgMatches, Command};
+use crate::words::usage::{Argument, Takes, Word};
 use numa_files::{Expect, Stop, read_all};
-use std::alloc::{AllocError, Global};
 use std::io;
-use std::io::IsTerminal;
+use std::io::{Read, Write};
 use std::process::ExitCode;
-use std::rt::Files;
 
 /// What the help says in a line.
 const LINE: &str = "Compares the answers that scripts hold with those that they get";
@@ -36,23 +27,26 @@ repository:\n  ./numaplan expect examples/*.answers";
 /// The status where an answer is not as wanted.
 const DIFFERENT: u8 = 3;
 
-/// The command.
-pub fn command<'a>(alloc: Global) -> Result<Command<'a>, AllocError> {
-    let file = files::argument(alloc)
-        .help("Worked scripts; - is standard input")
-        .required(true);
-    command_of(alloc, "expect", LINE, ABOUT, MORE).arg(file)
-}
+/// The argument `FILE..`.
+const WORKED: Argument = Argument {
+    name: "FILE",
+    value: "",
+    help: "Worked scripts; - is standard input",
+    is_required: true,
+    takes: Takes::Files,
+};
 
-/// The job that its words ask for.
-pub fn job(alloc: Global, matches: &ArgMatches<'_>) -> Result<Job, JobFault>
-    ensures { IfOk result CanBeDone }
-{
-    Ok(Job::Expect(files::named(alloc, matches)?))
-}
+/// The word.
+pub const WORD: Word = Word {
+    name: "expect",
+    line: LINE,
+    about: ABOUT,
+    more: MORE,
+    arguments: &[WORKED],
+};
 
 /// Reads worked scripts, and tells the counts. Whether all answers are as wanted.
-fn compare_by<S: io::Read + Drop, W: io::Write>(
+fn compare_by<S: Read + Drop, W: Write>(
     texts: Vec<(String, S)>,
     expect: &mut Expect<Answering, W>,
 ) -> Result<bool, Stop> {
@@ -62,11 +56,10 @@ fn compare_by<S: io::Read + Drop, W: io::Write>(
 }
 
 /// Compares worked scripts. Whether all answers are as wanted.
-fn compare<R, F, I>(rt: &R, texts: Vec<(String, Source<F, I>)>) -> Result<bool, Stop>
+fn compare<R, S>(rt: &R, texts: Vec<(String, S)>) -> Result<bool, Stop>
 where
     R: Print + AllocGlobal,
-    F: io::Read + Drop,
-    I: io::Read + Drop,
+    S: Read + Drop,
 {
     let answering = Answering::new(rt.alloc());
     let mut expect = Expect::new(rt.alloc(), answering, io::writer(rt));
@@ -75,16 +68,15 @@ where
     is_same
 }
 
-/// Compares the worked scripts of files.
-pub fn check<R>(rt: &R, names: &[String]) -> Result<ExitCode, JobFault>
+/// Compares worked scripts.
+pub fn check<R, S>(rt: &R, texts: Vec<(String, S)>) -> ExitCode
 where
-    R: Files + Input + Print + Eprint + AllocGlobal,
-    R::Reader: IsTerminal,
+    R: Print + Eprint + AllocGlobal,
+    S: Read + Drop,
 {
-    let texts = files::open_all(rt, names)?;
     match compare(rt, texts) {
-        Ok(true) => Ok(ExitCode::SUCCESS),
-        Ok(false) => Ok(ExitCode::from(DIFFERENT)),
-        Err(fault) => Ok(stop(rt, fault)),
+        Ok(true) => ExitCode::SUCCESS,
+        Ok(false) => ExitCode::from(DIFFERENT),
+        Err(fault) => stop(rt, fault),
     }
 }

@@ -1,13 +1,11 @@
 //! `numaplan explain --task T --cpu C ADDRESS [FILE]..`: tells why a page goes where it goes.
-ghost use Rattle.std.specs.Prelude.{IfOk};
-ghost use Rattle.numaplan.specs.Jobs.{CanBeDone};
-
-use crate::files;
-use crate::jobs::{Job, JobFault, Question};
-use crate::words::{asked, with_arg};
-use clap::{Arg, ArgAction, ArgMatches, Command};
+use crate::jobs::{JobFault, Question, Work};
+use crate::words::asked;
+use crate::words::asked::{CPU, TASK};
+use crate::words::usage::{Argument, FILES, Takes, Word};
+use clap::ArgMatches;
 use numa_script::number::number;
-use std::alloc::{AllocError, Global};
+use std::alloc::Global;
 
 /// What the help says in a line.
 const LINE: &str = "Tells why a page goes where it goes";
@@ -31,23 +29,29 @@ const BAD_ADDRESS: &str =
     "error: '<ADDRESS>' takes a number below 2^64, decimal or 0x and hexadecimal\n\nFor more \
 information, try '--help'.\n";
 
-/// The command.
-pub fn command<'a>(alloc: Global) -> Result<Command<'a>, AllocError> {
-    let word = asked::command(alloc, "explain", LINE, ABOUT, MORE);
-    let address = Arg::new(alloc, "ADDRESS")
-        .help("An address of the page, in bytes")
-        .required(true)
-        .action(ArgAction::Set);
-    with_arg(with_arg(word, address), files::argument(alloc))
-}
+/// The argument `ADDRESS`.
+const ADDRESS: Argument = Argument {
+    name: "ADDRESS",
+    value: "",
+    help: "An address of the page, in bytes",
+    is_required: true,
+    takes: Takes::Bare,
+};
 
-/// The job that its words ask for.
-pub fn job(alloc: Global, matches: &ArgMatches<'_>) -> Result<Job, JobFault>
-    ensures { IfOk result CanBeDone }
-{
+/// The word.
+pub const WORD: Word = Word {
+    name: "explain",
+    line: LINE,
+    about: ABOUT,
+    more: MORE,
+    arguments: &[TASK, CPU, ADDRESS, FILES],
+};
+
+/// What its words ask for.
+pub fn work(alloc: Global, matches: &ArgMatches<'_>) -> Result<Work, JobFault> {
     let word = matches.get_str("ADDRESS").unwrap_or("");
     match number(word.as_bytes()) {
-        Some(address) => asked::job(alloc, matches, Question::Explain(address / 4096)),
-        None => Err(JobFault::Usage(String::from_str(alloc, BAD_ADDRESS)?)),
+        Some(address) => asked::work(alloc, matches, Question::Explain(address / 4096)),
+        None => Err(JobFault::usage(alloc, BAD_ADDRESS)),
     }
 }

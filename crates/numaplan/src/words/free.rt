@@ -1,6 +1,7 @@
 //! How many free pages nodes have: `--free NODE=PAGES,..`.
 use crate::jobs::JobFault;
-use clap::{Arg, ArgAction, ArgMatches};
+use crate::words::usage::{Argument, Takes};
+use clap::ArgMatches;
 use numa_play::FreePages;
 use numa_script::number::number;
 use std::alloc::{AllocError, Global};
@@ -10,24 +11,30 @@ const BAD: &str =
     "error: '--free <NODE=PAGES,..>': nodes from 0 to 255, each once, with numbers of pages, as in \
 0=1000,1=0\n";
 
-/// The option.
-pub fn option<'a>(alloc: Global) -> Arg<'a> {
-    Arg::new(alloc, "free")
-        .long("free")
-        .value_name("NODE=PAGES,..")
-        .help("So many free pages on these nodes")
-        .action(ArgAction::Set)
-}
+/// The option `--free NODE=PAGES,..`.
+pub const FREE: Argument = Argument {
+    name: "free",
+    value: "NODE=PAGES,..",
+    help: "So many free pages on these nodes",
+    is_required: false,
+    takes: Takes::Text,
+};
 
 /// One node with its free pages.
 fn one(text: &[u8]) -> Option<FreePages> {
-    let place = text.iter().position(|byte| *byte == b'=')?;
-    let node = number(&text[..place])?;
-    let pages = number(&text[place + 1..])?;
-    Some(FreePages {
-        node: u8::try_from(node).ok()?,
-        pages,
-    })
+    let Some(place) = text.iter().position(|byte| *byte == b'=') else {
+        return None;
+    };
+    let Some(node) = number(&text[..place]) else {
+        return None;
+    };
+    let Ok(node) = u8::try_from(node) else {
+        return None;
+    };
+    let Some(pages) = number(&text[place + 1..]) else {
+        return None;
+    };
+    Some(FreePages { node, pages })
 }
 
 /// Whether the node is named.
@@ -54,6 +61,6 @@ pub fn named(alloc: Global, matches: &ArgMatches<'_>) -> Result<Vec<FreePages>, 
     };
     match read(alloc, text)? {
         Some(named) => Ok(named),
-        None => Err(JobFault::Usage(String::from_str(alloc, BAD)?)),
+        None => Err(JobFault::usage(alloc, BAD)),
     }
 }

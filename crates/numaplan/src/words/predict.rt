@@ -1,15 +1,13 @@
 //! `numaplan predict --task T --cpu C [--free NODE=PAGES,..] [FILE]..`: tells where pages would go
 //! after scripts.
-ghost use Rattle.std.specs.Prelude.{IfOk};
-ghost use Rattle.numaplan.specs.Jobs.{CanBeDone};
-
-use crate::files;
-use crate::jobs::{Job, JobFault, Question};
-use crate::words::format::format_option;
-use crate::words::{asked, free, with_arg};
-use clap::{Arg, ArgAction, ArgMatches, Command};
+use crate::jobs::{JobFault, Question, Work};
+use crate::words::asked::{CPU, TASK};
+use crate::words::free::FREE;
+use crate::words::usage::{Argument, FILES, Takes, Word};
+use crate::words::{asked, free};
+use clap::ArgMatches;
 use numa_play::Format;
-use std::alloc::{AllocError, Global};
+use std::alloc::Global;
 
 /// What the help says in a line.
 const LINE: &str = "Tells where pages would go after scripts, if a task touched them";
@@ -29,16 +27,23 @@ const MORE: &str =
     "Example, from the top of the repository:\n  ./numaplan predict --task 1 --cpu 0 \
 examples/homes.numaplan";
 
-/// The names of the formats.
-const FORMATS: [&str; 4] = ["text", "json", "csv", "svg"];
+/// The option `--format FORMAT`.
+const FORMAT: Argument = Argument {
+    name: "format",
+    value: "FORMAT",
+    help: "How the answer is written",
+    is_required: false,
+    takes: Takes::OneOf(&["text", "json", "csv", "svg"]),
+};
 
-/// The command.
-pub fn command<'a>(alloc: Global) -> Result<Command<'a>, AllocError> {
-    let word = asked::command(alloc, "predict", LINE, ABOUT, MORE);
-    let word = with_arg(word, format_option(alloc, &FORMATS));
-    let word = with_arg(word, free::option(alloc));
-    with_arg(word, files::argument(alloc))
-}
+/// The word.
+pub const WORD: Word = Word {
+    name: "predict",
+    line: LINE,
+    about: ABOUT,
+    more: MORE,
+    arguments: &[TASK, CPU, FORMAT, FREE, FILES],
+};
 
 /// The format of this name.
 fn format_of(name: Option<&str>) -> Format {
@@ -50,11 +55,9 @@ fn format_of(name: Option<&str>) -> Format {
     }
 }
 
-/// The job that its words ask for.
-pub fn job(alloc: Global, matches: &ArgMatches<'_>) -> Result<Job, JobFault>
-    ensures { IfOk result CanBeDone }
-{
+/// What its words ask for.
+pub fn work(alloc: Global, matches: &ArgMatches<'_>) -> Result<Work, JobFault> {
     let format = format_of(matches.get_str("format"));
     let free = free::named(alloc, matches)?;
-    asked::job(alloc, matches, Question::Predict { format, free })
+    asked::work(alloc, matches, Question::Predict { format, free })
 }

@@ -1,18 +1,13 @@
 //! `numaplan replay --trace TRACE [FILE]..`: tells what a trace of accesses meets.
-ghost use Rattle.std.specs.Prelude.{IfOk};
-ghost use Rattle.numaplan.specs.Jobs.{CanBeDone};
-
 use crate::endings::{Told, ended};
 use crate::files;
-use crate::jobs::{Job, JobFault};
-use crate::words::format::format_option;
-use crate::words::wanted::wanted;
-use crate::words::{command_of, with_arg};
-use clap::{ArgMatches, Command};
+use crate::jobs::{JobFault, Work};
+use crate::words::usage::{Argument, FILES, Takes, Word};
+use clap::ArgMatches;
 use numa_play::Shape;
-use std::alloc::{AllocError, Global};
+use std::alloc::Global;
 use std::io;
-use std::io::IsTerminal;
+use std::io::{IsTerminal, Read};
 use std::process::ExitCode;
 use std::rt::Files;
 
@@ -35,24 +30,32 @@ const MORE: &str =
     "Example, from the top of the repository:\n  ./numaplan replay --trace examples/replayed.trace \
 examples/interleaved-range.numaplan";
 
-/// What is told where there is no trace.
-const NO_TRACE: &str = "error: '--trace <TRACE>' is wanted\n";
+/// The option `--trace TRACE`.
+const TRACE: Argument = Argument {
+    name: "trace",
+    value: "TRACE",
+    help: "The file of the trace; - is standard input",
+    is_required: true,
+    takes: Takes::Text,
+};
 
-/// The names of the formats.
-const FORMATS: [&str; 2] = ["text", "json"];
+/// The option `--format FORMAT`.
+const FORMAT: Argument = Argument {
+    name: "format",
+    value: "FORMAT",
+    help: "How the answer is written",
+    is_required: false,
+    takes: Takes::OneOf(&["text", "json"]),
+};
 
-/// The command.
-pub fn command<'a>(alloc: Global) -> Result<Command<'a>, AllocError> {
-    let trace = wanted(
-        alloc,
-        "trace",
-        "TRACE",
-        "The file of the trace; - is standard input",
-    );
-    let word = command_of(alloc, "replay", LINE, ABOUT, MORE).arg(trace);
-    let word = with_arg(word, format_option(alloc, &FORMATS));
-    with_arg(word, files::argument(alloc))
-}
+/// The word.
+pub const WORD: Word = Word {
+    name: "replay",
+    line: LINE,
+    about: ABOUT,
+    more: MORE,
+    arguments: &[TRACE, FORMAT, FILES],
+};
 
 /// The format of this name.
 fn format_of(name: Option<&str>) -> Shape {
@@ -62,37 +65,52 @@ fn format_of(name: Option<&str>) -> Shape {
     }
 }
 
-/// The job that its words ask for.
-pub fn job(alloc: Global, matches: &ArgMatches<'_>) -> Result<Job, JobFault>
-    ensures { IfOk result CanBeDone }
-{
-    let Some(trace) = matches.get_str("trace") else {
-        return Err(JobFault::Usage(String::from_str(alloc, NO_TRACE)?));
-    };
-    let mut traces = Vec::new(alloc);
-    traces.push(String::from_str(alloc, trace)?)?;
-    Ok(Job::Replay {
-        files: files::named(alloc, matches)?,
-        trace: traces,
-        format: format_of(matches.get_str("format")),
-    })
+/// What its words ask for.
+pub fn work(alloc: Global, matches: &ArgMatches<'_>) -> Result<Work, JobFault> {
+    let trace = files::texts_of(alloc, matches, "trace")?;
+    let format = format_of(matches.get_str("format"));
+    Ok(Work::Replay { trace, format })
 }
 
-/// Replays a trace after the scripts of files.
-pub fn answer<R>(
+/// Replays a trace of this name after scripts.
+fn replay<R, S, T>(
     rt: &R,
-    names: &[String],
+    texts: Vec<(String, S)>,
+    name: &str,
+    traces: Vec<(String, T)>,
+    format: Shape,
+) -> ExitCode
+where
+    R: Print + Eprint + AllocGlobal,
+    S: Read + Drop,
+    T: Read + Drop,
+{
+    let mut output = io::writer(rt);
+    let answer = numa_play::replay(rt.alloc(), texts, traces, format, &mut output, Told { rt });
+    ended(rt, name, answer)
+}
+
+/// Replays the trace of a file after scripts.
+pub fn answer<R, S>(
+    rt: &R,
+    texts: Vec<(String, S)>,
     trace: &[String],
     format: Shape,
 ) -> Result<ExitCode, JobFault>
 where
     R: Files + Input + Print + Eprint + AllocGlobal,
     R::Reader: IsTerminal,
+    S: Read + Drop,
 {
-    let texts = files::open_all(rt, names)?;
-    let traces = files::open_all(rt, trace)?;
-    let mut output = io::writer(rt);
-    let name = trace.first().map_or("", |name| name.as_str());
-    let answer = numa_play::replay(rt.alloc(), texts, traces, format, &mut output, Told { rt });
-    Ok(ended(rt, name, answer))
+    let name = match trace.first() {
+        Some(name) => name.as_str(),
+        None => "",
+    };
+    match files::open_all(rt, trace) {
+        Ok(traces) => Ok(replay(rt, texts, name, traces, format)),
+        Err(fault) => {
+            drop(texts);
+            Err(fault)
+        }
+    }
 }

@@ -1,21 +1,13 @@
 //! `numaplan run [FILE]..`: answers scripts.
-ghost use Rattle.std.specs.Prelude.{IfOk};
-ghost use Rattle.numaplan.specs.Jobs.{CanBeDone};
-
 use crate::answering::Answering;
 use crate::endings::{fail, stop};
 use crate::files;
-use crate::files::Source;
-use crate::jobs::{Job, JobFault};
-use crate::words::{command_of, with_arg};
-use clap::{Arg, ArgAction, ArgMatches, Command};
+use crate::words::usage::{Argument, FILES, Takes, Word};
 use numa_files::{Echo, Joined, Lines, Stop, read_all};
 use numa_script::{RunFault, Watched};
-use std::alloc::{AllocError, Global};
 use std::io;
-use std::io::{IsTerminal, Read};
+use std::io::Read;
 use std::process::ExitCode;
-use std::rt::Files;
 
 /// What the help says in a line.
 const LINE: &str = "Answers the scripts of files, or of standard input";
@@ -31,47 +23,55 @@ const MORE: &str =
     "Example, from the top of the repository:\n  ./numaplan run examples/first-run.numaplan\n\nThe \
 language of scripts is told in docs/SCRIPT.md of the repository.";
 
-/// The command.
-pub fn command<'a>(alloc: Global) -> Result<Command<'a>, AllocError> {
-    let echo = Arg::new(alloc, "echo")
-        .long("echo")
-        .help("Writes each line of the script, and its answer behind `=> `")
-        .action(ArgAction::SetTrue);
-    let word = command_of(alloc, "run", LINE, ABOUT, MORE).arg(echo);
-    with_arg(word, files::argument(alloc))
-}
+/// The option `--echo`.
+const ECHO: Argument = Argument {
+    name: "echo",
+    value: "",
+    help: "Writes each line of the script, and its answer behind `=> `",
+    is_required: false,
+    takes: Takes::Nothing,
+};
 
-/// The job that its words ask for.
-pub fn job(alloc: Global, matches: &ArgMatches<'_>) -> Result<Job, JobFault>
-    ensures { IfOk result CanBeDone }
+/// The word.
+pub const WORD: Word = Word {
+    name: "run",
+    line: LINE,
+    about: ABOUT,
+    more: MORE,
+    arguments: &[ECHO, FILES],
+};
+
+/// Answers what these readers hold, as one script.
+fn answer_sources<R, S>(rt: &R, sources: Vec<S>) -> Result<(), RunFault>
+where
+    R: Print + AllocGlobal,
+    S: Read + Drop,
 {
-    Ok(Job::Run {
-        files: files::named(alloc, matches)?,
-        echo: matches.get_flag("echo"),
-    })
+    let mut input = Watched::new(Joined::new(sources));
+    let mut output = Watched::new(io::writer(rt));
+    let run = numa_run::run(rt.alloc(), &mut input, &mut output);
+    drop(output);
+    drop(input);
+    run
 }
 
 /// Answers scripts.
-fn answer_all<R, F, I>(rt: &R, texts: Vec<(String, Source<F, I>)>) -> Result<(), RunFault>
+fn answer_all<R, S>(rt: &R, texts: Vec<(String, S)>) -> Result<(), RunFault>
 where
     R: Print + AllocGlobal,
-    F: Read + Drop,
-    I: Read + Drop,
+    S: Read + Drop,
 {
-    let Ok(sources) = files::without_names(rt.alloc(), texts) else {
-        return Err(RunFault::Memory);
-    };
-    let mut input = Watched::new(Joined::new(sources));
-    let mut output = Watched::new(io::writer(rt));
-    numa_run::run(rt.alloc(), &mut input, &mut output)
+    match files::without_names(rt.alloc(), texts) {
+        Ok(sources) => answer_sources(rt, sources),
+        Err(_) => Err(RunFault::Memory),
+    }
 }
 
 /// Answers scripts, and writes each line beside its answer.
-fn echo_all<R, F, I>(rt: &R, texts: Vec<(String, Source<F, I>)>) -> Result<(), Stop>
+fn echo_all<R, S>(rt: &R, texts: Vec<(String, S)>) -> Result<(), Stop>
 where
     R: Print + AllocGlobal,
-    F: Read + Drop,
-    I: Read + Drop,
+    S: Read + Drop,
 {
     let answering = Answering::new(rt.alloc());
     let echo = Echo::new(rt.alloc(), answering, io::writer(rt));
@@ -81,21 +81,20 @@ where
     read
 }
 
-/// Answers the scripts of files, and says each line too, where `echo` says so.
-pub fn answer<R>(rt: &R, names: &[String], echo: bool) -> Result<ExitCode, JobFault>
+/// Answers scripts, and says each line too, where `echo` says so.
+pub fn answer<R, S>(rt: &R, texts: Vec<(String, S)>, echo: bool) -> ExitCode
 where
-    R: Files + Input + Print + Eprint + AllocGlobal,
-    R::Reader: IsTerminal,
+    R: Print + Eprint + AllocGlobal,
+    S: Read + Drop,
 {
-    let texts = files::open_all(rt, names)?;
     if echo {
         return match echo_all(rt, texts) {
-            Ok(()) => Ok(ExitCode::SUCCESS),
-            Err(why) => Ok(stop(rt, why)),
+            Ok(()) => ExitCode::SUCCESS,
+            Err(why) => stop(rt, why),
         };
     }
     match answer_all(rt, texts) {
-        Ok(()) => Ok(ExitCode::SUCCESS),
-        Err(fault) => Ok(fail(rt, fault)),
+        Ok(()) => ExitCode::SUCCESS,
+        Err(fault) => fail(rt, fault),
     }
 }

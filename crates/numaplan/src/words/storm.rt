@@ -5,11 +5,10 @@ ghost use Rattle.numaplan.specs.Jobs.{CanBeDone};
 
 use crate::endings::fail;
 use crate::jobs::{Job, JobFault};
-use crate::words::command_of;
-use crate::words::wanted::wanted;
-use clap::{ArgMatches, Command};
+use crate::words::usage::{Argument, Takes, Word};
+use clap::ArgMatches;
 use numa_script::Watched;
-use std::alloc::{AllocError, Global};
+use std::alloc::Global;
 use std::io;
 use std::process::ExitCode;
 use std::sync::Wait;
@@ -34,16 +33,23 @@ const MORE: &str = "Example, from the top of the repository:\n  ./numaplan storm
 const BAD_WORKERS: &str =
     "error: '--workers <K>' takes a number from 1 to 16\n\nFor more information, try '--help'.\n";
 
-/// The command.
-pub fn command<'a>(alloc: Global) -> Result<Command<'a>, AllocError> {
-    let workers = wanted(
-        alloc,
-        "workers",
-        "K",
-        "How many workers there are, from 1 to 16",
-    );
-    command_of(alloc, "storm", LINE, ABOUT, MORE).arg(workers)
-}
+/// The option `--workers K`.
+const WORKERS: Argument = Argument {
+    name: "workers",
+    value: "K",
+    help: "How many workers there are, from 1 to 16",
+    is_required: true,
+    takes: Takes::Text,
+};
+
+/// The word.
+pub const WORD: Word = Word {
+    name: "storm",
+    line: LINE,
+    about: ABOUT,
+    more: MORE,
+    arguments: &[WORKERS],
+};
 
 /// The job that its words ask for.
 pub fn job(alloc: Global, matches: &ArgMatches<'_>) -> Result<Job, JobFault>
@@ -51,7 +57,7 @@ pub fn job(alloc: Global, matches: &ArgMatches<'_>) -> Result<Job, JobFault>
 {
     match matches.get_one::<u32>("workers") {
         Some(count) if 1 <= count && count <= 16 => Ok(Job::Storm(count)),
-        _ => Err(JobFault::Usage(String::from_str(alloc, BAD_WORKERS)?)),
+        _ => Err(JobFault::usage(alloc, BAD_WORKERS)),
     }
 }
 
@@ -63,7 +69,9 @@ pub fn show<R: Threads + Wait + Sync + Print + Eprint + AllocGlobal>(
     requires { IsCrew workers }
 {
     let mut output = Watched::new(io::writer(rt));
-    match numa_storm::storm(rt, rt.alloc(), workers, &mut output) {
+    let storm = numa_storm::storm(rt, rt.alloc(), workers, &mut output);
+    drop(output);
+    match storm {
         Ok(status) => ExitCode::from(status),
         Err(fault) => fail(rt, fault),
     }
