@@ -30,69 +30,59 @@ enum Part {
     Pool,
 }
 
-/// The parts with their names.
-const PARTS: [(Part, &str); 4] = [
-    (Part::Publish, "publish"),
-    (Part::Fault, "fault"),
-    (Part::Crew, "crew"),
-    (Part::Pool, "pool"),
-];
+impl Part {
+    fn name(self) -> &'static str {
+        match self {
+            Part::Publish => "publish",
+            Part::Fault => "fault",
+            Part::Crew => "crew",
+            Part::Pool => "pool",
+        }
+    }
+}
 
-/// Prints the checksums of a part.
-fn checksums_of<R: Print + Clock + Threads + Wait + Sync>(
+/// Prints the ratios of a part, or the checksums of its calls.
+fn print_part<R: Print + Clock + Threads + Wait + Sync>(
     rt: &R,
     alloc: Global,
     part: Part,
+    ratios: bool,
 ) -> io::Result<()> {
     match part {
+        Part::Publish if ratios => publish::measure(rt, alloc),
         Part::Publish => publish::checksums(rt, alloc),
+        Part::Fault if ratios => fault::measure(rt, alloc),
         Part::Fault => fault::checksums(rt, alloc),
+        Part::Crew if ratios => crew::measure(rt, alloc),
         Part::Crew => crew::checksums(rt, alloc),
+        Part::Pool if ratios => pool::measure(rt, alloc),
         Part::Pool => pool::checksums(rt, alloc),
     }
 }
 
-/// Prints the checksums of each part.
-fn checksums<R: Print + Clock + Threads + Wait + Sync>(rt: &R, alloc: Global) -> io::Result<()> {
-    for (part, name) in PARTS {
-        println!(rt; "== {name}")?;
-        checksums_of(rt, alloc, part)?;
-    }
-    Ok(())
-}
-
-/// Prints the ratios of a part.
-fn measure_part<R: Print + Clock + Threads + Wait + Sync>(
+/// Prints the ratios of the part that is named, of all where the name is empty, or, where no ratios
+/// are asked for, the checksums of each.
+fn print_parts<R: Print + Clock + Threads + Wait + Sync>(
     rt: &R,
     alloc: Global,
-    part: Part,
+    ratios: Option<&str>,
 ) -> io::Result<()> {
-    match part {
-        Part::Publish => publish::measure(rt, alloc),
-        Part::Fault => fault::measure(rt, alloc),
-        Part::Crew => crew::measure(rt, alloc),
-        Part::Pool => pool::measure(rt, alloc),
-    }
-}
-
-/// Prints the ratios of the part that is named, or of all.
-fn measure<R: Print + Clock + Threads + Wait + Sync>(
-    rt: &R,
-    alloc: Global,
-    wanted: &str,
-) -> io::Result<()> {
-    for (part, name) in PARTS {
-        if wanted.is_empty() || wanted == name {
-            measure_part(rt, alloc, part)?;
+    for part in [Part::Publish, Part::Fault, Part::Crew, Part::Pool] {
+        let name = part.name();
+        match ratios {
+            None => println!(rt; "== {name}")?,
+            Some(wanted) if wanted.is_empty() || wanted == name => {}
+            Some(_) => continue,
         }
+        print_part(rt, alloc, part, ratios.is_some())?;
     }
     Ok(())
 }
 
 fn main(rt: HostRuntime) -> io::Result<()> {
     match read_wanted(&rt, "bench_threads [measure [publish|fault|crew|pool]]")? {
-        Wanted::Checksums => checksums(&rt, rt.alloc()),
-        Wanted::Ratios(part) => measure(&rt, rt.alloc(), part.as_str()),
+        Wanted::Checksums => print_parts(&rt, rt.alloc(), None),
+        Wanted::Ratios(part) => print_parts(&rt, rt.alloc(), Some(part.as_str())),
         Wanted::Nothing => Ok(()),
     }
 }
