@@ -11,7 +11,7 @@ use clap::{ArgMatches, Command, Error};
 use std::alloc::{AllocError, Global};
 
 /// The version, which the file VERSION has too, and the kit that it is proved with.
-const VERSION: &str = "0.10.0 (proved with rattle-kit-13b)";
+const VERSION: &str = "0.10.0 (proved with rattle-kit-13f)";
 
 /// What the help of the program says.
 const PROGRAM: &str =
