@@ -5,7 +5,7 @@ ghost use Rattle.numaplan.specs.Jobs.{CanBeDone};
 use crate::files;
 use crate::jobs::{Job, JobFault, Work};
 use crate::words::usage::with_word;
-use crate::words::{WORDS, diff, explain, predict, replay, storm};
+use crate::words::{all_words, diff, explain, predict, replay, storm};
 use clap::error::ErrorKind;
 use clap::{ArgMatches, Command, Error};
 use std::alloc::{AllocError, Global};
@@ -68,7 +68,7 @@ fn bare_program<'a>(alloc: Global) -> Command<'a> {
 /// The commands that the program knows.
 fn command<'a>(alloc: Global) -> Result<Command<'a>, AllocError> {
     let mut program = bare_program(alloc);
-    for word in &WORDS {
+    for word in all_words() {
         program = with_word(alloc, program, word)?;
     }
     Ok(program)

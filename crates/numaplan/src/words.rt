@@ -15,7 +15,7 @@ pub mod usage;
 use usage::Word;
 
 /// All words, in the order in which help names them.
-pub static WORDS: [Word; 8] = [
+static WORDS: [Word; 8] = [
     run::WORD,
     check::WORD,
     expect::WORD,
@@ -25,3 +25,8 @@ pub static WORDS: [Word; 8] = [
     replay::WORD,
     storm::WORD,
 ];
+
+/// All words. (What the list holds would stand in every goal of a caller that named it.)
+pub fn all_words() -> &'static [Word] {
+    &WORDS
+}
