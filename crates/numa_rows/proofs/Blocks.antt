@@ -1,17 +1,16 @@
--- What a write to a block makes of the rows that it keeps.
-use Rattle.std.proofs.Common.{◌≡◌, ℕ, ◌+◌, ◌-◌, ◌<◌, ◌≤◌, List, ◌++◌, length, take, drop, set, refl, sym, ap, ◌∙◌, arith, append_assoc}
+-- What rows become that are put in the place of others.
+use Rattle.std.proofs.Common.{◌≡◌, ℕ, ◌+◌, ◌-◌, ◌≤◌, List, ◌++◌, length, take, drop, refl, sym, ap, ◌∙◌, arith, append_assoc}
 use Rattle.std.specs.List.{splice}
-use Rattle.std.proofs.lemmas.List.{take_all, take-take, take_at, drop_at, take-append-le, drop-append-le, length-append, length-drop, length-take}
+use Rattle.std.proofs.lemmas.List.{take_all, take-append-drop, take-take, take_at, drop_at, take-append-le, drop-append-le, length-append, length-drop, length-take}
 use Rattle.std.proofs.lemmas.List.Edits.{length-paste, take-paste, drop-paste}
 use Rattle.std.proofs.lemmas.Slice.{put_mid-paste, between_is}
 use borrow.Rule.Slice.PartMut.{put_mid}
-use lib.Seq.{paste, take-add, take-set-lt, length-take-le}
+use lib.Seq.{paste, take-add, length-take-le}
 
--- a row that is kept gets another in its place
-pub set-kept : {X : Type 0} (xs ys rows : List X) (len place : ℕ) (row : X) → take len xs ≡ rows → place < length rows → ys ≡ set xs place row → take len ys ≡ set rows place row
-set-kept xs ys rows len place row kept within is =
-    let inside : place < len = omega (arith, ap length kept, length-take len xs) in
-    ap (take len) is ∙ (take-set-lt len xs place row inside ∙ ap (λ l. set l place row) kept)
+-- rows that are put back where they stand change nothing
+pub paste-self : {X : Type 0} (xs : List X) (at count : ℕ) → paste xs at (drop at xs) count ≡ xs
+paste-self xs at count =
+    ap (λ l. l ++ drop (at + count) xs) (sym (take-add at count xs)) ∙ take-append-drop (at + count) xs
 
 -- rows move up or down, and others come in between
 pub put-kept : {X : Type 0} (xs moved put rows : List X) (len from to : ℕ) → from ≤ to → to ≤ len → len ≤ length xs → from + length rows + (len - to) ≤ length xs → moved ≡ paste xs (from + length rows) (drop to xs) (len - to) → put ≡ rows → take (len - (to - from) + length rows) (put_mid from (from + length rows - from) moved put) ≡ splice (take len xs) from to rows

@@ -4,12 +4,12 @@ ghost use Rattle.std.specs.Prelude.{OnOk, OnErr};
 ghost use Rattle.std.specs.List.{splice};
 
 use std::alloc::{AllocError, Global};
+use std::ops::Range;
 
 /// A way to keep the rows of a chunk. [`Owned`](crate::Owned) keeps them for itself alone; what
 /// [`Shared`](crate::Shared) keeps, copies share.
 ///
-/// The answer is `AllocError` where memory is wanting; then nothing is changed. `Shared` keeps
-/// from 1 to 256 rows, and answers it too where `keep` is given none, or there would be more.
+/// The answer is `AllocError` where memory is wanting; then nothing is changed.
 pub trait Keep<T>: Drop {
     /// The rows that are kept.
     ghost rows_of: { Self → List T };
@@ -17,7 +17,7 @@ pub trait Keep<T>: Drop {
     /// How many rows a chunk has at most, when an edit leaves it as it is.
     fn most() -> usize
         ensures low { 128 ≤ result }
-        ensures high { result ≤ 256 };
+        ensures high { result ≤ 1024 };
 
     /// Keeps these rows.
     fn keep(alloc: Global, rows: &[T]) -> Result<Self, AllocError>
@@ -43,15 +43,10 @@ pub trait Keep<T>: Drop {
         ensures unchanged { OnErr result (rows_of self.new ≡ rows_of self.old) };
 
     /// Puts rows in the place of those from one place to another.
-    fn splice(
-        &mut self,
-        alloc: Global,
-        from: usize,
-        to: usize,
-        rows: &[T],
-    ) -> Result<(), AllocError>
-        requires rises { from ≤ to }
-        requires within { to ≤ length (rows_of self.old) }
-        ensures ok { OnOk result (rows_of self.new ≡ splice (rows_of self.old) from to rows.now) }
+    fn splice(&mut self, alloc: Global, span: Range<usize>, rows: &[T]) -> Result<(), AllocError>
+        requires rises { span.start ≤ span.end }
+        requires within { span.end ≤ length (rows_of self.old) }
+        ensures ok { OnOk result (rows_of self.new
+            ≡ splice (rows_of self.old) span.start span.end rows.now) }
         ensures unchanged { OnErr result (rows_of self.new ≡ rows_of self.old) };
 }

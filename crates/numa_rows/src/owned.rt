@@ -2,11 +2,12 @@
 ghost use Rattle.std.specs.Prelude.{◌≡◌, ◌<◌, length, map, slice_set, take, IfOk};
 ghost use Rattle.numa_rows.specs.Changes.{Makes};
 
-use crate::chunk::put_in;
 use crate::items::update_items;
 use crate::keep::Keep;
+use crate::put::put_in;
 use std::alloc::{AllocError, Global};
 use std::marker::Model;
+use std::ops::Range;
 
 /// How many rows an owned chunk has at most, when an edit leaves it as it is.
 const MOST_OWNED: usize = 128;
@@ -64,14 +65,8 @@ impl<T: Copy + Drop> Keep<T> for Owned<T> {
         Ok(())
     }
 
-    fn splice(
-        &mut self,
-        _alloc: Global,
-        from: usize,
-        to: usize,
-        rows: &[T],
-    ) -> Result<(), AllocError> {
-        put_in(&mut self.rows, from, to, rows)
+    fn splice(&mut self, _alloc: Global, span: Range<usize>, rows: &[T]) -> Result<(), AllocError> {
+        put_in(&mut self.rows, span.start, span.end, rows)
     }
 }
 

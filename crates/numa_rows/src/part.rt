@@ -102,7 +102,7 @@ pub(crate) fn part_of<'a, T, K: Keep<T>>(
     rank: usize,
     guess: usize,
 ) -> Part<'a, T>
-    requires table { IsTable 256 chunks.now starts.now len }
+    requires table { IsTable 1024 chunks.now starts.now len }
     requires rank { rank < len }
     requires part { IsChunkOf (flat chunks.now) part }
     ensures part { IsChunkOf (flat chunks.now) result }

@@ -3,34 +3,30 @@ ghost use Rattle.std.specs.Prelude.{◌≡◌, IfOk};
 ghost use Rattle.std.specs.Borrow.{sem};
 ghost use Rattle.numa_rows.specs.Lending.{LendsBlock};
 
-use crate::block::Block;
 use crate::chunk::MOST;
 use crate::keep::Keep;
+use crate::put::put_in;
 use std::alloc::{AllocError, Allocator, Global};
-use std::marker::{Model, PhantomData};
+use std::marker::Model;
+use std::ops::Range;
 use std::sync::Arc;
 
-/// Rows that copies of a chunk share, 256 at most. The first edit after a copy copies the rows;
-/// rows that no other chunk has are edited in place. [`Keep`] says what is refused.
+/// Rows that copies of a chunk share. The first edit after a copy copies the rows;
+/// rows that no other chunk has are edited in place.
 #[derive(Drop)]
-pub struct Shared<T, B: Block<T> = [T; 256]> {
-    block: Arc<B>,
-    len: usize,
-    of: PhantomData<T>,
+pub struct Shared<T> {
+    rows: Arc<Vec<T>>,
 }
 
-impl<T, B: Block<T>> Model for Shared<T, B> {
-    ghost use Rattle.std.specs.Prelude.{List, take};
-    ghost use Rattle.numa_rows.specs.Parts.{IsBlock};
+impl<T> Model for Shared<T> {
+    ghost use Rattle.std.specs.Prelude.{List};
 
     ghost Value = { List T };
 
-    ghost view = { λ a. take a.len (B.items_of a.block.value) };
-
-    ghost invariant = { λ a. IsBlock (B.items_of a.block.value) a.len };
+    ghost view = { λ a. a.rows.value.items };
 }
 
-impl<T: Copy + Drop, B: Block<T>> Keep<T> for Shared<T, B> {
+impl<T: Copy + Drop> Keep<T> for Shared<T> {
     ghost rows_of = { λ rows. rows };
 
     #[inline]
@@ -38,85 +34,67 @@ impl<T: Copy + Drop, B: Block<T>> Keep<T> for Shared<T, B> {
         MOST
     }
 
-    fn keep(alloc: Global, rows: &[T]) -> Result<Shared<T, B>, AllocError>
+    fn keep(alloc: Global, rows: &[T]) -> Result<Shared<T>, AllocError>
         ensures { IfOk result (λ chunk. chunk ≡ rows.now) }
     {
-        if rows.is_empty() || rows.len() > MOST {
-            return Err(AllocError);
-        }
-        let mut block = B::filled(rows[0]);
-        block.put(0, 0, 0, rows);
-        let block = Arc::new(alloc, block)?;
-        Ok(Shared {
-            block,
-            len: rows.len(),
-            of: PhantomData,
-        })
+        let mut items = Vec::with_capacity(alloc, MOST)?;
+        items.extend_from_slice(rows)?;
+        let rows = Arc::new(alloc, items)?;
+        Ok(Shared { rows })
     }
 
     #[inline]
     fn rows(&self) -> &[T] {
-        let block: &B = &self.block;
-        let items = block.items();
-        &items[..self.len]
+        let items: &Vec<T> = &self.rows;
+        items.as_slice()
     }
 
-    fn copy(&self, _alloc: Global) -> Result<Shared<T, B>, AllocError>
+    fn copy(&self, _alloc: Global) -> Result<Shared<T>, AllocError>
         ensures { IfOk result (λ chunk. chunk ≡ self.now) }
     {
-        let block = Arc::try_clone(&self.block)?;
-        Ok(Shared {
-            block,
-            len: self.len,
-            of: PhantomData,
-        })
+        let rows = Arc::try_clone(&self.rows)?;
+        Ok(Shared { rows })
     }
 
     fn push(&mut self, alloc: Global, row: T) -> Result<(), AllocError> {
-        let len = self.len;
-        if len == MOST {
-            return Err(AllocError);
-        }
-        own_block(&mut self.block, alloc)?.set(len, row);
-        self.len = len + 1;
+        self.unshare(alloc)?;
+        let items = sole(&mut self.rows)?;
+        items.reserve(1)?;
+        items.push_reserved(row);
         Ok(())
     }
 
     fn set(&mut self, alloc: Global, place: usize, row: T) -> Result<(), AllocError> {
-        own_block(&mut self.block, alloc)?.set(place, row);
+        self.unshare(alloc)?;
+        sole(&mut self.rows)?[place] = row;
         Ok(())
     }
 
-    fn splice(
-        &mut self,
-        alloc: Global,
-        from: usize,
-        to: usize,
-        rows: &[T],
-    ) -> Result<(), AllocError> {
-        let len = self.len;
-        let kept = len - (to - from);
-        if rows.len() > MOST - kept {
-            return Err(AllocError);
+    fn splice(&mut self, alloc: Global, span: Range<usize>, rows: &[T]) -> Result<(), AllocError> {
+        self.unshare(alloc)?;
+        put_in(sole(&mut self.rows)?, span.start, span.end, rows)
+    }
+}
+
+impl<T: Copy + Drop> Shared<T> {
+    /// Copies the rows where others have them too.
+    #[inline]
+    fn unshare(&mut self, alloc: Global) -> Result<(), AllocError>
+        ensures { self.new ≡ self.old }
+    {
+        if Arc::strong_count(&self.rows) != 1 {
+            *self = Shared::keep(alloc, self.rows())?;
         }
-        own_block(&mut self.block, alloc)?.put(len, from, to, rows);
-        self.len = kept + rows.len();
         Ok(())
     }
 }
 
-/// A block, to be written to. One that others have too is copied first.
+/// What one owner alone has, to be written to.
 #[inline]
-fn own_block<B: Copy, A: Allocator>(block: &mut Arc<B, A>, alloc: A) -> Result<&mut B, AllocError>
+fn sole<B, A: Allocator>(block: &mut Arc<B, A>) -> Result<&mut B, AllocError>
     ensures* lends { sem 𝓛 (LendsBlock B.row A.row A.Allocator block.entry result) }
     ensures value { IfOk result (λ items. items.now ≡ block.old.value) }
 {
-    if Arc::strong_count(block) != 1 {
-        let Some(copy) = Arc::new(alloc, **block).ok() else {
-            return Err(AllocError);
-        };
-        *block = copy;
-    }
     match Arc::get_mut(block) {
         Some(items) => Ok(items),
         None => Err(AllocError),

@@ -1,0 +1,51 @@
+//! Rows that are put in the place of others.
+ghost use Rattle.std.specs.Prelude.{◌≡◌, ◌+◌, ◌-◌, ◌≤◌, length, take, OnOk, OnErr};
+ghost use Rattle.std.specs.List.{splice};
+
+use std::alloc::AllocError;
+
+/// Puts rows in the place of those from one place to another.
+pub(crate) fn put_in<T: Copy + Drop>(
+    items: &mut Vec<T>,
+    from: usize,
+    to: usize,
+    rows: &[T],
+) -> Result<(), AllocError>
+    requires rises { from ≤ to }
+    requires within { to ≤ length items.old.items }
+    ensures ok { OnOk result (items.new.items ≡ splice items.old.items from to rows.now) }
+    ensures unchanged { OnErr result (items.new.items ≡ items.old.items) }
+{
+    let len = items.len();
+    let Some(size) = (len - (to - from)).checked_add(rows.len()) else {
+        return Err(AllocError);
+    };
+    if len < size {
+        items.resize(size, rows[0])?;
+    }
+    put_among(items, len, from, to, rows);
+    items.truncate(size);
+    Ok(())
+}
+
+/// Puts rows among the first so many items, in the place of those from one place to another.
+fn put_among<T: Copy + Drop>(
+    items: &mut [T],
+    len: usize,
+    from: usize,
+    to: usize,
+    rows: &[T],
+)
+    requires rises { from ≤ to }
+    requires within { to ≤ len }
+    requires inside { len ≤ length items.old }
+    requires fits { from + length rows.now + (len - to) ≤ length items.old }
+    ensures room { length items.new ≡ length items.old }
+    ensures rows { take (len - (to - from) + length rows.now) items.new
+        ≡ splice (take len items.old) from to rows.now }
+{
+    if to != from + rows.len() {
+        items.copy_within(to..len, from + rows.len());
+    }
+    items[from..from + rows.len()].copy_from_slice(rows);
+}
