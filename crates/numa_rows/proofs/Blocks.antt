@@ -1,7 +1,7 @@
 -- What rows become that are put in the place of others.
 use Rattle.std.proofs.Common.{◌≡◌, ℕ, ◌+◌, ◌-◌, ◌≤◌, List, ◌++◌, length, take, drop, refl, sym, ap, ◌∙◌, arith, append_assoc}
 use Rattle.std.specs.List.{splice}
-use Rattle.std.proofs.lemmas.List.{take_all, take-append-drop, take-take, take_at, drop_at, take-append-le, drop-append-le, length-append, length-drop, length-take}
+use Rattle.std.proofs.lemmas.List.{take_all, take-append-drop, take-take, take_at, drop_at, take-append-le, drop-append-le, length-append, length-drop}
 use Rattle.std.proofs.lemmas.List.Edits.{length-paste, take-paste, drop-paste}
 use Rattle.std.proofs.lemmas.Slice.{put_mid-paste, between_is}
 use borrow.Rule.Slice.PartMut.{put_mid}

@@ -4,7 +4,7 @@ ghost use Rattle.numa_rows.specs.Changes.{Makes};
 
 use crate::items::update_items;
 use crate::keep::Keep;
-use crate::put::put_in;
+use crate::put::{copied, put_in};
 use std::alloc::{AllocError, Global};
 use std::marker::Model;
 use std::ops::Range;
@@ -38,9 +38,8 @@ impl<T: Copy + Drop> Keep<T> for Owned<T> {
     fn keep(alloc: Global, rows: &[T]) -> Result<Owned<T>, AllocError>
         ensures { IfOk result (λ chunk. chunk ≡ rows.now) }
     {
-        let mut items = Vec::with_capacity(alloc, MOST_OWNED)?;
-        items.extend_from_slice(rows)?;
-        Ok(Owned { rows: items })
+        let rows = copied(alloc, MOST_OWNED, rows)?;
+        Ok(Owned { rows })
     }
 
     #[inline]

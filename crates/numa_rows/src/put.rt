@@ -1,8 +1,21 @@
-//! Rows that are put in the place of others.
-ghost use Rattle.std.specs.Prelude.{◌≡◌, ◌+◌, ◌-◌, ◌≤◌, length, take, OnOk, OnErr};
+//! Rows that are copied, and put in the place of others.
+ghost use Rattle.std.specs.Prelude.{◌≡◌, ◌+◌, ◌-◌, ◌≤◌, length, take, IfOk, OnOk, OnErr};
 ghost use Rattle.std.specs.List.{splice};
 
-use std::alloc::AllocError;
+use std::alloc::{AllocError, Global};
+
+/// These rows in a vector with room for so many.
+pub(crate) fn copied<T: Copy + Drop>(
+    alloc: Global,
+    room: usize,
+    rows: &[T],
+) -> Result<Vec<T>, AllocError>
+    ensures { IfOk result (λ items. items.items ≡ rows.now) }
+{
+    let mut items = Vec::with_capacity(alloc, room)?;
+    items.extend_from_slice(rows)?;
+    Ok(items)
+}
 
 /// Puts rows in the place of those from one place to another.
 pub(crate) fn put_in<T: Copy + Drop>(
@@ -29,13 +42,7 @@ pub(crate) fn put_in<T: Copy + Drop>(
 }
 
 /// Puts rows among the first so many items, in the place of those from one place to another.
-fn put_among<T: Copy + Drop>(
-    items: &mut [T],
-    len: usize,
-    from: usize,
-    to: usize,
-    rows: &[T],
-)
+fn put_among<T: Copy + Drop>(items: &mut [T], len: usize, from: usize, to: usize, rows: &[T])
     requires rises { from ≤ to }
     requires within { to ≤ len }
     requires inside { len ≤ length items.old }

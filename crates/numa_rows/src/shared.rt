@@ -5,14 +5,14 @@ ghost use Rattle.numa_rows.specs.Lending.{LendsBlock};
 
 use crate::chunk::MOST;
 use crate::keep::Keep;
-use crate::put::put_in;
+use crate::put::{copied, put_in};
 use std::alloc::{AllocError, Allocator, Global};
 use std::marker::Model;
 use std::ops::Range;
 use std::sync::Arc;
 
-/// Rows that copies of a chunk share. The first edit after a copy copies the rows;
-/// rows that no other chunk has are edited in place.
+/// Rows that copies of a chunk share. The first edit after a copy copies the rows; rows that no
+/// other chunk has are edited in place.
 #[derive(Drop)]
 pub struct Shared<T> {
     rows: Arc<Vec<T>>,
@@ -37,9 +37,7 @@ impl<T: Copy + Drop> Keep<T> for Shared<T> {
     fn keep(alloc: Global, rows: &[T]) -> Result<Shared<T>, AllocError>
         ensures { IfOk result (λ chunk. chunk ≡ rows.now) }
     {
-        let mut items = Vec::with_capacity(alloc, MOST)?;
-        items.extend_from_slice(rows)?;
-        let rows = Arc::new(alloc, items)?;
+        let rows = Arc::new(alloc, copied(alloc, MOST, rows)?)?;
         Ok(Shared { rows })
     }
 
