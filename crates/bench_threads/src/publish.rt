@@ -56,7 +56,8 @@ fn measure_small<R: Print + Clock + Threads + Wait + Sync>(
 
 /// Prints the ratios.
 pub fn measure<R: Print + Clock + Threads + Wait + Sync>(rt: &R, alloc: Global) -> io::Result<()> {
-    let large = spaces::desk_of(rt, alloc, RANGES);
+    // (a policy for the middle page makes three ranges of one)
+    let large = spaces::desk_of(rt, alloc, RANGES - 2);
     on_desk(rt, large, |desk| measure_large(rt, alloc, desk))?;
     let small = spaces::desk_of(rt, alloc, 1);
     on_desk(rt, small, |desk| measure_small(rt, alloc, desk))

@@ -198,16 +198,16 @@ fn seats_that_part(rt: HostRuntime) {
     expect_parted(&rt, rt.alloc(), &pools, &mut seat);
 }
 
-/// The rows are those from 0 to 599.
+/// The rows are those from 0 to 2,499.
 fn expect_counted(rt: &impl Abort, rows: &Rows<u32, Shared<u32>>) {
-    let equal = rows.iter().copied().eq(0..600u32);
-    same(rt, &(rows.len(), equal), &(600, true));
+    let equal = rows.iter().copied().eq(0..2_500u32);
+    same(rt, &(rows.len(), equal), &(2_500, true));
 }
 
-/// The rows from 0 to 599, in chunks that a copy shares.
+/// The rows from 0 to 2,499, in chunks that a copy shares.
 fn counted(rt: &impl Abort, alloc: Global) -> Rows<u32, Shared<u32>> {
     let mut rows = Rows::new(alloc);
-    for i in 0..600u32 {
+    for i in 0..2_500u32 {
         rows.push(i).expect(rt, "memory");
     }
     rows
@@ -225,7 +225,7 @@ fn copy_of_rows(rt: HostRuntime) {
 
 /// Puts three rows in the place of two, with marks round it, and again where memory was refused.
 fn put_in(rt: &impl Abort, alloc: Global, rows: &mut Rows<u32, Shared<u32>>)
-    requires { length rows.old ≡ 600 }
+    requires { length rows.old ≡ 2500 }
 {
     mark(rt, alloc);
     let first = rows.splice(300, 302, &[7, 8, 9]);
@@ -240,14 +240,14 @@ fn put_in(rt: &impl Abort, alloc: Global, rows: &mut Rows<u32, Shared<u32>>)
 fn rows_put_in(rt: HostRuntime) {
     let mut rows = counted(&rt, rt.alloc());
     let copy = rows.copy().expect(&rt, "a copy");
-    assert!(rt; rows.len() == 600);
+    assert!(rt; rows.len() == 2_500);
     put_in(&rt, rt.alloc(), &mut rows);
     expect_counted(&rt, &copy);
     expect_put_in(&rt, &rows);
 }
 
 fn expect_put_in(rt: &impl Abort, rows: &Rows<u32, Shared<u32>>) {
-    assert!(rt; rows.len() == 601);
+    assert!(rt; rows.len() == 2_501);
     let found = (
         *rows.get(299),
         *rows.get(300),

@@ -1,6 +1,6 @@
 //! What a look and a publish take beside their parts, in one thread.
 use crate::publish::looks::{bare_looks, choices, looks, plan_choices};
-use crate::publish::spaces::change;
+use crate::publish::spaces::bind_middle;
 use crate::times::{ROUNDS, Times, Watch};
 use numa_compile::compile;
 use numa_examples::measured::{lacking, with_made};
@@ -18,6 +18,9 @@ const LOOKS: u64 = 20_000;
 
 /// How many publishes of nothing.
 const PUBLISHES: u64 = 10_000;
+
+/// How many commands are published one after another.
+const COMMANDS: u64 = 100;
 
 /// The time of the atomic steps of looks.
 fn time_bare(rt: &impl Clock, epoch: &AtomicU64, side: &AtomicU64) -> u64 {
@@ -85,13 +88,23 @@ fn time_compile(rt: &impl Clock, alloc: Global, desk: &Desk) -> u64 {
     nanos
 }
 
-/// The time of a publish.
-fn time_publish<R: Clock + Wait>(rt: &R, desk: &mut Desk) -> u64 {
+/// Accepts so many commands, and publishes each.
+fn publish_each<R: Wait>(rt: &R, desk: &mut Desk, commands: u64) -> u64 {
+    let mut sum = 0u64;
+    for number in 0..commands {
+        bind_middle(desk, number);
+        if let Ok(receipt) = black_box(&mut *desk).publish(rt) {
+            sum = sum.wrapping_add(receipt.version());
+        }
+    }
+    sum
+}
+
+/// The time of a command of so many, each of which is accepted and published.
+fn time_each<R: Clock + Wait>(rt: &R, desk: &mut Desk, commands: u64) -> u64 {
     let watch = Watch::start(rt);
-    let receipt = desk.publish(rt);
-    let nanos = watch.nanos(rt);
-    drop(receipt);
-    nanos
+    black_box(publish_each(rt, desk, commands));
+    watch.nanos(rt) / commands.max(1)
 }
 
 /// The time of publishes of nothing.
@@ -101,18 +114,20 @@ fn time_nothing<R: Clock + Wait>(rt: &R, desk: &mut Desk) -> u64 {
     watch.nanos(rt)
 }
 
-/// A publish of one command beside a compile of the space, and publishes of nothing.
+/// A compile of the space beside a command that is accepted and published behind it, beside many
+/// such commands one after another, and beside publishes of nothing.
 fn time_publishes<R: Clock + Wait>(
     rt: &R,
     alloc: Global,
     desk: &mut Desk,
     of_one: &mut Times,
+    of_many: &mut Times,
     of_none: &mut Times,
 ) {
     for round in 0..ROUNDS {
-        change(desk, round as u64);
         let compiled = time_compile(rt, alloc, desk);
-        of_one.put(round, time_publish(rt, desk), compiled);
+        of_one.put(round, compiled, time_each(rt, desk, 1));
+        of_many.put(round, compiled, time_each(rt, desk, COMMANDS));
         of_none.put(round, time_nothing(rt, desk), compiled);
     }
 }
@@ -148,9 +163,18 @@ fn print_publishes<R: Print + Clock + Wait>(
     alloc: Global,
     desk: &mut Desk,
 ) -> io::Result<()> {
-    let (mut of_one, mut of_none) = (Times::new(), Times::new());
-    time_publishes(rt, alloc, desk, &mut of_one, &mut of_none);
-    of_one.print(rt, "publish of one command over compile", 1)?;
+    let (mut of_one, mut of_many, mut of_none) = (Times::new(), Times::new(), Times::new());
+    time_publishes(rt, alloc, desk, &mut of_one, &mut of_many, &mut of_none);
+    of_one.print(
+        rt,
+        "compile over accept and publish of one command behind it",
+        1,
+    )?;
+    of_many.print(
+        rt,
+        "compile over accept and publish, command after command",
+        1,
+    )?;
     of_none.print_call(rt, "publish with nothing pending", PUBLISHES)
 }
 

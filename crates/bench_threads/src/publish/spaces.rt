@@ -1,5 +1,5 @@
 //! What is published.
-use numa_examples::many::{bind, eight_nodes, map, policy};
+use numa_examples::many::{RANGES, bind, bind_page, eight_nodes, map, policy};
 use numa_publish::Desk;
 use numa_space::{Command, Limits};
 use std::alloc::Global;
@@ -9,6 +9,14 @@ use std::sync::Wait;
 pub fn change(desk: &mut Desk, number: u64) {
     if let Some(spec) = policy(number) {
         let _ = desk.accept(&Command::SetTask { task: 1, spec });
+    }
+}
+
+/// Accepts one of two policies for the middle page of the middle range, the other one each time.
+pub fn bind_middle(desk: &mut Desk, number: u64) {
+    let middle = RANGES / 2;
+    if let Some(spec) = policy(middle + 1 + number % 2) {
+        let _ = desk.accept(&bind_page(middle, spec));
     }
 }
 
