@@ -1,12 +1,10 @@
 //! A space with the plan that is kept beside it.
-ghost use Rattle.std.specs.Prelude.{◌≡◌, ℕ, ◌<◌, ◌∷◌, None, MatchOption, IfOk, IfErr, OnOk, OnErr};
+ghost use Rattle.std.specs.Prelude.{◌≡◌, ℕ, ◌<◌, None, IfOk};
 ghost use Rattle.std.specs.Prelude.{IfSome, List, [], Some, true};
 ghost use Rattle.std.specs.Option.{ForSome};
 ghost use Rattle.numa_space.specs.declared.command.Command.{Command};
-ghost use Rattle.numa_space.specs.declared.refusal.Refusal.{Refusal};
-ghost use Rattle.numa_space.specs.Refusals.{refusal_of};
 ghost use Rattle.numa_space.specs.Standing.{StandsFor, IsNodeList};
-ghost use Rattle.numa_space.specs.Steps.{IsStep, MayNeedRoom};
+ghost use Rattle.numa_space.specs.Steps.{IsApplied};
 ghost use Rattle.numa_plan.specs.Meaning.{planned_list};
 ghost use Rattle.numa_compile.specs.Follows.{Follows, IsBehind};
 ghost use Rattle.numa_compile.specs.Standing.{IsPlanOf, PlanStandsFor};
@@ -180,19 +178,7 @@ impl PlannedSpace {
     /// Carries out a command, or refuses it, as `Space::apply` does. Lack of memory for the plan
     /// refuses nothing: the plan is put off.
     pub fn apply(&mut self, alloc: Global, command: &Command) -> Result<(), Refusal>
-        ensures ok { (history : List Command) → StandsFor self.old history
-            → OnOk result ((refusal_of self.old.machine self.old.bounds history command.now ≡ None)
-            × StandsFor self.new (command.now ∷ history)) }
-        ensures err { (history : List Command) → StandsFor self.old history
-            → IfErr result (λ refusal. MatchOption
-            (refusal_of self.old.machine self.old.bounds history command.now)
-            (refusal ≡ Refusal.NoMemory) (λ first. refusal ≡ first)) }
-        ensures unchanged { OnErr result (self.new ≡ self.old) }
-        ensures room { IfErr result (λ refusal. refusal ≡ Refusal.NoMemory
-            → MayNeedRoom command.now) }
-        ensures step { OnOk result (IsStep self.old command.now self.new) }
-        ensures machine { self.new.machine ≡ self.old.machine }
-        ensures bounds { self.new.bounds ≡ self.old.bounds }
+        ensures { IsApplied self.old command.now result self.new }
     {
         if let Err(refusal) = self.space.apply(command) {
             return Err(refusal);

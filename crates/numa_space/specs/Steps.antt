@@ -1,7 +1,7 @@
 -- What one command makes of what a space shows.
 use Rattle.std.specs.Prelude.{◌≡◌, ◌≢◌, ℕ, false, ◌+◌, ◌-◌, ◌==◌, is_some, Option, Some, None}
 use Rattle.std.specs.Prelude.{Result, Err, MatchOption, MatchResult, List, length, slice_get, take}
-use Rattle.std.specs.Prelude.{if◌then◌else◌, ◌≤◌}
+use Rattle.std.specs.Prelude.{if◌then◌else◌, ◌≤◌, ◌∷◌, OnOk, OnErr, IfErr}
 use Rattle.std.specs.Option.{option_map}
 use Rattle.numa_mask.specs.NodeSet.{both}
 use Rattle.numa_machine.specs.Machine.{Hardware}
@@ -18,7 +18,7 @@ use Rattle.numa_space.specs.declared.refusal.Refusal.{Refusal}
 use Rattle.numa_space.specs.declared.refusal.Refusal.TheVariants.{NoMemory}
 use Rattle.numa_space.specs.History.{page_of, page_count}
 use Rattle.numa_space.specs.Refusals.{Scene, PageMap, refusal_in, refusal_of}
-use Rattle.numa_space.specs.Standing.{SpaceState, accepted_of, record_of}
+use Rattle.numa_space.specs.Standing.{SpaceState, StandsFor, accepted_of, record_of}
 
 -- the record of a policy that is set now; DEFAULT has none
 abbrev pub record_now : ℕ → Specification → Option PolicyRecord
@@ -129,3 +129,19 @@ pub record IsStep (old : SpaceState) (command : Command) (new : SpaceState) : Ty
   pub maximal : AreMaximal old.ranges
   pub few_ranges : length old.ranges ≤ 65536
   pub few_tasks : length old.tasks ≤ 1024
+
+-- what comes of a command: it is added to each history that the space stands for, where no cause
+-- stands against it; else the first cause is answered, or that memory lacked, and all is as it was
+pub record IsApplied (old : SpaceState) (command : Command) (result : Result (Unit {0}) Refusal)
+    (new : SpaceState) : Type 0 where
+  pub ok : (history : List Command) → StandsFor old history
+      → OnOk result ((refusal_of old.machine old.bounds history command ≡ None)
+      × StandsFor new (command ∷ history))
+  pub err : (history : List Command) → StandsFor old history
+      → IfErr result (λ refusal. MatchOption (refusal_of old.machine old.bounds history command)
+      (refusal ≡ NoMemory) (λ first. refusal ≡ first))
+  pub unchanged : OnErr result (new ≡ old)
+  pub room : IfErr result (λ refusal. refusal ≡ NoMemory → MayNeedRoom command)
+  pub step : OnOk result (IsStep old command new)
+  pub machine : new.machine ≡ old.machine
+  pub bounds : new.bounds ≡ old.bounds

@@ -1,6 +1,6 @@
 //! A space of pages and its policies.
-ghost use Rattle.std.specs.Prelude.{◌≡◌, ◌≢◌, ◌≤◌, ◌<◌, ℕ, IfOk, OnOk, OnErr, IfErr, IfSome, None};
-ghost use Rattle.std.specs.Prelude.{Option, Some, List, [], ◌∷◌, length, MatchOption, slice_get};
+ghost use Rattle.std.specs.Prelude.{◌≡◌, ◌≢◌, ◌≤◌, ◌<◌, ℕ, IfOk, OnOk, IfErr, IfSome, None};
+ghost use Rattle.std.specs.Prelude.{Option, Some, List, [], length, slice_get};
 ghost use Rattle.std.specs.Prelude.{take, AllPairs, Contains, ◌↔◌};
 ghost use Rattle.numa_machine.specs.Machine.{Hardware};
 ghost use Rattle.numa_machine.specs.Weights.{weight_at};
@@ -12,11 +12,11 @@ ghost use Rattle.numa_ranges.specs.declared.run.Run.{Run};
 ghost use Rattle.numa_space.specs.declared.command.Command.{Command};
 ghost use Rattle.numa_space.specs.Policies.{allowed_nodes, node_weight, task_record, tasks_of};
 ghost use Rattle.numa_space.specs.Pages.{page_in};
-ghost use Rattle.numa_space.specs.Refusals.{refusal_of, range_count_of};
+ghost use Rattle.numa_space.specs.Refusals.{range_count_of};
 ghost use Rattle.numa_space.specs.Same.{same_record};
 ghost use Rattle.numa_space.specs.Standing.{HasHistory, IsSound, SpaceState, StandsFor};
 ghost use Rattle.numa_space.specs.Standing.{accepted_of, record_of};
-ghost use Rattle.numa_space.specs.Steps.{IsAnswer, IsStep, MayNeedRoom, MayStopAt};
+ghost use Rattle.numa_space.specs.Steps.{IsApplied, MayStopAt};
 
 use crate::command::Command;
 use crate::limits::Limits;
@@ -110,19 +110,7 @@ impl Space {
     /// Carries out a command, or refuses it by the first cause that applies; lack of memory is the
     /// last. A refusal leaves the space as it was.
     pub fn apply(&mut self, command: &Command) -> Result<(), Refusal>
-        ensures ok { (history : List Command) → StandsFor self.old history
-            → OnOk result ((refusal_of self.old.machine self.old.bounds history command.now ≡ None)
-            × StandsFor self.new (command.now ∷ history)) }
-        ensures err { (history : List Command) → StandsFor self.old history
-            → IfErr result (λ refusal. MatchOption
-            (refusal_of self.old.machine self.old.bounds history command.now)
-            (refusal ≡ Refusal.NoMemory) (λ first. refusal ≡ first)) }
-        ensures unchanged { OnErr result (self.new ≡ self.old) }
-        ensures room { IfErr result (λ refusal. refusal ≡ Refusal.NoMemory
-            → MayNeedRoom command.now) }
-        ensures step { OnOk result (IsStep self.old command.now self.new) }
-        ensures machine { self.new.machine ≡ self.old.machine }
-        ensures bounds { self.new.bounds ≡ self.old.bounds }
+        ensures { IsApplied self.old command.now result self.new }
     {
         // Tell the proof how the ranges stand, and how many ranges and tasks there may be.
         let _ = self.range_iter();
