@@ -12,22 +12,13 @@ pub struct Limits {
 }
 
 impl Model for Limits {
-    ghost use Rattle.std.specs.Prelude.{◌≤◌};
-    ghost use Rattle.numa_space.specs.Limited.{Bounds, AreBounds};
+    ghost use Rattle.numa_space.specs.Limited.{Bounds, AreBounds, bounds_of};
 
     ghost Value = { Bounds };
 
-    ghost view = { λ a. record {
-      max_ranges = a.max_ranges;
-      max_tasks = a.max_tasks;
-      max_commands = a.max_commands;
-    } };
+    ghost view = { bounds_of };
 
-    ghost invariant = { λ a. AreBounds (record {
-      max_ranges = a.max_ranges;
-      max_tasks = a.max_tasks;
-      max_commands = a.max_commands;
-    }) };
+    ghost invariant = { λ a. AreBounds (bounds_of a) };
 
     ghost inverse = { λ b. record {
       max_ranges = b.max_ranges;

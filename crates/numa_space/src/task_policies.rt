@@ -13,9 +13,7 @@ use std::marker::Model;
 
 /// The policy of each task that has one.
 #[derive(Drop)]
-pub(crate) struct Tasks {
-    records: IndexMap<u32, Record>,
-}
+pub(crate) struct Tasks(IndexMap<u32, Record>);
 
 impl Model for Tasks {
     ghost use Rattle.std.specs.Prelude.{List, ℕ};
@@ -23,7 +21,7 @@ impl Model for Tasks {
 
     ghost Value = { List (ℕ × PolicyRecord) };
 
-    ghost view = { λ a. a.records.entries };
+    ghost view = { λ a. a.0.entries };
 }
 
 impl Tasks {
@@ -31,17 +29,15 @@ impl Tasks {
     pub(crate) fn new(alloc: Global) -> Tasks
         ensures { result ≡ [] }
     {
-        Tasks {
-            records: IndexMap::new(alloc),
-        }
+        Tasks(IndexMap::new(alloc))
     }
 
     /// The same policies once more, of the same tasks.
     pub(crate) fn copy(&self) -> Result<Tasks, AllocError>
         ensures { IfOk result (λ copy. copy ≡ self.now) }
     {
-        let records = self.records.clone()?;
-        Ok(Tasks { records })
+        let records = self.0.clone()?;
+        Ok(Tasks(records))
     }
 
     /// How many tasks have a policy.
@@ -49,14 +45,14 @@ impl Tasks {
         ensures len { result ≡ length self.now }
         ensures each_once { AllPairs (λ earlier later. earlier.0 ≢ later.0) self.now }
     {
-        self.records.len()
+        self.0.len()
     }
 
     /// The policy of a task.
     pub(crate) fn get(&self, task: u32) -> Option<Record>
         ensures { result ≡ record_of self.now task }
     {
-        self.records.get(&task).copied()
+        self.0.get(&task).copied()
     }
 
     /// The k-th task that has a policy, in the order in which they got one.
@@ -64,7 +60,7 @@ impl Tasks {
         ensures at { result ≡ slice_get self.now k }
         ensures record { IfSome result (λ held. record_of self.now held.0 ≡ Some held.1) }
     {
-        match self.records.get_index(k) {
+        match self.0.get_index(k) {
             None => None,
             Some((task, policy)) => Some((*task, *policy)),
         }
@@ -79,7 +75,7 @@ impl Tasks {
             ≡ length self.old + (if is_some (record_of self.old task) then 0 else 1)) }
         ensures err { OnErr result (self.new ≡ self.old) }
     {
-        match self.records.insert(task, policy) {
+        match self.0.insert(task, policy) {
             Ok(_) => Ok(()),
             Err(_) => Err(AllocError),
         }
@@ -92,7 +88,7 @@ impl Tasks {
         ensures count { length self.new + (if is_some (record_of self.old task) then 1 else 0)
             ≡ length self.old }
     {
-        let _ = self.records.shift_remove(&task);
+        let _ = self.0.shift_remove(&task);
     }
 
     /// Moves every policy with a change of the allowed nodes; takes no memory.
@@ -102,9 +98,9 @@ impl Tasks {
             ≡ policy_after old.now new.now (record_of self.old task) }
         ensures count { length self.new ≡ length self.old }
     {
-        for k in 0..self.records.len() {
-            let moved = self.records[k].rebind(old, new);
-            self.records[k] = moved;
+        for k in 0..self.0.len() {
+            let moved = self.0[k].rebind(old, new);
+            self.0[k] = moved;
         }
     }
 }

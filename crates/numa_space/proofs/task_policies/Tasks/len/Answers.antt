@@ -14,6 +14,6 @@ keys_apart es apart i j d before within same =
 
 pub returns-clause-each_once : goal.returns-clause-each_once
 returns-clause-each_once c =
-    let apart : AllPairs (λ x y. x ≢ y) (keys_of c.self.inside.records.entries) = AllPairs-from_IsDistinct Decides-eqb (keys_of c.self.inside.records.entries) c.len.ensures.unique in
+    let apart : AllPairs (λ x y. x ≢ y) (keys_of c.self.inside.0.entries) = AllPairs-from_IsDistinct Decides-eqb (keys_of c.self.inside.0.entries) c.len.ensures.unique in
     let P : List (ℕ × PolicyRecord) → Type 0 = λ es. AllPairs (λ earlier later. earlier.0 ≢ later.0) es in
-    subst P c.self.view_is (keys_apart c.self.inside.records.entries apart)
+    subst P c.self.view_is (keys_apart c.self.inside.0.entries apart)
