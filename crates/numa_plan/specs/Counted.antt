@@ -1,12 +1,11 @@
 -- Steps that contracts count.
 use Rattle.std.specs.Prelude.{◌≡◌, ℕ, ◌+◌, ◌-◌, ◌*◌, ◌^◌, ◌≤◌}
+use Rattle.numa_plan.specs.declared.steps.Steps.{Steps}
 
 -- comparisons of a page with the first page of a run, runs that were written, and rules that were
 -- written
-pub record Counted : Type 0 where
-  pub comparisons : ℕ
-  pub runs : ℕ
-  pub rules : ℕ
+abbrev pub Counted : Type 0
+Counted = Steps
 
 abbrev pub no_steps : Counted
 no_steps = record { comparisons = 0; runs = 0; rules = 0 }

@@ -30,3 +30,4 @@ pub use plan::Plan;
 pub use rule::Rule;
 pub use shared_rule::SharedRule;
 pub use steps::Steps;
+pub use tally::Tally;

@@ -18,6 +18,7 @@ use crate::rule::Rule;
 use crate::runs::Runs;
 use crate::slots::{Slot, copies};
 use crate::steps::Steps;
+use crate::tally::Tally;
 use numa_machine::NoMemory;
 use numa_space::PlaceRefusal;
 use std::alloc::Global;
@@ -216,13 +217,7 @@ impl Plan {
     /// # Errors
     /// `BadCpu` where `cpu` is none of the plan's nodes, also for a span of no pages; else
     /// `Unmapped` where some page of the span has no run.
-    pub fn counts(
-        &self,
-        task: u32,
-        cpu: u32,
-        first: u64,
-        pages: u64,
-    ) -> Result<[u64; 256], PlaceRefusal>
+    pub fn counts(&self, task: u32, cpu: u32, first: u64, pages: u64) -> Result<Tally, PlaceRefusal>
         ensures ok { IfOk result (λ counts. (cpu < self.now.nodes)
             × IsMapped self.now.runs first pages
             × CountsFirsts self.now task cpu first pages counts) }

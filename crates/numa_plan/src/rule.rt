@@ -7,7 +7,7 @@ ghost use Rattle.numa_plan.specs.Rows.{row_number, row_of, first_of, HasRow};
 ghost use Rattle.numa_plan.specs.Rows.{Faulting, Fixed, InTurns};
 
 use crate::rows::{first_cycle, row_at};
-use crate::tally::add_turns;
+use crate::tally::{Tally, add_turns};
 use numa_lanes::{Cycle, fill_cycle, fill_one};
 use numa_machine::NoMemory;
 use std::alloc::Global;
@@ -158,7 +158,7 @@ impl Rule {
 
     /// Adds to each node's count the pages whose row begins with the node, for so many pages with
     /// the indexes from this one on.
-    pub(crate) fn count(&self, cpu: u32, index: u64, pages: u64, counts: &mut [u64; 256])
+    pub(crate) fn count(&self, cpu: u32, index: u64, pages: u64, counts: &mut Tally)
         requires rows { (k : ℕ) → HasRow self.now (row_number self.now cpu k) }
         requires room { HasRoom counts.old (λ _. pages) }
         ensures { Adds counts.old counts.new (λ node.

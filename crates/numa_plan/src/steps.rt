@@ -4,7 +4,6 @@ ghost use Rattle.numa_plan.specs.Counted.{no_steps, one_comparison, one_run, mor
 ghost use Rattle.numa_plan.specs.Counted.{one_rule};
 
 use numa_count::Count;
-use std::marker::Model;
 
 /// A counter of steps: comparisons of a page with the first page of a run, runs that were written,
 /// and rules that were written. It has no bytes, and nothing but a contract can read it.
@@ -13,14 +12,6 @@ pub struct Steps {
     comparisons: Count,
     runs: Count,
     rules: Count,
-}
-
-impl Model for Steps {
-    ghost use Rattle.numa_plan.specs.Counted.{Counted};
-
-    ghost Value = { Counted };
-
-    ghost view = { λ s. record { comparisons = s.comparisons; runs = s.runs; rules = s.rules } };
 }
 
 impl Steps {

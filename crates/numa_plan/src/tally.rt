@@ -6,13 +6,16 @@ ghost use Rattle.numa_plan.specs.Tally.{Adds, HasRoom};
 
 use numa_lanes::{Cycle, tally};
 
+/// How many pages are on each node: the count of node k at place k.
+pub type Tally = [u64; 256];
+
 /// How many turns a cycle lends at once.
 const LENT: u64 = 64;
 
 /// Adds to each node's count the pages that are on it, where so many pages from an index on take
 /// the nodes of a cycle in turn.
 #[inline]
-pub(crate) fn add_turns(cycle: &Cycle, index: u64, pages: u64, counts: &mut [u64; 256])
+pub(crate) fn add_turns(cycle: &Cycle, index: u64, pages: u64, counts: &mut Tally)
     requires { HasRoom counts.old (λ _. pages) }
     ensures { Adds counts.old counts.new (turns_on cycle.now index pages) }
 {
@@ -26,7 +29,7 @@ pub(crate) fn add_turns(cycle: &Cycle, index: u64, pages: u64, counts: &mut [u64
 /// Adds to each node's count the pages that are on it, where so many pages from an index on take
 /// the nodes of a cycle in turn: whole rounds of it by multiplication, and the rest page by page.
 #[inline(never)]
-fn add_rounds(nodes: &[u8], index: u64, pages: u64, counts: &mut [u64; 256])
+fn add_rounds(nodes: &[u8], index: u64, pages: u64, counts: &mut Tally)
     requires some { 0 < length nodes.now }
     requires room { HasRoom counts.old (λ _. pages) }
     ensures { Adds counts.old counts.new (turns_on nodes.now index pages) }
@@ -40,7 +43,7 @@ fn add_rounds(nodes: &[u8], index: u64, pages: u64, counts: &mut [u64; 256])
 
 /// Adds to each node's count the pages that are on it, where fewer pages than a round take the
 /// nodes of a cycle in turn, from this place of the cycle on.
-fn add_rest(nodes: &[u8], start: usize, pages: usize, counts: &mut [u64; 256])
+fn add_rest(nodes: &[u8], start: usize, pages: usize, counts: &mut Tally)
     requires start { start < length nodes.now }
     requires pages { pages < length nodes.now }
     requires room { HasRoom counts.old (λ _. pages) }
@@ -57,7 +60,7 @@ fn add_rest(nodes: &[u8], start: usize, pages: usize, counts: &mut [u64; 256])
 }
 
 /// Adds so many pages for each of these nodes to the node's count.
-fn add_places(nodes: &[u8], pages: u64, counts: &mut [u64; 256])
+fn add_places(nodes: &[u8], pages: u64, counts: &mut Tally)
     requires { HasRoom counts.old (λ node. pages * node_count node nodes.now) }
     ensures { Adds counts.old counts.new (λ node. pages * node_count node nodes.now) }
 {

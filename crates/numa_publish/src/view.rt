@@ -18,7 +18,7 @@ use crate::past::Past;
 use crate::reader::PlanReader;
 use crate::rule::ShownReading;
 use numa_compile::every_plan;
-use numa_plan::Steps;
+use numa_plan::{Steps, Tally};
 use numa_space::PlaceRefusal;
 use std::marker::Model;
 
@@ -132,13 +132,7 @@ impl PlanView {
     /// # Errors
     /// `BadCpu` where `cpu` is none of the machine's nodes, also for no pages; else `Unmapped`
     /// where this version doesn't map some page of the span.
-    pub fn counts(
-        &self,
-        task: u32,
-        cpu: u32,
-        first: u64,
-        pages: u64,
-    ) -> Result<[u64; 256], PlaceRefusal>
+    pub fn counts(&self, task: u32, cpu: u32, first: u64, pages: u64) -> Result<Tally, PlaceRefusal>
         ensures ok { IfOk result (λ counts. (node : ℕ) → node < 256 → slice_index counts node
             ≡ meant_count self.now.desk.machine self.now.history task cpu first pages node) }
         ensures stands { OnOk result
