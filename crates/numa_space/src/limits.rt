@@ -12,19 +12,15 @@ pub struct Limits {
 }
 
 impl Model for Limits {
-    ghost use Rattle.numa_space.specs.Limited.{Bounds, AreBounds, bounds_of};
+    ghost use Rattle.numa_space.specs.Limited.{Bounds, AreBounds};
 
     ghost Value = { Bounds };
 
-    ghost view = { bounds_of };
+    ghost view = { λ a. a };
 
-    ghost invariant = { λ a. AreBounds (bounds_of a) };
+    ghost invariant = { AreBounds };
 
-    ghost inverse = { λ b. record {
-      max_ranges = b.max_ranges;
-      max_tasks = b.max_tasks;
-      max_commands = b.max_commands;
-    } };
+    ghost inverse = { λ b. b };
 }
 
 impl Limits {
