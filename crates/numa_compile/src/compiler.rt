@@ -89,34 +89,39 @@ fn add_run(
     put_waiting(plan, waiting, steps)
 }
 
-/// Adds a run for each range of the space, in order.
+/// Adds a run for each range of the space, in order, and answers the policies that have a rule
+/// then, each at the place that is the number of its rule.
 fn add_runs(
     alloc: Global,
     space: &Space,
     plan: &mut Plan,
-    records: &mut IndexSet<Record>,
     steps: &mut Steps,
-) -> Result<(), NoMemory>
-    requires ready { IsReady space.now }
-    requires few { length space.now.ranges < 2 ^ 31 }
-    requires none { records.old.keys ≡ [] }
-    requires under_way { IsUnderWay space.now plan.old records.old.keys }
+) -> Result<IndexSet<Record>, NoMemory>
+    requires under_way { IsUnderWay space.now plan.old [] }
     requires runs { plan.old.runs ≡ [] }
     requires tasks { plan.old.tasks ≡ [] }
-    ensures under_way { OnOk result (IsUnderWay space.now plan.new records.new.keys) }
-    ensures copies { OnOk result
-        (AreCopies (slice_get records.new.keys) space.now.ranges plan.new.runs) }
+    ensures under_way { IfOk result (λ records. IsUnderWay space.now plan.new records.keys) }
+    ensures copies { IfOk result (λ records.
+        AreCopies (slice_get records.keys) space.now.ranges plan.new.runs) }
     ensures tasks { OnOk result (plan.new.tasks ≡ []) }
-    ensures room { OnOk result (length records.new.keys ≤ length space.now.ranges) }
+    ensures room { IfOk result (λ records. length records.keys ≤ length space.now.ranges) }
 {
     survey(space);
+    let mut records = IndexSet::new(alloc);
     let (rows, values) = space.range_rows();
     let mut known = Vec::new(alloc);
     known.resize(values.len(), None)?;
     let mut waiting = Vec::with_capacity(alloc, BLOCK)?;
     for row in rows {
         let value = number_for_range(
-            alloc, space, values, row.number, plan, records, &mut known, steps,
+            alloc,
+            space,
+            values,
+            row.number,
+            plan,
+            &mut records,
+            &mut known,
+            steps,
         )?;
         let run = Run {
             first: row.first,
@@ -126,7 +131,8 @@ fn add_runs(
         };
         add_run(plan, &mut waiting, run, steps)?;
     }
-    put_waiting(plan, &mut waiting, steps)
+    put_waiting(plan, &mut waiting, steps)?;
+    Ok(records)
 }
 
 /// The task at a place where there is one, and its policy.
@@ -184,11 +190,7 @@ fn copy_space(
     ensures rules { OnOk result (SharesRules space.now plan.new) }
 {
     survey(space);
-    let mut records = IndexSet::new(alloc);
-    let Ok(()) = add_runs(alloc, space, plan, &mut records, steps) else {
-        drop(records);
-        return Err(NoMemory);
-    };
+    let mut records = add_runs(alloc, space, plan, steps)?;
     let Ok(()) = set_tasks(alloc, space, plan, &mut records, steps) else {
         drop(records);
         return Err(NoMemory);

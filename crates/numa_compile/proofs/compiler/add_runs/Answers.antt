@@ -1,13 +1,12 @@
 use Rattle.std.proofs.Common.{◌≡◌, ℕ, ◌+◌, ◌-◌, None, replicate, [], ◌∷◌, ◌++◌, List, Option, take, length, get_or, Contains, refl, sym, ap, subst, ◌∙◌, arith, slice_get}
 use Rattle.std.specs.Vec.{vec_len}
 use Rattle.std.proofs.lemmas.List.{take_all, length-drop, append_assoc}
-use Rattle.std.proofs.lemmas.Result.{on_ok_weaker}
 use Rattle.numa_mode.specs.Policy.{PolicyRecord}
 use Rattle.numa_ranges.specs.Numbered.{AreNumbered, runs_of}
 use Rattle.numa_ranges.specs.declared.run.Run.{Run}
 use Rattle.numa_ranges.proofs.Walked.{step-short, step-read, step-left}
 use Rattle.numa_plan.specs.Meaning.{PlanData}
-use Rattle.numa_compile.specs.Copies.{AreCopies, AreUsed, Grows, HasRunsMore}
+use Rattle.numa_compile.specs.Copies.{AreCopies, AreUsed, Grows, HasRunsMore, IsUnderWay}
 use Rattle.numa_compile.proofs.CompileSteps.{copied-next, served-named, under-rest, under-runs}
 use Rattle.numa_compile.proofs.KnownLemmas.{known-none, range-of, range-first, rest-numbered, row-number}
 use Rattle.numa_compile.proofs.CopyLemmas.{copies-apart, apart-take, grows-one}
@@ -21,14 +20,14 @@ loop-row-init c = record {
     k = 0;
     within = omega arith;
     left = ap (runs_of c.range_rows-rows.result.1.now) c.into_iter-row-iterator.ensures.into_iter_gives ∙ c.range_rows-rows.ensures.runs;
-    under_way = c.requires.under_way;
-    copies = subst (λ (rs : List (Run (Option ℕ))). AreCopies (slice_get c.args.records.now.keys) [] rs) (λ i. sym c.requires.runs i ++ sym c.in_ok-waiting.ensures.items i) tt;
+    under_way = subst (λ (ks : List PolicyRecord). IsUnderWay c.args.space.now c.args.plan.now ks) (sym c.new-records.ensures.empty) c.requires.under_way;
+    copies = subst (λ (rs : List (Run (Option ℕ))). AreCopies (slice_get c.new-records.result.keys) [] rs) (λ i. sym c.requires.runs i ++ sym c.in_ok-waiting.ensures.items i) tt;
     tasks = c.requires.tasks;
-    room = omega (arith, ap length c.requires.none);
+    room = omega (arith, ap length c.new-records.ensures.empty);
   };
   numbered = subst (AreNumbered c.range_rows-rows.result.1.now) (sym c.into_iter-row-iterator.ensures.into_iter_gives) c.range_rows-rows.ensures.numbered;
   size = omega (arith, c.in_ok-resize.ensures.len, c.resize.new.self.ok.0);
-  known = known-none (slice_get c.args.records.now.keys) c.range_rows-rows.result.1.now c.resize.new.self.items (length c.range_rows-rows.result.1.now)
+  known = known-none (slice_get c.new-records.result.keys) c.range_rows-rows.result.1.now c.resize.new.self.items (length c.range_rows-rows.result.1.now)
       (let n : ℕ = length c.range_rows-rows.result.1.now in
       let no : Option (Option ℕ) = None in
       let all : ◌≡◌ {A = ℕ} (n - vec_len c.new-known.result) n = omega (arith, c.new-known.ensures.len) in
@@ -45,7 +44,7 @@ number_for_range-requires-clause-in_force c =
     let short = step-short ranges (runs_of c.range_rows-rows.result.1.now c.loop-row.row-iterator) (runs_of c.range_rows-rows.result.1.now c.next.new.self) inv.k range inv.left steps in
     let read = step-read ranges (runs_of c.range_rows-rows.result.1.now c.loop-row.row-iterator) (runs_of c.range_rows-rows.result.1.now c.next.new.self) inv.k range range inv.left steps in
     let value : (get_or ranges inv.k range).value ≡ range.value = sym (ap (λ (r : Run (Option PolicyRecord)). r.value) read) in
-    λ r is. range-in_force c.args.space.now inv.k range short c.survey.ensures.rising c.requires.ready.sound r (value ∙ is)
+    λ r is. range-in_force c.args.space.now inv.k range short c.survey.ensures.rising c.survey.ensures.ready.sound r (value ∙ is)
 
 pub add_run-requires-clause-apart : goal.add_run-requires-clause-apart
 add_run-requires-clause-apart c =
@@ -133,7 +132,7 @@ put_waiting-requires-clause-named c =
 
 pub returns-clause-under_way : goal.returns-clause-under_way
 returns-clause-under_way c =
-    on_ok_weaker c.put_waiting.result (λ more. under-runs c.args.space.now c.loop-row.plan c.put_waiting.new.plan c.loop-row.records.keys c.loop-row.invariant.added.under_way more) c.put_waiting.ensures.more
+    under-runs c.args.space.now c.loop-row.plan c.put_waiting.new.plan c.loop-row.records.keys c.loop-row.invariant.added.under_way c.in_ok-put_waiting.ensures.more
 
 pub returns-clause-copies : goal.returns-clause-copies
 returns-clause-copies c =
@@ -142,14 +141,15 @@ returns-clause-copies c =
     let keys : List PolicyRecord = c.loop-row.records.keys in
     let whole : take inv.k ranges ≡ ranges = take_all inv.k ranges (omega (arith, ap length inv.left, ap length (ap (runs_of c.range_rows-rows.result.1.now) c.in-None.ensures.steps.0), length-drop inv.k ranges)) in
     let copies : AreCopies (slice_get keys) ranges (c.loop-row.plan.runs ++ c.loop-row.waiting.items) = subst (λ (rs : List (Run (Option PolicyRecord))). AreCopies (slice_get keys) rs (c.loop-row.plan.runs ++ c.loop-row.waiting.items)) whole inv.copies in
-    on_ok_weaker c.put_waiting.result (λ runs. subst (λ (rs : List (Run (Option ℕ))). AreCopies (slice_get keys) ranges rs) (sym runs) copies) c.put_waiting.ensures.runs
+    subst (λ (rs : List (Run (Option ℕ))). AreCopies (slice_get keys) ranges rs) (sym c.in_ok-put_waiting.ensures.runs) copies
 
 pub returns-clause-tasks : goal.returns-clause-tasks
 returns-clause-tasks c =
-    on_ok_weaker c.put_waiting.result (λ (more : HasRunsMore c.loop-row.plan c.put_waiting.new.plan). ap (λ (p : PlanData). p.tasks) more.rest ∙ c.loop-row.invariant.added.tasks) c.put_waiting.ensures.more
+    let more : HasRunsMore c.loop-row.plan c.put_waiting.new.plan = c.in_ok-put_waiting.ensures.more in
+    ap (λ (p : PlanData). p.tasks) more.rest ∙ c.loop-row.invariant.added.tasks
 
 pub returns-clause-room : goal.returns-clause-room
-returns-clause-room c = on_ok_weaker c.put_waiting.result (λ more. omega (arith, c.loop-row.invariant.added.room, c.loop-row.invariant.added.within)) c.put_waiting.ensures.more
+returns-clause-room c = omega (arith, c.loop-row.invariant.added.room, c.loop-row.invariant.added.within)
 
 pub number_for_range-requires-clause-within : goal.number_for_range-requires-clause-within
 number_for_range-requires-clause-within c = row-number c.range_rows-rows.result.1.now c.loop-row.row-iterator c.next.new.self c.in-Some.row.now c.loop-row.invariant.numbered c.in-Some.ensures.steps
@@ -164,10 +164,10 @@ pub number_for_range-requires-clause-serves : goal.number_for_range-requires-cla
 number_for_range-requires-clause-serves c = c.loop-row.invariant.added.under_way.serves
 
 pub number_for_range-requires-clause-room : goal.number_for_range-requires-clause-room
-number_for_range-requires-clause-room c = omega (arith, c.loop-row.invariant.added.room, c.loop-row.invariant.added.within, c.requires.few)
+number_for_range-requires-clause-room c = omega (arith, c.loop-row.invariant.added.room, c.loop-row.invariant.added.within, c.survey.ensures.ranges)
 
 pub number_for_range-requires-clause-known : goal.number_for_range-requires-clause-known
 number_for_range-requires-clause-known c = c.loop-row.invariant.known
 
 pub number_for_range-requires-clause-ready : goal.number_for_range-requires-clause-ready
-number_for_range-requires-clause-ready c = c.requires.ready
+number_for_range-requires-clause-ready c = c.survey.ensures.ready
