@@ -4,38 +4,4 @@
 #![tactic(auto)]
 
 #[cfg(test)]
-mod beside;
-#[cfg(test)]
-mod crew_setting;
-#[cfg(test)]
-mod crews;
-#[cfg(test)]
-mod crews_refused;
-#[cfg(test)]
-mod eight_workers;
-#[cfg(test)]
-mod one_frame;
-#[cfg(test)]
-mod places;
-#[cfg(test)]
-mod placing;
-#[cfg(test)]
-mod refused;
-#[cfg(test)]
-mod refused_desk;
-#[cfg(test)]
-mod refused_span;
-#[cfg(test)]
-mod setting;
-#[cfg(test)]
-mod spans;
-#[cfg(test)]
-mod storms;
-#[cfg(test)]
-mod tally;
-#[cfg(test)]
-mod versions;
-#[cfg(test)]
-mod waiting;
-#[cfg(test)]
-mod workers;
+mod tests;

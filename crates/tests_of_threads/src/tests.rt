@@ -1,0 +1,19 @@
+//! The tests, a module for each part that threads share.
+mod beside;
+mod crew_setting;
+mod crews;
+mod crews_refused;
+mod eight_workers;
+mod one_frame;
+mod places;
+mod placing;
+mod refused;
+mod refused_desk;
+mod refused_span;
+mod setting;
+mod spans;
+mod storms;
+mod tally;
+mod versions;
+mod waiting;
+mod workers;
