@@ -7,22 +7,6 @@ use crate::words::usage::{Argument, FILES, Takes, Word};
 use clap::ArgMatches;
 use std::alloc::Global;
 
-/// What the help says in a line.
-const LINE: &str = "Tells which pages would go elsewhere if lines were added to scripts";
-
-/// What the help says in full.
-const ABOUT: &str =
-    "Tells which pages would go to another node if script lines were added to the scripts, and a \
-task touched each of them on a CPU of one node: for each span of pages of which some do, how many \
-from which node to which, and in all. Pages that are mapped only before or only after are left \
-out. Lines that are faulty or refused are told on standard error as by `check`, and passed over. \
-The status is 3 where no machine is ready after the scripts.";
-
-/// What stands at the end of the help.
-const MORE: &str =
-    "Example, from the top of the repository:\n  ./numaplan diff --task 1 --cpu 0 --then 'mems 0' \
-examples/homes.numaplan";
-
 /// The option `--then LINE`.
 const THEN: Argument = Argument {
     name: "then",
@@ -35,9 +19,14 @@ const THEN: Argument = Argument {
 /// The word.
 pub const WORD: Word = Word {
     name: "diff",
-    line: LINE,
-    about: ABOUT,
-    more: MORE,
+    line: "Tells which pages would go elsewhere if lines were added to scripts",
+    about: "Tells which pages would go to another node if script lines were added to the scripts, \
+and a task touched each of them on a CPU of one node: for each span of pages of which some do, \
+how many from which node to which, and in all. Pages that are mapped only before or only after \
+are left out. Lines that are faulty or refused are told on standard error as by `check`, and \
+passed over. The status is 3 where no machine is ready after the scripts.",
+    more: "Example, from the top of the repository:\n  ./numaplan diff --task 1 --cpu 0 --then \
+'mems 0' examples/homes.numaplan",
     arguments: &[TASK, CPU, THEN, FILES],
 };
 

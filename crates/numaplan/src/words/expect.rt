@@ -7,23 +7,6 @@ use std::io;
 use std::io::{Read, Write};
 use std::process::ExitCode;
 
-/// What the help says in a line.
-const LINE: &str = "Compares the answers that scripts hold with those that they get";
-
-/// What the help says in full.
-const ABOUT: &str =
-    "Answers worked scripts, which hold the answers that are wanted as `run --echo` writes them, \
-and tells each answer that is another. Each file is a script of its own. A line holds a script \
-line and its answer, as LINE => ANSWER, or a script line alone, or, behind `=> `, the next line of \
-the answer to the script line above; a script line of which no answer stands there is carried out \
-and not compared. The last line on standard output counts the lines of answers: as wanted, not so, \
-and not compared.";
-
-/// What stands at the end of the help.
-const MORE: &str =
-    "The status is 0 where all are as wanted, and else 3.\n\nExample, from the top of the \
-repository:\n  ./numaplan expect examples/*.answers";
-
 /// The status where an answer is not as wanted.
 const DIFFERENT: u8 = 3;
 
@@ -39,9 +22,15 @@ const WORKED: Argument = Argument {
 /// The word.
 pub const WORD: Word = Word {
     name: "expect",
-    line: LINE,
-    about: ABOUT,
-    more: MORE,
+    line: "Compares the answers that scripts hold with those that they get",
+    about: "Answers worked scripts, which hold the answers that are wanted as `run --echo` writes \
+them, and tells each answer that is another. Each file is a script of its own. A line holds a \
+script line and its answer, as LINE => ANSWER, or a script line alone, or, behind `=> `, the next \
+line of the answer to the script line above; a script line of which no answer stands there is \
+carried out and not compared. The last line on standard output counts the lines of answers: as \
+wanted, not so, and not compared.",
+    more: "The status is 0 where all are as wanted, and else 3.\n\nExample, from the top of the \
+repository:\n  ./numaplan expect examples/*.answers",
     arguments: &[WORKED],
 };
 

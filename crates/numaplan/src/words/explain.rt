@@ -7,23 +7,6 @@ use clap::ArgMatches;
 use numa_script::number::number;
 use std::alloc::Global;
 
-/// What the help says in a line.
-const LINE: &str = "Tells why a page goes where it goes";
-
-/// What the help says in full.
-const ABOUT: &str =
-    "Tells why memory for a page is looked for on its nodes, if a task touched the page now on a \
-CPU of one node: in six lines the nodes in order, the range with the page's index, which policy \
-counts and why the other doesn't, the sets of nodes, the rule that chose the first node with its \
-arithmetic, and the order of the others with their distances. Lines that are faulty or refused are \
-told on standard error as by `check`, and passed over. The status is 3 where no machine is ready \
-after the scripts.";
-
-/// What stands at the end of the help.
-const MORE: &str =
-    "Example, from the top of the repository:\n  ./numaplan explain --task 1 --cpu 3 0x32000 \
-examples/interleaved-range.numaplan";
-
 /// What is told where the address is faulty.
 const BAD_ADDRESS: &str =
     "error: '<ADDRESS>' takes a number below 2^64, decimal or 0x and hexadecimal\n\nFor more \
@@ -41,9 +24,15 @@ const ADDRESS: Argument = Argument {
 /// The word.
 pub const WORD: Word = Word {
     name: "explain",
-    line: LINE,
-    about: ABOUT,
-    more: MORE,
+    line: "Tells why a page goes where it goes",
+    about: "Tells why memory for a page is looked for on its nodes, if a task touched the page \
+now on a CPU of one node: in six lines the nodes in order, the range with the page's index, which \
+policy counts and why the other doesn't, the sets of nodes, the rule that chose the first node \
+with its arithmetic, and the order of the others with their distances. Lines that are faulty or \
+refused are told on standard error as by `check`, and passed over. The status is 3 where no \
+machine is ready after the scripts.",
+    more: "Example, from the top of the repository:\n  ./numaplan explain --task 1 --cpu 3 \
+0x32000 examples/interleaved-range.numaplan",
     arguments: &[TASK, CPU, ADDRESS, FILES],
 };
 

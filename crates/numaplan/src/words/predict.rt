@@ -9,24 +9,6 @@ use clap::ArgMatches;
 use numa_play::Format;
 use std::alloc::Global;
 
-/// What the help says in a line.
-const LINE: &str = "Tells where pages would go after scripts, if a task touched them";
-
-/// What the help says in full.
-const ABOUT: &str =
-    "Tells where all mapped pages would go after the scripts, if a task touched each of them now \
-on a CPU of one node: the first node of each page's list, range by range and in all. With --free \
-the named nodes have so many free pages, and the others never run out: each page, the lowest \
-first, goes to the first node of its list that has one left; the answer tells how many pages find \
-none (exhausted=) and what is left on the named nodes. Lines that are faulty or refused are told \
-on standard error as by `check`, and passed over. The status is 3 where no machine is ready after \
-the scripts.";
-
-/// What stands at the end of the help.
-const MORE: &str =
-    "Example, from the top of the repository:\n  ./numaplan predict --task 1 --cpu 0 \
-examples/homes.numaplan";
-
 /// The option `--format FORMAT`.
 const FORMAT: Argument = Argument {
     name: "format",
@@ -39,9 +21,16 @@ const FORMAT: Argument = Argument {
 /// The word.
 pub const WORD: Word = Word {
     name: "predict",
-    line: LINE,
-    about: ABOUT,
-    more: MORE,
+    line: "Tells where pages would go after scripts, if a task touched them",
+    about: "Tells where all mapped pages would go after the scripts, if a task touched each of \
+them now on a CPU of one node: the first node of each page's list, range by range and in all. \
+With --free the named nodes have so many free pages, and the others never run out: each page, the \
+lowest first, goes to the first node of its list that has one left; the answer tells how many \
+pages find none (exhausted=) and what is left on the named nodes. Lines that are faulty or \
+refused are told on standard error as by `check`, and passed over. The status is 3 where no \
+machine is ready after the scripts.",
+    more: "Example, from the top of the repository:\n  ./numaplan predict --task 1 --cpu 0 \
+examples/homes.numaplan",
     arguments: &[TASK, CPU, FORMAT, FREE, FILES],
 };
 

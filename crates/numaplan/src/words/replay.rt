@@ -11,25 +11,6 @@ use std::io::{IsTerminal, Read};
 use std::process::ExitCode;
 use std::rt::Files;
 
-/// What the help says in a line.
-const LINE: &str = "Tells what a trace of accesses meets after scripts";
-
-/// What the help says in full.
-const ABOUT: &str =
-    "Replays a trace of accesses after the scripts, on the frames of their machine, where no page \
-is placed yet: the first touch of a page places it on the first node of its list that has a frame \
-left, and later accesses go to where it lies. Tells, by task and in all, how many accesses went to \
-which node (N0=) and over which distance (D10=), how many faults placed a page and how many found \
-no frame, and how many accesses those made. A line of the trace is TASK ADDRESS CPU [COUNT], in \
-decimal or 0x; an empty line or one that begins with # says nothing. Script lines that are faulty \
-or refused are told on standard error as by `check`, and passed over. The status is 3 where no \
-machine is ready after the scripts, or a line of the trace can't be replayed.";
-
-/// What stands at the end of the help.
-const MORE: &str =
-    "Example, from the top of the repository:\n  ./numaplan replay --trace examples/replayed.trace \
-examples/interleaved-range.numaplan";
-
 /// The option `--trace TRACE`.
 const TRACE: Argument = Argument {
     name: "trace",
@@ -51,9 +32,18 @@ const FORMAT: Argument = Argument {
 /// The word.
 pub const WORD: Word = Word {
     name: "replay",
-    line: LINE,
-    about: ABOUT,
-    more: MORE,
+    line: "Tells what a trace of accesses meets after scripts",
+    about: "Replays a trace of accesses after the scripts, on the frames of their machine, where \
+no page is placed yet: the first touch of a page places it on the first node of its list that has \
+a frame left, and later accesses go to where it lies. Tells, by task and in all, how many \
+accesses went to which node (N0=) and over which distance (D10=), how many faults placed a page \
+and how many found no frame, and how many accesses those made. A line of the trace is TASK \
+ADDRESS CPU [COUNT], in decimal or 0x; an empty line or one that begins with # says nothing. \
+Script lines that are faulty or refused are told on standard error as by `check`, and passed \
+over. The status is 3 where no machine is ready after the scripts, or a line of the trace can't \
+be replayed.",
+    more: "Example, from the top of the repository:\n  ./numaplan replay --trace \
+examples/replayed.trace examples/interleaved-range.numaplan",
     arguments: &[TRACE, FORMAT, FILES],
 };
 

@@ -9,20 +9,6 @@ use std::io;
 use std::io::Read;
 use std::process::ExitCode;
 
-/// What the help says in a line.
-const LINE: &str = "Answers the scripts of files, or of standard input";
-
-/// What the help says in full.
-const ABOUT: &str =
-    "Answers a script. The script is read from the files in turn, or from standard input, and its \
-answers are written to standard output: one line for each line of the script, but none for an \
-empty line or a comment, and for `maps` one for each range.";
-
-/// What stands at the end of the help.
-const MORE: &str =
-    "Example, from the top of the repository:\n  ./numaplan run examples/first-run.numaplan\n\nThe \
-language of scripts is told in docs/SCRIPT.md of the repository.";
-
 /// The option `--echo`.
 const ECHO: Argument = Argument {
     name: "echo",
@@ -35,9 +21,13 @@ const ECHO: Argument = Argument {
 /// The word.
 pub const WORD: Word = Word {
     name: "run",
-    line: LINE,
-    about: ABOUT,
-    more: MORE,
+    line: "Answers the scripts of files, or of standard input",
+    about: "Answers a script. The script is read from the files in turn, or from standard input, \
+and its answers are written to standard output: one line for each line of the script, but none \
+for an empty line or a comment, and for `maps` one for each range.",
+    more: "Example, from the top of the repository:\n  ./numaplan run \
+examples/first-run.numaplan\n\nThe language of scripts is told in docs/SCRIPT.md of the \
+repository.",
     arguments: &[ECHO, FILES],
 };
 

@@ -14,21 +14,6 @@ use std::process::ExitCode;
 use std::sync::Wait;
 use std::thread::Threads;
 
-/// What the help says in a line.
-const LINE: &str = "Lets workers place pages while policies change, and compares each placement";
-
-/// What the help says in full.
-const ABOUT: &str =
-    "Lets K workers, each in a thread of its own, place 320 pages on a machine of 4 nodes with 64 \
-frames each, while one more thread changes the policy of their task eight times. Then each \
-placement is compared with the list of nodes that the space of its version gives. Five lines on \
-standard output tell how many workers there were, how many pages were placed and for how many no \
-frame was free, whether all placements match, and how many frames are held at the end. The status \
-is 0 where all is as it must be whichever thread is first, and else 1.";
-
-/// What stands at the end of the help.
-const MORE: &str = "Example, from the top of the repository:\n  ./numaplan storm --workers 4";
-
 /// What is told where the number of workers is faulty.
 const BAD_WORKERS: &str =
     "error: '--workers <K>' takes a number from 1 to 16\n\nFor more information, try '--help'.\n";
@@ -45,9 +30,14 @@ const WORKERS: Argument = Argument {
 /// The word.
 pub const WORD: Word = Word {
     name: "storm",
-    line: LINE,
-    about: ABOUT,
-    more: MORE,
+    line: "Lets workers place pages while policies change, and compares each placement",
+    about: "Lets K workers, each in a thread of its own, place 320 pages on a machine of 4 nodes \
+with 64 frames each, while one more thread changes the policy of their task eight times. Then \
+each placement is compared with the list of nodes that the space of its version gives. Five lines \
+on standard output tell how many workers there were, how many pages were placed and for how many \
+no frame was free, whether all placements match, and how many frames are held at the end. The \
+status is 0 where all is as it must be whichever thread is first, and else 1.",
+    more: "Example, from the top of the repository:\n  ./numaplan storm --workers 4",
     arguments: &[WORKERS],
 };
 
