@@ -1,5 +1,5 @@
 //! Workers that look for frames.
-ghost use Rattle.std.specs.Prelude.{◌≡◌};
+ghost use Rattle.std.specs.Prelude.{◌≡◌, MatchOption};
 ghost use Rattle.numa_handle.specs.Steps.{core_in};
 ghost use Rattle.numa_space.specs.declared.event.Event.{Event};
 ghost use Rattle.numaplan_c.specs.Border.{Answers, Places, Touched, Tried};
@@ -26,12 +26,13 @@ pub struct NpPlacement {
 const _: () = prove!(size_of::<NpPlacement>() == 32);
 
 /// Tells where a page was placed, where it was, and the number of the answer.
-fn tell(answer: &Result<CoreReply, CoreRefusal>, placed: &mut NpPlacement) -> u32
-    ensures code { result ≡ answer_code answer.now }
-    ensures places { Places answer.now placed.old placed.new }
+fn tell(answer: Option<Result<CoreReply, CoreRefusal>>, placed: &mut NpPlacement) -> u32
+    ensures { MatchOption answer ((result ≡ 1) × (placed.new ≡ placed.old))
+        (λ it. (result ≡ answer_code it) × Places it placed.old placed.new) }
 {
     match answer {
-        Ok(CoreReply::Won(won)) => {
+        None => Code::Closed as u32,
+        Some(Ok(CoreReply::Won(won))) => {
             *placed = NpPlacement {
                 version: won.version,
                 page: won.page,
@@ -42,7 +43,7 @@ fn tell(answer: &Result<CoreReply, CoreRefusal>, placed: &mut NpPlacement) -> u3
             };
             0
         }
-        _ => answer_code(answer),
+        Some(answer) => answer_code(&answer),
     }
 }
 
@@ -60,10 +61,10 @@ pub extern "C" fn np_core_touch(
     ensures { Touched (core_in core.old) worker (record { task = task; page = page; cpu = cpu })
         result (core_in core.new) placed.old placed.new }
 {
-    match core.touch(alloc, worker, Request { task, page, cpu }) {
-        None => Code::Closed as u32,
-        Some(answer) => tell(&answer, placed),
-    }
+    tell(
+        core.touch(alloc, worker, Request { task, page, cpu }),
+        placed,
+    )
 }
 
 /// A worker takes up a request.
@@ -113,10 +114,7 @@ pub extern "C" fn np_core_try(
         node,
         number: frame,
     };
-    match core.step(alloc, Event::Try(worker, frame)) {
-        None => Code::Closed as u32,
-        Some(answer) => tell(&answer, placed),
-    }
+    tell(core.step(alloc, Event::Try(worker, frame)), placed)
 }
 
 /// A worker gives a frame back.
