@@ -9,33 +9,26 @@
 
 ghost use Rattle.std.specs.Prelude.{◌≡◌, ◌+◌};
 
-use logbook::{Opening, Rule, Seen, Start};
+mod rule;
+
+use logbook::{Opening, Seen, Start};
+pub use rule::{BareRule, Holding};
 use std::marker::Model;
 
-/// The rule of a list that contracts alone see, and of which nothing is asked.
+/// Between the words and the list anything holds.
 pub struct Anything;
 
-impl<E> Rule<E, u64> for Anything {
-    ghost use Rattle.std.specs.Prelude.{[]};
-    ghost use base.Fml.{ftrue};
-
+impl<E> Holding<E> for Anything {
     ghost holds = { λ cells log. Unit {0} };
-
-    ghost first = { [] };
-
-    ghost hinted = { λ n log. Unit {0} };
-
-    ghost shows = { λ log. [] };
-
-    ghost keeps = { λ names log. ftrue };
-
-    ghost moves = { λ ask before after answer. Unit {0} };
 }
+
+/// A list that contracts alone see, and of which nothing is asked.
+pub type GhostList<E> = Seen<E, u64, BareRule<Anything>>;
 
 /// A list with one entry more than that of another book.
 struct Longer;
 
-impl Opening<Seen<(), u64, Anything>, ()> for Longer {
+impl Opening<GhostList<()>, ()> for Longer {
     ghost use Rattle.std.specs.Prelude.{◌∷◌};
 
     ghost log = { λ n s. tt ∷ s.log };
@@ -46,7 +39,7 @@ impl Opening<Seen<(), u64, Anything>, ()> for Longer {
 /// another thread.
 #[derive(Drop)]
 pub struct Count {
-    list: Seen<(), u64, Anything>,
+    list: GhostList<()>,
 }
 
 impl Model for Count {
@@ -70,11 +63,7 @@ impl Count {
     pub fn next(&self) -> Count
         ensures { result ≡ self.now + 1 }
     {
-        let (list, _) = Seen::open_row::<Seen<(), u64, Anything>, Longer>(
-            &self.list,
-            Start::alone(),
-            0,
-        );
+        let (list, _) = Seen::open_row::<GhostList<()>, Longer>(&self.list, Start::alone(), 0);
         Count { list }
     }
 }

@@ -2,7 +2,7 @@
 ghost use Rattle.std.specs.Prelude.{◌≡◌, ◌∷◌, []};
 
 use logbook::{Opening, Seen, Start};
-use numa_count::Anything;
+use numa_count::GhostList;
 use numa_machine::Machine;
 use std::marker::Model;
 
@@ -18,7 +18,7 @@ impl Opening<Machine, Machine> for Alone {
 /// A machine that clauses alone read.
 #[derive(Drop)]
 pub struct About {
-    list: Seen<Machine, u64, Anything>,
+    list: GhostList<Machine>,
 }
 
 impl Model for About {
@@ -42,7 +42,7 @@ impl About {
 
 /// A list, and what comes in front of it.
 struct Newer {
-    before: Seen<u64, u64, Anything>,
+    before: GhostList<u64>,
     version: u64,
 }
 
@@ -58,7 +58,7 @@ impl Opening<Newer, u64> for Grows {
 /// The versions published so far, the newest first.
 #[derive(Drop)]
 pub struct Versions {
-    list: Seen<u64, u64, Anything>,
+    list: GhostList<u64>,
 }
 
 impl Model for Versions {

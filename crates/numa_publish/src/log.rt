@@ -5,36 +5,28 @@ ghost use mathlib.Core.List.{IsPrefix};
 ghost use Rattle.numa_publish.specs.Batches.{history_of, not_logged};
 ghost use Rattle.numa_publish.specs.LogRule.{count_word};
 
-use logbook::{Gain, Offer, Plain, Play, Rule, Seen, Start, Word};
+use logbook::{Gain, Offer, Plain, Play, Seen, Start, Word};
+use numa_count::{BareRule, Holding};
 use numa_space::Command;
 use std::collections::LinkedList;
 
 /// Commands that were logged together, the newest first. No value of it is made.
 pub type Batch = LinkedList<Command>;
 
-/// A beginning of the log that was reached. It has no bytes.
-pub type Front = Seen<Batch, u64, LogRule>;
+/// The log's word is the number of its commands.
+pub struct CommandCount;
 
-/// The rule of the log: its word is the number of its commands.
-pub struct LogRule;
-
-impl Rule<Batch, u64> for LogRule {
-    ghost use Rattle.std.specs.Prelude.{[]};
-    ghost use base.Fml.{ftrue};
+impl Holding<Batch> for CommandCount {
     ghost use Rattle.numa_publish.specs.LogRule.{CountsCommands};
 
     ghost holds = { CountsCommands };
-
-    ghost first = { [] };
-
-    ghost hinted = { λ n log. Unit {0} };
-
-    ghost shows = { λ log. [] };
-
-    ghost keeps = { λ names log. ftrue };
-
-    ghost moves = { λ ask before after answer. Unit {0} };
 }
+
+/// The rule of the log.
+type LogRule = BareRule<CommandCount>;
+
+/// A beginning of the log that was reached. It has no bytes.
+pub type Front = Seen<Batch, u64, LogRule>;
 
 /// Nobody trades anything for a step of the log.
 struct Nothing;
