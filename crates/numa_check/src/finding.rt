@@ -9,7 +9,7 @@ use numa_script::line::parse;
 use std::alloc::Global;
 
 /// What is known beyond the name of a fault or a refusal.
-#[derive(Clone, Copy, Debug, PartialEq, Eq)]
+#[derive(Clone, Copy)]
 pub enum Detail {
     /// Nothing.
     None,
@@ -34,7 +34,7 @@ pub enum Detail {
 }
 
 /// What is wrong with a line: the fault or the refusal that it is answered, and what else is known.
-#[derive(Clone, Copy, Debug, PartialEq, Eq)]
+#[derive(Clone, Copy)]
 pub struct Finding {
     pub fault: Reply,
     pub detail: Detail,

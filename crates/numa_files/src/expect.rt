@@ -19,7 +19,7 @@ pub trait Respond {
 }
 
 /// How many answers were compared: lines, of which a long answer has several.
-#[derive(Clone, Copy, Debug, PartialEq, Eq)]
+#[derive(Clone, Copy)]
 pub struct Counts {
     /// As wanted.
     pub same: u64,

@@ -12,7 +12,7 @@ const READS: u64 = 4_294_967_295;
 const KEPT: usize = 4097;
 
 /// Why a reading ended early.
-#[derive(Clone, Copy, Debug, PartialEq, Eq)]
+#[derive(Clone, Copy, Debug)]
 pub enum Stop {
     /// A read failed, or one more than 4,294,967,295 was needed.
     Read,

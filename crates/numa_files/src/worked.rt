@@ -21,7 +21,7 @@ pub const HEAD: usize = 4101;
 const MARK: &[u8] = b" => ";
 
 /// What a line of a worked script holds.
-#[derive(Clone, Copy, Debug, PartialEq, Eq)]
+#[derive(Clone, Copy)]
 pub enum LineForm {
     /// A script line.
     Script,

@@ -18,7 +18,7 @@ use std::io::{Read, Write};
 const ADDED: &str = "--then";
 
 /// Who touches the pages: a task, on a CPU of a node.
-#[derive(Clone, Copy, Debug, PartialEq, Eq)]
+#[derive(Clone, Copy)]
 pub struct Asked {
     pub task: u32,
     pub cpu: u32,

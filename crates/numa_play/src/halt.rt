@@ -10,7 +10,7 @@ use std::alloc::AllocError;
 
 /// Why a question about played scripts has no answer. Then nothing of one was written, but for
 /// `Stopped(Write)`.
-#[derive(Clone, Copy, Debug, PartialEq, Eq)]
+#[derive(Clone, Copy, Debug)]
 pub enum Halt {
     /// A read or a write failed, or there was no memory.
     Stopped(Stop),

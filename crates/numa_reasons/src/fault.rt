@@ -6,7 +6,7 @@ use numa_space::PlaceRefusal;
 use std::alloc::AllocError;
 
 /// Why there is no explanation.
-#[derive(Clone, Copy, Debug, PartialEq, Eq)]
+#[derive(Clone, Copy, Debug)]
 pub enum ReasonFault {
     /// The question was refused: the machine has no such node, or the page isn't mapped.
     Refused(PlaceRefusal),

@@ -11,7 +11,7 @@ use numa_mode::{Mode, Record};
 use std::alloc::{AllocError, Global};
 
 /// A turn of interleave: the members of the set, rising, have the places 0, 1, .. in each round.
-#[derive(Clone, Copy, Debug, PartialEq, Eq)]
+#[derive(Clone, Copy)]
 pub struct Turn {
     /// The page's index modulo the number of members.
     pub place: u64,
@@ -23,7 +23,7 @@ pub struct Turn {
 
 /// A turn of weighted interleave: in each round the members, rising, have as many places as their
 /// weights.
-#[derive(Clone, Copy, Debug, PartialEq, Eq)]
+#[derive(Clone, Copy)]
 pub struct WeightedTurn {
     /// The page's index modulo the weights of all members together.
     pub place: u64,
@@ -39,7 +39,7 @@ pub struct WeightedTurn {
 
 /// The rule that puts the nodes of a page in order ("NUMA Memory Policy", components of memory
 /// policies).
-#[derive(Clone, Copy, Debug, PartialEq, Eq)]
+#[derive(Clone, Copy)]
 pub enum OrderRule {
     /// The allowed nodes, the nearest to this node first, which is the faulting one.
     Local(u32),

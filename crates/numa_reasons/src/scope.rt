@@ -7,7 +7,7 @@ ghost use Rattle.numa_reasons.specs.Reasons.{has_live, scope_of};
 use numa_mode::Record;
 
 /// The scope whose policy counts ("NUMA Memory Policy", scope of memory policies).
-#[derive(Clone, Copy, Debug, PartialEq, Eq)]
+#[derive(Clone, Copy)]
 pub enum Scope {
     /// The page's range has a live policy of its own (mbind(2)).
     Range,

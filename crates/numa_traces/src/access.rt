@@ -8,7 +8,7 @@ use numa_script::number::{page, small};
 use numa_script::parts::{Parts, words};
 
 /// Accesses of a task to a page, from a CPU of a node, one behind another.
-#[derive(Clone, Copy, Debug, PartialEq, Eq)]
+#[derive(Clone, Copy)]
 pub struct Access {
     pub task: u32,
     /// The page: its address divided by 4,096.

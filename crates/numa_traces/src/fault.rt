@@ -3,7 +3,7 @@
 use numa_space::PlaceRefusal;
 
 /// Why a line says no access.
-#[derive(Clone, Copy, Debug, PartialEq, Eq)]
+#[derive(Clone, Copy, Debug)]
 pub enum AccessFault {
     /// There are fewer than three words, or more than four.
     WordCount,
@@ -18,7 +18,7 @@ pub enum AccessFault {
 }
 
 /// Why a trace can't be replayed.
-#[derive(Clone, Copy, Debug, PartialEq, Eq)]
+#[derive(Clone, Copy, Debug)]
 pub enum ReplayFault {
     /// The line says no access.
     Malformed(AccessFault),

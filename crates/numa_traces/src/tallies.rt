@@ -11,7 +11,7 @@ use std::marker::Model;
 
 /// How many accesses went one way, and how many of them were the fault that placed the page, or
 /// that found no frame.
-#[derive(Clone, Copy, Debug, PartialEq, Eq, Drop)]
+#[derive(Clone, Copy, Drop)]
 pub struct Tally {
     pub accesses: u64,
     pub faults: u64,
