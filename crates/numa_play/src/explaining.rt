@@ -5,16 +5,16 @@ use crate::halt::Halt;
 use crate::question::{Question, ask, space_after};
 use numa_files::Stop;
 use numa_machine::Machine;
-use numa_reasons::{Explanation, ReasonFault, say};
+use numa_reasons::{Explanation, ReasonFault, say_explanation};
 use numa_space::{PlaceRefusal, Space};
 use std::alloc::Global;
 use std::io::{Read, Write};
 
 /// Reasons as a text.
 fn text_of(alloc: Global, machine: &Machine, said: &Explanation) -> Result<Vec<u8>, Halt> {
-    let mut text = String::new(alloc);
-    match say(&mut text, machine, said) {
-        Ok(()) => Ok(text.into_bytes()),
+    let mut text = Vec::new(alloc);
+    match say_explanation(&mut text, machine, said) {
+        Ok(()) => Ok(text),
         Err(_) => {
             drop(text);
             Err(Halt::Stopped(Stop::Memory))

@@ -1,6 +1,6 @@
 //! What is wrong with the lines of scripts, told as they are played.
-use numa_check::{Detail, Finding, judge, lacks_memory, say_line, say_unjudged};
 use numa_files::{Stop, TakeLine};
+use numa_reasons::{Detail, Finding, judge, lacks_memory, say_line, say_unjudged};
 use numa_run::Script;
 use std::alloc::Global;
 use std::io::Write;

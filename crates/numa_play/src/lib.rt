@@ -17,7 +17,7 @@ pub use asking::{Asked, diff, predict};
 pub use explaining::explain;
 pub use findings::Findings;
 pub use halt::Halt;
-pub use numa_check::tells_lack;
+pub use numa_reasons::tells_lack;
 pub use numa_reports::{Format, FreePages};
 pub use numa_traces::Shape;
 pub use playing::{check, play};

@@ -1,2 +1,4 @@
+pub mod Checks
 pub mod Explained
+pub mod Lacks
 pub mod Reasons

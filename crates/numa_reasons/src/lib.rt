@@ -1,21 +1,36 @@
-//! Why a page goes where it goes: the range that has it, which policy counts there, and the rule
-//! that puts the nodes in order.
+//! Reasons in words: what is wrong with a line, and why a page goes where it goes.
 //!
-//! [`explain`] gives the reasons as a value, each stated by the history of accepted commands, and
-//! [`say`] tells them in six lines. ("NUMA Memory Policy", scope and components of memory policies)
+//! [`judge`] takes a line to a running script and finds something exactly where the line is
+//! answered by a fault or a refusal. [`say_finding`] tells it in a few words, with what to do, and
+//! [`say_line`] in a line of its own, with where it stands. [`lacks_memory`] and [`tells_lack`]
+//! know the answers of a line that there was no memory for.
+//!
+//! [`explain`] gives the range that has a page, which policy counts there, and the rule that puts
+//! the nodes in order, as a value, each stated by the history of accepted commands, and
+//! [`say_explanation`] tells them in six lines. ("NUMA Memory Policy", scope and components of
+//! memory policies)
 #![tactic(auto)]
 
+mod details;
 mod explanation;
 mod fault;
+pub mod finding;
+mod finding_text;
+pub mod lacks;
+mod pages;
 mod place;
+mod reason_text;
 pub mod rule;
 mod scope;
 mod text;
-mod written;
+mod words;
 
 pub use explanation::{Explanation, explain};
 pub use fault::ReasonFault;
+pub use finding::{Detail, Finding, judge};
+pub use finding_text::{say_finding, say_line, say_unjudged};
+pub use lacks::{lacks_memory, tells_lack};
 pub use place::{range_of, task_policy};
+pub use reason_text::say_explanation;
 pub use rule::{OrderRule, Turn, WeightedTurn};
 pub use scope::Scope;
-pub use text::say;

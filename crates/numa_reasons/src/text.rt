@@ -1,211 +1,74 @@
-//! An explanation as text.
-use crate::explanation::Explanation;
-use crate::rule::{OrderRule, WeightedTurn};
-use crate::scope::Scope;
-use crate::written::Written;
-use numa_machine::Machine;
-use numa_mask::{NodeMask, list_text};
-use numa_mode::Record;
-use numa_space::PAGE_BYTES;
+//! A text that is written part by part.
+use itoa::Buffer;
 use std::alloc::AllocError;
+use std::mem::replace;
 
-/// The first line: the question, and the nodes in order.
-fn put_question(text: &mut Written, said: &Explanation) {
-    let address = said.page.saturating_mul(PAGE_BYTES);
-    let asked = [address, said.task as u64, said.cpu as u64];
-    text.put_form("page 0x# of task $, touched on node $: nodes", &asked);
-    for node in said.nodes.as_slice() {
-        text.put_form(" $", &[*node as u64]);
-    }
+/// The digits of hexadecimal numbers.
+static DIGITS: [u8; 16] = *b"0123456789abcdef";
+
+/// A text that is being appended to. Once there was no memory for a part, no more is appended.
+#[derive(Drop)]
+pub(crate) struct Text {
+    bytes: Vec<u8>,
+    outcome: Result<(), AllocError>,
 }
 
-/// The line of the range.
-fn put_range(text: &mut Written, said: &Explanation) {
-    let range = &said.range;
-    let start = range.first.saturating_mul(PAGE_BYTES);
-    let end = range
-        .first
-        .saturating_add(range.pages)
-        .saturating_mul(PAGE_BYTES);
-    let last = range.index.saturating_add(range.pages.saturating_sub(1));
-    let form = "\nrange 0x#-0x#: its pages have the indexes $ to $, and this one has index $";
-    text.put_form(form, &[start, end, range.index, last, said.index]);
-}
-
-/// Whose a policy is, the policy, and what is to be said of it.
-fn put_owned(text: &mut Written, owner: &str, policy: &Record, why: &str) {
-    text.put(owner);
-    text.put("'s, ");
-    text.put(policy.policy_text().as_str());
-    text.put(why);
-}
-
-/// Why the policy of a scope doesn't count.
-fn put_passed(text: &mut Written, owner: &str, policy: &Option<Record>) {
-    let Some(policy) = policy else {
-        text.put(owner);
-        return text.put(" has none");
-    };
-    let why = if policy.is_live() {
-        ", counts where the range has none"
-    } else {
-        ", has no allowed node"
-    };
-    put_owned(text, owner, policy, why);
-}
-
-/// Why the other policies don't count.
-fn put_others_passed(text: &mut Written, said: &Explanation) {
-    if let Scope::Range = said.scope {
-        return put_passed(text, "the task", &said.task_policy);
-    }
-    put_passed(text, "the range", &said.range.value.policy());
-    if let Scope::System = said.scope {
-        put_passed(text, ", and the task", &said.task_policy);
-    }
-}
-
-/// The line of the policy: which counts, and why the others don't.
-fn put_policy(text: &mut Written, said: &Explanation) {
-    let owner = match said.scope {
-        Scope::Range => "\npolicy: the range",
-        Scope::Task => "\npolicy: the task",
-        Scope::System => "\npolicy: the system",
-    };
-    match &said.policy {
-        Some(policy) => put_owned(text, owner, policy, "; "),
-        None => text.put("\npolicy: none, so memory is local; "),
-    }
-    put_others_passed(text, said);
-}
-
-/// A set of nodes behind words; `none` where it has none.
-fn put_set(text: &mut Written, words: &str, set: &NodeMask) {
-    text.put(words);
-    if set.is_empty() {
-        return text.put("none");
-    }
-    text.put(list_text(set).as_str());
-}
-
-/// The line of the sets.
-fn put_sets(text: &mut Written, said: &Explanation) {
-    let effective = match &said.policy {
-        Some(policy) => policy.effective(),
-        None => NodeMask::empty(),
-    };
-    put_set(text, "\neffective nodes: ", &effective);
-    put_set(text, "; allowed nodes: ", &said.allowed);
-}
-
-/// A node in a form, and how far it is from another.
-fn put_node(text: &mut Written, machine: &Machine, form: &str, node: u8, from: u32) {
-    text.put_form(form, &[node as u64]);
-    let node = node as u32;
-    let nodes = machine.nodes();
-    if from < nodes && node < nodes {
-        text.put_form(" at distance $", &[machine.distance(from, node) as u64]);
-    }
-}
-
-/// The first node, which is the nearest to another of the nodes that a form names.
-fn put_nearest(text: &mut Written, machine: &Machine, said: &Explanation, form: &str, from: u32) {
-    text.put_form(form, &[from as u64]);
-    let home = match &said.policy {
-        Some(policy) => policy.home(),
-        None => None,
-    };
-    text.put(match home {
-        Some(_) => ", the home: ",
-        None => ", the CPU's: ",
-    });
-    match said.nodes.first() {
-        Some(first) => put_node(text, machine, "node $", *first, from),
-        None => text.put("none"),
-    }
-}
-
-/// The turn of weighted interleave.
-fn put_block(text: &mut Written, index: u64, block: WeightedTurn) {
-    let last = block.before.saturating_add(block.weight.saturating_sub(1));
-    let node = block.node as u64;
-    let first = [index, block.total, block.place, node];
-    text.put_form("\nfirst: index $ mod $ = $, and node $", &first);
-    let turns = [block.before, last, block.weight, node];
-    text.put_form(" has turns $ to $ (weight $), so node $", &turns);
-}
-
-/// The line of the first node: why it is the first. Gives the node around which all are in order.
-fn put_first(text: &mut Written, machine: &Machine, said: &Explanation) -> u32 {
-    match said.rule {
-        OrderRule::Local(from) => {
-            let form = "\nfirst: of the allowed nodes the nearest to node $";
-            put_nearest(text, machine, said, form, from);
-            from
-        }
-        OrderRule::Bind(from) | OrderRule::PreferredMany(from) => {
-            let form = "\nfirst: of the effective nodes the nearest to node $";
-            put_nearest(text, machine, said, form, from);
-            from
-        }
-        OrderRule::Preferred(node) => {
-            text.put_form("\nfirst: the policy prefers node $", &[node as u64]);
-            node as u32
-        }
-        OrderRule::Interleave(turn) => {
-            let numbers = [said.index, turn.members, turn.place, turn.node as u64];
-            text.put_form("\nfirst: index $ mod $ = $, so node $", &numbers);
-            turn.node as u32
-        }
-        OrderRule::WeightedInterleave(block) => {
-            put_block(text, said.index, block);
-            block.node as u32
+impl Text {
+    /// Takes over some bytes, until the end; nothing is appended to them yet.
+    pub(crate) fn of(bytes: &mut Vec<u8>) -> Text {
+        let none = Vec::new(*bytes.allocator());
+        Text {
+            bytes: replace(bytes, none),
+            outcome: Ok(()),
         }
     }
-}
 
-/// Which nodes follow the first, and in which order.
-fn order_words(rule: OrderRule) -> &'static str {
-    match rule {
-        OrderRule::Bind(_) => "\nthen: the other effective nodes",
-        OrderRule::PreferredMany(_) =>
-            "\nthen: the other effective nodes, and behind them the other allowed ones",
-        _ => "\nthen: the other allowed nodes",
+    /// Appends some bytes.
+    pub(crate) fn put_bytes(&mut self, bytes: &[u8]) {
+        if let Ok(()) = self.outcome {
+            self.outcome = self.bytes.extend_from_slice(bytes);
+        }
     }
-}
 
-/// The line of the other nodes, which are in order around a node.
-fn put_others(text: &mut Written, machine: &Machine, said: &Explanation, from: u32) {
-    let others = said.nodes.as_slice().get(1..).unwrap_or(&[]);
-    if others.is_empty() {
-        return text.put("\nthen: no other node\n");
+    /// Appends words.
+    pub(crate) fn put(&mut self, words: &str) {
+        self.put_bytes(words.as_bytes());
     }
-    text.put(order_words(said.rule));
-    text.put_form(", the nearest to node $ first:", &[from as u64]);
-    let mut form: &str = " $";
-    for node in others {
-        put_node(text, machine, form, *node, from);
-        form = ", $";
-    }
-    text.put("\n");
-}
 
-/// Appends why memory for a page is looked for on its nodes, in six lines: the question with the
-/// nodes in order, the range, the policy that counts, the sets of nodes, the first node and the
-/// others. The machine is that of the space.
-pub fn say(text: &mut String, machine: &Machine, said: &Explanation) -> Result<(), AllocError> {
-    let mut written = Written {
-        text: String::new(*text.allocator()),
-        outcome: Ok(()),
-    };
-    put_question(&mut written, said);
-    put_range(&mut written, said);
-    put_policy(&mut written, said);
-    put_sets(&mut written, said);
-    let from = put_first(&mut written, machine, said);
-    put_others(&mut written, machine, said, from);
-    match written.outcome {
-        Ok(()) => text.push_str(written.text.as_str()),
-        Err(fault) => Err(fault),
+    /// Appends words, and a number in decimal behind them.
+    pub(crate) fn put_number(&mut self, words: &str, number: u64) {
+        let mut buffer = Buffer::new();
+        self.put(words);
+        self.put(buffer.format(number));
+    }
+
+    /// Appends words, and a number as `0x` and hexadecimal digits behind them.
+    pub(crate) fn put_hex(&mut self, words: &str, number: u64) {
+        let zeros = number.leading_zeros() / 4;
+        self.put(words);
+        self.put("0x");
+        for place in zeros.min(15)..16 {
+            let digit = (number >> (60 - 4 * place)) % 16;
+            self.put_bytes(&[DIGITS[digit as usize]]);
+        }
+    }
+
+    /// Appends a form, with the next of the numbers for each `$`.
+    pub(crate) fn put_form(&mut self, form: &str, numbers: &[u64]) {
+        let mut rest = numbers;
+        for letter in form.as_bytes() {
+            if *letter != b'$' {
+                self.put_bytes(&[*letter]);
+            } else if let Some((number, behind)) = rest.split_first() {
+                self.put_number("", *number);
+                rest = behind;
+            }
+        }
+    }
+
+    /// Gives the bytes back. Whether there was memory for all of them.
+    pub(crate) fn end(self, bytes: &mut Vec<u8>) -> Result<(), AllocError> {
+        *bytes = self.bytes;
+        self.outcome
     }
 }

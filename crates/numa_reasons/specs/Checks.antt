@@ -6,7 +6,7 @@ use Rattle.numa_run.specs.Answers.{State, after}
 use Rattle.numa_run.specs.Judged.{fault_of}
 use Rattle.numa_run.specs.Scripts.{ScriptStandsFor}
 use Rattle.numa_run.specs.declared.script.Script.{Script}
-use Rattle.numa_check.specs.declared.finding.Finding.{Finding}
+use Rattle.numa_reasons.specs.declared.finding.Finding.{Finding}
 
 -- the fault or the refusal that the line is answered is found, or nothing where it is answered
 -- neither, and the script goes on

@@ -1,6 +1,6 @@
 //! Lines that there was no memory for.
 ghost use Rattle.std.specs.Prelude.{◌↔◌, IsTrue};
-ghost use Rattle.numa_check.specs.Lacks.{LacksMemory, TellsLack};
+ghost use Rattle.numa_reasons.specs.Lacks.{LacksMemory, TellsLack};
 
 use numa_core::CoreRefusal;
 use numa_machine::MachineFault;

@@ -1,7 +1,7 @@
 //! Findings as texts.
 use crate::finding::{Detail, Finding};
+use crate::text::Text;
 use crate::words::{list_words, machine_words, policy_words, worker_words};
-use itoa::Buffer;
 use numa_core::CoreRefusal;
 use numa_run::Reply;
 use numa_run::names::Named;
@@ -21,63 +21,8 @@ const DISTANCES_FORM: &str =
 /// What stands behind a page that is mapped and isn't published.
 const UNPUBLISHED: &str = " is mapped, but not published yet; publish first";
 
-/// The digits of hexadecimal numbers.
-static DIGITS: [u8; 16] = *b"0123456789abcdef";
-
-/// A text that is being appended to. Once there was no memory for a part, no more is appended.
-struct Text<'a> {
-    bytes: &'a mut Vec<u8>,
-    outcome: Result<(), AllocError>,
-}
-
-impl<'a> Text<'a> {
-    /// Nothing is appended yet.
-    fn of(bytes: &'a mut Vec<u8>) -> Text<'a> {
-        Text {
-            bytes,
-            outcome: Ok(()),
-        }
-    }
-
-    /// Appends some bytes.
-    fn put_bytes(&mut self, bytes: &[u8]) {
-        if let Ok(()) = self.outcome {
-            self.outcome = self.bytes.extend_from_slice(bytes);
-        }
-    }
-
-    /// Appends words.
-    fn put(&mut self, words: &str) {
-        self.put_bytes(words.as_bytes());
-    }
-
-    /// Appends words, and a number in decimal behind them.
-    fn put_number(&mut self, words: &str, number: u64) {
-        let mut buffer = Buffer::new();
-        self.put(words);
-        self.put(buffer.format(number));
-    }
-
-    /// Appends words, and a number as `0x` and hexadecimal digits behind them.
-    fn put_hex(&mut self, words: &str, number: u64) {
-        let zeros = number.leading_zeros() / 4;
-        self.put(words);
-        self.put("0x");
-        for place in zeros.min(15)..16 {
-            let digit = (number >> (60 - 4 * place)) % 16;
-            self.put_bytes(&[DIGITS[digit as usize]]);
-        }
-    }
-
-    /// Whether there was memory for all of it.
-    fn end(self) -> Result<(), AllocError> {
-        let Text { bytes: _, outcome } = self;
-        outcome
-    }
-}
-
 /// Appends how a keyword's lines are written, behind a semicolon.
-fn put_usage(text: &mut Text<'_>, keyword: Keyword) {
+fn put_usage(text: &mut Text, keyword: Keyword) {
     text.put("; ");
     text.put(keyword.name());
     let wanted = parameters(keyword);
@@ -93,7 +38,7 @@ fn put_usage(text: &mut Text<'_>, keyword: Keyword) {
 }
 
 /// Appends what a word has to be.
-fn put_form(text: &mut Text<'_>, parameter: Parameter) {
+fn put_form(text: &mut Text, parameter: Parameter) {
     text.put(parameter.name());
     match parameter.form() {
         Form::Number(greatest) => text.put_number(" is no number from 0 to ", greatest),
@@ -104,7 +49,7 @@ fn put_form(text: &mut Text<'_>, parameter: Parameter) {
 }
 
 /// Appends what is wrong with a word.
-fn put_misfit(text: &mut Text<'_>, parameter: Parameter, misfit: Misfit) {
+fn put_misfit(text: &mut Text, parameter: Parameter, misfit: Misfit) {
     match (misfit, parameter.form()) {
         (Misfit::TooGreat, Form::Number(greatest)) => {
             text.put(parameter.name());
@@ -115,7 +60,7 @@ fn put_misfit(text: &mut Text<'_>, parameter: Parameter, misfit: Misfit) {
 }
 
 /// Appends a byte that no word has.
-fn put_byte(text: &mut Text<'_>, byte: u8) {
+fn put_byte(text: &mut Text, byte: u8) {
     match byte {
         b'\r' => text.put("a carriage return; lines end with a line feed alone"),
         b'\t' => text.put("a tab; words stand between single spaces"),
@@ -141,7 +86,7 @@ fn cause_words(cause: Cause) -> &'static str {
 }
 
 /// Appends why a line is malformed.
-fn put_cause(text: &mut Text<'_>, cause: Cause) {
+fn put_cause(text: &mut Text, cause: Cause) {
     text.put(cause_words(cause));
     match cause {
         Cause::StrayByte(byte) => put_byte(text, byte),
@@ -156,7 +101,7 @@ fn put_cause(text: &mut Text<'_>, cause: Cause) {
 }
 
 /// Appends a fault by its head, its name and why.
-fn put_fault(text: &mut Text<'_>, head: &str, fault: Named, words: &str) {
+fn put_fault(text: &mut Text, head: &str, fault: Named, words: &str) {
     text.put(head);
     text.put_bytes(fault.name());
     text.put(": ");
@@ -164,7 +109,7 @@ fn put_fault(text: &mut Text<'_>, head: &str, fault: Named, words: &str) {
 }
 
 /// Appends a fault of a node list or a policy: its name, and why.
-fn put_word_fault(text: &mut Text<'_>, fault: WordFault) {
+fn put_word_fault(text: &mut Text, fault: WordFault) {
     match fault {
         WordFault::List(fault) => {
             put_fault(text, "bad list ", Named::List(fault), list_words(fault));
@@ -192,7 +137,7 @@ fn name_of(cause: CoreRefusal) -> &'static [u8] {
 }
 
 /// Appends the name of a refusal.
-fn put_refusal_name(text: &mut Text<'_>, cause: CoreRefusal) {
+fn put_refusal_name(text: &mut Text, cause: CoreRefusal) {
     text.put("refused ");
     text.put_bytes(name_of(cause));
     if let CoreRefusal::Command(refusal) = cause {
@@ -215,20 +160,20 @@ fn page_words(cause: CoreRefusal) -> &'static str {
 }
 
 /// Appends why a line is refused for a page, and what stands behind the page's address.
-fn put_page(text: &mut Text<'_>, page: u64, words: &str) {
+fn put_page(text: &mut Text, page: u64, words: &str) {
     text.put_hex("page ", page.saturating_mul(4096));
     text.put(words);
 }
 
 /// Appends why a line is refused, and a number with words before and behind it.
-fn put_counted(text: &mut Text<'_>, cause: CoreRefusal, words: &str, number: u64, behind: &str) {
+fn put_counted(text: &mut Text, cause: CoreRefusal, words: &str, number: u64, behind: &str) {
     text.put(worker_words(cause));
     text.put_number(words, number);
     text.put(behind);
 }
 
 /// Appends why a line is refused.
-fn put_refusal(text: &mut Text<'_>, cause: CoreRefusal, detail: Detail) {
+fn put_refusal(text: &mut Text, cause: CoreRefusal, detail: Detail) {
     match detail {
         Detail::Page(page) => put_page(text, page, page_words(cause)),
         Detail::Unpublished(page) => put_page(text, page, UNPUBLISHED),
@@ -242,14 +187,14 @@ fn put_refusal(text: &mut Text<'_>, cause: CoreRefusal, detail: Detail) {
 }
 
 /// Appends a refusal: its name, and why.
-fn put_refused(text: &mut Text<'_>, cause: CoreRefusal, detail: Detail) {
+fn put_refused(text: &mut Text, cause: CoreRefusal, detail: Detail) {
     put_refusal_name(text, cause);
     text.put(": ");
     put_refusal(text, cause, detail);
 }
 
 /// Appends the fault or the refusal that a line is answered, and why.
-fn put_answer(text: &mut Text<'_>, fault: Reply, detail: Detail) {
+fn put_answer(text: &mut Text, fault: Reply, detail: Detail) {
     match fault {
         Reply::BadWords => text.put("bad words"),
         Reply::BadState => text.put("bad state"),
@@ -276,7 +221,7 @@ fn detail_words(detail: Detail) -> &'static str {
 }
 
 /// Appends what is wrong with a line.
-fn put_finding(text: &mut Text<'_>, finding: &Finding) {
+fn put_finding(text: &mut Text, finding: &Finding) {
     put_answer(text, finding.fault, finding.detail);
     text.put(detail_words(finding.detail));
     if let Detail::Malformed(malformed) = finding.detail {
@@ -286,14 +231,14 @@ fn put_finding(text: &mut Text<'_>, finding: &Finding) {
 
 /// Appends what is wrong with a line: its answer, and why, with what to do, where there is
 /// something.
-pub fn say(text: &mut Vec<u8>, finding: &Finding) -> Result<(), AllocError> {
-    let mut text = Text::of(text);
-    put_finding(&mut text, finding);
-    text.end()
+pub fn say_finding(text: &mut Vec<u8>, finding: &Finding) -> Result<(), AllocError> {
+    let mut written = Text::of(text);
+    put_finding(&mut written, finding);
+    written.end(text)
 }
 
 /// Appends where a finding stands: the name of the text, the line, and for bad words the column.
-fn put_place(text: &mut Text<'_>, name: &str, place: u64, detail: Detail) {
+fn put_place(text: &mut Text, name: &str, place: u64, detail: Detail) {
     text.put(name);
     text.put_number(":", place);
     if let Detail::Malformed(malformed) = detail {
@@ -310,17 +255,17 @@ pub fn say_line(
     place: u64,
     finding: &Finding,
 ) -> Result<(), AllocError> {
-    let mut text = Text::of(text);
-    put_place(&mut text, name, place, finding.detail);
-    put_finding(&mut text, finding);
-    text.put("\n");
-    text.end()
+    let mut written = Text::of(text);
+    put_place(&mut written, name, place, finding.detail);
+    put_finding(&mut written, finding);
+    written.put("\n");
+    written.end(text)
 }
 
 /// Appends a line about so many lines that weren't judged.
 pub fn say_unjudged(text: &mut Vec<u8>, count: u64) -> Result<(), AllocError> {
-    let mut text = Text::of(text);
-    text.put_number("not judged, since no machine was ready: ", count);
-    text.put("\n");
-    text.end()
+    let mut written = Text::of(text);
+    written.put_number("not judged, since no machine was ready: ", count);
+    written.put("\n");
+    written.end(text)
 }

@@ -1,6 +1,6 @@
 //! What is wrong with a line.
 ghost use Rattle.std.specs.Prelude.{◌≡◌, Bool};
-ghost use Rattle.numa_check.specs.Checks.{Checks};
+ghost use Rattle.numa_reasons.specs.Checks.{Checks};
 
 use crate::details::detail_of;
 use numa_run::{Reply, Script};

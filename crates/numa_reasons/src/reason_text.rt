@@ -1,0 +1,212 @@
+//! An explanation as text.
+use crate::explanation::Explanation;
+use crate::rule::{OrderRule, WeightedTurn};
+use crate::scope::Scope;
+use crate::text::Text;
+use numa_machine::Machine;
+use numa_mask::{NodeMask, list_text};
+use numa_mode::Record;
+use numa_space::PAGE_BYTES;
+use std::alloc::AllocError;
+
+/// The first line: the question, and the nodes in order.
+fn put_question(text: &mut Text, said: &Explanation) {
+    let address = said.page.saturating_mul(PAGE_BYTES);
+    let asked = [said.task as u64, said.cpu as u64];
+    text.put_hex("page ", address);
+    text.put_form(" of task $, touched on node $: nodes", &asked);
+    for node in said.nodes.as_slice() {
+        text.put_number(" ", *node as u64);
+    }
+}
+
+/// The line of the range.
+fn put_range(text: &mut Text, said: &Explanation) {
+    let range = &said.range;
+    let start = range.first.saturating_mul(PAGE_BYTES);
+    let end = range
+        .first
+        .saturating_add(range.pages)
+        .saturating_mul(PAGE_BYTES);
+    let last = range.index.saturating_add(range.pages.saturating_sub(1));
+    let form = ": its pages have the indexes $ to $, and this one has index $";
+    text.put_hex("\nrange ", start);
+    text.put_hex("-", end);
+    text.put_form(form, &[range.index, last, said.index]);
+}
+
+/// Whose a policy is, the policy, and what is to be said of it.
+fn put_owned(text: &mut Text, owner: &str, policy: &Record, why: &str) {
+    text.put(owner);
+    text.put("'s, ");
+    text.put(policy.policy_text().as_str());
+    text.put(why);
+}
+
+/// Why the policy of a scope doesn't count.
+fn put_passed(text: &mut Text, owner: &str, policy: &Option<Record>) {
+    let Some(policy) = policy else {
+        text.put(owner);
+        return text.put(" has none");
+    };
+    let why = if policy.is_live() {
+        ", counts where the range has none"
+    } else {
+        ", has no allowed node"
+    };
+    put_owned(text, owner, policy, why);
+}
+
+/// Why the other policies don't count.
+fn put_others_passed(text: &mut Text, said: &Explanation) {
+    if let Scope::Range = said.scope {
+        return put_passed(text, "the task", &said.task_policy);
+    }
+    put_passed(text, "the range", &said.range.value.policy());
+    if let Scope::System = said.scope {
+        put_passed(text, ", and the task", &said.task_policy);
+    }
+}
+
+/// The line of the policy: which counts, and why the others don't.
+fn put_policy(text: &mut Text, said: &Explanation) {
+    let owner = match said.scope {
+        Scope::Range => "\npolicy: the range",
+        Scope::Task => "\npolicy: the task",
+        Scope::System => "\npolicy: the system",
+    };
+    match &said.policy {
+        Some(policy) => put_owned(text, owner, policy, "; "),
+        None => text.put("\npolicy: none, so memory is local; "),
+    }
+    put_others_passed(text, said);
+}
+
+/// A set of nodes behind words; `none` where it has none.
+fn put_set(text: &mut Text, words: &str, set: &NodeMask) {
+    text.put(words);
+    if set.is_empty() {
+        return text.put("none");
+    }
+    text.put(list_text(set).as_str());
+}
+
+/// The line of the sets.
+fn put_sets(text: &mut Text, said: &Explanation) {
+    let effective = match &said.policy {
+        Some(policy) => policy.effective(),
+        None => NodeMask::empty(),
+    };
+    put_set(text, "\neffective nodes: ", &effective);
+    put_set(text, "; allowed nodes: ", &said.allowed);
+}
+
+/// A node behind words, and how far it is from another.
+fn put_node(text: &mut Text, machine: &Machine, words: &str, node: u8, from: u32) {
+    text.put_number(words, node as u64);
+    let node = node as u32;
+    let nodes = machine.nodes();
+    if from < nodes && node < nodes {
+        text.put_number(" at distance ", machine.distance(from, node) as u64);
+    }
+}
+
+/// The first node, which is the nearest to another of the nodes that the words name.
+fn put_nearest(text: &mut Text, machine: &Machine, said: &Explanation, words: &str, from: u32) {
+    text.put_number(words, from as u64);
+    let home = match &said.policy {
+        Some(policy) => policy.home(),
+        None => None,
+    };
+    text.put(match home {
+        Some(_) => ", the home: ",
+        None => ", the CPU's: ",
+    });
+    match said.nodes.first() {
+        Some(first) => put_node(text, machine, "node ", *first, from),
+        None => text.put("none"),
+    }
+}
+
+/// The turn of weighted interleave.
+fn put_block(text: &mut Text, index: u64, block: WeightedTurn) {
+    let last = block.before.saturating_add(block.weight.saturating_sub(1));
+    let node = block.node as u64;
+    let first = [index, block.total, block.place, node];
+    text.put_form("\nfirst: index $ mod $ = $, and node $", &first);
+    let turns = [block.before, last, block.weight, node];
+    text.put_form(" has turns $ to $ (weight $), so node $", &turns);
+}
+
+/// The line of the first node: why it is the first. Gives the node around which all are in order.
+fn put_first(text: &mut Text, machine: &Machine, said: &Explanation) -> u32 {
+    match said.rule {
+        OrderRule::Local(from) => {
+            let words = "\nfirst: of the allowed nodes the nearest to node ";
+            put_nearest(text, machine, said, words, from);
+            from
+        }
+        OrderRule::Bind(from) | OrderRule::PreferredMany(from) => {
+            let words = "\nfirst: of the effective nodes the nearest to node ";
+            put_nearest(text, machine, said, words, from);
+            from
+        }
+        OrderRule::Preferred(node) => {
+            text.put_number("\nfirst: the policy prefers node ", node as u64);
+            node as u32
+        }
+        OrderRule::Interleave(turn) => {
+            let numbers = [said.index, turn.members, turn.place, turn.node as u64];
+            text.put_form("\nfirst: index $ mod $ = $, so node $", &numbers);
+            turn.node as u32
+        }
+        OrderRule::WeightedInterleave(block) => {
+            put_block(text, said.index, block);
+            block.node as u32
+        }
+    }
+}
+
+/// Which nodes follow the first, and in which order.
+fn order_words(rule: OrderRule) -> &'static str {
+    match rule {
+        OrderRule::Bind(_) => "\nthen: the other effective nodes",
+        OrderRule::PreferredMany(_) =>
+            "\nthen: the other effective nodes, and behind them the other allowed ones",
+        _ => "\nthen: the other allowed nodes",
+    }
+}
+
+/// The line of the other nodes, which are in order around a node.
+fn put_others(text: &mut Text, machine: &Machine, said: &Explanation, from: u32) {
+    let others = said.nodes.as_slice().get(1..).unwrap_or(&[]);
+    if others.is_empty() {
+        return text.put("\nthen: no other node\n");
+    }
+    text.put(order_words(said.rule));
+    text.put_number(", the nearest to node ", from as u64);
+    let mut words: &str = " first: ";
+    for node in others {
+        put_node(text, machine, words, *node, from);
+        words = ", ";
+    }
+    text.put("\n");
+}
+
+/// Appends why memory for a page is looked for on its nodes, in six lines: the question with the
+/// nodes in order, the range, the policy that counts, the sets of nodes, the first node and the
+/// others. The machine is that of the space.
+pub fn say_explanation(
+    text: &mut Vec<u8>,
+    machine: &Machine,
+    said: &Explanation,
+) -> Result<(), AllocError> {
+    let mut written = Text::of(text);
+    put_question(&mut written, said);
+    put_range(&mut written, said);
+    put_policy(&mut written, said);
+    put_sets(&mut written, said);
+    let from = put_first(&mut written, machine, said);
+    put_others(&mut written, machine, said, from);
+    written.end(text)
+}
