@@ -16,67 +16,99 @@ pub enum Shape {
     Json,
 }
 
-/// A report that is being written.
+/// What tells the parts of a summary. Once there was no memory for one, no more is told.
+trait Tell {
+    /// Tells a number under its name.
+    fn tell_number(&mut self, name: &str, number: u64);
+
+    /// Tells each count that isn't 0, with its number: by the names of all and of one, or by a
+    /// letter.
+    fn tell_counts(&mut self, all: &str, one: &str, letter: &str, counts: &[u64; 256]);
+}
+
+/// Tells what a task met, or all.
+fn tell_summary<T: Tell>(teller: &mut T, said: &Summary) {
+    teller.tell_number("accesses", said.accesses);
+    teller.tell_counts("nodes", "node", " N", &said.nodes);
+    teller.tell_counts("distances", "distance", " D", &said.distances);
+    teller.tell_number("placed", said.placed);
+    teller.tell_number("exhausted", said.exhausted);
+    teller.tell_number("unserved", said.unserved);
+}
+
+/// A text that is being written.
 #[derive(Drop)]
-struct Sheet {
-    alloc: Global,
-    format: Shape,
+struct Written {
     text: String,
-    // The task whose accesses are added up, if there is one.
-    task: Option<u32>,
-    is_first: bool,
-    of_task: Summary,
-    of_all: Summary,
+    outcome: Result<(), AllocError>,
 }
 
-/// Appends numbers, each behind its words.
-fn push_numbers(text: &mut String, said: &[(&str, u64)]) -> Result<(), AllocError> {
-    for (words, number) in said {
-        write!(text, "{}{}", words, number)?;
-    }
-    Ok(())
-}
-
-/// Appends each count that isn't 0, behind a letter and its number.
-fn push_counts(text: &mut String, letter: &str, counts: &[u64; 256]) -> Result<(), AllocError> {
-    for number in 0..256 {
-        if counts[number] > 0 {
-            push_numbers(text, &[(letter, number as u64), ("=", counts[number])])?;
+impl Written {
+    /// Appends some words.
+    fn put(&mut self, words: &str) {
+        if let Ok(()) = self.outcome {
+            self.outcome = self.text.push_str(words);
         }
     }
-    Ok(())
-}
 
-/// Appends the fields of a line behind the number of accesses.
-fn push_line(text: &mut String, said: &Summary) -> Result<(), AllocError> {
-    let faults = [
-        (" placed=", said.placed),
-        (" exhausted=", said.exhausted),
-        (" unserved=", said.unserved),
-    ];
-    push_counts(text, " N", &said.nodes)?;
-    push_counts(text, " D", &said.distances)?;
-    push_numbers(text, &faults)?;
-    text.push_str("\n")
-}
-
-/// Adds numbers, each under its name, to an object.
-fn put_numbers(
-    alloc: Global,
-    object: &mut Map<String, Value>,
-    said: &[(&str, u64)],
-) -> Result<(), AllocError> {
-    for (name, number) in said {
-        put(object, alloc, name, Value::from(*number))?;
+    /// Appends a number behind words.
+    fn put_number(&mut self, words: &str, number: u64) {
+        if let Ok(()) = self.outcome {
+            self.outcome = write!(self.text, "{words}{number}");
+        }
     }
-    Ok(())
+}
+
+impl Tell for Written {
+    fn tell_number(&mut self, name: &str, number: u64) {
+        self.put(" ");
+        self.put(name);
+        self.put_number("=", number);
+    }
+
+    fn tell_counts(&mut self, _all: &str, _one: &str, letter: &str, counts: &[u64; 256]) {
+        for number in 0..256 {
+            if counts[number] > 0 {
+                self.put_number(letter, number as u64);
+                self.put_number("=", counts[number]);
+            }
+        }
+    }
+}
+
+/// An object that is being filled.
+#[derive(Drop)]
+struct Object {
+    alloc: Global,
+    fields: Map<String, Value>,
+    outcome: Result<(), AllocError>,
+}
+
+impl Object {
+    /// Nothing is in it yet.
+    fn new(alloc: Global) -> Object {
+        Object {
+            alloc,
+            fields: Map::new(alloc),
+            outcome: Ok(()),
+        }
+    }
+
+    /// The object, where there was memory for all of it.
+    fn end(self) -> Result<Value, AllocError> {
+        match self.outcome {
+            Ok(()) => Ok(Value::Object(self.fields)),
+            Err(fault) => Err(fault),
+        }
+    }
 }
 
 /// A count, with its number under this name.
-fn count_value(alloc: Global, name: &str, number: u64, count: u64) -> Result<Value, AllocError> {
-    let mut object = Map::new(alloc);
-    put_numbers(alloc, &mut object, &[(name, number), ("accesses", count)])?;
-    Ok(Value::Object(object))
+fn count_value(alloc: Global, name: &str, number: usize, count: u64) -> Result<Value, AllocError> {
+    let mut object = Object::new(alloc);
+    object.tell_number(name, number as u64);
+    object.tell_number("accesses", count);
+    object.end()
 }
 
 /// Appends each count that isn't 0, with its number under this name.
@@ -88,61 +120,79 @@ fn push_values(
 ) -> Result<(), AllocError> {
     for number in 0..256 {
         if counts[number] > 0 {
-            items.push(count_value(alloc, name, number as u64, counts[number])?)?;
+            items.push(count_value(alloc, name, number, counts[number])?)?;
         }
     }
     Ok(())
 }
 
-/// Adds the counts that aren't 0 to an object under the name of all, each with its number under the
-/// name of one.
-fn put_counts(
-    alloc: Global,
-    object: &mut Map<String, Value>,
-    all: &str,
-    one: &str,
-    counts: &[u64; 256],
-) -> Result<(), AllocError> {
+/// The counts that aren't 0, each with its number under this name.
+fn count_values(alloc: Global, name: &str, counts: &[u64; 256]) -> Result<Value, AllocError> {
     let mut items = Vec::new(alloc);
-    push_values(alloc, &mut items, one, counts)?;
-    put(object, alloc, all, Value::from(items))
-}
-
-/// Adds what a task met, or all, to an object.
-fn put_summary(
-    alloc: Global,
-    object: &mut Map<String, Value>,
-    said: &Summary,
-) -> Result<(), AllocError> {
-    let faults = [
-        ("placed", said.placed),
-        ("exhausted", said.exhausted),
-        ("unserved", said.unserved),
-    ];
-    put_numbers(alloc, object, &[("accesses", said.accesses)])?;
-    put_counts(alloc, object, "nodes", "node", &said.nodes)?;
-    put_counts(alloc, object, "distances", "distance", &said.distances)?;
-    put_numbers(alloc, object, &faults)
-}
-
-/// Adds the task, where it is one's, and what it met, or all.
-fn put_task(
-    alloc: Global,
-    object: &mut Map<String, Value>,
-    task: Option<u32>,
-    said: &Summary,
-) -> Result<(), AllocError> {
-    if let Some(task) = task {
-        put_numbers(alloc, object, &[("task", u64::from(task))])?;
+    match push_values(alloc, &mut items, name, counts) {
+        Ok(()) => Ok(Value::from(items)),
+        Err(fault) => {
+            drop(items);
+            Err(fault)
+        }
     }
-    put_summary(alloc, object, said)
+}
+
+impl Tell for Object {
+    fn tell_number(&mut self, name: &str, number: u64) {
+        if let Ok(()) = self.outcome {
+            self.outcome = put(&mut self.fields, self.alloc, name, Value::from(number));
+        }
+    }
+
+    fn tell_counts(&mut self, all: &str, one: &str, _letter: &str, counts: &[u64; 256]) {
+        if let Ok(()) = self.outcome {
+            self.outcome = match count_values(self.alloc, one, counts) {
+                Ok(values) => put(&mut self.fields, self.alloc, all, values),
+                Err(fault) => Err(fault),
+            };
+        }
+    }
 }
 
 /// The object of a task, or of all.
 fn summary_text(alloc: Global, task: Option<u32>, said: &Summary) -> Result<String, AllocError> {
-    let mut object = Map::new(alloc);
-    put_task(alloc, &mut object, task, said)?;
-    Value::Object(object).to_string(alloc)
+    let mut object = Object::new(alloc);
+    if let Some(task) = task {
+        object.tell_number("task", u64::from(task));
+    }
+    tell_summary(&mut object, said);
+    match object.end() {
+        Ok(value) => value.to_string(alloc),
+        Err(fault) => Err(fault),
+    }
+}
+
+/// A report that is being written.
+#[derive(Drop)]
+struct Sheet {
+    alloc: Global,
+    format: Shape,
+    written: Written,
+    // The task whose accesses are added up, if there is one, and what stands before its object.
+    task: Option<u32>,
+    before: &'static str,
+    of_task: Summary,
+    of_all: Summary,
+}
+
+/// Says an object of a task, or of all.
+fn say_object(alloc: Global, written: &mut Written, task: Option<u32>, said: &Summary) {
+    match summary_text(alloc, task, said) {
+        Ok(object) => written.put(object.as_str()),
+        Err(fault) => written.outcome = Err(fault),
+    }
+}
+
+/// Says a line of a task, or of all, behind these words.
+fn say_line(written: &mut Written, said: &Summary) {
+    tell_summary(written, said);
+    written.put("\n");
 }
 
 impl Sheet {
@@ -151,93 +201,89 @@ impl Sheet {
         Sheet {
             alloc,
             format,
-            text: String::new(alloc),
+            written: Written {
+                text: String::new(alloc),
+                outcome: Ok(()),
+            },
             task: None,
-            is_first: true,
+            before: "\n",
             of_task: Summary::new(),
             of_all: Summary::new(),
         }
     }
 
-    /// Says an object, behind these words.
-    fn say_object(&mut self, words: &str, task: Option<u32>) -> Result<(), AllocError> {
-        let said = if task.is_some() {
-            &self.of_task
-        } else {
-            &self.of_all
-        };
-        let object = summary_text(self.alloc, task, said)?;
-        self.text.push_str(words)?;
-        self.text.push_str(object.as_str())
-    }
-
     /// Says the task whose accesses are added up, if there is one.
-    fn end_task(&mut self) -> Result<(), AllocError> {
+    fn end_task(&mut self) {
         let Some(task) = self.task else {
-            return Ok(());
+            return;
         };
-        if let Shape::Json = self.format {
-            let words = if self.is_first { "\n" } else { ",\n" };
-            self.is_first = false;
-            return self.say_object(words, Some(task));
+        let written = &mut self.written;
+        match self.format {
+            Shape::Text => {
+                written.put_number("task ", u64::from(task));
+                say_line(written, &self.of_task);
+            }
+            Shape::Json => {
+                written.put(self.before);
+                self.before = ",\n";
+                say_object(self.alloc, written, Some(task), &self.of_task);
+            }
         }
-        let begin = [
-            ("task ", u64::from(task)),
-            (" accesses=", self.of_task.accesses),
-        ];
-        push_numbers(&mut self.text, &begin)?;
-        push_line(&mut self.text, &self.of_task)
     }
 
     /// Adds the accesses that went a way; those of a task stand together.
-    fn add(&mut self, machine: &Machine, way: &Way, tally: &Tally) -> Result<(), AllocError> {
+    fn add(&mut self, machine: &Machine, way: &Way, tally: &Tally) {
         let (task, cpu, node) = *way;
         if self.task != Some(task) {
-            self.end_task()?;
+            self.end_task();
             self.task = Some(task);
             self.of_task = Summary::new();
         }
-        let Some(node) = node else {
-            self.of_task.add_unserved(tally);
-            self.of_all.add_unserved(tally);
-            return Ok(());
-        };
-        let distance = distance(machine, cpu, node);
-        self.of_task.add_served(node, distance, tally);
-        self.of_all.add_served(node, distance, tally);
-        Ok(())
+        let place = place_of(machine, cpu, node);
+        self.of_task.add(place, tally);
+        self.of_all.add(place, tally);
     }
 
     /// Says what all tasks met.
-    fn end(&mut self) -> Result<(), AllocError> {
-        self.end_task()?;
-        if let Shape::Json = self.format {
-            self.say_object("\n],\"total\":", None)?;
-            return self.text.push_str("}\n");
+    fn end(&mut self) {
+        self.end_task();
+        let written = &mut self.written;
+        match self.format {
+            Shape::Text => {
+                written.put("total");
+                say_line(written, &self.of_all);
+            }
+            Shape::Json => {
+                written.put("\n],\"total\":");
+                say_object(self.alloc, written, None, &self.of_all);
+                written.put("}\n");
+            }
         }
-        push_numbers(&mut self.text, &[("total accesses=", self.of_all.accesses)])?;
-        push_line(&mut self.text, &self.of_all)
     }
 
     /// Says what a replayed trace met.
-    fn say(&mut self, machine: &Machine, replay: &Replay) -> Result<(), AllocError> {
+    fn say(&mut self, machine: &Machine, replay: &Replay) {
         if let Shape::Json = self.format {
-            self.text.push_str("{\"tasks\":[")?;
+            self.written.put("{\"tasks\":[");
         }
         for (way, tally) in replay.tallies().iter() {
-            self.add(machine, way, tally)?;
+            self.add(machine, way, tally);
         }
-        self.end()
+        self.end();
     }
 }
 
-/// How far a node is from a CPU's; both are the machine's.
-fn distance(machine: &Machine, cpu: u32, node: u8) -> u8 {
-    let node = u32::from(node);
-    if cpu < machine.nodes() && node < machine.nodes() {
-        return machine.distance(cpu, node);
+/// Where the page of an access lies, and how far that is from the CPU's node; both nodes are the
+/// machine's.
+fn place_of(machine: &Machine, cpu: u32, node: Option<u8>) -> Option<(u8, u8)> {
+    let Some(node) = node else {
+        return None;
+    };
+    let nodes = machine.nodes();
+    if cpu < nodes && u32::from(node) < nodes {
+        return Some((node, machine.distance(cpu, u32::from(node))));
     }
-    255
+    Some((node, 255))
 }
 
 /// What a replayed trace met, by task and in all: the accesses by the page's node and by its
@@ -250,6 +296,9 @@ pub fn report_text(
     format: Shape,
 ) -> Result<String, AllocError> {
     let mut sheet = Sheet::new(alloc, format);
-    sheet.say(machine, replay)?;
-    Ok(sheet.text)
+    sheet.say(machine, replay);
+    match sheet.written.outcome {
+        Ok(()) => Ok(sheet.written.text),
+        Err(fault) => Err(fault),
+    }
 }

@@ -31,19 +31,17 @@ impl Summary {
         }
     }
 
-    /// Adds accesses to pages on a node at this distance.
-    pub(crate) fn add_served(&mut self, node: u8, distance: u8, tally: &Tally) {
-        let (node, far) = (usize::from(node), usize::from(distance));
+    /// Adds accesses to pages on a node at a distance, or to pages that found no frame.
+    pub(crate) fn add(&mut self, place: Option<(u8, u8)>, tally: &Tally) {
         self.accesses = self.accesses.saturating_add(tally.accesses);
+        let Some((node, distance)) = place else {
+            self.unserved = self.unserved.saturating_add(tally.accesses);
+            self.exhausted = self.exhausted.saturating_add(tally.faults);
+            return;
+        };
+        let (node, far) = (usize::from(node), usize::from(distance));
         self.nodes[node] = self.nodes[node].saturating_add(tally.accesses);
         self.distances[far] = self.distances[far].saturating_add(tally.accesses);
         self.placed = self.placed.saturating_add(tally.faults);
-    }
-
-    /// Adds accesses to pages that found no frame.
-    pub(crate) fn add_unserved(&mut self, tally: &Tally) {
-        self.accesses = self.accesses.saturating_add(tally.accesses);
-        self.unserved = self.unserved.saturating_add(tally.accesses);
-        self.exhausted = self.exhausted.saturating_add(tally.faults);
     }
 }
