@@ -4,27 +4,17 @@ use crate::halt::Halt;
 use crate::question::{Question, ask, space_after};
 use numa_compile::compile;
 use numa_files::Stop;
+use numa_plan::Plan;
 use numa_space::Space;
 use numa_traces::{Replaying, Shape, replay_lines, report_text};
 use std::alloc::Global;
 use std::io::{Read, Write};
 
-/// A replay in a space, before its first line.
-fn replaying_of(alloc: Global, space: &Space) -> Result<Replaying, Halt> {
-    let Ok(plan) = compile(alloc, space) else {
-        return Err(Halt::Stopped(Stop::Memory));
-    };
-    match Replaying::new(alloc, space.machine(), plan) {
-        Ok(replaying) => Ok(replaying),
-        Err(_) => Err(Halt::Stopped(Stop::Memory)),
-    }
-}
-
 /// What a trace met on the machine of a space, as a text.
 fn met(
     alloc: Global,
     space: &Space,
-    replaying: &Replaying,
+    replaying: &Replaying<'_>,
     format: Shape,
 ) -> Result<Vec<u8>, Halt> {
     if let Some((place, fault)) = replaying.fault() {
@@ -36,19 +26,17 @@ fn met(
     }
 }
 
-/// Replays a trace in a space, and gives what it met as a text.
-fn replayed<S: Read + Drop>(
+/// Replays a trace in a space by its plan, and gives what it met as a text.
+fn replayed_by<S: Read + Drop>(
     alloc: Global,
     space: &Space,
+    plan: &Plan,
     trace: Vec<(String, S)>,
     format: Shape,
 ) -> Result<Vec<u8>, Halt> {
-    let replaying = match replaying_of(alloc, space) {
-        Ok(replaying) => replaying,
-        Err(halt) => {
-            drop(trace);
-            return Err(halt);
-        }
+    let Ok(replaying) = Replaying::new(alloc, space.machine(), plan) else {
+        drop(trace);
+        return Err(Halt::Stopped(Stop::Memory));
     };
     match replay_lines(alloc, trace, replaying) {
         Ok(replaying) => {
@@ -58,6 +46,22 @@ fn replayed<S: Read + Drop>(
         }
         Err(why) => Err(Halt::Stopped(why)),
     }
+}
+
+/// Replays a trace in a space, and gives what it met as a text.
+fn replayed<S: Read + Drop>(
+    alloc: Global,
+    space: &Space,
+    trace: Vec<(String, S)>,
+    format: Shape,
+) -> Result<Vec<u8>, Halt> {
+    let Ok(plan) = compile(alloc, space) else {
+        drop(trace);
+        return Err(Halt::Stopped(Stop::Memory));
+    };
+    let text = replayed_by(alloc, space, &plan, trace, format);
+    drop(plan);
+    text
 }
 
 /// A trace that is to be replayed.

@@ -13,21 +13,22 @@ use Rattle.numa_traces.specs.declared.reading.Replaying.{Replaying}
 -- before the first line
 abbrev pub IsBegun : Hardware → PlanData → Replaying → Type 0
 IsBegun machine plan replaying =
-    (replaying.plan ≡ plan) × (replaying.fault ≡ None) × IsReplay machine plan [] replaying.replay
+    (replaying.plan.now ≡ plan) × (replaying.fault ≡ None)
+    × IsReplay machine plan [] replaying.replay
 
 -- a line that says this was replayed: its access; where it says none, nothing has changed
 abbrev pub ReplaysLine : Result (Option Access) AccessFault → Replaying → Replaying → Type 0
 ReplaysLine (Err why) old new = ⊥
 ReplaysLine (Ok None) old new = new ≡ old
-ReplaysLine (Ok (Some access)) old new = (new.plan ≡ old.plan) × (new.fault ≡ old.fault)
-    × ((machine : Hardware) (trace : List Access) → IsReplay machine old.plan trace old.replay
-    → IsReplay machine old.plan (access ∷ trace) new.replay)
+ReplaysLine (Ok (Some access)) old new = (new.plan.now ≡ old.plan.now) × (new.fault ≡ old.fault)
+    × ((machine : Hardware) (trace : List Access) → IsReplay machine old.plan.now trace old.replay
+    → IsReplay machine old.plan.now (access ∷ trace) new.replay)
 
 -- why a line that says this can't be replayed
 abbrev pub EndsAtLine : Result (Option Access) AccessFault → Replaying → ReplayFault → Type 0
 EndsAtLine (Err fault) old why = why ≡ Malformed fault
 EndsAtLine (Ok None) old why = ⊥
-EndsAtLine (Ok (Some access)) old why = EndsReplay old.plan old.replay access why
+EndsAtLine (Ok (Some access)) old why = EndsReplay old.plan.now old.replay access why
 
 -- the next line, with this number, was replayed, or is the first that can't be
 abbrev pub TakesLine : ℕ → Result (Option Access) AccessFault → Replaying → Replaying → Type 0

@@ -30,7 +30,9 @@ fn all_frames(alloc: Global, machine: &Machine) -> Result<Vec<u32>, AllocError>
 {
     let mut frames = Vec::new(alloc);
     for node in 0..machine.nodes() {
-        frames.push(machine.frames(node))?;
+        if let Err(_) = frames.push(machine.frames(node)) {
+            return Err(AllocError);
+        }
     }
     Ok(frames)
 }

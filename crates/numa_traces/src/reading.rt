@@ -16,27 +16,30 @@ use std::io::Read;
 
 /// The lines of a trace, replayed by a plan up to the first one that can't be.
 #[derive(Drop)]
-pub struct Replaying {
-    plan: Plan,
+pub struct Replaying<'a> {
+    plan: &'a Plan,
     replay: Replay,
     // The first line that can't be replayed, and why.
     fault: Option<(u64, ReplayFault)>,
 }
 
-impl Replaying {
+impl<'a> Replaying<'a> {
     /// Before the first line: no page of the machine is placed. The plan is the machine's.
-    pub fn new(alloc: Global, machine: &Machine, plan: Plan) -> Result<Replaying, AllocError>
-        ensures { IfOk result (IsBegun machine.now plan) }
+    pub fn new(
+        alloc: Global,
+        machine: &Machine,
+        plan: &'a Plan,
+    ) -> Result<Replaying<'a>, AllocError>
+        ensures { IfOk result (IsBegun machine.now plan.now) }
     {
-        let Ok(replay) = Replay::new(alloc, machine) else {
-            drop(plan);
-            return Err(AllocError);
-        };
-        Ok(Replaying {
-            plan,
-            replay,
-            fault: None,
-        })
+        match Replay::new(alloc, machine) {
+            Ok(replay) => Ok(Replaying {
+                plan,
+                replay,
+                fault: None,
+            }),
+            Err(fault) => Err(fault),
+        }
     }
 
     /// The replay of the lines so far, or of those before the first fault.
@@ -61,12 +64,12 @@ impl Replaying {
         match read_access(line) {
             Err(fault) => Err(ReplayFault::Malformed(fault)),
             Ok(None) => Ok(()),
-            Ok(Some(access)) => self.replay.take(&self.plan, access),
+            Ok(Some(access)) => self.replay.take(self.plan, access),
         }
     }
 }
 
-impl TakeLine for Replaying {
+impl TakeLine for Replaying<'_> {
     fn take(&mut self, _name: &str, place: u64, line: &[u8]) -> Result<(), Stop>
         ensures over { IsSome self.old.fault → OnOk result (self.new ≡ self.old) }
         ensures next { self.old.fault ≡ None → OnOk result
@@ -74,7 +77,7 @@ impl TakeLine for Replaying {
         ensures stop { IfErr result (λ why. (why ≡ stop.Memory)
             × EndsAtLine (access_of line.now) self.old fault.NoMemory) }
     {
-        if self.fault.is_some() {
+        if let Some(_) = self.fault {
             return Ok(());
         }
         match self.take_access(line) {
@@ -92,11 +95,11 @@ impl TakeLine for Replaying {
 ///
 /// # Errors
 /// Where a read failed, or there was no memory.
-pub fn replay_lines<R: Read + Drop>(
+pub fn replay_lines<'a, R: Read + Drop>(
     alloc: Global,
     trace: Vec<(String, R)>,
-    replaying: Replaying,
-) -> Result<Replaying, Stop> {
+    replaying: Replaying<'a>,
+) -> Result<Replaying<'a>, Stop> {
     let mut lines = Lines::new(alloc, replaying);
     if let Err(why) = read_all(trace, &mut lines) {
         drop(lines);
