@@ -7,7 +7,7 @@ use numa_space::PlaceRefusal;
 use std::alloc::AllocError;
 
 /// Why there is no report.
-#[derive(Clone, Copy, Debug, PartialEq, Eq)]
+#[derive(Clone, Copy)]
 pub enum ReportFault {
     /// The question was refused: the machine has no such node.
     Refused(PlaceRefusal),

@@ -20,7 +20,7 @@ use numa_plan::{Plan, Steps};
 use numa_space::{PlaceRefusal, RangeRecord, Run, Space};
 
 /// So many free pages of a node.
-#[derive(Clone, Copy, Debug, PartialEq, Eq)]
+#[derive(Clone, Copy)]
 pub struct FreePages {
     pub node: u8,
     pub pages: u64,

@@ -14,7 +14,7 @@ use numa_space::Space;
 use std::alloc::{AllocError, Global};
 
 /// Pages one behind another: the first, and how many.
-#[derive(Clone, Copy, Debug, PartialEq, Eq)]
+#[derive(Clone, Copy)]
 pub struct PageSpan {
     pub first: u64,
     pub pages: u64,

@@ -26,7 +26,7 @@ use numa_space::{PlaceRefusal, RangeRecord, Run, Space};
 use std::alloc::AllocError;
 
 /// Where the pages of a range would go, if a task touched each of them now.
-#[derive(Clone, Copy, Debug)]
+#[derive(Clone, Copy)]
 pub struct RangePrediction {
     /// The policy that serves the task there: the range's where that is live, else the task's where
     /// that is live. None is local allocation.
