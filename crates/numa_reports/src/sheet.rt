@@ -8,6 +8,7 @@ mod nodes;
 mod objects;
 mod parts;
 mod pictures;
+mod policies;
 mod records;
 mod written;
 
@@ -15,7 +16,7 @@ pub use changes::difference_text;
 pub use parts::{filling_text, prediction_text};
 
 /// How a prediction is told.
-#[derive(Clone, Copy, Debug, PartialEq, Eq)]
+#[derive(Clone, Copy)]
 pub enum Format {
     /// Lines in the form of numa_maps (numa(7)).
     Text,

@@ -11,7 +11,7 @@ ghost use Rattle.numa_reports.specs.Mapped.{IsOutlook};
 use crate::fault::ReportFault;
 use crate::moves::{ENTRIES, empty_table, span_moves};
 use crate::outlook::{Outlook, PageSpan, common_spans};
-use crate::sheet::fields::address;
+use crate::sheet::fields::bytes;
 use crate::sheet::written::Written;
 use numa_plan::Plan;
 use numa_space::PlaceRefusal;
@@ -71,9 +71,8 @@ fn put_line(text: &mut Written, span: PageSpan, table: &[u64], nodes: u32) {
     if moved == 0 {
         return;
     }
-    text.put_address(address(span.first));
-    text.put(b"-");
-    text.put_address(address(span.first.saturating_add(span.pages)));
+    let end = span.first.saturating_add(span.pages);
+    text.put_addresses(bytes(span.first), bytes(end));
     put_moves(text, moved, table, nodes);
 }
 

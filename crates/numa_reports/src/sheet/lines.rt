@@ -1,8 +1,7 @@
 //! Reports as lines in the form of numa_maps.
 
-use crate::filling::FreePages;
-use crate::sheet::fields::{Placed, Row, address, end};
-use crate::sheet::nodes::{put_named, put_nodes};
+use crate::sheet::fields::{Placed, Row};
+use crate::sheet::nodes::{NodePages, put_nodes};
 use crate::sheet::written::Written;
 
 /// How many pages find no node with a free page, where there are some.
@@ -16,7 +15,7 @@ pub(crate) fn put_lacking(text: &mut Written, placed: Placed<'_>) {
 fn put_pages(text: &mut Written, placed: Placed<'_>) {
     text.put(b" anon=");
     text.put_number(placed.pages);
-    put_nodes(text, placed.counts);
+    put_nodes(text, placed.nodes);
     put_lacking(text, placed);
     text.put(b" kernelpagesize_kB=4\n");
 }
@@ -24,26 +23,24 @@ fn put_pages(text: &mut Written, placed: Placed<'_>) {
 /// The line of a range: its first address and the one behind its last, the policy, and its pages by
 /// node.
 pub(crate) fn put_range(text: &mut Written, row: Row<'_>) {
-    text.put_address(address(row.range.first));
-    text.put(b"-");
-    text.put_address(end(row.range));
+    text.put_addresses(row.start, row.end);
     text.put(b" ");
     text.put(row.policy.as_bytes());
     put_pages(text, row.placed);
 }
 
 /// The last line, where some nodes are named: what is left on each of them.
-fn put_left(text: &mut Written, left: &[FreePages]) {
+fn put_left(text: &mut Written, left: &[NodePages]) {
     if left.is_empty() {
         return;
     }
     text.put(b"left");
-    put_named(text, left);
+    put_nodes(text, left);
     text.put(b"\n");
 }
 
 /// The line of all pages by node, and that of what is left.
-pub(crate) fn put_total(text: &mut Written, placed: Placed<'_>, left: &[FreePages]) {
+pub(crate) fn put_total(text: &mut Written, placed: Placed<'_>, left: &[NodePages]) {
     text.put(b"total");
     put_pages(text, placed);
     put_left(text, left);

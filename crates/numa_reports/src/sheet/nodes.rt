@@ -1,28 +1,36 @@
 //! Nodes, each with its pages.
 
-use crate::filling::FreePages;
 use crate::sheet::written::Written;
+use std::alloc::AllocError;
 
-/// A node and its pages.
-fn put_node(text: &mut Written, node: u64, pages: u64) {
-    text.put(b" N");
-    text.put_number(node);
-    text.put(b"=");
-    text.put_number(pages);
+/// So many pages of a node.
+#[derive(Clone, Copy)]
+pub(crate) struct NodePages {
+    pub(crate) node: u64,
+    pub(crate) pages: u64,
 }
 
-/// Writes each node that has pages, the lowest first.
-pub(crate) fn put_nodes(text: &mut Written, counts: &[u64]) {
+/// Puts each node that has pages into a list, the lowest first, in the place of what it held.
+pub(crate) fn list_nodes(nodes: &mut Vec<NodePages>, counts: &[u64]) -> Result<(), AllocError> {
+    nodes.clear();
     for node in 0..counts.len() {
-        if counts[node] > 0 {
-            put_node(text, node as u64, counts[node]);
+        let pages = counts[node];
+        if pages > 0 {
+            nodes.push(NodePages {
+                node: node as u64,
+                pages,
+            })?;
         }
     }
+    Ok(())
 }
 
-/// Writes each node that is named.
-pub(crate) fn put_named(text: &mut Written, named: &[FreePages]) {
-    for one in named {
-        put_node(text, u64::from(one.node), one.pages);
+/// Writes each node with its pages.
+pub(crate) fn put_nodes(text: &mut Written, nodes: &[NodePages]) {
+    for one in nodes {
+        text.put(b" N");
+        text.put_number(one.node);
+        text.put(b"=");
+        text.put_number(one.pages);
     }
 }

@@ -8,7 +8,9 @@ use crate::fault::ReportFault;
 use crate::filling::{FreePages, fill_all, free_of, taken};
 use crate::prediction::{TakeRange, predict_all};
 use crate::sheet::cells::{CELLS, first_cells};
-use crate::sheet::fields::{Placed, PolicyTexts, Row, sum};
+use crate::sheet::fields::{Row, bytes, placed_of};
+use crate::sheet::nodes::{NodePages, list_nodes};
+use crate::sheet::policies::PolicyTexts;
 use crate::sheet::written::Written;
 use crate::sheet::{Format, lines, objects, pictures, records};
 use crate::touch::{Touch, has_node};
@@ -31,6 +33,8 @@ struct Parts {
     ranges: usize,
     pages: u64,
     cells: Vec<u8>,
+    // The nodes that get pages of what is told of.
+    listed: Vec<NodePages>,
     text: Written,
 }
 
@@ -47,47 +51,33 @@ fn cells_of(cells: &[u8], ranges: usize, pages: u64) -> &[u8] {
 }
 
 impl Parts {
-    /// What is said of so many mapped pages.
-    fn placed<'a>(&self, counts: &'a [u64], pages: u64) -> Placed<'a> {
-        if !self.fills {
-            return Placed {
-                counts,
-                pages,
-                exhausted: None,
-            };
-        }
-        let found = sum(counts);
-        Placed {
-            counts,
-            pages: found,
-            exhausted: Some(pages.saturating_sub(found)),
-        }
-    }
-
     /// Writes what stands behind the last range: how many pages each node gets in all, and what is
     /// left on those that are named.
-    fn put_total(&mut self, counts: &[u64; 256], left: &[FreePages]) {
-        let placed = self.placed(shown(counts, self.nodes), self.pages);
+    fn put_total(&mut self, counts: &[u64; 256], left: &[NodePages]) -> Result<(), AllocError> {
+        let counts = shown(counts, self.nodes);
+        list_nodes(&mut self.listed, counts)?;
+        let placed = placed_of(&self.listed, self.pages, self.fills);
         let text = &mut self.text;
         match self.format {
             Format::Text => lines::put_total(text, placed, left),
             Format::Json => objects::put_total(text, placed, left),
             Format::Csv => records::put_total(text, placed, left),
-            Format::Svg => pictures::put_total(text, placed, left, self.ranges),
+            Format::Svg => pictures::put_total(text, placed, counts, left, self.ranges),
         }
+        Ok(())
     }
 
     /// Writes what is said of a range.
-    fn put_range(&mut self, range: &Run<RangeRecord>, policy: Option<Record>, counts: &[u64]) {
-        let placed = self.placed(counts, range.pages);
-        let Ok(policy) = self.policies.text(policy) else {
-            self.text.lack();
-            return;
-        };
+    fn put_range(
+        &mut self,
+        range: &Run<RangeRecord>,
+        policy: Option<Record>,
+    ) -> Result<(), AllocError> {
         let row = Row {
-            range,
-            policy,
-            placed,
+            start: bytes(range.first),
+            end: bytes(range.first.saturating_add(range.pages)),
+            policy: self.policies.text(policy)?,
+            placed: placed_of(&self.listed, range.pages, self.fills),
         };
         let text = &mut self.text;
         match self.format {
@@ -95,10 +85,11 @@ impl Parts {
             Format::Json => objects::put_range(text, row, self.ranges == 0),
             Format::Csv => records::put_range(text, row),
             Format::Svg => {
-                let cells = cells_of(&self.cells, self.ranges, placed.pages);
+                let cells = cells_of(&self.cells, self.ranges, row.placed.pages);
                 pictures::put_range(text, self.ranges, row, cells);
             }
         }
+        Ok(())
     }
 }
 
@@ -109,7 +100,8 @@ impl TakeRange for Parts {
         policy: Option<Record>,
         counts: &[u64; 256],
     ) -> Result<(), AllocError> {
-        self.put_range(range, policy, shown(counts, self.nodes));
+        list_nodes(&mut self.listed, shown(counts, self.nodes))?;
+        self.put_range(range, policy)?;
         self.ranges = self.ranges.saturating_add(1);
         self.pages = self.pages.saturating_add(range.pages);
         self.text.checked()
@@ -160,6 +152,7 @@ fn begin(
         ranges: 0,
         pages: 0,
         cells,
+        listed: Vec::new(alloc),
         text: head(alloc, space, plan.version(), touch, format),
     })
 }
@@ -169,11 +162,11 @@ fn left_on(
     alloc: Global,
     named: &[FreePages],
     free: &[u64; 256],
-) -> Result<Vec<FreePages>, AllocError> {
+) -> Result<Vec<NodePages>, AllocError> {
     let mut left = Vec::with_capacity(alloc, named.len())?;
     for one in named {
-        left.push(FreePages {
-            node: one.node,
+        left.push(NodePages {
+            node: u64::from(one.node),
             pages: free[usize::from(one.node)],
         })?;
     }
@@ -193,13 +186,13 @@ fn write_all(
 {
     if free.is_empty() {
         let counts = predict_all(space, plan, touch.task, touch.cpu, parts)?;
-        parts.put_total(&counts, &[]);
+        parts.put_total(&counts, &[])?;
     } else {
         let before = free_of(free);
         let mut after = before;
         fill_all(space, plan, touch.task, touch.cpu, &mut after, parts)?;
         let left = left_on(alloc, free, &after)?;
-        parts.put_total(&taken(&before, &after), &left);
+        parts.put_total(&taken(&before, &after), &left)?;
     }
     Ok(parts.text.take()?)
 }

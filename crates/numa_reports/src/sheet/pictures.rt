@@ -3,10 +3,9 @@
 //! A range is a line of text and a bar with a cell for each page, in which the node's number
 //! stands; below the ranges stand the nodes with what they get. So nothing hangs on the colours.
 
-use crate::filling::FreePages;
-use crate::sheet::fields::{Placed, Row, address, bytes, end};
+use crate::sheet::fields::{Placed, Row, bytes};
 use crate::sheet::lines::put_lacking;
-use crate::sheet::nodes::put_nodes;
+use crate::sheet::nodes::{NodePages, put_nodes};
 use crate::sheet::written::Written;
 use crate::touch::Touch;
 
@@ -43,9 +42,11 @@ fn put_cell(text: &mut Written, node: usize) {
         &[number],
     );
     text.put(COLOURS[node % 8].as_bytes());
-    text.put(b"\" stroke=\"#333333\" stroke-width=\"0.5\"/>");
-    text.put_form(b"<text x=\"6\" y=\"11\" font-size=\"$\" ", &[size]);
-    text.put_form(b"text-anchor=\"middle\">$</text></g>\n", &[number]);
+    text.put_form(
+        b"\" stroke=\"#333333\" stroke-width=\"0.5\"/><text x=\"6\" y=\"11\" font-size=\"$\" \
+        text-anchor=\"middle\">$</text></g>\n",
+        &[size, number],
+    );
 }
 
 /// The cells of all nodes.
@@ -57,18 +58,6 @@ fn put_cells(text: &mut Written, nodes: usize) {
     text.put(b"</defs>\n");
 }
 
-/// What the picture is, so many pixels high.
-fn put_frame(text: &mut Written, height: u64) {
-    text.put(b"<?xml version=\"1.0\" encoding=\"UTF-8\"?>\n");
-    text.put(b"<svg xmlns=\"http://www.w3.org/2000/svg\" version=\"1.1\" ");
-    text.put(b"xmlns:xlink=\"http://www.w3.org/1999/xlink\" ");
-    text.put_form(
-        b"width=\"920\" height=\"$\" viewBox=\"0 0 920 $\" ",
-        &[height, height],
-    );
-    text.put(b"font-family=\"monospace\" font-size=\"12\">\n");
-}
-
 /// The picture begins.
 pub(crate) fn put_head(
     text: &mut Written,
@@ -77,26 +66,30 @@ pub(crate) fn put_head(
     ranges: usize,
     nodes: usize,
 ) {
-    put_frame(text, height(ranges, nodes));
+    let height = height(ranges, nodes);
+    text.put_form(
+        b"<?xml version=\"1.0\" encoding=\"UTF-8\"?>\n\
+        <svg xmlns=\"http://www.w3.org/2000/svg\" version=\"1.1\" \
+        xmlns:xlink=\"http://www.w3.org/1999/xlink\" \
+        width=\"920\" height=\"$\" viewBox=\"0 0 920 $\" \
+        font-family=\"monospace\" font-size=\"12\">\n",
+        &[height, height],
+    );
     put_cells(text, nodes);
-    let asked = [u64::from(touch.task), u64::from(touch.cpu), version];
-    text.put(b"<rect width=\"920\" height=\"100%\" fill=\"#ffffff\"/>\n");
-    text.put(b"<text x=\"16\" y=\"24\" font-size=\"14\">Where pages would go that ");
-    text.put_form(b"task $ touched on node $ (version $)</text>\n", &asked);
-}
-
-/// How many of these counts aren't 0.
-fn some(counts: &[u64]) -> usize {
-    counts.iter().filter(|count| **count > 0).count()
+    text.put_form(
+        b"<rect width=\"920\" height=\"100%\" fill=\"#ffffff\"/>\n\
+        <text x=\"16\" y=\"24\" font-size=\"14\">Where pages would go that \
+        task $ touched on node $ (version $)</text>\n",
+        &[u64::from(touch.task), u64::from(touch.cpu), version],
+    );
 }
 
 /// The nodes that get pages, each with its pages, or how many there are.
-fn put_counts(text: &mut Written, counts: &[u64]) {
-    let some = some(counts);
-    if some > NAMED {
-        text.put_form(b" on $ nodes", &[some as u64]);
+fn put_counts(text: &mut Written, nodes: &[NodePages]) {
+    if nodes.len() > NAMED {
+        text.put_form(b" on $ nodes", &[nodes.len() as u64]);
     } else {
-        put_nodes(text, counts);
+        put_nodes(text, nodes);
     }
 }
 
@@ -125,15 +118,12 @@ fn below(ranges: usize) -> u64 {
 /// The range with so many before it: its line and its bar.
 pub(crate) fn put_range(text: &mut Written, before: usize, row: Row<'_>, cells: &[u8]) {
     text.put_form(
-        b"<g class=\"range\" transform=\"translate(16,$)\">",
+        b"<g class=\"range\" transform=\"translate(16,$)\"><text y=\"11\">",
         &[below(before)],
     );
-    text.put(b"<text y=\"11\">");
-    text.put_address(address(row.range.first));
-    text.put(b"-");
-    text.put_address(end(row.range));
+    text.put_addresses(row.start, row.end);
     text.put_form(b" anon=$", &[row.placed.pages]);
-    put_counts(text, row.placed.counts);
+    put_counts(text, row.placed.nodes);
     put_lacking(text, row.placed);
     text.put(b" ");
     text.put(row.policy.as_bytes());
@@ -143,37 +133,51 @@ pub(crate) fn put_range(text: &mut Written, before: usize, row: Row<'_>, cells: 
 }
 
 /// What is left on a node, where it is named.
-fn put_left(text: &mut Written, node: usize, left: &[FreePages]) {
+fn put_left(text: &mut Written, node: usize, left: &[NodePages]) {
     for one in left {
-        if usize::from(one.node) == node {
+        if one.node == node as u64 {
             text.put_form(b", $ pages left", &[one.pages]);
         }
     }
 }
 
 /// What a node gets in all.
-fn put_node(text: &mut Written, node: usize, pages: u64, top: u64, left: &[FreePages]) {
+fn put_node(text: &mut Written, node: usize, pages: u64, top: u64, left: &[NodePages]) {
     let number = node as u64;
-    let said = [top.saturating_add(12), number, pages, bytes(pages)];
-    text.put_form(b"<use xlink:href=\"#n$\" x=\"0\" y=\"$\"/>", &[number, top]);
-    text.put_form(b"<text x=\"20\" y=\"$\">N$=$ pages, $ bytes", &said);
+    text.put_form(
+        b"<use xlink:href=\"#n$\" x=\"0\" y=\"$\"/><text x=\"20\" y=\"$\">N$=$ pages, $ bytes",
+        &[
+            number,
+            top,
+            top.saturating_add(12),
+            number,
+            pages,
+            bytes(pages),
+        ],
+    );
     put_left(text, node, left);
     text.put(b"</text>\n");
 }
 
-/// The picture ends: what each node gets.
-pub(crate) fn put_total(text: &mut Written, placed: Placed<'_>, left: &[FreePages], ranges: usize) {
+/// The picture ends: what each node of the machine gets.
+pub(crate) fn put_total(
+    text: &mut Written,
+    placed: Placed<'_>,
+    counts: &[u64],
+    left: &[NodePages],
+    ranges: usize,
+) {
     let said = [below(ranges), placed.pages, bytes(placed.pages)];
-    text.put(b"<g class=\"total\" ");
     text.put_form(
-        b"transform=\"translate(16,$)\"><text y=\"16\">total anon=$ pages, $ bytes",
+        b"<g class=\"total\" transform=\"translate(16,$)\"><text y=\"16\">\
+        total anon=$ pages, $ bytes",
         &said,
     );
     put_lacking(text, placed);
     text.put(b"</text>\n");
     let mut top = 24u64;
-    for node in 0..placed.counts.len() {
-        put_node(text, node, placed.counts[node], top, left);
+    for node in 0..counts.len() {
+        put_node(text, node, counts[node], top, left);
         top = top.saturating_add(NODE_ROWS);
     }
     text.put(b"</g>\n</svg>\n");

@@ -1,12 +1,12 @@
 //! Reports as CSV: one record for each node of each range, and one for each node of all. Pages that
 //! find no node with a free page have a record without a node.
 
-use crate::filling::FreePages;
-use crate::sheet::fields::{Placed, Row, address, end};
+use crate::sheet::fields::{Placed, Row, placed_of};
+use crate::sheet::nodes::NodePages;
 use crate::sheet::written::Written;
 use csv::{Writer, WriterBuilder};
 use itoa::Buffer;
-use std::alloc::{AllocError, Global};
+use std::alloc::Global;
 
 /// The record of the names.
 pub(crate) fn put_head(text: &mut Written) {
@@ -22,114 +22,72 @@ struct Front<'a> {
     all: &'a str,
 }
 
-/// Writes the record of a node, which has these texts.
-fn put_text(
-    writer: &mut Writer<Vec<u8>>,
-    front: &Front<'_>,
-    node: &str,
-    pages: &str,
-) -> Result<(), AllocError> {
-    let record = [
-        front.start.as_bytes(),
-        front.end.as_bytes(),
-        front.policy.as_bytes(),
-        front.all.as_bytes(),
-        node.as_bytes(),
-        pages.as_bytes(),
-    ];
-    match writer.write_fields(&record) {
-        Ok(()) => Ok(()),
-        Err(_) => Err(AllocError),
-    }
+/// Records that are written one by one. Once there was no memory for one, no more are written.
+#[derive(Drop)]
+struct Records {
+    writer: Writer<Vec<u8>>,
+    lacks_memory: bool,
 }
 
-/// Writes the record of the pages that find no node.
-fn put_lacking(
-    writer: &mut Writer<Vec<u8>>,
-    front: &Front<'_>,
-    pages: u64,
-) -> Result<(), AllocError> {
-    let mut count = Buffer::new();
-    put_text(writer, front, "", count.format(pages))
-}
-
-/// Writes the record of a node.
-fn put(
-    writer: &mut Writer<Vec<u8>>,
-    front: &Front<'_>,
-    node: u64,
-    pages: u64,
-) -> Result<(), AllocError> {
-    let mut number = Buffer::new();
-    let mut count = Buffer::new();
-    put_text(writer, front, number.format(node), count.format(pages))
-}
-
-/// Writes one record for each node that has pages, the lowest first.
-fn put_nodes(
-    writer: &mut Writer<Vec<u8>>,
-    front: &Front<'_>,
-    counts: &[u64],
-) -> Result<(), AllocError> {
-    for node in 0..counts.len() {
-        if counts[node] > 0 {
-            put(writer, front, node as u64, counts[node])?;
+impl Records {
+    /// No records.
+    fn new(alloc: Global) -> Records {
+        Records {
+            writer: WriterBuilder::new().from_writer(Vec::new(alloc)),
+            lacks_memory: false,
         }
     }
-    Ok(())
-}
 
-/// Writes the record of what is left on a node that is named.
-fn put_left(writer: &mut Writer<Vec<u8>>, one: FreePages) -> Result<(), AllocError> {
-    let mut count = Buffer::new();
-    let pages = count.format(one.pages);
-    let front = Front {
-        start: "",
-        end: "",
-        policy: "left",
-        all: pages,
-    };
-    put(writer, &front, u64::from(one.node), one.pages)
-}
-
-/// Writes the records of pages, and of what is left.
-fn put_records(
-    writer: &mut Writer<Vec<u8>>,
-    front: &Front<'_>,
-    placed: Placed<'_>,
-    left: &[FreePages],
-) -> Result<(), AllocError> {
-    put_nodes(writer, front, placed.counts)?;
-    if let Some(pages) = placed.lacking() {
-        put_lacking(writer, front, pages)?;
+    /// Writes a record.
+    fn put_record(&mut self, record: &[&[u8]]) {
+        if !self.lacks_memory {
+            self.lacks_memory = self.writer.write_fields(record).is_err();
+        }
     }
-    for one in left {
-        put_left(writer, *one)?;
-    }
-    Ok(())
-}
 
-/// The records of pages, and of what is left.
-fn records(
-    alloc: Global,
-    front: &Front<'_>,
-    placed: Placed<'_>,
-    left: &[FreePages],
-) -> Result<Vec<u8>, AllocError> {
-    let mut writer = WriterBuilder::new().from_writer(Vec::new(alloc));
-    put_records(&mut writer, front, placed, left)?;
-    match writer.into_inner() {
-        Ok(bytes) => Ok(bytes),
-        Err(_) => Err(AllocError),
+    /// Writes the record of a node.
+    fn put(&mut self, front: &Front<'_>, node: &str, pages: u64) {
+        let mut count = Buffer::new();
+        self.put_record(&[
+            front.start.as_bytes(),
+            front.end.as_bytes(),
+            front.policy.as_bytes(),
+            front.all.as_bytes(),
+            node.as_bytes(),
+            count.format(pages).as_bytes(),
+        ]);
+    }
+
+    /// Writes the records of nodes.
+    fn put_nodes(&mut self, front: &Front<'_>, nodes: &[NodePages]) {
+        for one in nodes {
+            let mut number = Buffer::new();
+            self.put(front, number.format(one.node), one.pages);
+        }
+    }
+
+    /// Writes the records of pages.
+    fn put_placed(&mut self, front: &Front<'_>, placed: Placed<'_>) {
+        self.put_nodes(front, placed.nodes);
+        if let Some(pages) = placed.lacking() {
+            self.put(front, "", pages);
+        }
+    }
+
+    /// Puts the records into a text.
+    fn end(self, text: &mut Written) {
+        match self.writer.into_inner() {
+            Ok(part) if !self.lacks_memory => text.put(part.as_slice()),
+            _ => text.lack(),
+        }
     }
 }
 
-/// Writes the records of pages, and of what is left.
-fn put_all(text: &mut Written, front: &Front<'_>, placed: Placed<'_>, left: &[FreePages]) {
-    match records(text.alloc(), front, placed, left) {
-        Ok(part) => text.put(part.as_slice()),
-        Err(_) => text.lack(),
-    }
+/// Writes the records of pages.
+fn put_all(text: &mut Written, front: &Front<'_>, placed: Placed<'_>) {
+    let mut records = Records::new(text.alloc());
+    records.put_placed(front, placed);
+    records.end(text);
 }
 
 /// The records of a range.
@@ -138,23 +96,32 @@ pub(crate) fn put_range(text: &mut Written, row: Row<'_>) {
     let mut last = Buffer::new();
     let mut all = Buffer::new();
     let front = Front {
-        start: first.format(address(row.range.first)),
-        end: last.format(end(row.range)),
+        start: first.format(row.start),
+        end: last.format(row.end),
         policy: row.policy,
         all: all.format(row.placed.pages),
     };
-    put_all(text, &front, row.placed, &[]);
+    put_all(text, &front, row.placed);
 }
 
-/// The records of all pages: their policy is `total`, and they have no addresses; behind them those
-/// of what is left, with the policy `left`, where some nodes are named.
-pub(crate) fn put_total(text: &mut Written, placed: Placed<'_>, left: &[FreePages]) {
+/// Records that are none of a range: a word stands in the place of their policy, and they have no
+/// addresses.
+fn put_apart(text: &mut Written, policy: &str, placed: Placed<'_>) {
     let mut all = Buffer::new();
     let front = Front {
         start: "",
         end: "",
-        policy: "total",
+        policy,
         all: all.format(placed.pages),
     };
-    put_all(text, &front, placed, left);
+    put_all(text, &front, placed);
+}
+
+/// The records of all pages, `total`; behind them those of what is left, `left`, where some nodes
+/// are named.
+pub(crate) fn put_total(text: &mut Written, placed: Placed<'_>, left: &[NodePages]) {
+    put_apart(text, "total", placed);
+    for one in left {
+        put_apart(text, "left", placed_of(&[*one], one.pages, false));
+    }
 }

@@ -72,6 +72,13 @@ impl Written {
         self.put(&last_digits(number));
     }
 
+    /// Writes the address of a first byte, and that behind the last.
+    pub(crate) fn put_addresses(&mut self, start: u64, end: u64) {
+        self.put_address(start);
+        self.put(b"-");
+        self.put_address(end);
+    }
+
     /// Writes a form, with the next of the numbers for each `$`.
     pub(crate) fn put_form(&mut self, form: &[u8], numbers: &[u64]) {
         let mut rest = numbers;
