@@ -13,9 +13,10 @@ use crate::moves::{ENTRIES, empty_table, span_moves};
 use crate::outlook::{Outlook, PageSpan, common_spans};
 use crate::sheet::fields::bytes;
 use crate::sheet::written::Written;
+use crate::touch::Touch;
 use numa_plan::Plan;
 use numa_space::PlaceRefusal;
-use std::alloc::Global;
+use std::alloc::{AllocError, Global};
 
 /// How many pages go from a node to another.
 fn entry(table: &[u64], from: u32, to: u32) -> u64 {
@@ -84,26 +85,55 @@ fn add_table(total: &mut Vec<u64>, table: &[u64]) {
     }
 }
 
+/// The lines so far, and how many pages of all spans go from each node to each.
+#[derive(Drop)]
+struct Difference {
+    text: Written,
+    total: Vec<u64>,
+}
+
+impl Difference {
+    /// No lines.
+    fn new(alloc: Global) -> Result<Difference, AllocError> {
+        let total = empty_table(alloc, ENTRIES)?;
+        let text = Written::new(alloc);
+        Ok(Difference { text, total })
+    }
+
+    /// Adds the line of a span, and its pages to those of all.
+    fn add(&mut self, span: PageSpan, table: &[u64], nodes: u32) -> Result<(), AllocError> {
+        put_line(&mut self.text, span, table, nodes);
+        add_table(&mut self.total, table);
+        self.text.checked()
+    }
+
+    /// Writes the last line, and gives the text.
+    fn end(&mut self, nodes: u32) -> Result<Vec<u8>, AllocError> {
+        let table = self.total.as_slice();
+        self.text.put(b"total");
+        put_moves(&mut self.text, moved(table, nodes), table, nodes);
+        self.text.take()
+    }
+}
+
 /// Adds the line of a span, and its pages to those of all.
 fn push_span(
     alloc: Global,
     before: &Plan,
     after: &Plan,
     nodes: u32,
-    task: u32,
-    cpu: u32,
+    touch: Touch,
     span: PageSpan,
-    text: &mut Written,
-    total: &mut Vec<u64>,
+    difference: &mut Difference,
 ) -> Result<(), ReportFault>
     ensures { (machine : Hardware) (old new : List Command)
         → PlanStandsFor machine before.now old → PlanStandsFor machine after.now new
-        → IfErr result (MovesMayFail machine old new span.first span.pages cpu) }
+        → IfErr result (MovesMayFail machine old new span.first span.pages touch.cpu) }
 {
-    let table = span_moves(alloc, before, after, task, cpu, span.first, span.pages)?;
-    put_line(text, span, table.as_slice(), nodes);
-    add_table(total, table.as_slice());
-    text.checked()?;
+    let table = span_moves(
+        alloc, before, after, touch.task, touch.cpu, span.first, span.pages,
+    )?;
+    difference.add(span, table.as_slice(), nodes)?;
     Ok(())
 }
 
@@ -131,23 +161,18 @@ pub fn difference_text(
         return Err(ReportFault::Refused(PlaceRefusal::BadCpu));
     }
     let spans = common_spans(alloc, before.spans.as_slice(), after.spans.as_slice())?;
-    let mut total = empty_table(alloc, ENTRIES)?;
-    let mut text = Written::new(alloc);
+    let mut difference = Difference::new(alloc)?;
+    let touch = Touch { task, cpu };
     for span in &spans {
         push_span(
             alloc,
             &before.plan,
             &after.plan,
             nodes,
-            task,
-            cpu,
+            touch,
             *span,
-            &mut text,
-            &mut total,
+            &mut difference,
         )?;
     }
-    let table = total.as_slice();
-    text.put(b"total");
-    put_moves(&mut text, moved(table, nodes), table, nodes);
-    Ok(text.take()?)
+    Ok(difference.end(nodes)?)
 }

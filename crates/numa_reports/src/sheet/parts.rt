@@ -53,9 +53,12 @@ fn cells_of(cells: &[u8], ranges: usize, pages: u64) -> &[u8] {
 impl Parts {
     /// Writes what stands behind the last range: how many pages each node gets in all, and what is
     /// left on those that are named.
-    fn put_total(&mut self, counts: &[u64; 256], left: &[NodePages]) -> Result<(), AllocError> {
+    fn put_total(&mut self, counts: &[u64; 256], left: &[NodePages]) {
         let counts = shown(counts, self.nodes);
-        list_nodes(&mut self.listed, counts)?;
+        if list_nodes(&mut self.listed, counts).is_err() {
+            self.text.lack();
+            return;
+        }
         let placed = placed_of(&self.listed, self.pages, self.fills);
         let text = &mut self.text;
         match self.format {
@@ -64,7 +67,6 @@ impl Parts {
             Format::Csv => records::put_total(text, placed, left),
             Format::Svg => pictures::put_total(text, placed, counts, left, self.ranges),
         }
-        Ok(())
     }
 
     /// Writes what is said of a range.
@@ -173,6 +175,25 @@ fn left_on(
     Ok(left)
 }
 
+/// Writes what is said of each range, and of all, where some nodes are named.
+fn write_filled(
+    alloc: Global,
+    parts: &mut Parts,
+    space: &Space,
+    plan: &Plan,
+    touch: Touch,
+    free: &[FreePages],
+) -> Result<(), ReportFault>
+    ensures err { FailsForNode space.now plan.now touch.cpu result }
+{
+    let before = free_of(free);
+    let mut after = before;
+    fill_all(space, plan, touch.task, touch.cpu, &mut after, parts)?;
+    let left = left_on(alloc, free, &after)?;
+    parts.put_total(&taken(&before, &after), &left);
+    Ok(())
+}
+
 /// Writes what is said of each range, and of all, and gives the text.
 fn write_all(
     alloc: Global,
@@ -186,13 +207,9 @@ fn write_all(
 {
     if free.is_empty() {
         let counts = predict_all(space, plan, touch.task, touch.cpu, parts)?;
-        parts.put_total(&counts, &[])?;
+        parts.put_total(&counts, &[]);
     } else {
-        let before = free_of(free);
-        let mut after = before;
-        fill_all(space, plan, touch.task, touch.cpu, &mut after, parts)?;
-        let left = left_on(alloc, free, &after)?;
-        parts.put_total(&taken(&before, &after), &left)?;
+        write_filled(alloc, parts, space, plan, touch, free)?;
     }
     Ok(parts.text.take()?)
 }
