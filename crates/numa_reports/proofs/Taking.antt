@@ -62,6 +62,12 @@ abbrev pub free_runs : {T : Type 0} → (ℕ → List ℕ) → List ℕ → List
 free_runs nodes free [] = free
 free_runs nodes free (run ∷ runs) = free_runs nodes (free_behind nodes free run.first run.pages) runs
 
+-- a run more
+pub runs-left : {T : Type 0} (nodes : ℕ → List ℕ) (whole free free' : List ℕ) (runs rest : List (Run T)) (run : Run T) → free' ≡ free_behind nodes free run.first run.pages → runs ≡ run ∷ rest
+    → free_runs nodes free runs ≡ whole → free_runs nodes free' rest ≡ whole
+runs-left {T} nodes whole free free' runs rest run took steps left =
+    ap (λ (f : List ℕ). free_runs nodes f rest) took ∙ sym (ap (λ (r : List (Run T)). free_runs nodes free r) steps) ∙ left
+
 -- where no page outside the runs has a list, the pages of the runs are all that take something
 pub free-runs : {T : Type 0} (nodes : ℕ → List ℕ) (free : List ℕ) (from n : ℕ) (runs : List (Run T)) → AreApart from runs → from + n ≡ 2 ^ 35
     → ((page : ℕ) → from ≤ page → page_at runs page ≡ None → nodes page ≡ []) → free_runs nodes free runs ≡ free_behind nodes free from n

@@ -68,30 +68,18 @@ impl Parts {
             Format::Svg => pictures::put_total(text, placed, counts, left, self.ranges),
         }
     }
+}
 
-    /// Writes what is said of a range.
-    fn put_range(
-        &mut self,
-        range: &Run<RangeRecord>,
-        policy: Option<Record>,
-    ) -> Result<(), AllocError> {
-        let row = Row {
-            start: bytes(range.first),
-            end: bytes(range.first.saturating_add(range.pages)),
-            policy: self.policies.text(policy)?,
-            placed: placed_of(&self.listed, range.pages, self.fills),
-        };
-        let text = &mut self.text;
-        match self.format {
-            Format::Text => lines::put_range(text, row),
-            Format::Json => objects::put_range(text, row, self.ranges == 0),
-            Format::Csv => records::put_range(text, row),
-            Format::Svg => {
-                let cells = cells_of(&self.cells, self.ranges, row.placed.pages);
-                pictures::put_range(text, self.ranges, row, cells);
-            }
+/// Writes what is said of a range, with so many before it; the cells are those of all ranges.
+fn put_range(text: &mut Written, format: Format, row: Row<'_>, before: usize, cells: &[u8]) {
+    match format {
+        Format::Text => lines::put_range(text, row),
+        Format::Json => objects::put_range(text, row, before == 0),
+        Format::Csv => records::put_range(text, row),
+        Format::Svg => {
+            let cells = cells_of(cells, before, row.placed.pages);
+            pictures::put_range(text, before, row, cells);
         }
-        Ok(())
     }
 }
 
@@ -103,7 +91,13 @@ impl TakeRange for Parts {
         counts: &[u64; 256],
     ) -> Result<(), AllocError> {
         list_nodes(&mut self.listed, shown(counts, self.nodes))?;
-        self.put_range(range, policy)?;
+        let row = Row {
+            start: bytes(range.first),
+            end: bytes(range.first.saturating_add(range.pages)),
+            policy: self.policies.text(policy)?,
+            placed: placed_of(&self.listed, range.pages, self.fills),
+        };
+        put_range(&mut self.text, self.format, row, self.ranges, &self.cells);
         self.ranges = self.ranges.saturating_add(1);
         self.pages = self.pages.saturating_add(range.pages);
         self.text.checked()

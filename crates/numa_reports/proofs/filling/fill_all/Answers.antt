@@ -6,7 +6,7 @@ use Rattle.numa_ranges.specs.declared.run.Run.{Run}
 use Rattle.numa_reports.specs.Filled.{planned_nodes}
 use Rattle.numa_reports.specs.Told.{IsTaken, LacksOne, ToldOne}
 use Rattle.numa_reports.proofs.Refusing.{left-all, left-end, left-next, left-value, range-fails}
-use Rattle.numa_reports.proofs.Taking.{free_runs, free-all}
+use Rattle.numa_reports.proofs.Taking.{free_runs, free-all, runs-left}
 use Rattle.numa_reports.proofs.Telling.{FilledEach, filled-all}
 use Rattle.numa_reports.proofs.filling.fill_all.Goals as goal
 
@@ -32,9 +32,7 @@ pub loop-range-preserved : goal.loop-range-preserved
 loop-range-preserved g c =
     let nodes = planned_nodes c.args.plan.now c.args.task c.args.cpu in
     record {
-      left = ap (λ (f : List ℕ). free_runs nodes f c.next.new.self) c.in_ok-fill_next.ensures.free
-          ∙ sym (ap (λ (runs : List (Run (Option PolicyRecord))). free_runs nodes c.loop-range.free runs) c.in-Some.ensures.steps)
-          ∙ c.loop-range.invariant.left;
+      left = runs-left nodes (free_runs nodes c.args.free.now c.args.space.now.ranges) c.loop-range.free c.fill_next.new.free c.loop-range.range-iterator c.next.new.self c.in-Some.range c.in_ok-fill_next.ensures.free c.in-Some.ensures.steps c.loop-range.invariant.left;
       apart = c.loop-range.invariant.apart;
       rest = left-next c.loop-range.range-iterator c.args.space.now.ranges c.next.new.self c.in-Some.range c.loop-range.invariant.rest c.in-Some.ensures.steps;
       lack = λ has. c.loop-range.invariant.lack (subst (λ (runs : List (Run (Option PolicyRecord))). LacksOne g.T.TakeRange.lacks runs) (sym c.in-Some.ensures.steps) (inr has));
