@@ -236,8 +236,8 @@ impl<A: Respond, W: Write> Expect<A, W> {
         }
     }
 
-    /// Takes the rest of the line at hand. A line that lies whole in its piece, and shows there what
-    /// it holds, isn't copied.
+    /// Takes the rest of the line at hand. A line that lies whole in its piece, and shows there
+    /// what it holds, isn't copied.
     fn take_rest(&mut self, rest: &[u8]) {
         if rest.len() <= HEAD && self.is_new() {
             self.comparison.take_head(&mut self.answerer, rest, true);

@@ -1,6 +1,7 @@
 -- What a call of a handle answers and does, whatever it keeps. `told` says so of an open handle; a
 -- closed one gives no answer.
-use Rattle.std.specs.Prelude.{◌≡◌, true, Option, Some, None, Result, is_some, MatchOption, OnOk, OnErr}
+use Rattle.std.specs.Prelude.{◌≡◌, true, Option, Some, None, Result, is_some, MatchOption, OnOk}
+use Rattle.std.specs.Prelude.{OnErr}
 
 -- what was to be kept is kept; where it is refused, nothing is
 abbrev pub Keeps : {K E : Type 0} → K → Result (Unit {0}) E → Option K → Type 0

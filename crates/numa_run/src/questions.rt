@@ -36,8 +36,8 @@ fn say_place<W: Write>(plan: &Plan, fault: Request, output: &mut Watched<W>)
     }
 }
 
-/// Says the first node of each page's list, for the pages from that of the first fault on, as many as
-/// there is room for.
+/// Says the first node of each page's list, for the pages from that of the first fault on, as many
+/// as there is room for.
 fn say_firsts<W: Write>(plan: &Plan, first: Request, nodes: &mut [u8], output: &mut Watched<W>)
     ensures { (machine : Hardware) (history : List Command) → PlanStandsFor machine plan.now history
         → Said W.contents output.old output.new
@@ -49,8 +49,8 @@ fn say_firsts<W: Write>(plan: &Plan, first: Request, nodes: &mut [u8], output: &
     }
 }
 
-/// `span TASK ADDR PAGES CPU`: the first node of each page's list, for so many pages from that of the
-/// first fault on.
+/// `span TASK ADDR PAGES CPU`: the first node of each page's list, for so many pages from that of
+/// the first fault on.
 fn say_span<W: Write>(
     alloc: Global,
     plan: &Plan,

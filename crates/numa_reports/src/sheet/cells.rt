@@ -16,8 +16,8 @@ use std::alloc::Global;
 pub(crate) const CELLS: usize = 64;
 
 /// Writes the nodes of the first pages of a range, [`CELLS`] places; those behind its last page are
-/// 0, and those of pages that find no node with a free page. Where free pages are counted, each page
-/// takes one.
+/// 0, and those of pages that find no node with a free page. Where free pages are counted, each
+/// page takes one.
 fn put_cells(
     plan: &Plan,
     touch: Touch,

@@ -59,8 +59,8 @@ impl PolicyTexts {
         }
     }
 
-    /// The place of a policy's text, by a guess where that is right; the text is made where there is
-    /// none yet.
+    /// The place of a policy's text, by a guess where that is right; the text is made where there
+    /// is none yet.
     fn place(&mut self, policy: Record) -> Result<usize, AllocError> {
         let guess = guess_of(&policy);
         let place = self.guesses[guess];
