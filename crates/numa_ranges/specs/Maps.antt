@@ -1,6 +1,6 @@
 -- A map from pages to an index and a value: what each call makes of it, and why a call is refused.
-use Rattle.std.specs.Prelude.{◌≡◌, ℕ, ◌+◌, ◌-◌, Bool, not, is_some, Option, Some, None, List}
-use Rattle.std.specs.Prelude.{nat_lt, if◌then◌else◌}
+use Rattle.std.specs.Prelude.{◌≡◌, ℕ, ◌+◌, ◌-◌, ◌^◌, ◌<◌, ◌≤◌, Bool, not, is_some, Option, Some}
+use Rattle.std.specs.Prelude.{None, List, nat_lt, if◌then◌else◌}
 use Rattle.std.specs.List.{list_any, range_with_len}
 use Rattle.numa_ranges.specs.declared.fault.RangeFault.{RangeFault}
 use Rattle.numa_ranges.specs.declared.fault.RangeFault.TheVariants.{Hole, Overlap, TooManyRanges}
@@ -8,6 +8,11 @@ use Rattle.numa_ranges.specs.declared.fault.RangeFault.TheVariants.{NoMemory}
 use Rattle.numa_ranges.specs.declared.run.Run.{Run}
 use Rattle.numa_ranges.specs.Runs.{in_pages, page_at}
 use Rattle.numa_ranges.specs.Counts.{range_count}
+
+-- a span that a call may be about: it has a page, and all of its pages lie below 2^35
+pub record IsSpan (first pages : ℕ) : Type 0 where
+  pub some : 0 < pages
+  pub within : first + pages ≤ 2 ^ 35
 
 -- a list of runs says of each page what the map does
 abbrev pub Shows : {T : Type 0} → List (Run T) → (ℕ → Option (ℕ × T)) → Type 0

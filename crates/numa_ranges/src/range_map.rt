@@ -4,12 +4,12 @@ ghost use Rattle.std.specs.Prelude.{◌≡◌, ◌+◌, ◌-◌, ◌<◌, ◌≤
 ghost use Rattle.std.specs.Prelude.{is_some, IsSomeAnd, IfNone, IfSome, OnSome, false, slice_get};
 ghost use Rattle.std.specs.List.{splice, slice_range};
 ghost use Rattle.std.specs.Fn.{FnReturnsAt};
-ghost use Rattle.numa_ranges.specs.Runs.{end_of, page_at, AreApart, AreMaximal};
+ghost use Rattle.numa_ranges.specs.Runs.{page_at, AreApart, AreMaximal};
 ghost use Rattle.numa_ranges.specs.Counts.{range_count, IsRange};
 ghost use Rattle.numa_rows.specs.Changes.{Makes};
 ghost use Rattle.numa_ranges.specs.Maps.{Shows, IsRefusal, any_page, with_span, without_span};
 ghost use Rattle.numa_ranges.specs.Maps.{changed_page, changed_span, count_refusal, map_refusal};
-ghost use Rattle.numa_ranges.specs.Maps.{set_refusal};
+ghost use Rattle.numa_ranges.specs.Maps.{set_refusal, IsSpan};
 ghost use Rattle.numa_ranges.specs.Edits.{StartsAround, maximal_runs, edit_of, HoldsPage, HasRoom};
 ghost use Rattle.numa_ranges.specs.Edits.{Becomes, edited_span};
 ghost use Rattle.numa_ranges.specs.Numbered.{AreNumbered, runs_of};
@@ -182,8 +182,7 @@ impl<T: Exact> RangeMap<T> {
         index: u64,
         value: T,
     ) -> Result<(), RangeFault>
-        requires some { 0 < pages }
-        requires span { first + pages ≤ 2 ^ 35 }
+        requires span { IsSpan first pages }
         requires index { index < 2 ^ 35 }
         ensures ok { OnOk result (Shows self.new.runs
             (with_span first pages index value (page_at self.old.runs))) }
@@ -210,9 +209,8 @@ impl<T: Exact> RangeMap<T> {
     /// Puts a run in at its place among the runs, joined to its neighbours where they go on from
     /// one another. `near` is a guess at the chunk of the place, kept for the next edit.
     fn insert_run(&mut self, place: usize, run: Run<T>, near: usize) -> Result<(), RangeFault>
-        requires some { 0 < run.pages }
+        requires span { IsSpan run.first run.pages }
         requires room { HasRoom self.old.runs place run.first (run.first + (run.pages - 1)) }
-        requires span { end_of run ≤ 2 ^ 35 }
         requires index { run.index < 2 ^ 35 }
         ensures ok { OnOk result (Becomes T.eq self.old self.new
             (with_span run.first run.pages run.index run.value (page_at self.old.runs))) }
@@ -233,8 +231,7 @@ impl<T: Exact> RangeMap<T> {
     /// The place of a span among the runs, where none of its pages is mapped, sought from a chunk
     /// on; `near` is afterwards where the search ended.
     fn place_between(&self, first: u64, pages: u64, near: &mut usize) -> Option<usize>
-        requires some { 0 < pages }
-        requires span { first + pages ≤ 2 ^ 35 }
+        requires span { IsSpan first pages }
         ensures none { IfNone result (any_page
             (λ page. is_some (page_at self.now.runs page)) first pages ≡ true) }
         ensures room { IfSome result (λ place. HasRoom self.now.runs place first
@@ -261,8 +258,7 @@ impl<T: Exact> RangeMap<T> {
     /// - `TooManyRanges`: there would be more than `max_ranges` ranges.
     /// - `NoMemory`: there was none for the ranges that the call makes.
     pub fn set_span(&mut self, first: u64, pages: u64, value: T) -> Result<(), RangeFault>
-        requires some { 0 < pages }
-        requires span { first + pages ≤ 2 ^ 35 }
+        requires span { IsSpan first pages }
         ensures ok { OnOk result (Shows self.new.runs
             (changed_span first pages (λ old. value) (page_at self.old.runs))) }
         ensures accepted { OnOk result (set_refusal T.eq self.old.max_ranges
@@ -287,8 +283,7 @@ impl<T: Exact> RangeMap<T> {
     /// - `TooManyRanges`: a range that is split would make more than `max_ranges` ranges.
     /// - `NoMemory`: the parts that stay could not be gathered, also where the map shrinks.
     pub fn unmap_span(&mut self, first: u64, pages: u64) -> Result<(), RangeFault>
-        requires some { 0 < pages }
-        requires span { first + pages ≤ 2 ^ 35 }
+        requires span { IsSpan first pages }
         ensures ok { OnOk result (Shows self.new.runs
             (without_span first pages (page_at self.old.runs))) }
         ensures accepted { OnOk result (count_refusal T.eq self.old.max_ranges
@@ -316,8 +311,7 @@ impl<T: Exact> RangeMap<T> {
         pages: u64,
         f: F,
     ) -> Result<(), RangeFault>
-        requires some { 0 < pages }
-        requires span { first + pages ≤ 2 ^ 35 }
+        requires span { IsSpan first pages }
         requires callable { F.IsAlwaysCallable f }
         requires function { (change : T → T) × Makes F.Fn f change }
         ensures ok { (change : T → T) → Makes F.Fn f change

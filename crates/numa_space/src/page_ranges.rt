@@ -6,7 +6,7 @@ ghost use Rattle.numa_mode.specs.Policy.{PolicyRecord};
 ghost use Rattle.numa_ranges.specs.Runs.{AreApart, AreMaximal, page_at};
 ghost use Rattle.numa_ranges.specs.declared.run.Run.{Run};
 ghost use Rattle.numa_ranges.specs.Counts.{IsRange, range_count};
-ghost use Rattle.numa_ranges.specs.Maps.{any_page};
+ghost use Rattle.numa_ranges.specs.Maps.{any_page, IsSpan};
 ghost use Rattle.numa_ranges.specs.Numbered.{AreNumbered, runs_of};
 ghost use Rattle.numa_ranges.specs.Maps.{with_span, without_span, changed_span, changed_page};
 ghost use Rattle.numa_space.specs.Edits.{IsEdit, too_many, overlap_cause, hole_cause, refusal_from};
@@ -107,8 +107,7 @@ impl Pages {
 
     /// Maps a span without a policy of its own.
     pub(crate) fn map_span(&mut self, first: u64, pages: u64, index: u64) -> Result<(), Refusal>
-        requires some { 0 < pages }
-        requires span { first + pages ≤ 2 ^ 35 }
+        requires span { IsSpan first pages }
         requires index { index < 2 ^ 35 }
         ensures edit { IsEdit (first_of (overlap_cause (page_at self.old.runs) first pages)
             (too_many self.old.limit (with_span first pages index None (page_at self.old.runs))))
@@ -121,8 +120,7 @@ impl Pages {
 
     /// Unmaps a span.
     pub(crate) fn unmap_span(&mut self, first: u64, pages: u64) -> Result<(), Refusal>
-        requires some { 0 < pages }
-        requires span { first + pages ≤ 2 ^ 35 }
+        requires span { IsSpan first pages }
         ensures edit { IsEdit (too_many self.old.limit
             (without_span first pages (page_at self.old.runs)))
             (without_span first pages (page_at self.old.runs)) self.old result self.new }
@@ -138,8 +136,7 @@ impl Pages {
         pages: u64,
         policy: Option<Record>,
     ) -> Result<(), Refusal>
-        requires some { 0 < pages }
-        requires span { first + pages ≤ 2 ^ 35 }
+        requires span { IsSpan first pages }
         ensures edit { IsEdit (first_of (hole_cause (page_at self.old.runs) first pages)
             (too_many self.old.limit (changed_span first pages (λ old. policy)
             (page_at self.old.runs)))) (changed_span first pages (λ old. policy)
@@ -160,8 +157,7 @@ impl Pages {
 
     /// Gives the policies of a span's pages a home node, those that have one.
     pub(crate) fn home_span(&mut self, first: u64, pages: u64, node: u8) -> Result<(), Refusal>
-        requires some { 0 < pages }
-        requires span { first + pages ≤ 2 ^ 35 }
+        requires span { IsSpan first pages }
         ensures edit { IsEdit (too_many self.old.limit
             (changed_span first pages (policy_with_home node) (page_at self.old.runs)))
             (changed_span first pages (policy_with_home node) (page_at self.old.runs)) self.old
@@ -192,8 +188,7 @@ impl Pages {
 
     /// Whether some mapped page of a span has a policy of its own that takes no home node.
     pub(crate) fn refuses_home(&self, first: u64, pages: u64) -> bool
-        requires some { 0 < pages }
-        requires span { first + pages ≤ 2 ^ 35 }
+        requires span { IsSpan first pages }
         ensures { result ≡ any_page (λ page. takes_no_home (page_at self.now.runs page)) first
             pages }
     {

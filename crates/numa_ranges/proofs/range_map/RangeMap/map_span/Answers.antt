@@ -18,14 +18,8 @@ returns-clause-err g c =
     let free : any_page (λ page. is_some (page_at c.args.self.now.runs page)) c.args.first c.args.pages ≡ false = c.in-Some.ensures.free in
     rw free c.insert_run.ensures.err
 
-pub place_between-requires-clause-some : goal.place_between-requires-clause-some
-place_between-requires-clause-some g c = c.requires.some
-
-pub place_between-requires-clause-span : goal.place_between-requires-clause-span
-place_between-requires-clause-span g c = c.requires.span
-
-pub insert_run-requires-clause-some : goal.insert_run-requires-clause-some
-insert_run-requires-clause-some g c = c.requires.some
+pub place_between-requires : goal.place_between-requires
+place_between-requires g c = record { span = c.requires.span }
 
 pub insert_run-requires-clause-span : goal.insert_run-requires-clause-span
 insert_run-requires-clause-span g c = c.requires.span

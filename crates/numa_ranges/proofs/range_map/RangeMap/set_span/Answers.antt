@@ -42,7 +42,7 @@ pub lacks_page-requires-clause-apart : goal.lacks_page-requires-clause-apart
 lacks_page-requires-clause-apart g c = c.self.invariant.0
 
 pub lacks_page-requires-clause-span : goal.lacks_page-requires-clause-span
-lacks_page-requires-clause-span g c = c.requires.span
+lacks_page-requires-clause-span g c = c.requires.span.within
 
 pub edit_span-requires-clause-within : goal.edit_span-requires-clause-within
 edit_span-requires-clause-within g c = c.starts_near-place.ensures.within
@@ -51,7 +51,7 @@ pub edit_span-requires-clause-parts : goal.edit_span-requires-clause-parts
 edit_span-requires-clause-parts g c = c.starts_near-place.ensures.parts
 
 pub edit_span-requires-clause-span : goal.edit_span-requires-clause-span
-edit_span-requires-clause-span g c = c.requires.span
+edit_span-requires-clause-span g c = c.requires.span.within
 
 pub returns-then-lacks_page-clause-ok : goal.returns-then-lacks_page-clause-ok
 returns-then-lacks_page-clause-ok g c = tt

@@ -34,7 +34,7 @@ pub edit_span-requires-clause-parts : goal.edit_span-requires-clause-parts
 edit_span-requires-clause-parts g c = c.starts_near-place.ensures.parts
 
 pub edit_span-requires-clause-span : goal.edit_span-requires-clause-span
-edit_span-requires-clause-span g c = c.requires.span
+edit_span-requires-clause-span g c = c.requires.span.within
 
 pub returns-clause-max_ranges : goal.returns-clause-max_ranges
 returns-clause-max_ranges g c = c.edit_span.ensures.max_ranges

@@ -18,11 +18,11 @@ loop-run-preserved c =
 pub returns-then-refuses : goal.returns-then-refuses
 returns-then-refuses c =
     sym (refuses-one c.args.first (c.args.first + c.args.pages) c.loop-run.run-iterator c.next.new.self c.in-Some.run' c.in-Some.ensures.steps (sym c.if-refuses.ensures)) ∙ (c.loop-run.invariant
-    ∙ (ap (λ (s : PageRanges). list_any (refuses c.args.first (c.args.first + c.args.pages)) s.runs) (sym c.self.view_is) ∙ (refuses-pages c.self.inside.map.runs 0 c.args.first c.args.pages c.requires.some c.iter-run-items.ensures.rising
+    ∙ (ap (λ (s : PageRanges). list_any (refuses c.args.first (c.args.first + c.args.pages)) s.runs) (sym c.self.view_is) ∙ (refuses-pages c.self.inside.map.runs 0 c.args.first c.args.pages c.requires.span.some c.iter-run-items.ensures.rising
     ∙ ap (λ (s : PageRanges). any_page (λ page. takes_no_home (page_at s.runs page)) c.args.first c.args.pages) c.self.view_is)))
 
 pub returns : goal.returns
 returns c =
     ap (list_any (refuses c.args.first (c.args.first + c.args.pages))) (sym c.in-None.ensures.steps.0) ∙ (c.loop-run.invariant
-    ∙ (ap (λ (s : PageRanges). list_any (refuses c.args.first (c.args.first + c.args.pages)) s.runs) (sym c.self.view_is) ∙ (refuses-pages c.self.inside.map.runs 0 c.args.first c.args.pages c.requires.some c.iter-run-items.ensures.rising
+    ∙ (ap (λ (s : PageRanges). list_any (refuses c.args.first (c.args.first + c.args.pages)) s.runs) (sym c.self.view_is) ∙ (refuses-pages c.self.inside.map.runs 0 c.args.first c.args.pages c.requires.span.some c.iter-run-items.ensures.rising
     ∙ ap (λ (s : PageRanges). any_page (λ page. takes_no_home (page_at s.runs page)) c.args.first c.args.pages) c.self.view_is)))
