@@ -28,6 +28,11 @@ abbrev pub AreNumbered : {T : Type 0} → List T → List Row → Type 0
 AreNumbered values [] = Unit {0}
 AreNumbered values (row ∷ rows) = (row.number < length values) × AreNumbered values rows
 
+-- rows, and values under their numbers, that stand for these runs
+pub record AreRowsOf {T : Type 0} (values : List T) (rows : List Row) (whole : List (Run T)) : Type 0 where
+  pub numbered : AreNumbered values rows
+  pub runs : runs_of values rows ≡ whole
+
 -- each number means what it meant, and there can be more
 pub record IsLonger {T : Type 0} (old new : List T) : Type 0 where
   pub size : length old ≤ length new

@@ -12,7 +12,7 @@ ghost use Rattle.numa_ranges.specs.Maps.{changed_page, changed_span, count_refus
 ghost use Rattle.numa_ranges.specs.Maps.{set_refusal, IsSpan};
 ghost use Rattle.numa_ranges.specs.Edits.{StartsAround, maximal_runs, edit_of, HoldsPage, HasRoom};
 ghost use Rattle.numa_ranges.specs.Edits.{Becomes, edited_span};
-ghost use Rattle.numa_ranges.specs.Numbered.{AreNumbered, runs_of};
+ghost use Rattle.numa_ranges.specs.Numbered.{AreRowsOf};
 
 use crate::edit::{gather_edited, gather_with};
 use crate::exact::Exact;
@@ -125,8 +125,7 @@ impl<T: Exact> RangeMap<T> {
     /// that have its number. Equal numbers are equal values; equal values can have several numbers,
     /// and there can be values that no range has.
     pub fn rows(&self) -> (Iter<'_, Row, Owned<Row>>, &[T])
-        ensures numbered { AreNumbered result.1.now result.0 }
-        ensures runs { runs_of result.1.now result.0 ≡ self.now.runs }
+        ensures { AreRowsOf result.1.now result.0 self.now.runs }
     {
         self.runs.rows()
     }

@@ -5,7 +5,7 @@ ghost use Rattle.std.specs.List.{splice};
 ghost use Rattle.numa_rows.specs.Changes.{Makes};
 ghost use Rattle.numa_ranges.specs.Runs.{AreApart};
 ghost use Rattle.numa_ranges.specs.Edits.{IsInRange, StartsAround, maximal_runs, with_new_value};
-ghost use Rattle.numa_ranges.specs.Numbered.{AreNumbered, IsLonger, runs_of};
+ghost use Rattle.numa_ranges.specs.Numbered.{AreRowsOf, IsLonger};
 
 use crate::even::starts_beside;
 use crate::exact::Exact;
@@ -139,8 +139,7 @@ impl<T: Exact> Runs<T> {
     /// The rows in order, and the values under their numbers.
     #[inline]
     pub(crate) fn rows(&self) -> (Iter<'_, Row, Owned<Row>>, &[T])
-        ensures numbered { AreNumbered result.1.now result.0 }
-        ensures runs { runs_of result.1.now result.0 ≡ self.now }
+        ensures { AreRowsOf result.1.now result.0 self.now }
     {
         (self.rows.iter(), self.values.items())
     }
@@ -239,8 +238,7 @@ fn numbered<T: Exact>(
     runs: &[Run<T>],
 ) -> Result<Vec<Row>, AllocError>
     ensures longer { IsLonger values.old values.new }
-    ensures numbered { IfOk result (λ rows. AreNumbered values.new rows.items) }
-    ensures runs { IfOk result (λ rows. runs_of values.new rows.items ≡ runs.now) }
+    ensures rows { IfOk result (λ rows. AreRowsOf values.new rows.items runs.now) }
 {
     let mut rows = Vec::with_capacity(alloc, runs.len())?;
     for i in 0..runs.len() {

@@ -7,7 +7,7 @@ ghost use Rattle.numa_ranges.specs.Runs.{AreApart, AreMaximal, page_at};
 ghost use Rattle.numa_ranges.specs.declared.run.Run.{Run};
 ghost use Rattle.numa_ranges.specs.Counts.{IsRange, range_count};
 ghost use Rattle.numa_ranges.specs.Maps.{any_page, IsSpan};
-ghost use Rattle.numa_ranges.specs.Numbered.{AreNumbered, runs_of};
+ghost use Rattle.numa_ranges.specs.Numbered.{AreRowsOf};
 ghost use Rattle.numa_ranges.specs.Maps.{with_span, without_span, changed_span, changed_page};
 ghost use Rattle.numa_space.specs.Edits.{IsEdit, too_many, overlap_cause, hole_cause, refusal_from};
 ghost use Rattle.numa_space.specs.Edits.{refuses};
@@ -79,8 +79,7 @@ impl Pages {
 
     /// The ranges, rising, with numbers in the place of their records, and the records.
     pub(crate) fn rows(&self) -> (Iter<'_, Row, Owned<Row>>, &[RangeRecord])
-        ensures numbered { AreNumbered result.1.now result.0 }
-        ensures runs { runs_of result.1.now result.0 ≡ self.now.runs }
+        ensures { AreRowsOf result.1.now result.0 self.now.runs }
     {
         self.map.rows()
     }

@@ -6,7 +6,7 @@ ghost use Rattle.numa_machine.specs.Machine.{Hardware};
 ghost use Rattle.numa_machine.specs.Weights.{weight_at};
 ghost use Rattle.numa_mode.specs.Policy.{PolicyRecord};
 ghost use Rattle.numa_ranges.specs.Counts.{IsRange, range_count};
-ghost use Rattle.numa_ranges.specs.Numbered.{AreNumbered, runs_of};
+ghost use Rattle.numa_ranges.specs.Numbered.{AreRowsOf};
 ghost use Rattle.numa_ranges.specs.Runs.{AreApart, AreMaximal, page_at};
 ghost use Rattle.numa_ranges.specs.declared.run.Run.{Run};
 ghost use Rattle.numa_space.specs.declared.command.Command.{Command};
@@ -211,17 +211,6 @@ impl Space {
         self.pages.iter()
     }
 
-    /// The ranges, rising, with numbers in the place of their records, and the records, each at the
-    /// place that is its number: so what follows from a record can be found once for all ranges
-    /// that have its number. Equal records can have several numbers, and there can be records that no
-    /// range has.
-    pub fn range_rows(&self) -> (Iter<'_, Row, Owned<Row>>, &[RangeRecord])
-        ensures numbered { AreNumbered result.1.now result.0 }
-        ensures runs { runs_of result.1.now result.0 ≡ self.now.ranges }
-    {
-        self.pages.rows()
-    }
-
     /// The range at a place, where the ranges stand in the order of their first pages and are
     /// counted from 0: the k-th that `range_iter` lends. None from `ranges` on.
     pub fn range_at(&self, place: usize) -> Option<Run<RangeRecord>>
@@ -232,6 +221,16 @@ impl Space {
         // Tells the proof that the ranges rise and are maximal.
         let _ = self.pages.iter();
         self.pages.range_at(place)
+    }
+
+    /// The ranges, rising, with numbers in the place of their records, and the records, each at the
+    /// place that is its number: so what follows from a record can be found once for all ranges
+    /// that have its number. Equal records can have several numbers, and there can be records that no
+    /// range has.
+    pub fn range_rows(&self) -> (Iter<'_, Row, Owned<Row>>, &[RangeRecord])
+        ensures { AreRowsOf result.1.now result.0 self.now.ranges }
+    {
+        self.pages.rows()
     }
 
     /// Beside which place the last edit of the ranges was: a guess at where those stand that it has

@@ -25,8 +25,11 @@ loop-i-preserved g c =
 pub push_reserved-requires : goal.push_reserved-requires
 push_reserved-requires g c = omega (arith, c.loop-i.invariant.size, c.loop-i.invariant.room)
 
-pub returns-clause-runs : goal.returns-clause-runs
-returns-clause-runs g c = c.loop-i.invariant.so_far ∙ take_all c.loop-i.i c.args.runs.now (omega arith)
+pub returns-clause-rows : goal.returns-clause-rows
+returns-clause-rows g c = record {
+  numbered = c.loop-i.invariant.numbered;
+  runs = c.loop-i.invariant.so_far ∙ take_all c.loop-i.i c.args.runs.now (omega arith);
+}
 
 pub loop-i-init : goal.loop-i-init
 loop-i-init g c = record {
@@ -39,9 +42,6 @@ loop-i-init g c = record {
 
 pub returns-clause-longer : goal.returns-clause-longer
 returns-clause-longer g c = c.loop-i.invariant.longer
-
-pub returns-clause-numbered : goal.returns-clause-numbered
-returns-clause-numbered g c = c.loop-i.invariant.numbered
 
 pub returns-in_err-number-clause-longer : goal.returns-in_err-number-clause-longer
 returns-in_err-number-clause-longer g c = longer-both c.args.values.now c.loop-i.values c.add.new.self c.loop-i.invariant.longer c.add.ensures.longer

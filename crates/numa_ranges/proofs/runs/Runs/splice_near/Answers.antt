@@ -30,7 +30,7 @@ invariant_of-self-2 g c =
     let more : List Row = c.in_ok-rows.rows.items in
     let put : c.splice_near.new.self ≡ splice c.self.inside.rows c.args.from c.args.to more = c.in_ok-splice_near.ensures.ok ∙ ap (splice c.self.inside.rows c.args.from c.args.to) c.deref.ensures.value in
     let kept = numbered-longer c.self.inside.values c.numbered.new.values c.self.inside.rows c.numbered.ensures.longer c.self.invariant in
-    rw put (numbered-splice c.numbered.new.values c.self.inside.rows more c.args.from c.args.to kept c.in_ok-rows.ensures.numbered)
+    rw put (numbered-splice c.numbered.new.values c.self.inside.rows more c.args.from c.args.to kept c.in_ok-rows.ensures.rows.numbered)
 
 pub returns-clause-ok : goal.returns-clause-ok
 returns-clause-ok g c =
@@ -39,4 +39,4 @@ returns-clause-ok g c =
     let kept = numbered-longer c.self.inside.values c.numbered.new.values c.self.inside.rows c.numbered.ensures.longer c.self.invariant in
     let same = runs-longer c.self.inside.values c.numbered.new.values c.self.inside.rows c.numbered.ensures.longer c.self.invariant ∙ c.self.view_is in
     ap (runs_of c.numbered.new.values) put ∙ (runs-splice c.numbered.new.values c.self.inside.rows more c.args.from c.args.to kept
-    ∙ (λ i. splice (same i) c.args.from c.args.to (c.in_ok-rows.ensures.runs i)))
+    ∙ (λ i. splice (same i) c.args.from c.args.to (c.in_ok-rows.ensures.rows.runs i)))
