@@ -16,7 +16,6 @@ ghost use Rattle.numa_compile.specs.Rules.{IsReady};
 ghost use Rattle.numa_compile.specs.Windows.{IsNumbered, IsOpen, WereAdded};
 ghost use Rattle.numa_compile.specs.declared.recompiler.window.Window.{Window};
 
-use crate::compiler::survey;
 use crate::recompiler::added::number_or_add;
 use crate::recompiler::gather::{number_before, push_run};
 use crate::recompiler::put::put_runs;
@@ -88,10 +87,10 @@ fn gather_homes(
     added: &mut Vec<Option<u32>>,
     steps: &mut Steps,
 ) -> Result<(), NoMemory>
-    requires ready { IsReady space.now }
-    requires of { IsOpen space.now plan.old window.now }
     requires no_run { runs.old.items ≡ [] }
     requires none_added { added.old.items ≡ [] }
+    requires ready { IsReady space.now }
+    requires of { IsOpen space.now plan.old window.now }
     ensures copies { OnOk result (AreCopies (policy_in plan.new.slots)
         (slice_range space.now.ranges window.now.from window.now.to_now) runs.new.items) }
     ensures added { WereAdded space.now plan.old added.new.items plan.new }
@@ -119,6 +118,7 @@ fn write_homes(
     added: &mut Vec<Option<u32>>,
     steps: &mut Steps,
 ) -> Result<(), NoMemory>
+    requires ready { IsReady space.now }
     requires of { IsOpen space.now plan.old window.now }
     requires none_added { added.old.items ≡ [] }
     ensures follows { OnOk result (Follows space.now plan.new) }
@@ -127,7 +127,6 @@ fn write_homes(
     ensures few { WritesBoth (window.now.to_now - window.now.from)
         (starts_in window.now.first window.now.end space.now.ranges) steps.old steps.new }
 {
-    survey(space);
     let mut runs = Vec::new(alloc);
     gather_homes(alloc, plan, space, window, &mut runs, added, steps)?;
     put_runs(plan, space, window, &runs, steps)
@@ -145,6 +144,7 @@ pub(crate) fn rewrite_homes(
     window: &Window,
     steps: &mut Steps,
 ) -> Result<(), NoMemory>
+    requires ready { IsReady space.now }
     requires of { IsOpen space.now plan.old window.now }
     ensures follows { OnOk result (Follows space.now plan.new) }
     ensures tasks { plan.new.tasks ≡ plan.old.tasks }

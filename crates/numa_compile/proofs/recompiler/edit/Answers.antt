@@ -93,5 +93,8 @@ rewrite_bound-requires-clause-of c = c.in-Some-open_window.ensures.open
 pub rewrite_bound-requires-clause-in_force : goal.rewrite_bound-requires-clause-in_force
 rewrite_bound-requires-clause-in_force c = c.policy_inside-policy.ensures.in_force
 
-pub rewrite_homes-requires : goal.rewrite_homes-requires
-rewrite_homes-requires c = record { of = c.in-Some-open_window-2.ensures.open }
+pub rewrite_homes-requires-clause-ready : goal.rewrite_homes-requires-clause-ready
+rewrite_homes-requires-clause-ready c = c.requires.ready
+
+pub rewrite_homes-requires-clause-of : goal.rewrite_homes-requires-clause-of
+rewrite_homes-requires-clause-of c = c.in-Some-open_window-2.ensures.open

@@ -1,5 +1,8 @@
 use Rattle.numa_compile.proofs.recompiler.home.rewrite_homes.Goals as goal
 
+pub write_homes-requires-clause-ready : goal.write_homes-requires-clause-ready
+write_homes-requires-clause-ready c = c.requires.ready
+
 pub write_homes-requires-clause-of : goal.write_homes-requires-clause-of
 write_homes-requires-clause-of c = c.requires.of
 

@@ -32,7 +32,7 @@ pub returns-clause-few : goal.returns-clause-few
 returns-clause-few c = writes-few c.args.steps.now c.gather_homes.new.steps c.put_runs.new.steps _ _ _ c.gather_homes.ensures.few c.put_runs.ensures.few (omega arith)
 
 pub gather_homes-requires-clause-ready : goal.gather_homes-requires-clause-ready
-gather_homes-requires-clause-ready c = c.survey.ensures.ready
+gather_homes-requires-clause-ready c = c.requires.ready
 
 pub gather_homes-requires-clause-of : goal.gather_homes-requires-clause-of
 gather_homes-requires-clause-of c = c.requires.of
