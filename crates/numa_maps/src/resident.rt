@@ -20,11 +20,9 @@ pub struct Resident {
 }
 
 impl Model for Resident {
-    ghost use Rattle.std.specs.Prelude.{List, ℕ};
-    ghost use Rattle.numa_space.specs.declared.placement.Placement.{Placement};
-    ghost use Rattle.numa_maps.specs.Residents.{AreKept};
+    ghost use Rattle.numa_maps.specs.Residents.{AreKept, Kept};
 
-    ghost Value = { List (ℕ × Placement) };
+    ghost Value = { Kept };
 
     ghost view = { λ a. a.placements.entries };
 
