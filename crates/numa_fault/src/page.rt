@@ -75,7 +75,7 @@ fn take_first_or_behind(
     if let Some(frame) = pools.take(seat, choice) {
         return Some((0, frame));
     }
-    let Ok(nodes) = view.choice(request.task, request.page, request.cpu, &mut Steps::new()) else {
+    let Ok(nodes) = view.choice(request, &mut Steps::new()) else {
         unreachable!()
     };
     let Some((rank, frame)) = take_along(pools, seat, &nodes[1..]) else {

@@ -27,7 +27,7 @@ fn place(
     walks_compose();
     walk_is_sparing();
     let version = view.version();
-    let nodes = match view.choice(request.task, request.page, request.cpu, &mut Steps::new()) {
+    let nodes = match view.choice(request, &mut Steps::new()) {
         Ok(nodes) => nodes,
         Err(PlaceRefusal::BadCpu) => return Err(FaultRefusal::BadCpu),
         Err(PlaceRefusal::Unmapped) => return Err(FaultRefusal::Unmapped(version)),

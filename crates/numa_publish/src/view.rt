@@ -19,7 +19,7 @@ use crate::reader::PlanReader;
 use crate::rule::ShownReading;
 use numa_compile::every_plan;
 use numa_plan::{Steps, Tally};
-use numa_space::PlaceRefusal;
+use numa_space::{PlaceRefusal, Request};
 use std::marker::Model;
 
 /// A reader with the published plan at which it looks, which stays the same while it is held. A
@@ -66,8 +66,8 @@ impl PlanView {
         self.past.version
     }
 
-    /// The list of nodes of a page, for a task and a fault on the node `cpu`, lent by the view:
-    /// from 1 to 256 allowed nodes, each once, in the order in which memory is looked for on them.
+    /// The list of nodes for a fault, lent by the view: from 1 to 256 allowed nodes, each once, in
+    /// the order in which memory is looked for on them.
     ///
     /// The page is compared with the first pages of at most as many ranges as the number of ranges
     /// has binary digits. `steps` counts these comparisons, for contracts alone.
@@ -76,27 +76,22 @@ impl PlanView {
     /// `BadCpu` where `cpu` is none of the machine's nodes; else `Unmapped` where this version
     /// doesn't map the page.
     #[inline(always)]
-    pub fn choice(
-        &self,
-        task: u32,
-        page: u64,
-        cpu: u32,
-        steps: &mut Steps,
-    ) -> Result<&[u8], PlaceRefusal>
-        ensures mapped { OnOk result ((cpu < self.now.desk.machine.nodes)
-            × (is_mapped self.now.history page ≡ true)) }
-        ensures ok { IfOk result (λ row.
-            row.now ≡ node_list self.now.desk.machine self.now.history task page cpu) }
+    pub fn choice(&self, request: Request, steps: &mut Steps) -> Result<&[u8], PlaceRefusal>
+        ensures mapped { OnOk result ((request.cpu < self.now.desk.machine.nodes)
+            × (is_mapped self.now.history request.page ≡ true)) }
+        ensures ok { IfOk result (λ row. row.now ≡ node_list self.now.desk.machine
+            self.now.history request.task request.page request.cpu) }
         ensures sized { IfOk result (λ row. (0 < length row.now) × (length row.now ≤ 256)) }
         ensures list { IfOk result (λ row.
             IsNodeList (allowed_nodes self.now.desk.machine self.now.history) row.now) }
-        ensures err { IfErr result (λ refusal.
-            place_refusal_of self.now.desk.machine self.now.history page cpu ≡ Some refusal) }
+        ensures err { IfErr result (λ refusal. place_refusal_of self.now.desk.machine
+            self.now.history request.page request.cpu ≡ Some refusal) }
         ensures quick { FindsQuickly steps.old steps.new
             (range_count_of self.now.desk.machine self.now.history) }
     {
         every_plan();
         let issue: &Issue = &self.reading.get().issue;
+        let Request { task, page, cpu } = request;
         issue.plan.choice(task, page, cpu, steps)
     }
 

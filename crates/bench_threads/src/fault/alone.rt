@@ -33,8 +33,7 @@ fn choices(mut reader: PlanReader, task: u32, count: u64) -> (PlanReader, u64) {
         let request = black_box(request_of(task, place));
         reader = match reader.enter() {
             Ok(view) => {
-                let steps = &mut Steps::new();
-                if let Ok(nodes) = view.choice(request.task, request.page, request.cpu, steps) {
+                if let Ok(nodes) = view.choice(request, &mut Steps::new()) {
                     sum = sum.wrapping_add(u64::from(nodes[0]));
                 }
                 view.leave()

@@ -2,6 +2,7 @@
 use numa_examples::many::{page_of, sum_of_looks};
 use numa_plan::{Plan, Steps};
 use numa_publish::PlanReader;
+use numa_space::Request;
 use std::hint::black_box;
 use std::sync::atomic::{AtomicU64, Ordering};
 
@@ -24,10 +25,14 @@ pub fn looks(mut reader: PlanReader, count: u64) -> (PlanReader, u64) {
 pub fn choices(mut reader: PlanReader, count: u64) -> (PlanReader, u64) {
     let mut sum = 0u64;
     for i in 0..count {
-        let page = black_box(page_of(i));
+        let request = Request {
+            task: 1,
+            page: black_box(page_of(i)),
+            cpu: 3,
+        };
         reader = match reader.enter() {
             Ok(view) => {
-                if let Ok(row) = view.choice(1, page, 3, &mut Steps::new()) {
+                if let Ok(row) = view.choice(request, &mut Steps::new()) {
                     sum = sum.wrapping_add(row.len() as u64);
                 }
                 view.leave()
