@@ -4,6 +4,7 @@ use Rattle.std.specs.Prelude.{if◌then◌else◌, Option, Some, None, Result, O
 use Rattle.std.specs.Prelude.{option_and_then}
 use Rattle.std.specs.List.{list_any}
 use Rattle.std.specs.Option.{option_map}
+use Rattle.std.specs.Str.{bytes_eq}
 use Rattle.numa_mask.specs.Lists.{list_of}
 use Rattle.numa_mask.specs.declared.list.ListFault.{ListFault}
 use Rattle.numa_mode.specs.Policy.{Specification}
@@ -12,7 +13,6 @@ use Rattle.numa_space.specs.declared.command.Command.TheVariants as command
 use Rattle.numa_script.specs.Parts.{words_of}
 use Rattle.numa_script.specs.Present.{with_two, with_three, two_of, three_of}
 use Rattle.numa_script.specs.Present.{four_of, two_words, three_words, four_words}
-use Rattle.numa_script.specs.Tables.{meaning_of}
 use Rattle.numa_script.specs.Numbers.{number_of, small_of, few_of}
 use Rattle.numa_script.specs.Machines.{frames_of, distances_of}
 use Rattle.numa_script.specs.Policies.{policy_of}
@@ -28,45 +28,53 @@ use Rattle.numa_script.specs.declared.line.Question.TheVariants as question
 
 -- ---- first words
 
--- the words of so many letters that a line can begin with
-abbrev pub first_words : ℕ → List (List ℕ × Keyword)
-first_words letters =
-    if letters == 3 then
-    (codes "try", keyword.Try) ∷
-    (codes "map", keyword.Map) ∷
-    []
+-- the first word of a keyword's lines
+abbrev pub first_word_of : Keyword → List ℕ
+first_word_of keyword.Limits = codes "limits"
+first_word_of keyword.Machine = codes "machine"
+first_word_of keyword.Map = codes "map"
+first_word_of keyword.Unmap = codes "unmap"
+first_word_of keyword.Mbind = codes "mbind"
+first_word_of keyword.Home = codes "home"
+first_word_of keyword.Task = codes "task"
+first_word_of keyword.Weight = codes "weight"
+first_word_of keyword.Mems = codes "mems"
+first_word_of keyword.Place = codes "place"
+first_word_of keyword.Span = codes "span"
+first_word_of keyword.Counts = codes "counts"
+first_word_of keyword.Ranges = codes "ranges"
+first_word_of keyword.Maps = codes "maps"
+first_word_of keyword.Publish = codes "publish"
+first_word_of keyword.Begin = codes "begin"
+first_word_of keyword.Look = codes "look"
+first_word_of keyword.Try = codes "try"
+first_word_of keyword.Give = codes "give"
+first_word_of keyword.Touch = codes "touch"
+first_word_of keyword.Release = codes "release"
+
+-- the keywords whose first words have so many letters
+abbrev pub keywords_of : ℕ → List Keyword
+keywords_of letters =
+    if letters == 3 then keyword.Try ∷ keyword.Map ∷ []
     else if letters == 4 then
-    (codes "span", keyword.Span) ∷
-    (codes "look", keyword.Look) ∷
-    (codes "give", keyword.Give) ∷
-    (codes "maps", keyword.Maps) ∷
-    (codes "home", keyword.Home) ∷
-    (codes "task", keyword.Task) ∷
-    (codes "mems", keyword.Mems) ∷
-    []
+    keyword.Span ∷ keyword.Look ∷ keyword.Give ∷ keyword.Maps ∷ keyword.Home ∷ keyword.Task
+    ∷ keyword.Mems ∷ []
     else if letters == 5 then
-    (codes "place", keyword.Place) ∷
-    (codes "begin", keyword.Begin) ∷
-    (codes "touch", keyword.Touch) ∷
-    (codes "mbind", keyword.Mbind) ∷
-    (codes "unmap", keyword.Unmap) ∷
-    []
+    keyword.Place ∷ keyword.Begin ∷ keyword.Touch ∷ keyword.Mbind ∷ keyword.Unmap ∷ []
     else if letters == 6 then
-    (codes "counts", keyword.Counts) ∷
-    (codes "ranges", keyword.Ranges) ∷
-    (codes "weight", keyword.Weight) ∷
-    (codes "limits", keyword.Limits) ∷
-    []
-    else if letters == 7 then
-    (codes "publish", keyword.Publish) ∷
-    (codes "release", keyword.Release) ∷
-    (codes "machine", keyword.Machine) ∷
-    []
+    keyword.Counts ∷ keyword.Ranges ∷ keyword.Weight ∷ keyword.Limits ∷ []
+    else if letters == 7 then keyword.Publish ∷ keyword.Release ∷ keyword.Machine ∷ []
     else []
+
+-- the first of the keywords whose first word this is
+abbrev pub keyword_among : List Keyword → List ℕ → Option Keyword
+keyword_among [] word = None
+keyword_among (k ∷ ks) word =
+    if bytes_eq word (first_word_of k) then Some k else keyword_among ks word
 
 -- what a first word asks for
 unfoldable pub keyword_of : List ℕ → Option Keyword
-keyword_of first = meaning_of (first_words (length first)) first
+keyword_of first = keyword_among (keywords_of (length first)) first
 
 -- ---- the words after the first
 

@@ -1,8 +1,8 @@
 //! The first words of lines.
-ghost use Rattle.std.specs.Prelude.{◌≡◌, ℕ, Option, Some, List, map};
-ghost use Rattle.numa_script.specs.Lines.{first_words, keyword_of};
+ghost use Rattle.std.specs.Prelude.{◌≡◌, ℕ, Option, Some, List};
+ghost use Rattle.numa_script.specs.Lines.{first_word_of, keywords_of, keyword_among, keyword_of};
 
-use crate::table::meaning;
+use Keyword::*;
 
 /// What the first word of a line asks for.
 #[derive(Clone, Copy, Debug, PartialEq, Eq)]
@@ -62,49 +62,37 @@ impl Keyword {
     /// The first word of its lines.
     #[tactic(auto, unfolding(crate::specs::Lines::keyword_of))]
     pub fn name(self) -> &'static str
-        ensures { keyword_of result.now ≡ Some self }
+        ensures word { result.now ≡ first_word_of self }
+        ensures read { keyword_of result.now ≡ Some self }
     {
         NAMES[self as usize]
     }
 }
 
-/// The first words of lines, each with its keyword, the short ones first.
-static FIRST_WORDS: [(&[u8], Keyword); 21] = [
-    (b"try", Keyword::Try),
-    (b"map", Keyword::Map),
-    (b"span", Keyword::Span),
-    (b"look", Keyword::Look),
-    (b"give", Keyword::Give),
-    (b"maps", Keyword::Maps),
-    (b"home", Keyword::Home),
-    (b"task", Keyword::Task),
-    (b"mems", Keyword::Mems),
-    (b"place", Keyword::Place),
-    (b"begin", Keyword::Begin),
-    (b"touch", Keyword::Touch),
-    (b"mbind", Keyword::Mbind),
-    (b"unmap", Keyword::Unmap),
-    (b"counts", Keyword::Counts),
-    (b"ranges", Keyword::Ranges),
-    (b"weight", Keyword::Weight),
-    (b"limits", Keyword::Limits),
-    (b"publish", Keyword::Publish),
-    (b"release", Keyword::Release),
-    (b"machine", Keyword::Machine),
-];
-
-/// The first words of so many letters.
-fn first_words(letters: usize) -> &'static [(&'static [u8], Keyword)]
-    ensures { map (λ entry. (entry.0.now, entry.1)) result.now ≡ first_words letters }
+/// The keywords whose first words have so many letters.
+fn keywords(letters: usize) -> &'static [Keyword]
+    ensures { result.now ≡ keywords_of letters }
 {
     match letters {
-        3 => &FIRST_WORDS[..2],
-        4 => &FIRST_WORDS[2..9],
-        5 => &FIRST_WORDS[9..14],
-        6 => &FIRST_WORDS[14..18],
-        7 => &FIRST_WORDS[18..],
+        3 => &[Try, Map],
+        4 => &[Span, Look, Give, Maps, Home, Task, Mems],
+        5 => &[Place, Begin, Touch, Mbind, Unmap],
+        6 => &[Counts, Ranges, Weight, Limits],
+        7 => &[Publish, Release, Machine],
         _ => &[],
     }
+}
+
+/// The keyword whose first word this is, the first such of these.
+fn find(keywords: &[Keyword], first: &[u8]) -> Option<Keyword>
+    ensures { result ≡ keyword_among keywords.now first.now }
+{
+    for keyword in keywords {
+        if first == keyword.name().as_bytes() {
+            return Some(*keyword);
+        }
+    }
+    None
 }
 
 /// What the first word of a line asks for.
@@ -112,5 +100,5 @@ fn first_words(letters: usize) -> &'static [(&'static [u8], Keyword)]
 pub fn read_keyword(first: &[u8]) -> Option<Keyword>
     ensures { result ≡ keyword_of first.now }
 {
-    meaning(first_words(first.len()), first)
+    find(keywords(first.len()), first)
 }
