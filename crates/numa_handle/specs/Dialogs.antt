@@ -6,12 +6,6 @@ use Rattle.numa_run.specs.Scripts.{ScriptStandsFor}
 use Rattle.numa_handle.specs.declared.dialog.Dialog.{Dialog}
 use Rattle.numa_handle.specs.declared.dialog.LineRefusal.{LineRefusal}
 use Rattle.numa_handle.specs.declared.dialog.LineRefusal.TheVariants as refused
-use Rattle.numa_handle.specs.declared.handles.ScriptHandle.{ScriptHandle}
-use Rattle.numa_handle.specs.Kinds.{dialog_of}
-
--- the script that a handle keeps, with the answer to its last line
-abbrev pub dialog_in : ScriptHandle → Option Dialog
-dialog_in h = dialog_of h.handle.held.kept
 
 -- before the first line
 abbrev pub IsFresh : Dialog → Type 0

@@ -1,6 +1,7 @@
 pub mod Asked
 pub mod Calls
 pub mod Dialogs
+pub mod Handles
 pub mod Held
 pub mod Kinds
 pub mod Ownership

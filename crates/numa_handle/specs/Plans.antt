@@ -7,12 +7,6 @@ use Rattle.numa_plan.specs.Meaning.{CountsFirsts, RefusesSpan}
 use Rattle.numa_space.specs.declared.refusal.PlaceRefusal.{PlaceRefusal}
 use Rattle.numa_handle.specs.declared.plan_handle.ChoiceRefusal.{ChoiceRefusal}
 use Rattle.numa_handle.specs.declared.plan_handle.ChoiceRefusal.TheVariants as refused
-use Rattle.numa_handle.specs.declared.handles.PlanHandle.{PlanHandle}
-use Rattle.numa_handle.specs.Kinds.{plan_of}
-
--- the plan that a handle keeps
-abbrev pub plan_in : PlanHandle → Option PlanData
-plan_in h = plan_of h.handle.held.kept
 
 -- the list of a page of the plan, for a task and a fault on the node
 abbrev pub IsListOf : Option PlanData → ℕ → ℕ → ℕ → List ℕ → Type 0

@@ -3,12 +3,6 @@ use Rattle.std.specs.Prelude.{◌≡◌, ℕ, Bool, List, Option, Some}
 use Rattle.numa_machine.specs.declared.frame.Frame.{Frame}
 use Rattle.numa_seat.specs.Seated.{Seated, newcomer, seat_after_split, seat_after_join}
 use Rattle.numa_seat.specs.Seated.{Gives, TakesAlong}
-use Rattle.numa_handle.specs.declared.handles.SeatHandle.{SeatHandle}
-use Rattle.numa_handle.specs.Kinds.{seat_of}
-
--- the seat that a handle keeps
-abbrev pub seat_in : SeatHandle → Option Seated
-seat_in h = seat_of h.handle.held.kept
 
 -- a frame of the first listed node that has one was taken, or none was found
 abbrev pub Takes : List ℕ → Option Seated → Option Seated → Option (ℕ × Frame) → Type 0

@@ -12,12 +12,6 @@ use Rattle.numa_space.specs.declared.request.Request.{Request}
 use Rattle.numa_space.specs.declared.event.Event.{Event}
 use Rattle.numa_space.specs.declared.event.CoreReply.{CoreReply}
 use Rattle.numa_space.specs.declared.event.CoreRefusal.{CoreRefusal}
-use Rattle.numa_handle.specs.declared.handles.CoreHandle.{CoreHandle}
-use Rattle.numa_handle.specs.Kinds.{core_of}
-
--- the core that a handle keeps
-abbrev pub core_in : CoreHandle → Option CoreState
-core_in h = core_of h.handle.held.kept
 
 -- the event took the core from the one state to the other with this answer: each execution that led
 -- to the first leads with this moment to the second, and a refusal changes nothing

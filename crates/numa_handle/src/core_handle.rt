@@ -2,14 +2,21 @@
 ghost use Rattle.std.specs.Prelude.{◌≡◌, Some, None, true, IfOk};
 ghost use Rattle.numa_handle.specs.Calls.{Asks, Calls, Keeps};
 ghost use Rattle.numa_handle.specs.Kinds.{core_of, is_core};
-ghost use Rattle.numa_handle.specs.Steps.{core_in, Steps, Touches, Compiles, HasVersions};
+ghost use Rattle.numa_handle.specs.Steps.{Steps, Touches, Compiles, HasVersions};
 
 use crate::core_questions::core_kept;
-use crate::handles::CoreHandle;
+use crate::handle::Handle;
 use crate::kept::Kept;
 use numa_core::{Core, CoreRefusal, CoreReply, Event, NoMemory, Request};
 use numa_plan::Plan;
 use std::alloc::{AllocError, Global};
+
+/// A core that a C caller keeps, or none.
+#[repr(C)]
+pub struct CoreHandle {
+    pub handle: Handle,
+    ghost kind: { is_core handle.held.kept ≡ true },
+}
 
 /// An event of a kept core.
 fn step_kept(kept: &mut Kept, event: Event) -> Result<CoreReply, CoreRefusal>
@@ -69,6 +76,8 @@ fn compile_kept(kept: &mut Kept, alloc: Global) -> Result<Plan, NoMemory>
 }
 
 impl CoreHandle {
+    ghost use Rattle.numa_handle.specs.Handles.{core_in};
+
     /// Keeps a core, where it keeps none.
     ///
     /// # Errors

@@ -5,12 +5,13 @@ ghost use Rattle.numa_maps.specs.Listing.{AreRangesOf, IsListing, listing_in};
 ghost use Rattle.numa_ranges.specs.Runs.{end_of};
 ghost use Rattle.numa_space.specs.Standing.{StandsFor};
 ghost use Rattle.numa_space.specs.declared.command.Command.{Command};
+ghost use Rattle.numa_handle.specs.Handles.{core_in};
 ghost use Rattle.numa_handle.specs.Asked.{HasRanges, HasRangeAt, HasListing};
 ghost use Rattle.numa_handle.specs.Calls.{Asks, IsShared};
 ghost use Rattle.numa_handle.specs.Kinds.{core_of, is_core};
-ghost use Rattle.numa_handle.specs.Steps.{core_in, Publishes};
+ghost use Rattle.numa_handle.specs.Steps.{Publishes};
 
-use crate::handles::CoreHandle;
+use crate::core_handle::CoreHandle;
 use crate::kept::Kept;
 use numa_core::Core;
 use numa_machine::NoMemory;

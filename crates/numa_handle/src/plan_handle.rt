@@ -2,15 +2,22 @@
 ghost use Rattle.std.specs.Prelude.{◌≡◌, Some, None, IfSome, true};
 ghost use Rattle.numa_handle.specs.Calls.{Asks, IsShared, Keeps};
 ghost use Rattle.numa_handle.specs.Kinds.{plan_of, is_plan};
-ghost use Rattle.numa_handle.specs.Plans.{plan_in, IsListOf, Chooses, Fills, Counts};
+ghost use Rattle.numa_handle.specs.Plans.{IsListOf, Chooses, Fills, Counts};
 
-use crate::handles::PlanHandle;
+use crate::handle::Handle;
 use crate::kept::Kept;
 use crate::room::copy_bytes;
 use numa_plan::{Plan, Steps};
 use numa_space::PlaceRefusal;
 use std::alloc::{AllocError, Global};
 use std::sync::Arc;
+
+/// A plan that a C caller keeps, or none. Handles of several threads may keep the same plan.
+#[repr(C)]
+pub struct PlanHandle {
+    pub handle: Handle,
+    ghost kind: { is_plan handle.held.kept ≡ true },
+}
 
 /// Why the list of a page was not copied.
 #[derive(Clone, Copy, Debug, PartialEq, Eq)]
@@ -51,6 +58,8 @@ fn choose_kept(
 }
 
 impl PlanHandle {
+    ghost use Rattle.numa_handle.specs.Handles.{plan_in};
+
     /// Keeps a plan, where it keeps none.
     ///
     /// # Errors

@@ -2,13 +2,20 @@
 ghost use Rattle.std.specs.Prelude.{◌≡◌, Some, None, true, IfSome};
 ghost use Rattle.std.specs.Prelude.{is_some, is_ok};
 ghost use Rattle.numa_handle.specs.Calls.{Asks, Calls};
-ghost use Rattle.numa_handle.specs.Dialogs.{dialog_in, IsFresh, ServesKept, CopiesKept};
+ghost use Rattle.numa_handle.specs.Dialogs.{IsFresh, ServesKept, CopiesKept};
 ghost use Rattle.numa_handle.specs.Kinds.{dialog_of, is_script};
 
 use crate::dialog::{Dialog, LineRefusal};
-use crate::handles::ScriptHandle;
+use crate::handle::Handle;
 use crate::kept::Kept;
 use std::alloc::{AllocError, Global};
+
+/// A script that a C caller is giving, line by line, or none.
+#[repr(C)]
+pub struct ScriptHandle {
+    pub handle: Handle,
+    ghost kind: { is_script handle.held.kept ≡ true },
+}
 
 /// Serves a line of a kept script.
 fn line_kept(kept: &mut Kept, alloc: Global, line: &[u8]) -> Result<usize, LineRefusal>
@@ -35,6 +42,8 @@ fn copy_kept(kept: &Kept, room: &mut [u8]) -> Result<usize, usize>
 }
 
 impl ScriptHandle {
+    ghost use Rattle.numa_handle.specs.Handles.{dialog_in};
+
     /// Keeps a script before its first line, where it keeps none.
     ///
     /// # Errors

@@ -3,14 +3,21 @@ ghost use Rattle.std.specs.Prelude.{◌≡◌, ◌&&◌, Some, None, MatchOption
 ghost use Rattle.std.specs.Prelude.{true, false};
 ghost use Rattle.numa_handle.specs.Calls.{Calls, Keeps};
 ghost use Rattle.numa_handle.specs.Kinds.{seat_of, is_seat};
-ghost use Rattle.numa_handle.specs.Seats.{seat_in, Takes, Returns, Splits, Stays, Joins};
+ghost use Rattle.numa_handle.specs.Seats.{Takes, Returns, Splits, Stays, Joins};
 ghost use Rattle.numa_handle.specs.Seats.{AreTogether};
 
-use crate::handles::SeatHandle;
+use crate::handle::Handle;
 use crate::kept::Kept;
 use numa_machine::{Frame, NoMemory};
 use numa_seat::Seat;
 use std::alloc::{AllocError, Global};
+
+/// A seat at pools of frames that a C caller keeps, or none.
+#[repr(C)]
+pub struct SeatHandle {
+    pub handle: Handle,
+    ghost kind: { is_seat handle.held.kept ≡ true },
+}
 
 /// A frame of the first listed node that has one, for a kept seat.
 fn take_kept(kept: &mut Kept, nodes: &[u8]) -> Option<(usize, Frame)>
@@ -74,6 +81,8 @@ fn join_kept(kept: &mut Kept, other: Kept)
 }
 
 impl SeatHandle {
+    ghost use Rattle.numa_handle.specs.Handles.{seat_in};
+
     /// Keeps a seat, where it keeps none.
     ///
     /// # Errors

@@ -1,11 +1,11 @@
 //! Commands, and what publishes them.
-ghost use Rattle.numa_handle.specs.Steps.{core_in};
 ghost use Rattle.numa_mask.specs.Lists.{list_of};
 ghost use Rattle.numa_script.specs.Policies.{policy_of};
 ghost use Rattle.numa_space.specs.declared.event.Event.{Event};
 ghost use Rattle.numa_space.specs.declared.command.Command.{Command};
 ghost use Rattle.numaplan_c.specs.Border.{Answers, AnswersRead};
 ghost use Rattle.numaplan_c.specs.Codes.{word_code, list_code};
+ghost use Rattle.numa_handle.specs.Handles.{core_in};
 
 use crate::codes::{Code, answer_code, list_code, word_code};
 use numa_core::Event;

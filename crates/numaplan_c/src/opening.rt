@@ -1,8 +1,8 @@
 //! Opening and closing of cores, and their versions.
 ghost use Rattle.std.specs.Prelude.{◌≡◌, ◌≢◌, ◌≤◌, [], Some, None, true, is_some};
 ghost use Rattle.std.specs.Prelude.{IfOk, IfErr, IfSome, MatchOption};
+ghost use Rattle.numa_handle.specs.Handles.{core_in};
 ghost use Rattle.numa_core.specs.Standing.{LeadsTo, setup_of};
-ghost use Rattle.numa_handle.specs.Steps.{core_in};
 ghost use Rattle.numa_mask.specs.Lists.{list_of};
 ghost use Rattle.numaplan_c.specs.Border.{Asked, IsSetUp, Opens, bounds_of, limits_cause};
 ghost use Rattle.numaplan_c.specs.Border.{opening_cause};

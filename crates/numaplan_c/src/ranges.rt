@@ -2,8 +2,8 @@
 ghost use Rattle.std.specs.Prelude.{◌≡◌, ◌≢◌, ◌≤◌, ◌^◌, Some, None, is_some, true, List, ℕ, length};
 ghost use Rattle.std.specs.Prelude.{slice_get};
 ghost use Rattle.numa_core.specs.Standing.{CoreState};
+ghost use Rattle.numa_handle.specs.Handles.{core_in};
 ghost use Rattle.numa_handle.specs.Asked.{HasRanges};
-ghost use Rattle.numa_handle.specs.Steps.{core_in};
 ghost use Rattle.numa_maps.specs.Listing.{AreRangesOf};
 ghost use Rattle.numa_ranges.specs.Runs.{end_of};
 ghost use Rattle.numa_space.specs.Standing.{StandsFor};

@@ -1,7 +1,8 @@
 //! Scripts: whole ones, and those that are given line by line.
 ghost use Rattle.std.specs.Prelude.{◌≡◌, ◌≢◌, ℕ, Bool, List, None, Some, true, Result};
 ghost use Rattle.std.specs.Prelude.{is_some, IfSome};
-ghost use Rattle.numa_handle.specs.Dialogs.{dialog_in, IsFresh, ServesKept};
+ghost use Rattle.numa_handle.specs.Handles.{dialog_in};
+ghost use Rattle.numa_handle.specs.Dialogs.{IsFresh, ServesKept};
 ghost use Rattle.numa_handle.specs.declared.dialog.Dialog.{Dialog};
 ghost use Rattle.numa_handle.specs.declared.dialog.LineRefusal.{LineRefusal};
 ghost use Rattle.numaplan_c.specs.Border.{Asked, Opens, is_done};

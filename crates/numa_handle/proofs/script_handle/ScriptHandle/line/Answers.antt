@@ -1,7 +1,7 @@
 use Rattle.std.proofs.Common.{rules, Some, ap, sym, ◌∙◌}
 use Rattle.numa_handle.specs.Kinds.{dialog_of}
 use Rattle.numa_handle.proofs.Serving.{serves-same}
-use Rattle.numa_handle.proofs.handles.ScriptHandle.line.Goals as goal
+use Rattle.numa_handle.proofs.script_handle.ScriptHandle.line.Goals as goal
 
 pub returns : goal.returns
 returns c = (
