@@ -1,5 +1,5 @@
 -- What a handle keeps, by its kind.
-use Rattle.std.specs.Prelude.{Bool, true, false, Option, Some, None}
+use Rattle.std.specs.Prelude.{◌≡◌, Bool, true, false, Option, Some, None}
 use Rattle.std.specs.Arc.{arc_value}
 use Rattle.numa_core.specs.Standing.{CoreState}
 use Rattle.numa_plan.specs.Meaning.{PlanData}
@@ -71,3 +71,10 @@ is_script (Some (kept.Core core)) = false
 is_script (Some (kept.Plan plan)) = false
 is_script (Some (kept.Seat seat)) = false
 is_script (Some (kept.Script dialog)) = true
+
+-- the same as `Calls` of a value that is kept, which stays of its kind: what `told` says is of the
+-- values of that kind
+abbrev pub CallsKept : {K A : Type 0} → (Option Kept → Bool) → (Option Kept → Option K)
+    → (Option K → Option K → A → Type 0) → Kept → A → Kept → Type 0
+CallsKept is_kind value_of told old answer new = (is_kind (Some new) ≡ true)
+    × told (value_of (Some old)) (value_of (Some new)) answer

@@ -1,7 +1,7 @@
 //! A handle of a core.
 ghost use Rattle.std.specs.Prelude.{◌≡◌, Some, None, true, IfOk};
 ghost use Rattle.numa_handle.specs.Calls.{Asks, Calls, Keeps};
-ghost use Rattle.numa_handle.specs.Kinds.{core_of, is_core};
+ghost use Rattle.numa_handle.specs.Kinds.{CallsKept, core_of, is_core};
 ghost use Rattle.numa_handle.specs.Steps.{Steps, Touches, Compiles, HasVersions};
 
 use crate::core_questions::core_kept;
@@ -21,8 +21,7 @@ pub struct CoreHandle {
 /// An event of a kept core.
 fn step_kept(kept: &mut Kept, event: Event) -> Result<CoreReply, CoreRefusal>
     requires core { is_core (Some kept.old) ≡ true }
-    ensures core { is_core (Some kept.new) ≡ true }
-    ensures steps { Steps event (core_of (Some kept.old)) (core_of (Some kept.new)) result }
+    ensures { CallsKept is_core core_of (Steps event) kept.old result kept.new }
 {
     match kept {
         Kept::Core(core) => core.step(event),
@@ -33,9 +32,7 @@ fn step_kept(kept: &mut Kept, event: Event) -> Result<CoreReply, CoreRefusal>
 /// A touch of a kept core.
 fn touch_kept(kept: &mut Kept, worker: u32, request: Request) -> Result<CoreReply, CoreRefusal>
     requires core { is_core (Some kept.old) ≡ true }
-    ensures core { is_core (Some kept.new) ≡ true }
-    ensures touches { Touches worker request (core_of (Some kept.old)) (core_of (Some kept.new))
-        result }
+    ensures { CallsKept is_core core_of (Touches worker request) kept.old result kept.new }
 {
     match kept {
         Kept::Core(core) => core.touch(worker, request),

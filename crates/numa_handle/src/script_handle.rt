@@ -3,7 +3,7 @@ ghost use Rattle.std.specs.Prelude.{◌≡◌, Some, None, true, IfSome};
 ghost use Rattle.std.specs.Prelude.{is_some, is_ok};
 ghost use Rattle.numa_handle.specs.Calls.{Asks, Calls};
 ghost use Rattle.numa_handle.specs.Dialogs.{IsFresh, ServesKept, CopiesKept};
-ghost use Rattle.numa_handle.specs.Kinds.{dialog_of, is_script};
+ghost use Rattle.numa_handle.specs.Kinds.{CallsKept, dialog_of, is_script};
 
 use crate::dialog::{Dialog, LineRefusal};
 use crate::handle::Handle;
@@ -20,9 +20,7 @@ pub struct ScriptHandle {
 /// Serves a line of a kept script.
 fn line_kept(kept: &mut Kept, alloc: Global, line: &[u8]) -> Result<usize, LineRefusal>
     requires script { is_script (Some kept.old) ≡ true }
-    ensures script { is_script (Some kept.new) ≡ true }
-    ensures serves { ServesKept line.now (dialog_of (Some kept.old)) (dialog_of (Some kept.new))
-        result }
+    ensures { CallsKept is_script dialog_of (ServesKept line.now) kept.old result kept.new }
 {
     match kept {
         Kept::Script(dialog) => dialog.line(alloc, line),

@@ -2,7 +2,7 @@
 ghost use Rattle.std.specs.Prelude.{◌≡◌, ◌&&◌, Some, None, MatchOption, IfOk, OnOk, OnErr, is_some};
 ghost use Rattle.std.specs.Prelude.{true, false};
 ghost use Rattle.numa_handle.specs.Calls.{Calls, Keeps};
-ghost use Rattle.numa_handle.specs.Kinds.{seat_of, is_seat};
+ghost use Rattle.numa_handle.specs.Kinds.{CallsKept, seat_of, is_seat};
 ghost use Rattle.numa_handle.specs.Seats.{Takes, Returns, Splits, Stays, Joins};
 ghost use Rattle.numa_handle.specs.Seats.{AreTogether};
 
@@ -22,8 +22,7 @@ pub struct SeatHandle {
 /// A frame of the first listed node that has one, for a kept seat.
 fn take_kept(kept: &mut Kept, nodes: &[u8]) -> Option<(usize, Frame)>
     requires seat { is_seat (Some kept.old) ≡ true }
-    ensures seat { is_seat (Some kept.new) ≡ true }
-    ensures takes { Takes nodes.now (seat_of (Some kept.old)) (seat_of (Some kept.new)) result }
+    ensures { CallsKept is_seat seat_of (Takes nodes.now) kept.old result kept.new }
 {
     match kept {
         Kept::Seat(seat) => seat.take(nodes),
@@ -34,8 +33,7 @@ fn take_kept(kept: &mut Kept, nodes: &[u8]) -> Option<(usize, Frame)>
 /// A frame given back by a kept seat, where it holds it.
 fn give_kept(kept: &mut Kept, frame: Frame) -> bool
     requires seat { is_seat (Some kept.old) ≡ true }
-    ensures seat { is_seat (Some kept.new) ≡ true }
-    ensures returns { Returns frame (seat_of (Some kept.old)) (seat_of (Some kept.new)) result }
+    ensures { CallsKept is_seat seat_of (Returns frame) kept.old result kept.new }
 {
     match kept {
         Kept::Seat(seat) => seat.give(frame),

@@ -1,7 +1,10 @@
-use Rattle.std.proofs.Common.{refl}
+use Rattle.std.proofs.Common.{refl, rules}
 use Rattle.numa_handle.proofs.Serving.{serves-kept}
 use Rattle.numa_handle.proofs.script_handle.line_kept.Goals as goal
 
-pub returns-clause-serves : goal.returns-clause-serves
-returns-clause-serves c before is =
-    (c.line.new.self, refl, serves-kept c.args.kept.now c.in-Script.dialog before c.line.new.self c.args.line.now c.line.result c.in-Script.is is c.line.ensures)
+pub returns : goal.returns
+returns c = (
+  search rules,
+  λ before is.
+      (c.line.new.self, refl, serves-kept c.args.kept.now c.in-Script.dialog before c.line.new.self c.args.line.now c.line.result c.in-Script.is is c.line.ensures),
+)
