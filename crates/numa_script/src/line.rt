@@ -1,11 +1,10 @@
 //! What a line of a script says.
-ghost use Rattle.std.specs.Prelude.{◌≡◌, ◌==◌, ◌+◌, ◌≤◌, ◌<◌, ℕ, List, length, Option};
+ghost use Rattle.std.specs.Prelude.{◌≡◌, ◌==◌, ◌+◌, ◌≤◌, ◌<◌, ℕ, List, length, Option, Ok};
 ghost use Rattle.std.specs.Option.{option_map};
-ghost use Rattle.numa_script.specs.Lines.{limits_line, machine_line, map_line, unmap_line};
-ghost use Rattle.numa_script.specs.Lines.{mbind_line, home_line, task_line, weight_line, mems_line};
-ghost use Rattle.numa_script.specs.Lines.{place_line, span_line, counts_line, ranges_line};
-ghost use Rattle.numa_script.specs.Lines.{maps_line, line_after, words_line, is_silent};
-ghost use Rattle.numa_script.specs.Lines.{has_empty_word, line_of};
+ghost use Rattle.numa_script.specs.Lines.{limits_line, machine_line, mbind_line, task_line};
+ghost use Rattle.numa_script.specs.Lines.{mems_line, place_line, span_line, counts_line};
+ghost use Rattle.numa_script.specs.Lines.{ranges_line, maps_line, line_after, words_line};
+ghost use Rattle.numa_script.specs.Lines.{is_silent, has_empty_word, line_of};
 
 use crate::keyword::{Keyword, read_keyword};
 use crate::machine::{Distances, Frames};
@@ -16,6 +15,7 @@ use crate::reading::{four, four_words, three, three_words, two, two_words};
 use crate::work::{Work, begin, give, look, publish, release, touch, try_frame};
 use numa_mask::{ListFault, NodeMask, read_list};
 use numa_space::Command;
+use numa_space::Command::{Map, SetHome, SetWeight, Unmap};
 
 /// The most bytes that a line may have, its line feed apart.
 pub const LIMIT: usize = 4096;
@@ -126,26 +126,6 @@ fn machine<'a>(words: Parts<'a>) -> Option<Line<'a>>
     }))
 }
 
-/// `map START LENGTH OFFSET`
-fn map(words: Parts) -> Option<Line>
-    ensures { result ≡ map_line words.entry }
-{
-    let (start, length, offset) = three(words)?;
-    Some(Line::Command(Ok(Command::Map {
-        start,
-        length,
-        offset,
-    })))
-}
-
-/// `unmap START LENGTH`
-fn unmap(words: Parts) -> Option<Line>
-    ensures { result ≡ unmap_line words.entry }
-{
-    let (start, length) = two(words)?;
-    Some(Line::Command(Ok(Command::Unmap { start, length })))
-}
-
 /// `mbind START LENGTH POLICY`
 fn mbind(words: Parts) -> Option<Line>
     ensures { result ≡ mbind_line words.entry }
@@ -163,18 +143,6 @@ fn mbind(words: Parts) -> Option<Line>
     }
 }
 
-/// `home START LENGTH NODE`
-fn home(words: Parts) -> Option<Line>
-    ensures { result ≡ home_line words.entry }
-{
-    let (start, length, node) = three(words)?;
-    Some(Line::Command(Ok(Command::SetHome {
-        start,
-        length,
-        node,
-    })))
-}
-
 /// `task TASK POLICY`
 fn task(words: Parts) -> Option<Line>
     ensures { result ≡ task_line words.entry }
@@ -185,14 +153,6 @@ fn task(words: Parts) -> Option<Line>
         Ok(spec) => Some(Line::Command(Ok(Command::SetTask { task, spec }))),
         Err(fault) => Some(Line::Command(Err(fault))),
     }
-}
-
-/// `weight NODE W`
-fn weight(words: Parts) -> Option<Line>
-    ensures { result ≡ weight_line words.entry }
-{
-    let (node, weight) = two(words)?;
-    Some(Line::Command(Ok(Command::SetWeight { node, weight })))
 }
 
 /// `mems LIST`
@@ -257,6 +217,13 @@ fn maps(words: Parts) -> Option<Line>
     Some(Line::Maps(small(words.only()?)?))
 }
 
+/// The line of a command whose words are numbers.
+fn command_line<'a>(command: Option<Command>) -> Option<Line<'a>>
+    ensures { result ≡ option_map (λ it. Line.Command (Ok it)) command }
+{
+    Some(Line::Command(Ok(command?)))
+}
+
 /// The line of what workers have to do.
 fn work_line<'a>(work: Option<Work>) -> Option<Line<'a>>
     ensures { result ≡ option_map Line.Work work }
@@ -271,12 +238,23 @@ fn line_after(keyword: Keyword, words: Parts) -> Option<Line>
     match keyword {
         Keyword::Limits => limits(words),
         Keyword::Machine => machine(words),
-        Keyword::Map => map(words),
-        Keyword::Unmap => unmap(words),
+        Keyword::Map => command_line(three(words).map(|(start, length, offset)| Map {
+            start,
+            length,
+            offset,
+        })),
+        Keyword::Unmap => command_line(two(words).map(|(start, length)| Unmap { start, length })),
         Keyword::Mbind => mbind(words),
-        Keyword::Home => home(words),
+        Keyword::Home => command_line(three(words).map(|(start, length, node)| SetHome {
+            start,
+            length,
+            node,
+        })),
         Keyword::Task => task(words),
-        Keyword::Weight => weight(words),
+        Keyword::Weight => command_line(two(words).map(|(node, weight)| SetWeight {
+            node,
+            weight,
+        })),
         Keyword::Mems => mems(words),
         Keyword::Place => place(words),
         Keyword::Span => span(words),
