@@ -135,10 +135,11 @@ AnswersKeeping {A} from old code = (is_some old ≡ true → code ≡ 2)
     × (old ≡ None → from ≡ None → code ≡ 1)
     × (old ≡ None → (kept : A) → from ≡ Some kept → is_done code ≡ true)
 
--- a handle is to keep what another one keeps
-abbrev pub Shares : {A : Type 0} → Option A → Option A → ℕ → Option A → Type 0
-Shares from old code new = (code ≡ 0 → (new ≡ from) × (is_some from ≡ true))
-    × (code ≢ 0 → new ≡ old) × AnswersKeeping from old code
+-- a handle is to keep what another one keeps, and goes on keeping; `kept` is what one keeps
+abbrev pub Shares : {H A : Type 0} → (H → Option A) → H → H → ℕ → H → H → Type 0
+Shares kept from other code from_then other_then = (kept from_then ≡ kept from)
+    × (code ≡ 0 → (kept other_then ≡ kept from) × (is_some (kept from) ≡ true))
+    × (code ≢ 0 → kept other_then ≡ kept other) × AnswersKeeping (kept from) (kept other) code
 
 -- a handle is to keep what is made of what another one keeps, of which `made` tells
 abbrev pub Makes : {A B : Type 0} → (Option A → B → Type 0) → Option A → Option B → ℕ → Option B

@@ -4,6 +4,17 @@ ghost use Rattle.numaplan_c.specs.Codes.{kept_code, memory_code};
 
 use crate::codes::Code;
 
+/// Answers that a handle is open, where it is and the call is to open it.
+macro_rules! ensure_closed {
+    ($handle:expr) => {
+        if $handle.handle.is_open() {
+            return $crate::codes::Code::Open as u32;
+        }
+    };
+}
+
+pub(crate) use ensure_closed;
+
 /// The number of an answer that is refused for want of memory alone.
 pub(crate) fn memory_code<E: Drop>(answer: Result<(), E>) -> u32
     ensures { result ≡ memory_code answer }

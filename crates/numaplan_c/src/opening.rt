@@ -1,14 +1,14 @@
-//! Opening and closing of cores, and their versions.
+//! Opening and closing of cores, their versions, and their copies.
 ghost use Rattle.std.specs.Prelude.{◌≡◌, ◌≢◌, ◌≤◌, [], Some, None, true, is_some};
 ghost use Rattle.std.specs.Prelude.{IfOk, IfErr, IfSome, MatchOption};
 ghost use Rattle.numa_handle.specs.Handles.{core_in};
 ghost use Rattle.numa_core.specs.Standing.{LeadsTo, setup_of};
 ghost use Rattle.numa_mask.specs.Lists.{list_of};
-ghost use Rattle.numaplan_c.specs.Border.{Asked, IsSetUp, Opens, bounds_of, limits_cause};
+ghost use Rattle.numaplan_c.specs.Border.{Asked, IsSetUp, Opens, Shares, bounds_of, limits_cause};
 ghost use Rattle.numaplan_c.specs.Border.{opening_cause};
 
 use crate::codes::Code;
-use crate::keeping::memory_code;
+use crate::keeping::{ensure_closed, kept_code, memory_code};
 use crate::machines::machine_of;
 use numa_core::Core;
 use numa_handle::CoreHandle;
@@ -98,9 +98,7 @@ pub extern "C" fn np_core_open(
         (bounds_of limits.now) workers ≡ None }
     ensures open { is_some (core_in core.old) ≡ true → result ≡ 2 }
 {
-    if core.handle.is_open() {
-        return Code::Open as u32;
-    }
+    ensure_closed!(core);
     match make(alloc, memory, frames, distances, *limits, workers) {
         Ok(made) => memory_code(core.open(alloc, made)),
         Err(code) => code,
@@ -136,4 +134,13 @@ pub extern "C" fn np_core_close(alloc: Global, core: &mut CoreHandle)
     ensures { core_in core.new ≡ None }
 {
     core.handle.close(alloc)
+}
+
+/// Keeps a copy of a core in another handle.
+#[unsafe(no_mangle)]
+pub extern "C" fn np_core_copy(alloc: Global, core: &mut CoreHandle, copy: &mut CoreHandle) -> u32
+    ensures { Shares core_in core.old copy.old result core.new copy.new }
+{
+    ensure_closed!(copy);
+    kept_code(core.copy(alloc, copy))
 }

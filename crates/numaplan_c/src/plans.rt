@@ -13,7 +13,7 @@ ghost use Rattle.numaplan_c.specs.Codes.{place_code};
 ghost use Rattle.numaplan_c.specs.Questions.{choice_code, fill_code, AreTold};
 
 use crate::codes::{Code, place_code};
-use crate::keeping::{kept_code, memory_code};
+use crate::keeping::{ensure_closed, kept_code, memory_code};
 use numa_handle::{ChoiceRefusal, CoreHandle, PlanHandle};
 use numa_machine::NoMemory;
 use numa_plan::Plan;
@@ -69,9 +69,7 @@ fn keep_plan(alloc: Global, core: &mut CoreHandle, commands: Commands, plan: &mu
     ensures made { plan_in plan.old ≡ None →
         IfSome (plan_in plan.new) (IsPlanBy commands (core_in core.old)) }
 {
-    if plan.handle.is_open() {
-        return Code::Open as u32;
-    }
+    ensure_closed!(plan);
     let made = plan_by(alloc, core, commands);
     keep(alloc, made, plan)
 }
@@ -103,12 +101,9 @@ pub extern "C" fn np_core_compile(
 /// Keeps a plan in another handle too.
 #[unsafe(no_mangle)]
 pub extern "C" fn np_plan_share(alloc: Global, plan: &mut PlanHandle, other: &mut PlanHandle) -> u32
-    ensures same { plan_in plan.new ≡ plan_in plan.old }
-    ensures shared { Shares (plan_in plan.old) (plan_in other.old) result (plan_in other.new) }
+    ensures { Shares plan_in plan.old other.old result plan.new other.new }
 {
-    if other.handle.is_open() {
-        return Code::Open as u32;
-    }
+    ensure_closed!(other);
     kept_code(plan.share(alloc, other))
 }
 

@@ -11,7 +11,7 @@ ghost use Rattle.numaplan_c.specs.Border.{AnswersKeeping, Opens, described_cause
 ghost use Rattle.numaplan_c.specs.Pools.{found_code, returned_code, Tells};
 
 use crate::codes::Code;
-use crate::keeping::{kept_code, memory_code};
+use crate::keeping::{ensure_closed, kept_code, memory_code};
 use crate::machines::machine_of;
 use numa_handle::SeatHandle;
 use numa_machine::Frame;
@@ -69,9 +69,7 @@ pub extern "C" fn np_seat_open(
         described_cause (list_of memory.now) frames.now distances.now None ≡ None }
     ensures open { is_some (seat_in seat.old) ≡ true → result ≡ 2 }
 {
-    if seat.handle.is_open() {
-        return Code::Open as u32;
-    }
+    ensure_closed!(seat);
     match make(alloc, memory, frames, distances) {
         Ok(made) => memory_code(seat.open(alloc, made)),
         Err(code) => code,
@@ -89,9 +87,7 @@ pub extern "C" fn np_seat_split(alloc: Global, seat: &mut SeatHandle, other: &mu
     ensures open { is_some (seat_in other.old) ≡ true → seat_in seat.new ≡ seat_in seat.old }
     ensures closed { seat_in seat.old ≡ None → seat_in seat.new ≡ None }
 {
-    if other.handle.is_open() {
-        return Code::Open as u32;
-    }
+    ensure_closed!(other);
     kept_code(seat.split(alloc, other))
 }
 

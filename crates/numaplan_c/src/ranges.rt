@@ -1,4 +1,4 @@
-//! Copies of cores, and their ranges of pages.
+//! Ranges of pages.
 ghost use Rattle.std.specs.Prelude.{◌≡◌, ◌≢◌, ◌≤◌, ◌^◌, Some, None, is_some, true, List, ℕ, length};
 ghost use Rattle.std.specs.Prelude.{slice_get};
 ghost use Rattle.numa_core.specs.Standing.{CoreState};
@@ -8,29 +8,16 @@ ghost use Rattle.numa_maps.specs.Listing.{AreRangesOf};
 ghost use Rattle.numa_ranges.specs.Runs.{end_of};
 ghost use Rattle.numa_space.specs.Standing.{StandsFor};
 ghost use Rattle.numa_space.specs.declared.command.Command.{Command};
-ghost use Rattle.numaplan_c.specs.Border.{Asked, Shares};
+ghost use Rattle.numaplan_c.specs.Border.{Asked};
 ghost use Rattle.numaplan_c.specs.Ranges.{TellsRange, own_word, range_span};
 ghost use Rattle.numaplan_c.specs.Texts.{IsWritten};
 
 use crate::codes::Code;
-use crate::keeping::kept_code;
 use crate::texts::write;
 use numa_handle::CoreHandle;
 use numa_mode::Record;
 use numa_space::{PAGE_BYTES, RangeRecord, Run};
 use std::alloc::Global;
-
-/// Keeps a copy of a core in another handle.
-#[unsafe(no_mangle)]
-pub extern "C" fn np_core_copy(alloc: Global, core: &mut CoreHandle, copy: &mut CoreHandle) -> u32
-    ensures same { core_in core.new ≡ core_in core.old }
-    ensures copied { Shares (core_in core.old) (core_in copy.old) result (core_in copy.new) }
-{
-    if copy.handle.is_open() {
-        return Code::Open as u32;
-    }
-    kept_code(core.copy(alloc, copy))
-}
 
 /// How many ranges of pages there are.
 #[unsafe(no_mangle)]

@@ -10,7 +10,7 @@ ghost use Rattle.numaplan_c.specs.Scripts.{AreAnswers, line_code, length_told};
 ghost use Rattle.numaplan_c.specs.Texts.{IsWritten};
 
 use crate::codes::Code;
-use crate::keeping::memory_code;
+use crate::keeping::{ensure_closed, memory_code};
 use crate::texts::{copy_code, length_copied, write};
 use line_server::Watched;
 use numa_handle::{LineRefusal, ScriptHandle};
@@ -55,9 +55,7 @@ pub extern "C" fn np_script_open(alloc: Global, script: &mut ScriptHandle) -> u3
     ensures open { is_some (dialog_in script.old) ≡ true → result ≡ 2 }
     ensures done { dialog_in script.old ≡ None → is_done result ≡ true }
 {
-    if script.handle.is_open() {
-        return Code::Open as u32;
-    }
+    ensure_closed!(script);
     memory_code(script.open(alloc))
 }
 
