@@ -1,8 +1,8 @@
 -- A line says no more than its first 4,097 bytes.
-use Rattle.std.specs.Prelude.{◌≡◌, ℕ, ◌<◌, ◌≤◌, ◌++◌, true, false, List, [], ◌∷◌, length, take, nat_lt, nat_le, cond, refl}
+use Rattle.std.specs.Prelude.{◌≡◌, ℕ, ◌<◌, ◌≤◌, true, false, List, [], ◌∷◌, length, take, nat_lt, nat_le, cond, refl}
 use Prim.Native.Nat.{suc}
-use Rattle.std.proofs.Common.{sym, ◌∙◌, ap, arith, length-append}
-use Rattle.std.proofs.lemmas.List.{take_all, take-append-le, length-take-le}
+use Rattle.std.proofs.Common.{sym, ◌∙◌, ap, arith}
+use Rattle.std.proofs.lemmas.List.{take_all, length-take-le}
 use Rattle.std.proofs.lemmas.Bool.Decides.{nat_tests}
 use Rattle.numa_script.specs.Lines.{line_of, is_silent}
 use Rattle.numa_script.specs.declared.line.Line.TheVariants.{Silent, Malformed}

@@ -1,6 +1,6 @@
 -- What an exported question about ranges answers.
-use Rattle.std.specs.Prelude.{◌≡◌, ℕ, ◌*◌, ◌==◌, ◌≤◌, ◌<◌, ◌++◌, Option, Some, None, List, []}
-use Rattle.std.specs.Prelude.{◌∷◌, Result, Ok, Err, drop, filter, length, map}
+use Rattle.std.specs.Prelude.{◌≡◌, ℕ, ◌*◌, ◌==◌, ◌≤◌, Option, Some, None, List, []}
+use Rattle.std.specs.Prelude.{◌∷◌, Result, Ok, Err, filter, length, map}
 use Rattle.numa_core.specs.Standing.{CoreState}
 use Rattle.numa_handle.specs.Asked.{HasListing}
 use Rattle.numa_mode.specs.Policy.{PolicyRecord, policy_text}
