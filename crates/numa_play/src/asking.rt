@@ -6,7 +6,7 @@ use numa_compile::compile;
 use numa_files::{Stop, TakeLine};
 use numa_plan::Plan;
 use numa_reports::{
-    Format, FreePages, Outlook, ReportFault, difference_text, filling_text, outlook_of,
+    Format, FreePages, Outlook, ReportFault, Touch, difference_text, filling_text, outlook_of,
     prediction_text,
 };
 use numa_run::Script;
@@ -56,7 +56,11 @@ fn text_of(
     if free.is_empty() {
         return prediction_text(alloc, space, plan, asked.task, asked.cpu, format);
     }
-    filling_text(alloc, space, plan, asked.task, asked.cpu, format, free)
+    let touch = Touch {
+        task: asked.task,
+        cpu: asked.cpu,
+    };
+    filling_text(alloc, space, plan, touch, format, free)
 }
 
 /// Where the mapped pages of a space would go, as a text.

@@ -14,7 +14,7 @@ ghost use Rattle.numa_reports.specs.Filled.{nodes_of, planned_nodes, with_named}
 ghost use Rattle.numa_reports.specs.Told.{IsFilling, IsTaken, LacksOne, ToldEach, ToldOne};
 
 use crate::fault::ReportFault;
-use crate::prediction::{TakeRange, policy_of};
+use crate::prediction::{RangePrediction, TakeRange, policy_of};
 use crate::touch::{Touch, has_node};
 use numa_plan::{Plan, Steps};
 use numa_space::{PlaceRefusal, RangeRecord, Run, Space};
@@ -153,8 +153,11 @@ fn fill_next<T: TakeRange>(
 {
     let before = *free;
     fill_span(plan, touch, range.first, range.pages, free)?;
-    let counts = taken(&before, free);
-    taker.take(range, policy_of(space, touch.task, range), &counts)?;
+    let said = RangePrediction {
+        policy: policy_of(space, touch.task, range),
+        counts: taken(&before, free),
+    };
+    taker.take(range, &said)?;
     Ok(())
 }
 

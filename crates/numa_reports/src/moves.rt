@@ -11,6 +11,7 @@ ghost use Rattle.numa_reports.specs.Moved.{AddsMoves, AreMoves, HasRoomFor};
 ghost use Rattle.numa_reports.specs.Moved.{meant_moves, pairs, planned_moves};
 
 use crate::fault::ReportFault;
+use crate::outlook::PageSpan;
 use crate::touch::Touch;
 use numa_plan::Plan;
 use numa_space::PlaceRefusal;
@@ -103,19 +104,20 @@ fn add_moves(
     before: &Plan,
     after: &Plan,
     touch: Touch,
-    first: u64,
-    pages: u64,
+    span: PageSpan,
     table: &mut Vec<u64>,
 ) -> Result<(), PlaceRefusal>
     requires known { touch.cpu < before.now.nodes }
-    requires room { HasRoomFor table.old.items pages }
+    requires room { HasRoomFor table.old.items span.pages }
     ensures ok { (machine : Hardware) (old new : List Command)
         → PlanStandsFor machine before.now old → PlanStandsFor machine after.now new
         → touch.cpu < machine.nodes → OnOk result (AddsMoves table.old.items table.new.items
-        (meant_moves machine old new touch.task touch.cpu first pages)) }
+        (meant_moves machine old new touch.task touch.cpu span.first span.pages)) }
     ensures entries { length table.new.items ≡ 65536 }
-    ensures err { IfErr result (RefusesEither before.now after.now first pages touch.cpu) }
+    ensures err { IfErr result
+        (RefusesEither before.now after.now span.first span.pages touch.cpu) }
 {
+    let PageSpan { first, pages } = span;
     // Tells the proof that no run has a page behind the last that can be mapped.
     let _ = before.run_count();
     let Some(end) = first.checked_add(pages) else {
@@ -176,6 +178,7 @@ pub fn span_moves(
         return Err(ReportFault::Refused(PlaceRefusal::BadCpu));
     }
     let mut table = empty_table(alloc, ENTRIES)?;
-    add_moves(before, after, Touch { task, cpu }, first, pages, &mut table)?;
+    let span = PageSpan { first, pages };
+    add_moves(before, after, Touch { task, cpu }, span, &mut table)?;
     Ok(table)
 }

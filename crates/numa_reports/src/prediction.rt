@@ -18,7 +18,7 @@ ghost use Rattle.numa_reports.specs.Predicted.{AddsSpan, AreFirsts, AreNone, IsP
 ghost use Rattle.numa_reports.specs.Told.{LacksOne, ToldEach, ToldOne};
 
 use crate::fault::ReportFault;
-use crate::tally::{count_span, move_counts};
+use crate::tally::{count_range, move_counts};
 use crate::touch::{Touch, has_node};
 use numa_mode::Record;
 use numa_plan::Plan;
@@ -79,28 +79,17 @@ pub trait TakeRange {
     /// any time.
     ghost lacks: { Lacking Self } = { λ _ _. ⊤ };
 
-    /// Takes the policy that serves at a range, and how many of its pages have each node as the
-    /// first of their list; ranges of lower addresses come first.
-    fn take(
-        &mut self,
-        range: &Run<RangeRecord>,
-        policy: Option<Record>,
-        counts: &[u64; 256],
-    ) -> Result<(), AllocError>
-        ensures tells { OnOk result (told self.old range.now
-            (record { policy = policy; counts = counts.now }) self.new) }
+    /// Takes a range, and what is said of it: the policy that serves there, and how many of its
+    /// pages go to each node; ranges of lower addresses come first.
+    fn take(&mut self, range: &Run<RangeRecord>, said: &RangePrediction) -> Result<(), AllocError>
+        ensures tells { OnOk result (told self.old range.now said.now self.new) }
         ensures lack { OnErr result (lacks self.old range.now) };
 }
 
 impl TakeRange for () {
     ghost lacks = { λ _ _. ⊥ };
 
-    fn take(
-        &mut self,
-        _range: &Run<RangeRecord>,
-        _policy: Option<Record>,
-        _counts: &[u64; 256],
-    ) -> Result<(), AllocError> {
+    fn take(&mut self, _: &Run<RangeRecord>, _: &RangePrediction) -> Result<(), AllocError> {
         Ok(())
     }
 }
@@ -127,16 +116,16 @@ fn predict_next<T: TakeRange>(
     touch: Touch,
     range: &Run<RangeRecord>,
     taker: &mut T,
-    counts: &mut [u64; 256],
+    said: &mut RangePrediction,
     all: &mut [u64; 256],
 ) -> Result<(), ReportFault>
     requires own { option_and_then (λ at. at.1) (page_at space.now.ranges range.now.first)
         ≡ range.now.value }
     requires known { touch.cpu < space.now.machine.nodes }
-    requires none { AreNone counts.old }
+    requires none { AreNone said.old.counts }
     requires room { HasRoom all.old
         (planned_count plan.now touch.task touch.cpu range.now.first range.now.pages) }
-    ensures none { OnOk result (AreNone counts.new) }
+    ensures none { OnOk result (AreNone said.new.counts) }
     ensures all { OnOk result (AddsSpan plan.now touch.task touch.cpu
         range.now.first range.now.pages all.old all.new) }
     ensures told { (history : List Command) → StandsFor space.now history
@@ -147,9 +136,10 @@ fn predict_next<T: TakeRange>(
         (FailsBy (RefusesSpan plan.now range.now.first range.now.pages touch.cpu)) }
     ensures lack { IfErr result (λ why. why ≡ Memory → T.lacks taker.old range.now) }
 {
-    count_span(plan, touch, range.first, range.pages, counts)?;
-    taker.take(range, policy_of(space, touch.task, range), counts)?;
-    move_counts(counts, range.pages, all);
+    count_range(plan, touch, range, &mut said.counts)?;
+    said.policy = policy_of(space, touch.task, range);
+    taker.take(range, said)?;
+    move_counts(&mut said.counts, range.pages, all);
     Ok(())
 }
 
@@ -181,11 +171,14 @@ pub fn predict_all<T: TakeRange>(
     if !has_node(space, cpu) {
         return Err(ReportFault::Refused(PlaceRefusal::BadCpu));
     }
-    let mut counts = [0u64; 256];
+    let mut said = RangePrediction {
+        policy: None,
+        counts: [0; 256],
+    };
     let mut all = [0u64; 256];
     let touch = Touch { task, cpu };
     for range in space.range_iter() {
-        predict_next(space, plan, touch, &range, taker, &mut counts, &mut all)?;
+        predict_next(space, plan, touch, &range, taker, &mut said, &mut all)?;
     }
     Ok(all)
 }

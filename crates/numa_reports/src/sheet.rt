@@ -5,6 +5,7 @@ mod changes;
 mod fields;
 mod lines;
 mod nodes;
+mod object;
 mod objects;
 mod parts;
 mod pictures;
@@ -13,7 +14,9 @@ mod records;
 mod written;
 
 pub use changes::difference_text;
+pub use object::Object;
 pub use parts::{filling_text, prediction_text};
+pub use written::Written;
 
 /// How a prediction is told.
 #[derive(Clone, Copy)]

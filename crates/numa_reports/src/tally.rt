@@ -7,48 +7,50 @@ ghost use Rattle.numa_reports.specs.Predicted.{AreNone};
 use crate::touch::Touch;
 use numa_lanes::tally;
 use numa_plan::Plan;
-use numa_space::PlaceRefusal;
+use numa_space::{PlaceRefusal, RangeRecord, Run};
 
 /// How many pages are looked at one by one; where there are more, they are counted together.
 const FEW: usize = 64;
 
-/// Counts the pages of a span, as many as the list has places, by node.
+/// Counts the first pages of a range, as many as the list has places, by node.
 fn count_filled(
     plan: &Plan,
     touch: Touch,
-    first: u64,
+    range: &Run<RangeRecord>,
     nodes: &mut [u8],
     counts: &mut [u64; 256],
 ) -> Result<(), PlaceRefusal>
     requires few { length nodes.old ≤ 64 }
     requires none { AreNone counts.old }
-    ensures ok { OnOk result
-        (CountsFirsts plan.now touch.task touch.cpu first (length nodes.old) counts.new) }
-    ensures err { IfErr result (RefusesSpan plan.now first (length nodes.old) touch.cpu) }
+    ensures ok { OnOk result (CountsFirsts plan.now touch.task touch.cpu
+        range.now.first (length nodes.old) counts.new) }
+    ensures err { IfErr result
+        (RefusesSpan plan.now range.now.first (length nodes.old) touch.cpu) }
 {
-    plan.fill(touch.task, touch.cpu, first, nodes)?;
+    plan.fill(touch.task, touch.cpu, range.first, nodes)?;
     tally(nodes, counts);
     Ok(())
 }
 
-/// Counts the pages of a span by node.
-pub(crate) fn count_span(
+/// Counts the pages of a range by node.
+pub(crate) fn count_range(
     plan: &Plan,
     touch: Touch,
-    first: u64,
-    pages: u64,
+    range: &Run<RangeRecord>,
     counts: &mut [u64; 256],
 ) -> Result<(), PlaceRefusal>
     requires { AreNone counts.old }
-    ensures ok { OnOk result
-        (CountsFirsts plan.now touch.task touch.cpu first pages counts.new) }
-    ensures err { IfErr result (RefusesSpan plan.now first pages touch.cpu) }
+    ensures ok { OnOk result (CountsFirsts plan.now touch.task touch.cpu
+        range.now.first range.now.pages counts.new) }
+    ensures err { IfErr result
+        (RefusesSpan plan.now range.now.first range.now.pages touch.cpu) }
 {
+    let pages = range.pages;
     if pages <= FEW as u64 {
         let mut nodes = [0u8; FEW];
-        return count_filled(plan, touch, first, &mut nodes[..pages as usize], counts);
+        return count_filled(plan, touch, range, &mut nodes[..pages as usize], counts);
     }
-    *counts = plan.counts(touch.task, touch.cpu, first, pages)?;
+    *counts = plan.counts(touch.task, touch.cpu, range.first, pages)?;
     Ok(())
 }
 

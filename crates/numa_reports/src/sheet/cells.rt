@@ -5,7 +5,7 @@ ghost use Rattle.numa_plan.specs.Meaning.{RefusesSpan};
 ghost use Rattle.numa_reports.specs.Failing.{FailsForNode};
 
 use crate::fault::ReportFault;
-use crate::filling::{fill_few, fill_span};
+use crate::filling::{FreePages, fill_few, fill_span, free_of};
 use crate::sheet::written::Written;
 use crate::touch::Touch;
 use numa_plan::Plan;
@@ -47,18 +47,26 @@ fn put_cells(
     Ok(())
 }
 
-/// The nodes of the first pages of each range, as [`put_cells`] has them; without `free` no free
-/// pages are counted.
+/// How many free pages each node has; None where no node is named, and they aren't counted.
+fn free_where_named(named: &[FreePages]) -> Option<[u64; 256]> {
+    if named.is_empty() {
+        return None;
+    }
+    Some(free_of(named))
+}
+
+/// The nodes of the first pages of each range, as [`put_cells`] has them, where these nodes have so
+/// many free pages.
 pub(crate) fn first_cells(
     alloc: Global,
     space: &Space,
     plan: &Plan,
     touch: Touch,
-    free: Option<[u64; 256]>,
+    named: &[FreePages],
 ) -> Result<Vec<u8>, ReportFault>
     ensures err { FailsForNode space.now plan.now touch.cpu result }
 {
-    let mut left = free;
+    let mut left = free_where_named(named);
     let mut cells = Written::new(alloc);
     for range in space.range_iter() {
         put_cells(plan, touch, &range, &mut left, &mut cells)?;

@@ -20,10 +20,10 @@ use std::alloc::{AllocError, Global};
 
 /// How many pages go from a node to another.
 fn entry(table: &[u64], from: u32, to: u32) -> u64 {
-    table
-        .get(from as usize * 256 + to as usize)
-        .copied()
-        .unwrap_or(0)
+    match table.get(from as usize * 256 + to as usize) {
+        Some(pages) => *pages,
+        None => 0,
+    }
 }
 
 /// How many pages go from a node to another one, for each such two nodes between which some go.
@@ -31,7 +31,7 @@ fn put_from(text: &mut Written, table: &[u64], nodes: u32, from: u32) {
     for to in 0..nodes {
         let pages = entry(table, from, to);
         if from != to && pages > 0 {
-            text.put_form(b" N$->N$=$", &[u64::from(from), u64::from(to), pages]);
+            text.put_form(b" N$->N$=$", &[from as u64, to as u64, pages]);
         }
     }
 }
@@ -80,8 +80,9 @@ fn put_line(text: &mut Written, span: PageSpan, table: &[u64], nodes: u32) {
 /// Adds a table to another of the same size.
 fn add_table(total: &mut Vec<u64>, table: &[u64]) {
     for k in 0..total.len() {
-        let more = table.get(k).copied().unwrap_or(0);
-        total[k] = total[k].saturating_add(more);
+        if let Some(more) = table.get(k) {
+            total[k] = total[k].saturating_add(*more);
+        }
     }
 }
 

@@ -3,67 +3,17 @@
 
 use crate::sheet::fields::{Placed, Row};
 use crate::sheet::nodes::NodePages;
+use crate::sheet::object::Object;
 use crate::sheet::written::Written;
 use crate::touch::Touch;
-use serde_json::{Map, ToValue, Value, put};
+use serde_json::{ToValue, Value};
 use std::alloc::{AllocError, Global};
 
 /// The object begins, and its list of ranges.
 pub(crate) fn put_head(text: &mut Written, version: u64, touch: Touch) {
-    let asked = [version, u64::from(touch.task), u64::from(touch.cpu)];
+    let asked = [version, touch.task as u64, touch.cpu as u64];
     text.put_form(b"{\"version\":$,\"task\":$,\"cpu\":$,", &asked);
     text.put(b"\"kernelpagesize_kB\":4,\"ranges\":[");
-}
-
-/// An object that is made member by member. Once there was no memory for one, no more is added.
-#[derive(Drop)]
-struct Object {
-    alloc: Global,
-    members: Map<String, Value>,
-    lacks_memory: bool,
-}
-
-impl Object {
-    /// An object without members.
-    fn new(alloc: Global) -> Object {
-        Object {
-            alloc,
-            members: Map::new(alloc),
-            lacks_memory: false,
-        }
-    }
-
-    /// Adds a member, if there was memory for its value.
-    fn put(&mut self, name: &str, value: Result<Value, AllocError>) {
-        if self.lacks_memory {
-            return;
-        }
-        match value {
-            Ok(value) => {
-                self.lacks_memory = put(&mut self.members, self.alloc, name, value).is_err();
-            }
-            Err(_) => self.lacks_memory = true,
-        }
-    }
-
-    /// Adds a number.
-    fn put_number(&mut self, name: &str, number: u64) {
-        self.put(name, Ok(Value::from(number)));
-    }
-
-    /// Adds all pages, and each node that has some.
-    fn put_placed(&mut self, placed: Placed<'_>) {
-        self.put_number("anon", placed.pages);
-        self.put("nodes", list(self.alloc, placed.nodes));
-    }
-
-    /// The object, if there was memory for all its members.
-    fn made(self) -> Result<Value, AllocError> {
-        if self.lacks_memory {
-            return Err(AllocError);
-        }
-        Ok(Value::Object(self.members))
-    }
 }
 
 /// A node and its pages.
@@ -81,6 +31,12 @@ fn list(alloc: Global, nodes: &[NodePages]) -> Result<Value, AllocError> {
         items.push(node_pages(alloc, *one)?)?;
     }
     Ok(Value::from(items))
+}
+
+/// Adds all pages, and each node that has some.
+fn put_placed(object: &mut Object, placed: Placed<'_>) {
+    object.put_number("anon", placed.pages);
+    object.put("nodes", list(object.alloc(), placed.nodes));
 }
 
 /// Writes a value; the pages that find no node stand behind its other members, where they are
@@ -109,7 +65,7 @@ fn put_made(text: &mut Written, made: Result<Value, AllocError>, exhausted: Opti
 /// The object of a range, but for the pages that find no node.
 fn range_object(alloc: Global, row: Row<'_>) -> Result<Value, AllocError> {
     let mut object = Object::new(alloc);
-    object.put_placed(row.placed);
+    put_placed(&mut object, row.placed);
     object.put("policy", row.policy.to_value(alloc));
     object.put_number("start", row.start);
     object.put_number("end", row.end);
@@ -119,7 +75,7 @@ fn range_object(alloc: Global, row: Row<'_>) -> Result<Value, AllocError> {
 /// The object of all pages by node, but for those that find none.
 fn total_object(alloc: Global, placed: Placed<'_>) -> Result<Value, AllocError> {
     let mut object = Object::new(alloc);
-    object.put_placed(placed);
+    put_placed(&mut object, placed);
     object.made()
 }
 

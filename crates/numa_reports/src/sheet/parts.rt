@@ -6,7 +6,7 @@ ghost use Rattle.numa_reports.specs.Failing.{FailsForNode};
 
 use crate::fault::ReportFault;
 use crate::filling::{FreePages, fill_all, free_of, taken};
-use crate::prediction::{TakeRange, predict_all};
+use crate::prediction::{RangePrediction, TakeRange, predict_all};
 use crate::sheet::cells::{CELLS, first_cells};
 use crate::sheet::fields::{Row, bytes, placed_of};
 use crate::sheet::nodes::{NodePages, list_nodes};
@@ -14,7 +14,6 @@ use crate::sheet::policies::PolicyTexts;
 use crate::sheet::written::Written;
 use crate::sheet::{Format, lines, objects, pictures, records};
 use crate::touch::{Touch, has_node};
-use numa_mode::Record;
 use numa_plan::Plan;
 use numa_space::{PlaceRefusal, RangeRecord, Run, Space};
 use std::alloc::{AllocError, Global};
@@ -55,7 +54,7 @@ impl Parts {
     /// left on those that are named.
     fn put_total(&mut self, counts: &[u64; 256], left: &[NodePages]) {
         let counts = shown(counts, self.nodes);
-        if list_nodes(&mut self.listed, counts).is_err() {
+        if let Err(_) = list_nodes(&mut self.listed, counts) {
             self.text.lack();
             return;
         }
@@ -84,17 +83,12 @@ fn put_range(text: &mut Written, format: Format, row: Row<'_>, before: usize, ce
 }
 
 impl TakeRange for Parts {
-    fn take(
-        &mut self,
-        range: &Run<RangeRecord>,
-        policy: Option<Record>,
-        counts: &[u64; 256],
-    ) -> Result<(), AllocError> {
-        list_nodes(&mut self.listed, shown(counts, self.nodes))?;
+    fn take(&mut self, range: &Run<RangeRecord>, said: &RangePrediction) -> Result<(), AllocError> {
+        list_nodes(&mut self.listed, shown(&said.counts, self.nodes))?;
         let row = Row {
             start: bytes(range.first),
             end: bytes(range.first.saturating_add(range.pages)),
-            policy: self.policies.text(policy)?,
+            policy: self.policies.text(said.policy)?,
             placed: placed_of(&self.listed, range.pages, self.fills),
         };
         put_range(&mut self.text, self.format, row, self.ranges, &self.cells);
@@ -104,9 +98,21 @@ impl TakeRange for Parts {
     }
 }
 
+/// What is asked: where the pages of a space go by a plan, if they are touched so, and the named
+/// nodes have so many free pages.
+#[derive(Clone, Copy)]
+struct Question<'a> {
+    space: &'a Space,
+    plan: &'a Plan,
+    touch: Touch,
+    free: &'a [FreePages],
+}
+
 /// What stands before the first range.
-fn head(alloc: Global, space: &Space, version: u64, touch: Touch, format: Format) -> Written {
+fn head(alloc: Global, asked: Question<'_>, format: Format) -> Written {
     let mut text = Written::new(alloc);
+    let (space, touch) = (asked.space, asked.touch);
+    let version = asked.plan.version();
     let nodes = space.machine().nodes() as usize;
     match format {
         Format::Text => (),
@@ -117,39 +123,25 @@ fn head(alloc: Global, space: &Space, version: u64, touch: Touch, format: Format
     text
 }
 
-/// How many free pages each node has; None where no node is named, and they aren't counted.
-fn free_where_named(named: &[FreePages]) -> Option<[u64; 256]> {
-    if named.is_empty() {
-        return None;
-    }
-    Some(free_of(named))
-}
-
 /// Before the first range.
-fn begin(
-    alloc: Global,
-    space: &Space,
-    plan: &Plan,
-    touch: Touch,
-    format: Format,
-    free: &[FreePages],
-) -> Result<Parts, ReportFault>
-    ensures err { FailsForNode space.now plan.now touch.cpu result }
+fn begin(alloc: Global, asked: Question<'_>, format: Format) -> Result<Parts, ReportFault>
+    ensures err { FailsForNode asked.entry.space.now asked.entry.plan.now
+        asked.entry.touch.cpu result }
 {
     let cells = match format {
-        Format::Svg => first_cells(alloc, space, plan, touch, free_where_named(free))?,
+        Format::Svg => first_cells(alloc, asked.space, asked.plan, asked.touch, asked.free)?,
         _ => Vec::new(alloc),
     };
     Ok(Parts {
         format,
-        nodes: space.machine().nodes() as usize,
+        nodes: asked.space.machine().nodes() as usize,
         policies: PolicyTexts::new(alloc),
-        fills: !free.is_empty(),
+        fills: !asked.free.is_empty(),
         ranges: 0,
         pages: 0,
         cells,
         listed: Vec::new(alloc),
-        text: head(alloc, space, plan.version(), touch, format),
+        text: head(alloc, asked, format),
     })
 }
 
@@ -162,48 +154,38 @@ fn left_on(
     let mut left = Vec::with_capacity(alloc, named.len())?;
     for one in named {
         left.push(NodePages {
-            node: u64::from(one.node),
-            pages: free[usize::from(one.node)],
+            node: one.node as u64,
+            pages: free[one.node as usize],
         })?;
     }
     Ok(left)
 }
 
 /// Writes what is said of each range, and of all, where some nodes are named.
-fn write_filled(
-    alloc: Global,
-    parts: &mut Parts,
-    space: &Space,
-    plan: &Plan,
-    touch: Touch,
-    free: &[FreePages],
-) -> Result<(), ReportFault>
-    ensures err { FailsForNode space.now plan.now touch.cpu result }
+fn write_filled(parts: &mut Parts, asked: Question<'_>) -> Result<(), ReportFault>
+    ensures err { FailsForNode asked.entry.space.now asked.entry.plan.now
+        asked.entry.touch.cpu result }
 {
-    let before = free_of(free);
+    let before = free_of(asked.free);
     let mut after = before;
-    fill_all(space, plan, touch.task, touch.cpu, &mut after, parts)?;
-    let left = left_on(alloc, free, &after)?;
+    let Touch { task, cpu } = asked.touch;
+    fill_all(asked.space, asked.plan, task, cpu, &mut after, parts)?;
+    let left = left_on(parts.text.alloc(), asked.free, &after)?;
     parts.put_total(&taken(&before, &after), &left);
     Ok(())
 }
 
 /// Writes what is said of each range, and of all, and gives the text.
-fn write_all(
-    alloc: Global,
-    parts: &mut Parts,
-    space: &Space,
-    plan: &Plan,
-    touch: Touch,
-    free: &[FreePages],
-) -> Result<Vec<u8>, ReportFault>
-    ensures err { FailsForNode space.now plan.now touch.cpu result }
+fn write_all(parts: &mut Parts, asked: Question<'_>) -> Result<Vec<u8>, ReportFault>
+    ensures err { FailsForNode asked.entry.space.now asked.entry.plan.now
+        asked.entry.touch.cpu result }
 {
-    if free.is_empty() {
-        let counts = predict_all(space, plan, touch.task, touch.cpu, parts)?;
+    if asked.free.is_empty() {
+        let Touch { task, cpu } = asked.touch;
+        let counts = predict_all(asked.space, asked.plan, task, cpu, parts)?;
         parts.put_total(&counts, &[]);
     } else {
-        write_filled(alloc, parts, space, plan, touch, free)?;
+        write_filled(parts, asked)?;
     }
     Ok(parts.text.take()?)
 }
@@ -221,26 +203,31 @@ pub fn filling_text(
     alloc: Global,
     space: &Space,
     plan: &Plan,
-    task: u32,
-    cpu: u32,
+    touch: Touch,
     format: Format,
     free: &[FreePages],
 ) -> Result<Vec<u8>, ReportFault>
-    ensures err { FailsForNode space.now plan.now cpu result }
-    ensures bad_cpu { space.now.machine.nodes ≤ cpu → result ≡ Err (Refused BadCpu) }
+    ensures err { FailsForNode space.now plan.now touch.cpu result }
+    ensures bad_cpu { space.now.machine.nodes ≤ touch.cpu → result ≡ Err (Refused BadCpu) }
 {
-    if !has_node(space, cpu) {
+    if !has_node(space, touch.cpu) {
         return Err(ReportFault::Refused(PlaceRefusal::BadCpu));
     }
-    let touch = Touch { task, cpu };
-    let mut parts = begin(alloc, space, plan, touch, format, free)?;
-    let text = write_all(alloc, &mut parts, space, plan, touch, free);
+    let asked = Question {
+        space,
+        plan,
+        touch,
+        free,
+    };
+    let mut parts = begin(alloc, asked, format)?;
+    let text = write_all(&mut parts, asked);
     drop(parts);
     text
 }
 
-/// Where all mapped pages would go, as [`filling_text`] tells it where no node is named. The time
-/// grows with the ranges and not with their pages.
+/// Where all mapped pages would go, if the task touched each of them now on a CPU of node `cpu`, as
+/// [`filling_text`] tells it where no node is named. The time grows with the ranges and not with
+/// their pages.
 ///
 /// # Errors
 /// As [`filling_text`].
@@ -255,5 +242,5 @@ pub fn prediction_text(
     ensures err { FailsForNode space.now plan.now cpu result }
     ensures bad_cpu { space.now.machine.nodes ≤ cpu → result ≡ Err (Refused BadCpu) }
 {
-    filling_text(alloc, space, plan, task, cpu, format, &[])
+    filling_text(alloc, space, plan, Touch { task, cpu }, format, &[])
 }

@@ -80,7 +80,7 @@ pub(crate) fn put_head(
         b"<rect width=\"920\" height=\"100%\" fill=\"#ffffff\"/>\n\
         <text x=\"16\" y=\"24\" font-size=\"14\">Where pages would go that \
         task $ touched on node $ (version $)</text>\n",
-        &[u64::from(touch.task), u64::from(touch.cpu), version],
+        &[touch.task as u64, touch.cpu as u64, version],
     );
 }
 
@@ -97,7 +97,7 @@ fn put_counts(text: &mut Written, nodes: &[NodePages]) {
 fn put_bar(text: &mut Written, cells: &[u8], pages: u64) {
     let mut left = 0u64;
     for node in cells {
-        let place = [u64::from(*node), left];
+        let place = [*node as u64, left];
         text.put_form(b"<use xlink:href=\"#n$\" x=\"$\" y=\"16\"/>", &place);
         left = left.saturating_add(12);
     }

@@ -18,7 +18,7 @@ fn last_digits(number: u64) -> [u8; 8] {
 
 /// What is written so far. Once there was no memory for a part, no more is written.
 #[derive(Drop)]
-pub(crate) struct Written {
+pub struct Written {
     alloc: Global,
     text: Vec<u8>,
     lacks_memory: bool,
@@ -26,7 +26,7 @@ pub(crate) struct Written {
 
 impl Written {
     /// An empty text.
-    pub(crate) fn new(alloc: Global) -> Written {
+    pub fn new(alloc: Global) -> Written {
         Written {
             alloc,
             text: Vec::new(alloc),
@@ -35,25 +35,25 @@ impl Written {
     }
 
     /// Where its memory comes from.
-    pub(crate) fn alloc(&self) -> Global {
+    pub fn alloc(&self) -> Global {
         self.alloc
     }
 
     /// Remembers that there was no memory for a part.
-    pub(crate) fn lack(&mut self) {
+    pub fn lack(&mut self) {
         self.lacks_memory = true;
     }
 
     /// Writes a part.
     #[inline(always)]
-    pub(crate) fn put(&mut self, part: &[u8]) {
+    pub fn put(&mut self, part: &[u8]) {
         if !self.lacks_memory {
             self.lacks_memory = self.text.extend_from_slice(part).is_err();
         }
     }
 
     /// Writes a number in decimal digits.
-    pub(crate) fn put_number(&mut self, number: u64) {
+    pub fn put_number(&mut self, number: u64) {
         if number < 10 {
             self.put(&[b'0' + number as u8]);
             return;
@@ -80,7 +80,7 @@ impl Written {
     }
 
     /// Writes a form, with the next of the numbers for each `$`.
-    pub(crate) fn put_form(&mut self, form: &[u8], numbers: &[u64]) {
+    pub fn put_form(&mut self, form: &[u8], numbers: &[u64]) {
         let mut rest = numbers;
         for byte in form {
             if *byte != b'$' {
@@ -101,7 +101,7 @@ impl Written {
     }
 
     /// The whole text, which is empty then.
-    pub(crate) fn take(&mut self) -> Result<Vec<u8>, AllocError> {
+    pub fn take(&mut self) -> Result<Vec<u8>, AllocError> {
         self.checked()?;
         Ok(replace(&mut self.text, Vec::new(self.alloc)))
     }

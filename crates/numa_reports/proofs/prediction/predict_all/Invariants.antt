@@ -12,7 +12,7 @@ use Rattle.numa_reports.proofs.prediction.predict_all.Given as goal
 
 abbrev pub invariant-loop-range : goal.invariant-loop-range
 invariant-loop-range g l = record {
-  none : AreNone l.counts;
+  none : AreNone l.said.counts;
   all : (node : ℕ) → node < 256 → get_or l.all node 0 + count_runs (λ page. is_number node (planned_first l.plan l.task page l.cpu)) l.range-iterator ≡ count_runs (λ page. is_number node (planned_first l.plan l.task page l.cpu)) l.space.ranges;
   apart : AreApart 0 l.space.ranges;
   rest : AreLeft l.range-iterator l.space.ranges;

@@ -9,4 +9,4 @@ tally-requires c node small = omega (arith, c.requires.none node small, c.requir
 pub returns-clause-ok : goal.returns-clause-ok
 returns-clause-ok c node small =
     let long : length c.fill.new.out ≡ length c.args.nodes.now = omega arith in
-    omega (arith, c.tally.ensures node small, c.requires.none node small, filled-places c.args.plan.now c.args.touch.task c.args.touch.cpu c.args.first c.fill.new.out (length c.args.nodes.now) long c.in_ok-fill.ensures.ok.1 node)
+    omega (arith, c.tally.ensures node small, c.requires.none node small, filled-places c.args.plan.now c.args.touch.task c.args.touch.cpu c.args.range.now.first c.fill.new.out (length c.args.nodes.now) long c.in_ok-fill.ensures.ok.1 node)
