@@ -90,7 +90,7 @@ fn last_node(space: &Space) -> Detail {
 fn asked_pages(question: &Question) -> Option<Pages> {
     match *question {
         Question::Place { address, .. } => Some(pages_from(address, 1)),
-        Question::Span { address, pages, .. } => Some(pages_from(address, u64::from(pages))),
+        Question::Span { address, pages, .. } => Some(pages_from(address, pages as u64)),
         Question::Counts { address, pages, .. } => Some(pages_from(address, pages)),
         Question::Ranges => None,
     }

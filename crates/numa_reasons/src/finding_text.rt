@@ -65,7 +65,7 @@ fn put_byte(text: &mut Text, byte: u8) {
         b'\r' => text.put("a carriage return; lines end with a line feed alone"),
         b'\t' => text.put("a tab; words stand between single spaces"),
         _ => {
-            text.put_hex("the byte ", u64::from(byte));
+            text.put_hex("the byte ", byte as u64);
             text.put(", which no word has");
         }
     }
@@ -178,7 +178,7 @@ fn put_refusal(text: &mut Text, cause: CoreRefusal, detail: Detail) {
         Detail::Page(page) => put_page(text, page, page_words(cause)),
         Detail::Unpublished(page) => put_page(text, page, UNPUBLISHED),
         Detail::LastNode(node) => {
-            put_counted(text, cause, "; its nodes are 0 to ", u64::from(node), "");
+            put_counted(text, cause, "; its nodes are 0 to ", node as u64, "");
         }
         Detail::Count(count) => put_counted(text, cause, " (now ", count, ")"),
         Detail::Mems => text.put("none of these nodes has memory; name one that has"),
