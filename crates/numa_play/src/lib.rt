@@ -2,7 +2,7 @@
 //!
 //! Lines that are faulty or refused are passed over, and what is wrong with each is told. [`check`]
 //! does no more; [`predict`], [`diff`], [`explain`] and [`replay`] answer by the lines that were
-//! accepted.
+//! accepted. What a trace of accesses meets stands in [`traces`].
 #![tactic(auto)]
 
 mod asking;
@@ -12,6 +12,7 @@ mod halt;
 mod playing;
 mod question;
 mod replaying;
+pub mod traces;
 
 pub use asking::{Asked, diff, predict};
 pub use explaining::explain;
@@ -19,6 +20,9 @@ pub use findings::Findings;
 pub use halt::Halt;
 pub use numa_reasons::tells_lack;
 pub use numa_reports::{Format, FreePages};
-pub use numa_traces::Shape;
 pub use playing::{check, play};
 pub use replaying::replay;
+pub use traces::{
+    Access, AccessFault, Memory, Replay, ReplayFault, Replaying, Shape, Tallies, Tally, Way,
+    read_access, replay_lines, report_text,
+};

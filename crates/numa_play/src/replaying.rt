@@ -2,11 +2,11 @@
 use crate::findings::Findings;
 use crate::halt::Halt;
 use crate::question::{Question, ask, space_after};
+use crate::traces::{Replaying, Shape, replay_lines, report_text};
 use numa_compile::compile;
 use numa_files::Stop;
 use numa_plan::Plan;
 use numa_space::Space;
-use numa_traces::{Replaying, Shape, replay_lines, report_text};
 use std::alloc::Global;
 use std::io::{Read, Write};
 
@@ -21,7 +21,7 @@ fn met(
         return Err(Halt::BadAccess(place, fault));
     }
     match report_text(alloc, space.machine(), replaying.replay(), format) {
-        Ok(text) => Ok(text.into_bytes()),
+        Ok(text) => Ok(text),
         Err(_) => Err(Halt::Stopped(Stop::Memory)),
     }
 }
