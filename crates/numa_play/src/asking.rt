@@ -1,14 +1,11 @@
 //! Where pages would go after scripts.
 use crate::findings::Findings;
 use crate::halt::{Halt, halt_of};
-use crate::question::{Question, ask, space_after, space_of};
+use crate::playing::play;
+use crate::question::{Question, ask, space_of, write};
 use numa_compile::compile;
 use numa_files::{Stop, TakeLine};
-use numa_plan::Plan;
-use numa_reports::{
-    Format, FreePages, Outlook, ReportFault, Touch, difference_text, filling_text, outlook_of,
-    prediction_text,
-};
+use numa_reports::{Format, FreePages, Outlook, Touch, difference_text, filling_text, outlook_of};
 use numa_run::Script;
 use numa_space::Space;
 use std::alloc::Global;
@@ -38,50 +35,9 @@ fn outlook_in(alloc: Global, script: &Script) -> Result<Outlook, Halt> {
 
 /// The first node of free pages that a machine of so many nodes lacks.
 fn lacking_node(free: &[FreePages], nodes: u32) -> Option<u8> {
-    match free.iter().find(|one| u32::from(one.node) >= nodes) {
+    match free.iter().find(|one| one.node as u32 >= nodes) {
         Some(lacking) => Some(lacking.node),
         None => None,
-    }
-}
-
-/// Where the mapped pages of a space would go by its plan, as a text.
-fn text_of(
-    alloc: Global,
-    space: &Space,
-    plan: &Plan,
-    asked: Asked,
-    format: Format,
-    free: &[FreePages],
-) -> Result<Vec<u8>, ReportFault> {
-    if free.is_empty() {
-        return prediction_text(alloc, space, plan, asked.task, asked.cpu, format);
-    }
-    let touch = Touch {
-        task: asked.task,
-        cpu: asked.cpu,
-    };
-    filling_text(alloc, space, plan, touch, format, free)
-}
-
-/// Where the mapped pages of a space would go, as a text.
-fn prediction_of(
-    alloc: Global,
-    space: &Space,
-    asked: Asked,
-    format: Format,
-    free: &[FreePages],
-) -> Result<Vec<u8>, Halt> {
-    if let Some(node) = lacking_node(free, space.machine().nodes()) {
-        return Err(Halt::NoFreeNode(node, space.machine().nodes()));
-    }
-    let Ok(plan) = compile(alloc, space) else {
-        return Err(Halt::Stopped(Stop::Memory));
-    };
-    let text = text_of(alloc, space, &plan, asked, format, free);
-    drop(plan);
-    match text {
-        Ok(text) => Ok(text),
-        Err(fault) => Err(halt_of(fault, space.machine().nodes())),
     }
 }
 
@@ -94,10 +50,23 @@ struct Prediction<'a> {
 }
 
 impl Question for Prediction<'_> {
-    fn answer<T: Write>(self, alloc: Global, findings: &mut Findings<T>) -> Result<Vec<u8>, Halt> {
-        match space_after(findings) {
-            Ok(space) => prediction_of(alloc, space, self.asked, self.format, self.free),
-            Err(halt) => Err(halt),
+    fn answer(self, alloc: Global, space: &Space) -> Result<Vec<u8>, Halt> {
+        let nodes = space.machine().nodes();
+        if let Some(node) = lacking_node(self.free, nodes) {
+            return Err(Halt::NoFreeNode(node, nodes));
+        }
+        let Ok(plan) = compile(alloc, space) else {
+            return Err(Halt::Stopped(Stop::Memory));
+        };
+        let touch = Touch {
+            task: self.asked.task,
+            cpu: self.asked.cpu,
+        };
+        let text = filling_text(alloc, space, &plan, touch, self.format, self.free);
+        drop(plan);
+        match text {
+            Ok(text) => Ok(text),
+            Err(fault) => Err(halt_of(fault, nodes)),
         }
     }
 }
@@ -187,23 +156,20 @@ fn difference_from<T: Write>(
     }
 }
 
-/// Which pages would go elsewhere after lines that are added.
-#[derive(Drop)]
-struct Difference<'a> {
-    lines: &'a [String],
+/// Which pages go elsewhere once the lines are played, as a text.
+fn difference<T: Write>(
+    alloc: Global,
+    findings: &mut Findings<T>,
+    lines: &[String],
     asked: Asked,
-}
-
-impl Question for Difference<'_> {
-    fn answer<T: Write>(self, alloc: Global, findings: &mut Findings<T>) -> Result<Vec<u8>, Halt> {
-        let before = match outlook_before(alloc, findings) {
-            Ok(before) => before,
-            Err(halt) => return Err(halt),
-        };
-        let text = difference_from(alloc, &before, findings, self.lines, self.asked);
-        drop(before);
-        text
-    }
+) -> Result<Vec<u8>, Halt> {
+    let before = match outlook_before(alloc, findings) {
+        Ok(before) => before,
+        Err(halt) => return Err(halt),
+    };
+    let text = difference_from(alloc, &before, findings, lines, asked);
+    drop(before);
+    text
 }
 
 /// Plays the texts as one script, and then the lines, and writes which pages would go to another
@@ -221,5 +187,8 @@ pub fn diff<R: Read + Drop, W: Write, T: Write + Drop>(
     output: &mut W,
     told: T,
 ) -> Result<(), Halt> {
-    ask(alloc, texts, Difference { lines, asked }, output, told)
+    let mut findings = play(alloc, texts, told)?;
+    let text = difference(alloc, &mut findings, lines, asked);
+    drop(findings);
+    write(text, output)
 }

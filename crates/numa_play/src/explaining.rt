@@ -1,8 +1,7 @@
 //! Why a page goes where it goes, after scripts.
 use crate::asking::Asked;
-use crate::findings::Findings;
 use crate::halt::Halt;
-use crate::question::{Question, ask, space_after};
+use crate::question::{Question, ask};
 use numa_files::Stop;
 use numa_machine::Machine;
 use numa_reasons::{Explanation, ReasonFault, say_explanation};
@@ -22,22 +21,6 @@ fn text_of(alloc: Global, machine: &Machine, said: &Explanation) -> Result<Vec<u
     }
 }
 
-/// Why a page goes where it goes in a space, as a text.
-fn reasons_of(alloc: Global, space: &Space, asked: Asked, page: u64) -> Result<Vec<u8>, Halt> {
-    match numa_reasons::explain(alloc, space, asked.task, page, asked.cpu) {
-        Ok(said) => {
-            let text = text_of(alloc, space.machine(), &said);
-            drop(said);
-            text
-        }
-        Err(ReasonFault::NoMemory) => Err(Halt::Stopped(Stop::Memory)),
-        Err(ReasonFault::Refused(PlaceRefusal::Unmapped)) => Err(Halt::Unmapped),
-        Err(ReasonFault::Refused(PlaceRefusal::BadCpu)) => {
-            Err(Halt::NoNode(space.machine().nodes()))
-        }
-    }
-}
-
 /// Why a page goes where it goes, if it were touched now.
 #[derive(Drop)]
 struct Reasons {
@@ -46,10 +29,19 @@ struct Reasons {
 }
 
 impl Question for Reasons {
-    fn answer<T: Write>(self, alloc: Global, findings: &mut Findings<T>) -> Result<Vec<u8>, Halt> {
-        match space_after(findings) {
-            Ok(space) => reasons_of(alloc, space, self.asked, self.page),
-            Err(halt) => Err(halt),
+    fn answer(self, alloc: Global, space: &Space) -> Result<Vec<u8>, Halt> {
+        let asked = self.asked;
+        match numa_reasons::explain(alloc, space, asked.task, self.page, asked.cpu) {
+            Ok(said) => {
+                let text = text_of(alloc, space.machine(), &said);
+                drop(said);
+                text
+            }
+            Err(ReasonFault::NoMemory) => Err(Halt::Stopped(Stop::Memory)),
+            Err(ReasonFault::Refused(PlaceRefusal::Unmapped)) => Err(Halt::Unmapped),
+            Err(ReasonFault::Refused(PlaceRefusal::BadCpu)) => {
+                Err(Halt::NoNode(space.machine().nodes()))
+            }
         }
     }
 }

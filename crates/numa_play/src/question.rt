@@ -8,18 +8,10 @@ use numa_space::Space;
 use std::alloc::Global;
 use std::io::{Read, Write};
 
-/// A question about the state that scripts lead to.
+/// A question about the space that scripts lead to.
 pub(crate) trait Question {
-    /// Ends what is told of the played scripts, and gives the answer as a text.
-    fn answer<T: Write>(self, alloc: Global, findings: &mut Findings<T>) -> Result<Vec<u8>, Halt>;
-}
-
-/// Ends what is told, and gives the space that the scripts have led to.
-pub(crate) fn space_after<T: Write>(findings: &mut Findings<T>) -> Result<&Space, Halt> {
-    match findings.end() {
-        Ok(()) => space_of(findings.script()),
-        Err(why) => Err(Halt::Stopped(why)),
-    }
+    /// The answer, as a text.
+    fn answer(self, alloc: Global, space: &Space) -> Result<Vec<u8>, Halt>;
 }
 
 /// The space that a script has led to.
@@ -30,32 +22,45 @@ pub(crate) fn space_of(script: &Script) -> Result<&Space, Halt> {
     }
 }
 
-/// Writes an answer.
-fn write<W: Write>(text: &[u8], output: &mut W) -> Result<(), Halt> {
-    match output.write_all(text) {
+/// Ends what is told, and gives the space that the scripts have led to.
+fn space_after<T: Write>(findings: &mut Findings<T>) -> Result<&Space, Halt> {
+    match findings.end() {
+        Ok(()) => space_of(findings.script()),
+        Err(why) => Err(Halt::Stopped(why)),
+    }
+}
+
+/// Writes an answer, if there is one.
+pub(crate) fn write<W: Write>(text: Result<Vec<u8>, Halt>, output: &mut W) -> Result<(), Halt> {
+    let text = match text {
+        Ok(text) => text,
+        Err(halt) => return Err(halt),
+    };
+    let written = output.write_all(text.as_slice());
+    drop(text);
+    match written {
         Ok(()) => Ok(()),
         Err(_) => Err(Halt::Stopped(Stop::Write)),
     }
 }
 
 /// Writes the answer to a question about played scripts.
-fn write_answer<Q: Question, W: Write, T: Write>(
+fn write_answer<Q: Question + Drop, W: Write, T: Write>(
     alloc: Global,
     question: Q,
     findings: &mut Findings<T>,
     output: &mut W,
 ) -> Result<(), Halt> {
-    match question.answer(alloc, findings) {
-        Ok(text) => {
-            let written = write(text.as_slice(), output);
-            drop(text);
-            written
+    match space_after(findings) {
+        Ok(space) => write(question.answer(alloc, space), output),
+        Err(halt) => {
+            drop(question);
+            Err(halt)
         }
-        Err(halt) => Err(halt),
     }
 }
 
-/// Plays the texts as one script, and writes the answer to a question about the state that they
+/// Plays the texts as one script, and writes the answer to a question about the space that they
 /// lead to. What is wrong with a line is told to `told`, and the line passed over. The answer is
 /// whole before its first byte is written.
 pub(crate) fn ask<R: Read + Drop, Q: Question + Drop, W: Write, T: Write + Drop>(

@@ -1,7 +1,6 @@
 //! Traces that are replayed after scripts.
-use crate::findings::Findings;
 use crate::halt::Halt;
-use crate::question::{Question, ask, space_after};
+use crate::question::{Question, ask};
 use crate::traces::{Replaying, Shape, replay_lines, report_text};
 use numa_compile::compile;
 use numa_files::Stop;
@@ -48,22 +47,6 @@ fn replayed_by<S: Read + Drop>(
     }
 }
 
-/// Replays a trace in a space, and gives what it met as a text.
-fn replayed<S: Read + Drop>(
-    alloc: Global,
-    space: &Space,
-    trace: Vec<(String, S)>,
-    format: Shape,
-) -> Result<Vec<u8>, Halt> {
-    let Ok(plan) = compile(alloc, space) else {
-        drop(trace);
-        return Err(Halt::Stopped(Stop::Memory));
-    };
-    let text = replayed_by(alloc, space, &plan, trace, format);
-    drop(plan);
-    text
-}
-
 /// A trace that is to be replayed.
 #[derive(Drop)]
 struct Trace<S> {
@@ -72,14 +55,14 @@ struct Trace<S> {
 }
 
 impl<S: Read + Drop> Question for Trace<S> {
-    fn answer<T: Write>(self, alloc: Global, findings: &mut Findings<T>) -> Result<Vec<u8>, Halt> {
-        match space_after(findings) {
-            Ok(space) => replayed(alloc, space, self.texts, self.format),
-            Err(halt) => {
-                drop(self);
-                Err(halt)
-            }
-        }
+    fn answer(self, alloc: Global, space: &Space) -> Result<Vec<u8>, Halt> {
+        let Ok(plan) = compile(alloc, space) else {
+            drop(self);
+            return Err(Halt::Stopped(Stop::Memory));
+        };
+        let text = replayed_by(alloc, space, &plan, self.texts, self.format);
+        drop(plan);
+        text
     }
 }
 
