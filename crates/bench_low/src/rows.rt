@@ -2,7 +2,7 @@
 //! `measure` how long they take beside those in one plain vector of the same rows.
 use numa_examples::many::{FlatRow, POLICIES, ROUND, places_in, rows_of, sum_of_looks};
 use numa_examples::times::{best_of, print_ratio};
-use numa_rows::{Keep, Owned, Rows, Shared};
+use numa_rows::{Group, Keep, Owned, Rows};
 use std::alloc::{AllocError, Global};
 use std::io;
 use std::rt::Clock;
@@ -38,7 +38,7 @@ fn places_in_chunks<K: Keep<FlatRow>>(alloc: Global, plain: &[FlatRow]) -> Resul
 pub fn checksums(rt: &impl Print, alloc: Global) -> io::Result<()> {
     let plain = rows_of(alloc, POLICIES)?;
     let owned = places_in_chunks::<Owned<FlatRow>>(alloc, &plain)?;
-    let shared = places_in_chunks::<Shared<FlatRow>>(alloc, &plain)?;
+    let shared = places_in_chunks::<Group<FlatRow>>(alloc, &plain)?;
     let wanted = places_in(&plain);
     println!(rt; "places in owned chunks {owned}, in shared ones {shared}, in one vector {wanted}")
 }
@@ -74,7 +74,7 @@ fn measure_kinds<R: Print + Clock>(rt: &R, alloc: Global, plain: &[FlatRow]) -> 
     let (baseline, sum) = best_of(rt, 40, || places_in(plain))?;
     println!(rt; "sum {sum}")?;
     let what = "partition_point of shared chunks over that of a vector of the same rows";
-    measure_kind::<R, Shared<FlatRow>>(rt, alloc, what, plain, baseline)?;
+    measure_kind::<R, Group<FlatRow>>(rt, alloc, what, plain, baseline)?;
     let what = "partition_point of owned chunks over that of a vector of the same rows";
     measure_kind::<R, Owned<FlatRow>>(rt, alloc, what, plain, baseline)
 }

@@ -4,14 +4,15 @@ ghost use Rattle.std.specs.Prelude.{◌≡◌, ℕ, ◌+◌, ◌/◌, ◌<◌, �
 ghost use Rattle.std.specs.Prelude.{IfOk};
 ghost use Rattle.std.specs.List.{slice_range};
 ghost use Rattle.numa_ranges.specs.declared.run.Run.{Run};
+ghost use Rattle.numa_rows.specs.Searches.{IsChunkOf};
 
 use numa_ranges::Run;
-use numa_rows::{Rows, Shared};
+use numa_rows::{Part, SharedRows};
 use std::alloc::{AllocError, Global};
 
 /// How many runs there are, and in how many chunks they stand.
 #[inline(always)]
-pub(crate) fn sizes(items: &Rows<Run<Option<u32>>, Shared<Run<Option<u32>>>>) -> (usize, usize)
+pub(crate) fn sizes(items: &SharedRows<Run<Option<u32>>>) -> (usize, usize)
     ensures count { result.0 ≡ length items.now }
     ensures bound { result.0 < 2 ^ 32 }
     ensures chunks { result.1 ≤ 1 + length items.now / 64 }
@@ -21,7 +22,7 @@ pub(crate) fn sizes(items: &Rows<Run<Option<u32>>, Shared<Run<Option<u32>>>>) ->
 
 /// How many runs there are.
 #[inline(always)]
-pub(crate) fn run_count(items: &Rows<Run<Option<u32>>, Shared<Run<Option<u32>>>>) -> usize
+pub(crate) fn run_count(items: &SharedRows<Run<Option<u32>>>) -> usize
     ensures count { result ≡ length items.now }
     ensures bound { result < 2 ^ 32 }
 {
@@ -31,7 +32,7 @@ pub(crate) fn run_count(items: &Rows<Run<Option<u32>>, Shared<Run<Option<u32>>>>
 /// The run at a place, sought from a chunk on, which is the run's own afterwards.
 #[inline(always)]
 pub(crate) fn run_near<'a>(
-    items: &'a Rows<Run<Option<u32>>, Shared<Run<Option<u32>>>>,
+    items: &'a SharedRows<Run<Option<u32>>>,
     place: usize,
     chunk: &mut usize,
 ) -> &'a Run<Option<u32>>
@@ -41,11 +42,27 @@ pub(crate) fn run_near<'a>(
     items.get_near(place, chunk)
 }
 
+/// The run at a place, in a part of the runs or sought from it on.
+#[inline(always)]
+pub(crate) fn run_beside<'a>(
+    items: &'a SharedRows<Run<Option<u32>>>,
+    part: Part<'a, Run<Option<u32>>>,
+    place: usize,
+) -> &'a Run<Option<u32>>
+    requires place { place < length items.now }
+    requires part { IsChunkOf items.now part }
+    ensures { (d : Run (Option ℕ)) → result.now ≡ slice_index_or items.now place d }
+{
+    let near = part.chunk();
+    let part = items.part_with(part, place, near);
+    items.row_in(&part, place)
+}
+
 /// The runs from one place to another, in a vector of their own. `near` is a guess at the chunk of
 /// the first.
 pub(crate) fn gathered(
     alloc: Global,
-    items: &Rows<Run<Option<u32>>, Shared<Run<Option<u32>>>>,
+    items: &SharedRows<Run<Option<u32>>>,
     from: usize,
     to: usize,
     near: usize,

@@ -15,6 +15,7 @@
 
 mod chunks;
 mod guess;
+mod looks;
 mod numbers;
 mod plan;
 mod rows;

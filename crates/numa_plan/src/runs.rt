@@ -7,16 +7,18 @@ ghost use Rattle.numa_ranges.specs.Runs.{AreApart, end_of, page_at};
 ghost use Rattle.numa_ranges.specs.declared.run.Run.{Run};
 ghost use Rattle.std.specs.List.{slice_range, splice, AllWithin};
 ghost use Rattle.numa_ranges.specs.Windows.{IsWindow};
-ghost use Rattle.numa_plan.specs.Counted.{one_comparison, one_run, more_runs, FindsQuickly};
+ghost use Rattle.numa_rows.specs.Searches.{IsChunkOf};
+ghost use Rattle.numa_plan.specs.Counted.{one_run, more_runs, FindsQuickly};
 ghost use Rattle.numa_plan.specs.Counted.{FindsTwice};
 ghost use Rattle.numa_plan.specs.Found.{IsAt, IsFound, IsPartOf, IsMapped, IsSplit, HasHole};
 
-use crate::chunks::{gathered, run_count, run_near, sizes};
+use crate::chunks::{gathered, run_beside, run_count, run_near, sizes};
 use crate::guess::{LOOKED_AT, chunk_of, start_before};
+use crate::looks::{begins_behind, behind_ended, behind_first, compared, found_in};
 use crate::steps::Steps;
 use numa_machine::NoMemory;
 use numa_ranges::Run;
-use numa_rows::{Rows, Shared};
+use numa_rows::{Part, SharedRows};
 use std::alloc::{AllocError, Global};
 use std::marker::Model;
 
@@ -45,47 +47,6 @@ pub(crate) struct Beside {
     pub(crate) near: usize,
 }
 
-/// How far a page lies behind the first page of a run; none where it lies before it. Nothing else
-/// reads a run's first page.
-#[inline]
-fn behind_first(run: &Run<Option<u32>>, page: u64) -> Option<u64>
-    ensures { MatchOption result (page < run.now.first) (λ far. run.now.first + far ≡ page) }
-{
-    if page < run.first {
-        None
-    } else {
-        Some(page - run.first)
-    }
-}
-
-/// The same, by a search that counts its comparisons.
-#[inline]
-fn compared(run: &Run<Option<u32>>, page: u64, steps: &mut Steps) -> Option<u64>
-    ensures counted { steps.new ≡ one_comparison steps.old }
-    ensures far { MatchOption result (page < run.now.first) (λ far. run.now.first + far ≡ page) }
-{
-    steps.compared();
-    behind_first(run, page)
-}
-
-/// What a run says of the page that lies so far behind its first page; none where the run is
-/// shorter.
-#[inline]
-fn found_in(run: &Run<Option<u32>>, far: u64) -> Option<Found>
-    requires { run.now.index + run.now.pages ≤ 2 ^ 36 }
-    ensures { MatchOption result (run.now.pages ≤ far) (λ found. IsPartOf run.now far found) }
-{
-    if far < run.pages {
-        Some(Found {
-            index: run.index + far,
-            rule: run.value,
-            left: run.pages - far,
-        })
-    } else {
-        None
-    }
-}
-
 /// The middle of the places where a search goes on: half of them at most stand on each side.
 #[inline(always)]
 fn middle_of(low: usize, high: usize) -> usize
@@ -99,15 +60,16 @@ fn middle_of(low: usize, high: usize) -> usize
 }
 
 /// The place behind the last run that begins at a page or before it, how far the page lies behind
-/// the first page of that run, and the chunk where the search ended.
+/// the first page of that run, and the runs among which the search ended.
 #[inline]
-fn split_rows(
-    items: &Rows<Run<Option<u32>>, Shared<Run<Option<u32>>>>,
+fn split_rows<'a>(
+    items: &'a SharedRows<Run<Option<u32>>>,
     page: u64,
     steps: &mut Steps,
-) -> (usize, u64, usize)
+) -> (usize, u64, Part<'a, Run<Option<u32>>>)
     requires { AreApart 0 items.now }
     ensures split { IsSplit items.now page result.0 result.1 }
+    ensures part { IsChunkOf items.now result.2 }
     ensures quick { FindsQuickly steps.old steps.new (length items.now) }
 {
     let (runs, chunks) = sizes(items);
@@ -119,7 +81,7 @@ fn split_rows(
     let mut above = chunks;
     while low < high {
         let middle = middle_of(low, high);
-        part = items.part_with(part, middle, below / 2 + above / 2);
+        part = items.part_with(part, middle, below.wrapping_add(above) / 2);
         let run = items.row_in(&part, middle);
         let chunk = part.chunk();
         match compared(run, page, steps) {
@@ -134,29 +96,7 @@ fn split_rows(
             }
         }
     }
-    (low, far, below)
-}
-
-/// Whether a run begins behind a page.
-#[inline]
-fn begins_behind(run: &Run<Option<u32>>, page: u64) -> bool
-    ensures behind { result ≡ true → page < run.now.first }
-    ensures begun { result ≡ false → run.now.first ≤ page }
-{
-    behind_first(run, page).is_none()
-}
-
-/// The place behind a run that ends before a page; for another the place from before.
-#[inline]
-fn behind_ended(run: &Run<Option<u32>>, page: u64, from: usize, place: usize) -> usize
-    requires { end_of run.now ≤ 2 ^ 35 }
-    ensures ended { end_of run.now < page → result ≡ place }
-    ensures reaches { page ≤ end_of run.now → result ≡ from }
-{
-    match behind_first(run, page) {
-        Some(far) if run.pages < far => place,
-        _ => from,
-    }
+    (low, far, part)
 }
 
 /// A window that was looked for from a place on, where a run before it was seen or is none.
@@ -175,7 +115,7 @@ fn seen_window(start: usize, from: usize, to: usize, near: usize) -> Option<Besi
 /// The window of a span, looked for from a place on, which stands in a chunk or near it; none where
 /// it begins before that place, or ends many runs behind it.
 fn window_from(
-    items: &Rows<Run<Option<u32>>, Shared<Run<Option<u32>>>>,
+    items: &SharedRows<Run<Option<u32>>>,
     first: u64,
     end: u64,
     start: usize,
@@ -207,7 +147,7 @@ fn window_from(
 /// in chunks, which copies share.
 #[derive(Drop)]
 pub(crate) struct Runs {
-    items: Rows<Run<Option<u32>>, Shared<Run<Option<u32>>>>,
+    items: SharedRows<Run<Option<u32>>>,
 }
 
 impl Model for Runs {
@@ -228,7 +168,7 @@ impl Runs {
         ensures { result ≡ [] }
     {
         Runs {
-            items: Rows::new(alloc),
+            items: SharedRows::new(alloc),
         }
     }
 
@@ -249,22 +189,31 @@ impl Runs {
     }
 
     /// What [`split_rows`] finds for a page.
-    fn split(&self, page: u64, steps: &mut Steps) -> (usize, u64, usize)
+    fn split(&self, page: u64, steps: &mut Steps) -> (usize, u64, Part<'_, Run<Option<u32>>>)
         ensures split { IsSplit self.now page result.0 result.1 }
+        ensures part { IsChunkOf self.now result.2 }
         ensures apart { AreApart 0 self.now }
         ensures quick { FindsQuickly steps.old steps.new (length self.now) }
     {
         split_rows(&self.items, page, steps)
     }
 
-    /// What the run at a place says of the page that lies so far behind its first page.
-    fn found_at(&self, place: usize, far: u64, chunk: &mut usize) -> Option<Found>
-        requires { place < length self.now }
+    /// What the run at a place, which is sought from a part of the runs on, says of the page that
+    /// lies so far behind its first page.
+    #[inline]
+    fn found_at<'a>(
+        &'a self,
+        place: usize,
+        far: u64,
+        part: Part<'a, Run<Option<u32>>>,
+    ) -> Option<Found>
+        requires place { place < length self.now }
+        requires part { IsChunkOf self.now part }
         ensures { (d : Run (Option ℕ)) →
             MatchOption result ((slice_index_or self.now place d).pages ≤ far)
             (λ found. IsPartOf (slice_index_or self.now place d) far found) }
     {
-        let run = run_near(&self.items, place, chunk);
+        let run = run_beside(&self.items, part, place);
         found_in(run, far)
     }
 
@@ -289,7 +238,7 @@ impl Runs {
         let at = self.split(page, &mut Steps::new());
         Seen {
             place: at.0.saturating_sub(1),
-            chunk: at.2,
+            chunk: at.2.chunk(),
         }
     }
 
@@ -339,11 +288,11 @@ impl Runs {
     {
         let at = self.split(page, steps);
         seen.place = at.0;
-        seen.chunk = at.2;
+        seen.chunk = at.2.chunk();
         if at.0 == 0 {
             return None;
         }
-        self.found_at(at.0 - 1, at.1, &mut seen.chunk)
+        self.found_at(at.0 - 1, at.1, at.2)
     }
 
     /// How many runs begin at a page or before it.
@@ -366,11 +315,11 @@ impl Runs {
         if page == 0 {
             return 0;
         }
-        let mut at = self.split(page - 1, steps);
+        let at = self.split(page - 1, steps);
         if at.0 == 0 {
             return 0;
         }
-        match self.found_at(at.0 - 1, at.1, &mut at.2) {
+        match self.found_at(at.0 - 1, at.1, at.2) {
             Some(_) => at.0 - 1,
             None => at.0,
         }

@@ -1,24 +1,21 @@
 -- A row by its rank: the rows from it on, and another row in its place.
-use Rattle.std.proofs.Common.{◌≡◌, ℕ, suc, ◌+◌, ◌-◌, ◌<◌, ◌≤◌, List, [], ◌∷◌, ◌++◌, length, take, drop, set, get_or, sym, ap, ◌∙◌, arith}
-use Rattle.std.proofs.lemmas.List.{drop-append-le, set_split}
+use Rattle.std.proofs.Common.{◌≡◌, ℕ, suc, ◌+◌, ◌-◌, ◌<◌, List, [], ◌∷◌, ◌++◌, length, take, drop, set, get_or, sym, ap, ◌∙◌, arith}
+use Rattle.std.proofs.lemmas.List.{take-append-drop, set_split}
+use Rattle.std.proofs.lemmas.List.Concat.{flat_map-append}
 use Rattle.std.proofs.Math.ListN.{length-set}
 use Rattle.numa_rows.specs.Parts.{flat, IsTable, HasRank, HasSpan}
-use Rattle.numa_rows.proofs.InParts.{row-inside, part-within}
-use Rattle.numa_rows.proofs.Windows.{flat-at, drop-behind, table-set}
+use Rattle.numa_rows.proofs.InParts.{part-within}
+use Rattle.numa_rows.proofs.Windows.{drop-behind, table-set}
 use Rattle.numa_rows.proofs.Editing.{put-one}
 
 module _ {T : Type 0} where
-  pub rows-from : (parts : List (List T)) (chunk rows : List T) (part first rank : ℕ) → HasRank parts part first rank → chunk ≡ get_or parts part chunk → rows ≡ chunk → drop (rank - first) rows ++ flat (drop (part + 1) parts) ≡ drop rank (flat parts)
-  rows-from parts chunk rows part first rank has is same =
+  pub rows-from : (parts : List (List T)) (part first rank : ℕ) → HasRank parts part first rank → drop (rank - first) (flat (drop part parts)) ≡ drop rank (flat parts)
+  rows-from parts part first rank has =
       let front = flat (take part parts) in
-      let back = flat (drop (suc part) parts) in
-      let all : flat parts ≡ front ++ (rows ++ back) = flat-at parts part chunk has.within ∙ ap (λ l. front ++ (l ++ back)) (sym (same ∙ is)) in
-      let inside : rank - first ≤ length rows = omega (arith, row-inside parts part first rank chunk rows has is same) in
+      let all : flat parts ≡ front ++ flat (drop part parts) = ap flat (sym (take-append-drop part parts)) ∙ flat_map-append (λ p. p) (take part parts) (drop part parts) in
       sym (ap (drop rank) all
-      ∙ (ap (λ n. drop n (front ++ (rows ++ back))) {x = rank} {y = length front + (rank - first)} (omega (arith, has.before, has.from))
-      ∙ (drop-behind front (rows ++ back) (rank - first)
-      ∙ (drop-append-le (rank - first) rows back inside
-      ∙ ap (λ n. drop (rank - first) rows ++ flat (drop n parts)) {x = suc part} {y = part + 1} (omega arith)))))
+      ∙ (ap (λ n. drop n (front ++ flat (drop part parts))) {x = rank} {y = length front + (rank - first)} (omega (arith, has.before, has.from))
+      ∙ drop-behind front (flat (drop part parts)) (rank - first)))
 
   pub set-one : (parts new : List (List T)) (chunk made : List T) (row : T) (part first rank : ℕ) → HasRank parts part first rank → chunk ≡ get_or parts part chunk → new ≡ set parts part made → made ≡ set chunk (rank - first) row → flat new ≡ set (flat parts) rank row
   set-one parts new chunk made row part first rank has is put so =

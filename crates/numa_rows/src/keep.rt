@@ -1,13 +1,15 @@
-//! The ways to keep the rows of a chunk.
-ghost use Rattle.std.specs.Prelude.{◌≡◌, ◌++◌, ◌∷◌, [], ◌<◌, ◌≤◌, length, slice_set, List, IfOk};
+//! The ways to keep rows.
+ghost use Rattle.std.specs.Prelude.{◌≡◌, ◌++◌, ◌<◌, ◌≤◌, length, List, IfOk};
 ghost use Rattle.std.specs.Prelude.{OnOk, OnErr};
 ghost use Rattle.std.specs.List.{splice};
+ghost use Rattle.numa_rows.specs.Searches.{HasRow, IsChunkOf};
 
+use crate::part::Part;
 use std::alloc::{AllocError, Global};
 use std::ops::Range;
 
-/// A way to keep the rows of a chunk. [`Owned`](crate::Owned) keeps them for itself alone; what
-/// [`Shared`](crate::Shared) keeps, copies share.
+/// A way to keep the rows of a chunk: [`Owned`](crate::Owned) for itself alone, or so that copies of
+/// it share them, [`Shared`](crate::Shared) in a vector and [`Group`](crate::Group) in chunks.
 ///
 /// The answer is `AllocError` where memory is wanting; then nothing is changed.
 pub trait Keep<T>: Drop {
@@ -17,33 +19,32 @@ pub trait Keep<T>: Drop {
     /// How many rows a chunk has at most, when an edit leaves it as it is.
     fn most() -> usize
         ensures low { 128 ≤ result }
-        ensures high { result ≤ 1024 };
+        ensures high { result ≤ 6144 };
 
     /// Keeps these rows.
     fn keep(alloc: Global, rows: &[T]) -> Result<Self, AllocError>
         ensures { IfOk result (λ chunk. rows_of chunk ≡ rows.now) };
 
-    /// The rows.
-    fn rows(&self) -> &[T]
-        ensures { result.now ≡ rows_of self.now };
+    /// How many rows there are.
+    fn size(&self) -> usize
+        ensures { result ≡ length (rows_of self.now) };
+
+    /// Rows that stand together, and have the row at a place.
+    fn part_at(&self, place: usize) -> Part<'_, T>
+        requires { place < length (rows_of self.now) }
+        ensures part { IsChunkOf (rows_of self.now) result }
+        ensures has { HasRow result place };
+
+    /// Adds the rows behind others.
+    fn append_to(&self, others: &mut Vec<T>) -> Result<(), AllocError>
+        ensures { OnOk result (others.new.items ≡ others.old.items ++ rows_of self.now) };
 
     /// The same rows once more.
-    fn copy(&self, alloc: Global) -> Result<Self, AllocError>
+    fn copied(&self, alloc: Global) -> Result<Self, AllocError>
         ensures { IfOk result (λ chunk. rows_of chunk ≡ rows_of self.now) };
 
-    /// Adds a row behind the others.
-    fn push(&mut self, alloc: Global, row: T) -> Result<(), AllocError>
-        ensures ok { OnOk result (rows_of self.new ≡ rows_of self.old ++ row ∷ []) }
-        ensures unchanged { OnErr result (rows_of self.new ≡ rows_of self.old) };
-
-    /// Puts a row in the place of another.
-    fn set(&mut self, alloc: Global, place: usize, row: T) -> Result<(), AllocError>
-        requires { place < length (rows_of self.old) }
-        ensures ok { OnOk result (rows_of self.new ≡ slice_set (rows_of self.old) place row) }
-        ensures unchanged { OnErr result (rows_of self.new ≡ rows_of self.old) };
-
     /// Puts rows in the place of those from one place to another.
-    fn splice(&mut self, alloc: Global, span: Range<usize>, rows: &[T]) -> Result<(), AllocError>
+    fn replace(&mut self, alloc: Global, span: Range<usize>, rows: &[T]) -> Result<(), AllocError>
         requires rises { span.start ≤ span.end }
         requires within { span.end ≤ length (rows_of self.old) }
         ensures ok { OnOk result (rows_of self.new

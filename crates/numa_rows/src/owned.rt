@@ -1,10 +1,11 @@
 //! Rows that one chunk has for itself.
-ghost use Rattle.std.specs.Prelude.{◌≡◌, ◌<◌, length, map, slice_set, take, IfOk};
+ghost use Rattle.std.specs.Prelude.{◌≡◌, ◌<◌, length, map, slice_set, take};
 ghost use Rattle.numa_rows.specs.Changes.{Makes};
 
 use crate::items::update_items;
 use crate::keep::Keep;
-use crate::put::{copied, put_in};
+use crate::part::Part;
+use crate::put::{put_in, with_room};
 use std::alloc::{AllocError, Global};
 use std::marker::Model;
 use std::ops::Range;
@@ -29,42 +30,41 @@ impl<T> Model for Owned<T> {
 impl<T: Copy + Drop> Keep<T> for Owned<T> {
     ghost rows_of = { λ rows. rows };
 
-    /// Fewer than of shared rows, since no copy pays for each chunk, and an edit moves half of one.
+    /// Few, since an edit moves half of them.
     #[inline]
     fn most() -> usize {
         MOST_OWNED
     }
 
-    fn keep(alloc: Global, rows: &[T]) -> Result<Owned<T>, AllocError>
-        ensures { IfOk result (λ chunk. chunk ≡ rows.now) }
-    {
-        let rows = copied(alloc, MOST_OWNED, rows)?;
+    fn keep(alloc: Global, rows: &[T]) -> Result<Owned<T>, AllocError> {
+        let rows = with_room(alloc, MOST_OWNED, rows)?;
         Ok(Owned { rows })
     }
 
     #[inline]
-    fn rows(&self) -> &[T] {
-        self.rows.as_slice()
+    fn size(&self) -> usize {
+        self.rows.len()
     }
 
-    fn copy(&self, alloc: Global) -> Result<Owned<T>, AllocError>
-        ensures { IfOk result (λ chunk. chunk ≡ self.now) }
-    {
+    #[inline]
+    fn part_at(&self, _place: usize) -> Part<'_, T> {
+        Part::whole(&self.rows)
+    }
+
+    fn append_to(&self, others: &mut Vec<T>) -> Result<(), AllocError> {
+        others.extend_from_slice(&self.rows)
+    }
+
+    fn copied(&self, alloc: Global) -> Result<Owned<T>, AllocError> {
         Owned::keep(alloc, &self.rows)
     }
 
-    fn push(&mut self, _alloc: Global, row: T) -> Result<(), AllocError> {
-        self.rows.reserve(1)?;
-        self.rows.push_reserved(row);
-        Ok(())
-    }
-
-    fn set(&mut self, _alloc: Global, place: usize, row: T) -> Result<(), AllocError> {
-        self.rows[place] = row;
-        Ok(())
-    }
-
-    fn splice(&mut self, _alloc: Global, span: Range<usize>, rows: &[T]) -> Result<(), AllocError> {
+    fn replace(
+        &mut self,
+        _alloc: Global,
+        span: Range<usize>,
+        rows: &[T],
+    ) -> Result<(), AllocError> {
         put_in(&mut self.rows, span.start, span.end, rows)
     }
 }

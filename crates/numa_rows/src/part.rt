@@ -1,5 +1,6 @@
 //! A part of a list, for searches of one's own.
-ghost use Rattle.std.specs.Prelude.{◌≡◌, ◌+◌, ◌-◌, ◌<◌, ◌^◌, List, length, slice_index_or};
+ghost use Rattle.std.specs.Prelude.{◌≡◌, ℕ, ◌+◌, ◌-◌, ◌<◌, ◌^◌, List, drop, length};
+ghost use Rattle.std.specs.Prelude.{slice_index_or};
 ghost use Rattle.std.specs.Bool.{OnTrue};
 ghost use Rattle.numa_rows.specs.Parts.{flat, HasRank, IsTable};
 ghost use Rattle.numa_rows.specs.Searches.{IsChunkOf, HasRow, PartData};
@@ -38,21 +39,35 @@ impl<'a, T> Part<'a, T> {
         }
     }
 
-    /// The rows of a place's chunk, which has the row of a rank.
+    /// All rows of a slice.
+    #[inline]
+    pub(crate) fn whole(rows: &'a [T]) -> Part<'a, T>
+        ensures part { IsChunkOf rows.now result }
+        ensures has { (rank : ℕ) → rank < length rows.now → HasRow result rank }
+    {
+        Part {
+            chunk: 0,
+            start: 0,
+            rows,
+        }
+    }
+
+    /// Rows of a place's chunk, which has the row of a rank.
     #[inline]
     pub(crate) fn at<K: Keep<T>>(
         chunks: &'a [Chunk<T, K>],
         place: Place,
-        _rank: usize,
+        rank: usize,
     ) -> Part<'a, T>
-        requires { HasRank chunks.now place.chunk place.start _rank }
+        requires { HasRank chunks.now place.chunk place.start rank }
         ensures part { IsChunkOf (flat chunks.now) result }
-        ensures has { HasRow result _rank }
+        ensures has { HasRow result rank }
     {
+        let part = chunks[place.chunk].part_at(rank - place.start);
         Part {
             chunk: place.chunk,
-            start: place.start,
-            rows: chunks[place.chunk].rows(),
+            start: place.start + part.start,
+            rows: part.rows,
         }
     }
 
@@ -72,6 +87,15 @@ impl<'a, T> Part<'a, T> {
             ≡ slice_index_or self.now.rows (rank - self.now.start) d }
     {
         &self.rows[rank - self.start]
+    }
+
+    /// Its rows from a rank on, which it has.
+    #[inline]
+    pub(crate) fn rows_from(&self, rank: usize) -> &'a [T]
+        requires { HasRow self.now rank }
+        ensures { result.now ≡ drop (rank - self.now.start) self.now.rows }
+    {
+        &self.rows[rank - self.start..]
     }
 
     /// The rank of its last row, where it has the row of a rank.
@@ -102,7 +126,7 @@ pub(crate) fn part_of<'a, T, K: Keep<T>>(
     rank: usize,
     guess: usize,
 ) -> Part<'a, T>
-    requires table { IsTable 1024 chunks.now starts.now len }
+    requires table { IsTable 6144 chunks.now starts.now len }
     requires rank { rank < len }
     requires part { IsChunkOf (flat chunks.now) part }
     ensures part { IsChunkOf (flat chunks.now) result }

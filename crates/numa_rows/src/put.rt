@@ -4,14 +4,18 @@ ghost use Rattle.std.specs.List.{splice};
 
 use std::alloc::{AllocError, Global};
 
-/// These rows in a vector with room for so many.
-pub(crate) fn copied<T: Copy + Drop>(
+/// How many more rows than it has fit into a vector that is made, at least.
+const MORE: usize = 8;
+
+/// These rows in a vector with room for so many, and for a few more than they are.
+pub(crate) fn with_room<T: Copy + Drop>(
     alloc: Global,
-    room: usize,
+    most: usize,
     rows: &[T],
 ) -> Result<Vec<T>, AllocError>
     ensures { IfOk result (λ items. items.items ≡ rows.now) }
 {
+    let room = rows.len().saturating_add(MORE).max(most);
     let mut items = Vec::with_capacity(alloc, room)?;
     items.extend_from_slice(rows)?;
     Ok(items)

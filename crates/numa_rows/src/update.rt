@@ -16,8 +16,8 @@ pub(crate) fn update_rows<T: Copy + Drop, F: Fn(&T) -> T>(
     f: &F,
 )
     requires callable { F.IsAlwaysCallable f.now }
-    requires table { IsTable 1024 chunks.old.items _starts.now _len }
-    ensures table { IsTable 1024 chunks.new.items _starts.now _len }
+    requires table { IsTable 6144 chunks.old.items _starts.now _len }
+    ensures table { IsTable 6144 chunks.new.items _starts.now _len }
     ensures made { (change : T → T) → Makes F.Fn f.now change
         → flat chunks.new.items ≡ map change (flat chunks.old.items) }
 {
@@ -34,10 +34,10 @@ pub(crate) fn put_row<T: Copy + Drop>(
     rank: usize,
     row: T,
 )
-    requires table { IsTable 1024 chunks.old.items starts.now len }
+    requires table { IsTable 6144 chunks.old.items starts.now len }
     requires rank { rank < len }
     ensures row { flat chunks.new.items ≡ slice_set (flat chunks.old.items) rank row }
-    ensures table { IsTable 1024 chunks.new.items starts.now len }
+    ensures table { IsTable 6144 chunks.new.items starts.now len }
 {
     let place = place_of(chunks, starts, len, rank, guess_at(starts, rank));
     chunks[place.chunk].put(rank - place.start, row);
@@ -50,10 +50,10 @@ pub(crate) fn cut_to<T: Copy + Drop>(
     len: usize,
     left: usize,
 )
-    requires table { IsTable 1024 chunks.old.items starts.old.items len }
+    requires table { IsTable 6144 chunks.old.items starts.old.items len }
     requires less { left < len }
     ensures rows { flat chunks.new.items ≡ take left (flat chunks.old.items) }
-    ensures table { IsTable 1024 chunks.new.items starts.new.items left }
+    ensures table { IsTable 6144 chunks.new.items starts.new.items left }
 {
     if left == 0 {
         chunks.clear();
@@ -73,10 +73,10 @@ fn cut_behind<T: Copy + Drop>(
     place: Place,
     rank: usize,
 )
-    requires table { IsTable 1024 chunks.old.items starts.old.items _len }
+    requires table { IsTable 6144 chunks.old.items starts.old.items _len }
     requires has { HasRank chunks.old.items place.chunk place.start rank }
     ensures rows { flat chunks.new.items ≡ take (rank + 1) (flat chunks.old.items) }
-    ensures table { IsTable 1024 chunks.new.items starts.new.items (rank + 1) }
+    ensures table { IsTable 6144 chunks.new.items starts.new.items (rank + 1) }
 {
     let kept = rank - place.start + 1;
     chunks.truncate(place.chunk + 1);

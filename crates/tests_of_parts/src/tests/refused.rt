@@ -13,7 +13,7 @@ use numa_machine::{Frame, Machine, Weights};
 use numa_plan::Plan;
 use numa_pool::{PoolSeat, Pools};
 use numa_ranges::{RangeFault, RangeMap};
-use numa_rows::{Rows, Shared};
+use numa_rows::SharedRows;
 use numa_space::Space;
 use std::alloc::Global;
 use std::process::Abort;
@@ -199,14 +199,14 @@ fn seats_that_part(rt: HostRuntime) {
 }
 
 /// The rows are those from 0 to 2,499.
-fn expect_counted(rt: &impl Abort, rows: &Rows<u32, Shared<u32>>) {
+fn expect_counted(rt: &impl Abort, rows: &SharedRows<u32>) {
     let equal = rows.iter().copied().eq(0..2_500u32);
     same(rt, &(rows.len(), equal), &(2_500, true));
 }
 
 /// The rows from 0 to 2,499, in chunks that a copy shares.
-fn counted(rt: &impl Abort, alloc: Global) -> Rows<u32, Shared<u32>> {
-    let mut rows = Rows::new(alloc);
+fn counted(rt: &impl Abort, alloc: Global) -> SharedRows<u32> {
+    let mut rows = SharedRows::new(alloc);
     for i in 0..2_500u32 {
         rows.push(i).expect(rt, "memory");
     }
@@ -224,7 +224,7 @@ fn copy_of_rows(rt: HostRuntime) {
 }
 
 /// Puts three rows in the place of two, with marks round it, and again where memory was refused.
-fn put_in(rt: &impl Abort, alloc: Global, rows: &mut Rows<u32, Shared<u32>>)
+fn put_in(rt: &impl Abort, alloc: Global, rows: &mut SharedRows<u32>)
     requires { length rows.old ≡ 2500 }
 {
     mark(rt, alloc);
@@ -246,7 +246,7 @@ fn rows_put_in(rt: HostRuntime) {
     expect_put_in(&rt, &rows);
 }
 
-fn expect_put_in(rt: &impl Abort, rows: &Rows<u32, Shared<u32>>) {
+fn expect_put_in(rt: &impl Abort, rows: &SharedRows<u32>) {
     assert!(rt; rows.len() == 2_501);
     let found = (
         *rows.get(299),

@@ -1,6 +1,6 @@
 //! Long lists of rows: what no clause says, that calls with ample memory succeed.
 use crate::tests::same::same;
-use numa_rows::{Keep, Owned, Rows, Shared};
+use numa_rows::{Keep, Owned, Rows, SharedRows};
 use std::alloc::Global;
 use std::process::Abort;
 
@@ -62,7 +62,7 @@ fn rows_are_pushed_and_found(rt: HostRuntime) {
 }
 
 /// The place of 700, and how many calls it took.
-fn place_and_calls(rows: &Rows<u32, Shared<u32>>) -> (usize, u32) {
+fn place_and_calls(rows: &SharedRows<u32>) -> (usize, u32) {
     let mut calls = 0u32;
     let place = rows.partition_point(&mut |row: &u32| {
         calls = calls.wrapping_add(1);
@@ -73,7 +73,7 @@ fn place_and_calls(rows: &Rows<u32, Shared<u32>>) -> (usize, u32) {
 
 #[test]
 fn the_test_is_called_as_often_as_the_length_has_digits(rt: HostRuntime) {
-    let rows: Rows<u32, Shared<u32>> = counted(&rt, rt.alloc(), 2047);
+    let rows: SharedRows<u32> = counted(&rt, rt.alloc(), 2047);
     same(&rt, &place_and_calls(&rows), &(700, 11));
 }
 
@@ -92,7 +92,7 @@ fn put_in<K: Keep<u32>>(
 /// Changes the first row.
 fn set_first<K: Keep<u32>>(rt: &impl Abort, rows: &mut Rows<u32, K>, row: u32) {
     assert!(rt; 0 < rows.len());
-    rows.set(0, row).expect(rt, "memory");
+    rows.splice(0, 1, &[row]).expect(rt, "memory");
 }
 
 /// The rows of a span are these.
@@ -129,22 +129,22 @@ fn owned_rows_are_put_in_and_taken_out(rt: HostRuntime) {
 
 #[test]
 fn shared_rows_are_put_in_and_taken_out(rt: HostRuntime) {
-    let mut rows: Rows<u32, Shared<u32>> = counted(&rt, rt.alloc(), 6);
+    let mut rows: SharedRows<u32> = counted(&rt, rt.alloc(), 6);
     put_in_and_take_out(&rt, &mut rows);
 }
 
 /// Edits the rows of which there is a copy.
-fn edit_beside(rt: &impl Abort, rows: &mut Rows<u32, Shared<u32>>, copy: &Rows<u32, Shared<u32>>) {
-    put_in(rt, rows, (500, 2400), &[1]);
-    expect_row(rt, copy, 2500, 1250, 1250);
+fn edit_beside(rt: &impl Abort, rows: &mut SharedRows<u32>, copy: &SharedRows<u32>) {
+    put_in(rt, rows, (500, 9_900), &[1]);
+    expect_row(rt, copy, 10_000, 1250, 1250);
     set_first(rt, rows, 9);
     expect_row(rt, rows, 601, 0, 9);
-    expect_row(rt, copy, 2500, 0, 0);
+    expect_row(rt, copy, 10_000, 0, 0);
 }
 
 #[test]
 fn a_copy_keeps_its_rows(rt: HostRuntime) {
-    let mut rows: Rows<u32, Shared<u32>> = counted(&rt, rt.alloc(), 2500);
+    let mut rows: SharedRows<u32> = counted(&rt, rt.alloc(), 10_000);
     let copy = rows.copy().expect(&rt, "a copy");
     edit_beside(&rt, &mut rows, &copy);
 }

@@ -5,10 +5,10 @@ use Rattle.numa_rows.proofs.InParts.{some-part}
 use Rattle.numa_rows.proofs.search.ask_chunk.Goals as goal
 
 pub overflow_sub-starts : goal.overflow_sub-starts
-overflow_sub-starts g c = (some-part 1024 c.args.chunks.now c.args.starts.now c.args.len 0 c.requires.table c.requires.some).0
+overflow_sub-starts g c = (some-part 6144 c.args.chunks.now c.args.starts.now c.args.len 0 c.requires.table c.requires.some).0
 
 pub bounds-starts-near : goal.bounds-starts-near
-bounds-starts-near g c = omega (arith, (some-part 1024 c.args.chunks.now c.args.starts.now c.args.len 0 c.requires.table c.requires.some).0)
+bounds-starts-near g c = omega (arith, (some-part 6144 c.args.chunks.now c.args.starts.now c.args.len 0 c.requires.table c.requires.some).0)
 
 pub part_of-part-requires-clause-table : goal.part_of-part-requires-clause-table
 part_of-part-requires-clause-table g c = c.requires.table
@@ -50,7 +50,7 @@ pub ask_last-requires-clause-has : goal.ask_last-requires-clause-has
 ask_last-requires-clause-has g c = c.part_of-part.ensures.has
 
 pub ask_last-requires-clause-place : goal.ask_last-requires-clause-place
-ask_last-requires-clause-place g c = omega (arith, (some-part 1024 c.args.chunks.now c.args.starts.now c.args.len 0 c.requires.table c.requires.some).0)
+ask_last-requires-clause-place g c = omega (arith, (some-part 6144 c.args.chunks.now c.args.starts.now c.args.len 0 c.requires.table c.requires.some).0)
 
 pub ask_last-requires-clause-within : goal.ask_last-requires-clause-within
 ask_last-requires-clause-within g c = omega (arith, c.ask-left.ensures.within)
@@ -86,7 +86,7 @@ pub ask-left-requires-clause-to : goal.ask-left-requires-clause-to
 ask-left-requires-clause-to g c = c.if-not-has.ensures.to refl
 
 pub ask_firsts-requires-clause-places : goal.ask_firsts-requires-clause-places
-ask_firsts-requires-clause-places g c = omega (arith, (some-part 1024 c.args.chunks.now c.args.starts.now c.args.len 0 c.requires.table c.requires.some).0)
+ask_firsts-requires-clause-places g c = omega (arith, (some-part 6144 c.args.chunks.now c.args.starts.now c.args.len 0 c.requires.table c.requires.some).0)
 
 pub returns-then-not-has-clause-within : goal.returns-then-not-has-clause-within
 returns-then-not-has-clause-within g c = omega arith

@@ -7,7 +7,7 @@ use Rattle.numa_rows.proofs.update.cut_behind.Goals as goal
 
 pub overflow_add-kept : goal.overflow_add-kept
 overflow_add-kept g c =
-    let most = most-at 1024 c.args.chunks.now.items c.args.place.chunk [] c.requires.has.within c.requires.table.filled in
+    let most = most-at 6144 c.args.chunks.now.items c.args.place.chunk [] c.requires.has.within c.requires.table.filled in
     omega (arith, most, c.requires.has.to [])
 
 pub returns-clause-rows : goal.returns-clause-rows
@@ -28,5 +28,5 @@ returns-clause-table g c =
     let new = set c.truncate.new.self.items part c.truncate-3.new.self in
     let left = kept-parts parts c.truncate.new.self.items new part c.truncate-3.new.self c.requires.has.within c.truncate.ensures.items refl in
     let rows = kept-rows parts new part c.args.place.start c.args.rank chunk c.truncate-3.new.self c.requires.has is c.truncate-3.ensures left in
-    kept-table 1024 parts new c.args.starts.now.items c.truncate-2.new.self.items c.args._len part c.args.place.start c.args.rank chunk c.truncate-3.new.self c.requires.table c.requires.has is c.truncate-3.ensures left c.truncate-2.ensures.items
+    kept-table 6144 parts new c.args.starts.now.items c.truncate-2.new.self.items c.args._len part c.args.place.start c.args.rank chunk c.truncate-3.new.self c.requires.table c.requires.has is c.truncate-3.ensures left c.truncate-2.ensures.items
     (let all = part-within parts part c.args.place.start c.args.rank chunk c.requires.has is in omega (arith, all, ap length is, c.requires.has.to chunk, c.requires.has.from, c.requires.table.count)) rows

@@ -11,4 +11,4 @@ returns-clause-partitioned g c p by =
     subst (λ (l : List g.row.T.Denot). IsPartitionedBy p l → IsPartitionPoint (λ y. p y ≡ true) (λ y. p y ≡ false) l c.search_near.result) same (c.search_near.ensures.partitioned p by)
 
 pub search_near-requires-clause-table : goal.search_near-requires-clause-table
-search_near-requires-clause-table g c = table-same 1024 c.self.inside.chunks.items c.deref.result.now c.self.inside.starts.items c.deref-2.result.now c.self.inside.len c.deref.ensures.value c.deref-2.ensures.value c.self.invariant
+search_near-requires-clause-table g c = table-same 6144 c.self.inside.chunks.items c.deref.result.now c.self.inside.starts.items c.deref-2.result.now c.self.inside.len c.deref.ensures.value c.deref-2.ensures.value c.self.invariant
