@@ -75,8 +75,8 @@ module _ (machine : Hardware) (plan : PlanData) (history : List Command) (stands
       go : (page : ℕ) → is_number node (planned_first plan task page cpu) ≡ (is_mapped history page && eqb (first_node machine history task page cpu) node)
       go page =
           elim (cases_Bool (is_mapped history page)) [
-            | inl t ↦ rw t (ap (λ o. is_number node (option_map (λ (nodes : List ℕ). get_or nodes 0 0) o)) (stands.lists task page cpu (known cpu lt) t))
-            | inr f ↦ rw f (ap (λ o. is_number node (option_map (λ (nodes : List ℕ). get_or nodes 0 0) o)) (stands.unmapped task page cpu f))
+            | inl t ↦ ap (λ o. is_number node (option_map (λ (nodes : List ℕ). get_or nodes 0 0) o)) (stands.lists task page cpu (known cpu lt) t) ∙ sym (ap (λ b. b && eqb (first_node machine history task page cpu) node) t)
+            | inr f ↦ ap (λ o. is_number node (option_map (λ (nodes : List ℕ). get_or nodes 0 0) o)) (stands.unmapped task page cpu f) ∙ sym (ap (λ b. b && eqb (first_node machine history task page cpu) node) f)
           ]
 
   hole-unmapped : (first pages cpu : ℕ) → cpu < plan.nodes → HasHole plan.runs first pages → HasUnmapped history first pages

@@ -13,7 +13,7 @@ use Rattle.numa_space.proofs.ListSizes.{filter-short, split-short, order-short}
 use Rattle.numa_space.proofs.NodeLists.{within-both}
 use Rattle.numa_plan.specs.Rows.{Faulting, Fixed, InTurns}
 use Rattle.numa_plan.proofs.RowLemmas.{has_rows-faulting, row_of-faulting, has_rows-fixed, row_of-fixed, has_row-joined, row_at-joined}
-use Rattle.numa_compile.specs.Rules.{row_from, rows_from, set_in, width_in, GivesRows, IsReady}
+use Rattle.numa_compile.specs.Rules.{row_from, rows_from, set_in, width_in, GivesRows, IsFilled, IsReady}
 use Rattle.numa_compile.specs.declared.reach.Reach.{Reach}
 use Rattle.numa_compile.specs.declared.reach.Reach.TheVariants.{Only, First}
 use Rattle.numa_compile.proofs.AllowedLemmas.{allowed-small}
@@ -26,11 +26,11 @@ pub row-width : (space : SpaceState) (reach : Reach) (from : ℕ) → IsReady sp
 row-width space (Only set) from ready inside = width-bind (setting_in space) set from ready.sound.allowed_memory inside
 row-width space (First set) from ready inside = width-many (setting_in space) set from ready.sound.allowed_memory inside
 
-width-some : (space : SpaceState) (reach : Reach) → IsReady space → set_in reach ≢ 0 → both (set_in reach) space.allowed ≡ set_in reach → 0 < width_in (setting_in space) reach
+width-some : (space : SpaceState) (reach : Reach) → IsReady space → IsFilled reach → both (set_in reach) space.allowed ≡ set_in reach → 0 < width_in (setting_in space) reach
 width-some space (Only set) ready some inside = weight-some set (allowed-small space set ready inside) some
 width-some space (First set) ready some inside = weight-some space.allowed (allowed-small space space.allowed ready (within-both space.allowed space.allowed (λ node member. member))) ready.sound.allowed_some
 
-pub row-some : (space : SpaceState) (reach : Reach) (from : ℕ) → IsReady space → set_in reach ≢ 0 → both (set_in reach) space.allowed ≡ set_in reach → 0 < length (row_from (setting_in space) reach from)
+pub row-some : (space : SpaceState) (reach : Reach) (from : ℕ) → IsReady space → IsFilled reach → both (set_in reach) space.allowed ≡ set_in reach → 0 < length (row_from (setting_in space) reach from)
 row-some space reach from ready some inside = omega (arith, row-width space reach from ready inside, width-some space reach ready some inside)
 
 pub row-few : (setting : Setting) (reach : Reach) (from : ℕ) → length (row_from setting reach from) ≤ 256
@@ -42,7 +42,7 @@ row-few setting (First set) from =
 -- ---- rules
 
 -- a row for each faulting node
-pub faulting-gives : (space : SpaceState) (reach : Reach) (width : ℕ) → IsReady space → set_in reach ≢ 0 → both (set_in reach) space.allowed ≡ set_in reach → width ≡ width_in (setting_in space) reach
+pub faulting-gives : (space : SpaceState) (reach : Reach) (width : ℕ) → IsReady space → IsFilled reach → both (set_in reach) space.allowed ≡ set_in reach → width ≡ width_in (setting_in space) reach
     → GivesRows space.machine.nodes (record { key = Faulting; width = width; rows = rows_from (setting_in space) reach (range_with_len 0 space.machine.nodes) }) (λ cpu index. row_from (setting_in space) reach cpu)
 faulting-gives space reach width ready some inside is cpu index lt =
     let nodes : ℕ = space.machine.nodes in
@@ -55,7 +55,7 @@ faulting-gives space reach width ready some inside is cpu index lt =
     )
 
 -- one row
-pub fixed-gives : (space : SpaceState) (reach : Reach) (from : ℕ) → IsReady space → set_in reach ≢ 0 → both (set_in reach) space.allowed ≡ set_in reach
+pub fixed-gives : (space : SpaceState) (reach : Reach) (from : ℕ) → IsReady space → IsFilled reach → both (set_in reach) space.allowed ≡ set_in reach
     → GivesRows space.machine.nodes (record { key = Fixed; width = length (row_from (setting_in space) reach from); rows = row_from (setting_in space) reach from }) (λ cpu index. row_from (setting_in space) reach from)
 fixed-gives space reach from ready some inside cpu index lt = (
   has_rows-fixed space.machine.nodes (row_from (setting_in space) reach from) (row-some space reach from ready some inside) (row-few (setting_in space) reach from) cpu index lt,

@@ -1,5 +1,5 @@
 -- How the rules of a plan are made: rows of nodes, and the cycles in which they take turns.
-use Rattle.std.specs.Prelude.{◌≡◌, ℕ, ◌+◌, ◌^◌, ◌<◌, ◌≤◌, ◌&&◌, not, Option, List, [], ◌∷◌, ◌++◌}
+use Rattle.std.specs.Prelude.{◌≡◌, ◌≢◌, ℕ, ◌+◌, ◌^◌, ◌<◌, ◌≤◌, ◌&&◌, not, Option, List, [], ◌∷◌, ◌++◌}
 use Rattle.std.specs.Prelude.{filter, flat_map, replicate, All}
 use Rattle.numa_mask.specs.NodeSet.{has, members, weight_of}
 use Rattle.numa_machine.specs.Machine.{distance_order}
@@ -27,6 +27,11 @@ rows_from setting reach nodes = flat_map (row_from setting reach) nodes
 abbrev pub set_in : Reach → ℕ
 set_in (Only set) = set
 set_in (First set) = set
+
+-- a set that stands alone has a node; behind another stand those that are allowed
+abbrev pub IsFilled : Reach → Type 0
+IsFilled (Only set) = set ≢ 0
+IsFilled (First set) = Unit {0}
 
 -- how many nodes each row has
 abbrev pub width_in : Setting → Reach → ℕ

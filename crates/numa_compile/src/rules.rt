@@ -5,10 +5,10 @@ ghost use Rattle.std.specs.Option.{ForSome};
 ghost use Rattle.numa_mask.specs.NodeSet.{both, has, members, weight_of};
 ghost use Rattle.numa_machine.specs.Weights.{interleave_node, weight_at, weighted_node};
 ghost use Rattle.numa_mode.specs.Policy.{is_live};
-ghost use Rattle.numa_space.specs.Lists.{near};
+ghost use Rattle.numa_space.specs.Lists.{before_others, near};
 ghost use Rattle.numa_space.specs.Standing.{setting_in, IsInForce};
 ghost use Rattle.numa_compile.specs.Rules.{row_from, set_in, width_in, GivesRows, IsRuleOf};
-ghost use Rattle.numa_compile.specs.Rules.{IsReady};
+ghost use Rattle.numa_compile.specs.Rules.{IsFilled, IsReady};
 ghost use Rattle.numa_compile.specs.declared.reach.Reach.TheVariants.{Only, First};
 
 use crate::reach::Reach;
@@ -33,7 +33,7 @@ fn width(space: &Space, reach: &Reach) -> u32
 /// A rule with a row for each faulting node.
 fn faulting_rule(alloc: Global, space: &Space, reach: Reach) -> Result<Rule, NoMemory>
     requires ready { IsReady space.now }
-    requires some { set_in reach ≢ 0 }
+    requires some { IsFilled reach }
     requires allowed { both (set_in reach) space.now.allowed ≡ set_in reach }
     ensures { IfOk result (λ rule. GivesRows space.now.machine.nodes rule
         (λ cpu index. row_from (setting_in space.now) reach cpu)) }
@@ -45,7 +45,7 @@ fn faulting_rule(alloc: Global, space: &Space, reach: Reach) -> Result<Rule, NoM
 /// A rule with one row, whichever node a fault is on.
 fn fixed_rule(alloc: Global, space: &Space, reach: Reach, from: u32) -> Result<Rule, NoMemory>
     requires ready { IsReady space.now }
-    requires some { set_in reach ≢ 0 }
+    requires some { IsFilled reach }
     requires allowed { both (set_in reach) space.now.allowed ≡ set_in reach }
     requires from { from < space.now.machine.nodes }
     ensures { IfOk result (λ rule. GivesRows space.now.machine.nodes rule
@@ -64,7 +64,7 @@ fn rule_by_home(
     home: Option<u8>,
 ) -> Result<Rule, NoMemory>
     requires ready { IsReady space.now }
-    requires some { set_in reach ≢ 0 }
+    requires some { IsFilled reach }
     requires allowed { both (set_in reach) space.now.allowed ≡ set_in reach }
     requires home { ForSome home (λ node. node < space.now.machine.nodes) }
     ensures { IfOk result (λ rule. GivesRows space.now.machine.nodes rule
@@ -135,12 +135,29 @@ fn first_node(set: &NodeMask) -> u8
 fn preferred_rule(alloc: Global, space: &Space, set: &NodeMask) -> Result<Rule, NoMemory>
     requires ready { IsReady space.now }
     requires some { set.now ≢ 0 }
-    requires allowed { both set.now space.now.allowed ≡ set.now }
+    requires memory { both set.now space.now.machine.memory ≡ set.now }
     ensures { IfOk result (λ rule. GivesRows space.now.machine.nodes rule
         (λ cpu index. near (setting_in space.now) (slice_index (members set.now) 0))) }
 {
     let node = u32::from(first_node(set));
     fixed_rule(alloc, space, Reach::Only(space.allowed()), node)
+}
+
+/// The rule of preferred-many: the allowed nodes of the set before the other allowed nodes.
+fn many_rule(
+    alloc: Global,
+    space: &Space,
+    set: &NodeMask,
+    home: Option<u8>,
+) -> Result<Rule, NoMemory>
+    requires ready { IsReady space.now }
+    requires home { ForSome home (λ node. node < space.now.machine.nodes) }
+    ensures { IfOk result (λ rule. GivesRows space.now.machine.nodes rule
+        (λ cpu index. before_others (setting_in space.now) (both set.now space.now.allowed)
+        (unwrap_or home cpu))) }
+{
+    let first = set.and(&space.allowed());
+    rule_by_home(alloc, space, Reach::First(first), home)
 }
 
 /// The rule of local allocation: the allowed nodes, the nearest to the faulting node first.
@@ -165,7 +182,7 @@ pub(crate) fn rule_of(alloc: Global, space: &Space, policy: &Record) -> Result<R
         Mode::Local => rule_by_home(alloc, space, near, policy.home()),
         Mode::Preferred => preferred_rule(alloc, space, &set),
         Mode::Bind => rule_by_home(alloc, space, Reach::Only(set), policy.home()),
-        Mode::PreferredMany => rule_by_home(alloc, space, Reach::First(set), policy.home()),
+        Mode::PreferredMany => many_rule(alloc, space, &set, policy.home()),
         Mode::Interleave => interleave_rule(alloc, space, &set),
         Mode::WeightedInterleave => weighted_rule(alloc, space, &set),
     }

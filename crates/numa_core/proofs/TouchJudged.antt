@@ -1,10 +1,11 @@
 -- What refuses a Begin in a core that stands for a world, and the list that it takes.
-use Rattle.std.proofs.Common.{◌≡◌, ℕ, ◌-◌, ◌<◌, ◌≤◌, Bool, true, false, Option, Some, None, is_some, is_none, option_and_then, List, [], ◌∷◌, length, nat_le, map, refl, sym, ap, subst, ◌∙◌, arith, slice_get, get_or, if◌then◌else◌}
+use Rattle.std.proofs.Common.{◌≡◌, ℕ, ◌-◌, ◌<◌, ◌≤◌, Bool, true, false, Option, Some, None, is_some, is_none, option_and_then, List, [], ◌∷◌, length, nat_le, map, refl, sym, ap, subst, ◌∙◌, arith, slice_get, get_or, if◌then◌else◌, cond}
 use Rattle.std.specs.Option.{option_map}
 use Rattle.std.proofs.lemmas.Bool.{leb-true, leb-false}
 use Rattle.std.proofs.lemmas.Bool.Decides.{nat_tests}
 use Rattle.std.proofs.lemmas.List.{length-drop}
 use Rattle.std.proofs.lemmas.Option.{slice_get-map, slice_get_read, slice_get_within}
+use Rattle.numa_space.specs.Lists.{node_list}
 use Rattle.numa_space.specs.Pages.{is_mapped}
 use Rattle.numa_space.specs.declared.refusal.PlaceRefusal.{PlaceRefusal}
 use Rattle.numa_space.specs.declared.refusal.PlaceRefusal.TheVariants.{BadCpu as NoCpu, Unmapped as NoPage}
@@ -49,8 +50,8 @@ unfolding list_at
 list-planned core world request stands low = go (is_mapped (first_commands (newest_published world) world.history) request.page) refl
   where
     go : (b : Bool) → is_mapped (first_commands (newest_published world) world.history) request.page ≡ b → list_at core.space.machine world.history (newest_published world) request ≡ planned_list core.plan request.task request.page request.cpu
-    go true e = rw e (sym (stands.plan.lists request.task request.page request.cpu low e))
-    go false e = rw e (sym (stands.plan.unmapped request.task request.page request.cpu e))
+    go true e = ap (λ b. cond b (Some (node_list core.space.machine (first_commands (newest_published world) world.history) request.task request.page request.cpu)) None) e ∙ sym (stands.plan.lists request.task request.page request.cpu low e)
+    go false e = ap (λ b. cond b (Some (node_list core.space.machine (first_commands (newest_published world) world.history) request.task request.page request.cpu)) None) e ∙ sym (stands.plan.unmapped request.task request.page request.cpu e)
 
 -- a known worker that is about nothing is refused by the faulting node and the page alone
 judged-idle : (core : CoreState) (w : ℕ) (request : Request) (world : World) → CoreStandsFor core world → slice_get core.workers w ≡ Some None

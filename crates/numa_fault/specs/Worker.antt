@@ -1,5 +1,6 @@
 -- What a fault worker shows.
 use Rattle.std.specs.Prelude.{◌≡◌, ℕ, List, [], Option, Some, None}
+use Rattle.numa_machine.specs.declared.rules.Rules.TheVariants.{Document}
 use Rattle.numa_pool.specs.Seats.{SeatView}
 use Rattle.numa_publish.specs.Shown.{ReaderState}
 use Rattle.numa_fault.specs.declared.answer.Answer.{Answer}
@@ -28,7 +29,7 @@ abbrev pub no_reader : ReaderState
 no_reader = record {
   desk = record {
     book = record { number = 0; log_name = 0; cells_name = 0 };
-    machine = record { nodes = 0; memory = 0; distances = []; frames = [] };
+    machine = record { nodes = 0; memory = 0; distances = []; frames = []; rules = Document };
   };
   history = [];
   enters = 0;

@@ -5,14 +5,16 @@ use Rattle.std.specs.Prelude.{List, [], ◌∷◌, fold, nat_lt, ◌==◌, if◌
 use Rattle.std.specs.Prelude.{slice_index, Contains, AllPairs, flat_map}
 use Rattle.std.specs.List.{range_with_len}
 use Rattle.numa_mask.specs.NodeSet.{members}
+use Rattle.numa_machine.specs.declared.rules.Rules.{Rules}
 
 -- a machine as it was described: how many nodes, the set of those with memory, the distances row by
--- row, the frames of each node
+-- row, the frames of each node; and whose rules count on it
 pub record Hardware : Type 0 where
   pub nodes : ℕ
   pub memory : ℕ
   pub distances : List ℕ
   pub frames : List ℕ
+  pub rules : Rules
 
 -- the entry of a table of distances, row by row, in the row of one node and the column of another
 abbrev pub table_entry : ℕ → List ℕ → ℕ → ℕ → ℕ

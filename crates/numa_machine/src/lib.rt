@@ -10,10 +10,12 @@ pub mod laws;
 pub mod machine;
 pub mod no_memory;
 mod orders;
+pub mod rules;
 pub mod weights;
 
 pub use fault::{MachineFault, WeightFault};
 pub use frame::Frame;
 pub use machine::Machine;
 pub use no_memory::NoMemory;
+pub use rules::Rules;
 pub use weights::Weights;

@@ -9,6 +9,7 @@ use crate::description::fault_of;
 use crate::fault::MachineFault;
 use crate::no_memory::NoMemory;
 use crate::orders::{entry, orders_of};
+use crate::rules::Rules;
 use numa_mask::NodeMask;
 use std::alloc::Global;
 use std::marker::Model;
@@ -25,6 +26,7 @@ pub struct Machine {
     /// The orders of nodes 0, 1, .., one after the other, each as long as there are nodes with
     /// memory.
     orders: Vec<u8>,
+    rules: Rules,
 }
 
 impl Model for Machine {
@@ -38,6 +40,7 @@ impl Model for Machine {
       memory = m.memory;
       distances = m.distances.items;
       frames = m.frames.items;
+      rules = m.rules;
     } };
 
     ghost invariant = { λ m.
@@ -46,14 +49,15 @@ impl Model for Machine {
           memory = m.memory;
           distances = m.distances.items;
           frames = m.frames.items;
+          rules = m.rules;
         }) m.orders.items };
 }
 
 impl Machine {
     /// The machine with this many nodes, these of them with memory, these distances between them
     /// (row by row, the row of a node before that of the next) and this many frames of 4,096 bytes
-    /// for each node. Refusals, the first that applies: `NodeCount`, `NoMemoryNode`, `BadDistance`,
-    /// `TooManyFrames`, `NoMemory`.
+    /// for each node. It follows the rules of the documents. Refusals, the first that applies:
+    /// `NodeCount`, `NoMemoryNode`, `BadDistance`, `TooManyFrames`, `NoMemory`.
     pub fn new(
         alloc: Global,
         nodes: u32,
@@ -68,6 +72,7 @@ impl Machine {
               memory = memory;
               distances = distances.now;
               frames = frames.now;
+              rules = Rules.Document;
             })) }
         ensures err { IfErr result (λ fault.
             MatchOption (machine_fault nodes memory distances.now frames.now)
@@ -85,7 +90,22 @@ impl Machine {
             distances,
             frames,
             orders,
+            rules: Rules::Document,
         })
+    }
+
+    /// The machine with these rules in the place of those that it has.
+    pub fn with_rules(self, rules: Rules) -> Machine
+        ensures { result ≡ record self { rules = rules } }
+    {
+        Machine {
+            nodes: self.nodes,
+            memory: self.memory,
+            distances: self.distances,
+            frames: self.frames,
+            orders: self.orders,
+            rules,
+        }
     }
 
     /// The same machine once more.
@@ -104,7 +124,15 @@ impl Machine {
             distances,
             frames,
             orders,
+            rules: self.rules,
         })
+    }
+
+    /// Whose rules count on the machine: those of the documents, until `with_rules` gives others.
+    pub fn rules(&self) -> Rules
+        ensures { result ≡ self.now.rules }
+    {
+        self.rules
     }
 
     /// How many nodes the machine has: they are numbered from 0.

@@ -1,6 +1,7 @@
 -- What the definitions give for the examples of the kernel's "NUMA Memory Policy" document. A set is the number of its bits.
 use Rattle.std.proofs.Common.{◌≡◌, Err, Ok, refl}
 use Rattle.numa_mask.specs.NodeSet.{members}
+use Rattle.numa_machine.specs.declared.rules.Rules.TheVariants.{Document}
 use Rattle.numa_mode.specs.Policy.{Specification, effect_when_set, effect_after, raw_specification}
 use Rattle.numa_mode.specs.declared.modes.Mode.TheVariants.{Default, Bind, Interleave}
 use Rattle.numa_mode.specs.declared.modes.NodeFlag.TheVariants.{Plain, Static, Relative}
@@ -16,12 +17,12 @@ unfolding members
 relative-first = refl
 
 -- within 3-7 then 3,5-7
-relative-second : effect_after relative 0b111100 0b111100 0b11111000 ≡ 0b11101000
+relative-second : effect_after Document relative 0b111100 0b111100 0b11111000 ≡ 0b11101000
 unfolding members
 relative-second = refl
 
 -- within 0,2-3,5 then all of these
-relative-third : effect_after relative 0b11101000 0b11111000 0b101101 ≡ 0b101101
+relative-third : effect_after Document relative 0b11101000 0b11111000 0b101101 ≡ 0b101101
 unfolding members
 relative-third = refl
 
@@ -34,11 +35,11 @@ plain-first : effect_when_set plain 0b111110 ≡ 0b101010
 unfolding members
 plain-first = refl
 
-plain-second : effect_after plain 0b101010 0b111110 0b1110000000 ≡ 0b1110000000
+plain-second : effect_after Document plain 0b101010 0b111110 0b1110000000 ≡ 0b1110000000
 unfolding members
 plain-second = refl
 
-plain-third : effect_after plain 0b1110000000 0b1110000000 0b111110 ≡ 0b1110
+plain-third : effect_after Document plain 0b1110000000 0b1110000000 0b111110 ≡ 0b1110
 unfolding members
 plain-third = refl
 

@@ -1,14 +1,18 @@
 -- PREFERRED has at most one node.
-use Rattle.std.proofs.Common.{◌≡◌, ℕ, true, eqb, List, [], ◌∷◌, length, map, take, get_or, All, sym, ap, ◌∙◌, arith, inl, inr, ◌^◌, ◌<◌}
+use Rattle.std.proofs.Common.{◌≡◌, ℕ, true, eqb, List, [], ◌∷◌, length, map, take, get_or, All, sym, ap, ◌∙◌, arith, inl, inr, ◌^◌, ◌<◌, if◌then◌else◌}
 use Rattle.std.proofs.lemmas.Bool.{cases_eq}
 use Rattle.std.specs.Int.{bit_at}
 use Rattle.std.specs.List.{AllByRecursion}
 use Rattle.std.proofs.lemmas.Nat.Bits.{bit_at_or, bit_at-zero, bit_at-pow_same, bit_at-pow_other}
 use Rattle.std.proofs.lemmas.List.Elements.{recursion_from_All, All-from_recursion}
 use Rattle.numa_mask.specs.NodeSet.{has, members, with_node, set_of, node_after, remap_set}
-use Rattle.numa_mode.specs.Policy.{Specification, is_preferred, is_preferred_mode, lowest, kept_nodes, given_nodes, effect_when_set}
+use Rattle.numa_mode.specs.Policy.{Specification, is_preferred, is_preferred_mode, lowest, kept_nodes, given_nodes, effect_when_set, stays, never_empty, effect_by_flag, effect_after}
 use Rattle.numa_mode.specs.Within.{IsWithin, IsAtMostOne}
 use Rattle.numa_mode.proofs.Subsets.{set_of-within, members-within}
+use Rattle.numa_machine.specs.declared.rules.Rules.{Rules}
+use Rattle.numa_machine.specs.declared.rules.Rules.TheVariants.{Document, Linux}
+use Rattle.numa_mode.specs.declared.modes.NodeFlag.{NodeFlag}
+use Rattle.numa_mode.specs.declared.modes.NodeFlag.TheVariants.{Plain, Static, Relative}
 use Rattle.numa_mode.specs.declared.modes.Mode.{Mode}
 use Rattle.numa_mode.specs.declared.modes.Mode.TheVariants.{Default, Preferred, Bind, Interleave, Local, PreferredMany, WeightedInterleave}
 
@@ -70,3 +74,22 @@ kept-at_most_one WeightedInterleave set h = cc
 
 pub effect_when_set-at_most_one : (spec : Specification) (allowed : ℕ) → is_preferred spec ≡ true → IsAtMostOne (effect_when_set spec allowed)
 effect_when_set-at_most_one spec allowed h = kept-at_most_one spec.mode (given_nodes spec.flag spec.mask allowed) h
+
+by_flag-at_most_one : (flag : NodeFlag) (spec : Specification) (effective old new : ℕ) → is_preferred spec ≡ true → IsAtMostOne effective → IsAtMostOne (effect_by_flag flag spec effective old new)
+by_flag-at_most_one Plain spec effective old new h single = remap-at_most_one effective old new single
+by_flag-at_most_one Static spec effective old new h single = effect_when_set-at_most_one spec new h
+by_flag-at_most_one Relative spec effective old new h single = effect_when_set-at_most_one spec new h
+
+-- and keeps at most one
+pub effect_after-at_most_one : (rules : Rules) (spec : Specification) (effective old new : ℕ) → is_preferred spec ≡ true → IsAtMostOne effective → IsAtMostOne (effect_after rules spec effective old new)
+effect_after-at_most_one Document spec effective old new h single = by_flag-at_most_one spec.flag spec effective old new h single
+effect_after-at_most_one Linux spec effective old new h single = go spec.mode h
+  where
+    go : (mode : Mode) → is_preferred_mode mode ≡ true → IsAtMostOne (if stays Linux mode then effective else never_empty Linux (effect_by_flag spec.flag spec effective old new) new)
+    go Preferred h = single
+    go Default h = cc
+    go Bind h = cc
+    go Interleave h = cc
+    go Local h = cc
+    go PreferredMany h = cc
+    go WeightedInterleave h = cc

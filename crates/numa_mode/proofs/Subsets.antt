@@ -1,7 +1,7 @@
 -- Effective sets are inside the allowed nodes.
 use Rattle.std.proofs.Common.{◌≡◌, ℕ, ◌^◌, ◌%◌, ◌<◌, ◌≤◌, true, false, eqb, Option, Some, None, List, [], ◌∷◌, get_or, fold, map, take, All, refl, sym, ap, ◌∙◌, arith, inl, inr, subst, slice_get}
 use Rattle.std.proofs.Math.Nat.{mod-lt}
-use Rattle.std.proofs.lemmas.Bool.{cases_eq}
+use Rattle.std.proofs.lemmas.Bool.{cases_eq, cases_Bool}
 use Rattle.std.proofs.lemmas.Bool.Decides.{nat_tests}
 use Rattle.std.specs.Int.{bit_at}
 use Rattle.std.specs.List.{filter_map, range_with_len, AllByRecursion, cons_option}
@@ -9,12 +9,14 @@ use Rattle.std.proofs.lemmas.Nat.Bits.{bit_at_and, bit_at_or, bit_at-lt, bit_at-
 use Rattle.std.proofs.lemmas.List.Elements.{All-map, All-take, All-from_recursion, recursion_from_All, filter_passes}
 use Rattle.std.proofs.lemmas.Option.{slice_get_within, get_or_from_slice_get}
 use Rattle.numa_mask.specs.NodeSet.{has, members, weight_of, nth_member, ordinal_of, with_node, set_of, both, fold_set, onto_set, node_after, remap_set}
-use Rattle.numa_mode.specs.Policy.{Specification, lowest, kept_nodes, given_nodes, effect_when_set, effect_by_flag, effect_after}
+use Rattle.numa_mode.specs.Policy.{Specification, lowest, kept_nodes, given_nodes, effect_when_set, stays, never_empty, effect_by_flag, effect_after}
 use Rattle.numa_mode.specs.declared.modes.Mode.{Mode}
 use Rattle.numa_mode.specs.declared.modes.Mode.TheVariants.{Default, Preferred, Bind, Interleave, Local, PreferredMany, WeightedInterleave}
 use Rattle.numa_mode.specs.declared.modes.NodeFlag.{NodeFlag}
 use Rattle.numa_mode.specs.declared.modes.NodeFlag.TheVariants.{Plain, Static, Relative}
 use Rattle.numa_mode.specs.Within.{IsWithin}
+use Rattle.numa_machine.specs.declared.rules.Rules.{Rules}
+use Rattle.numa_machine.specs.declared.rules.Rules.TheVariants.{Document, Linux}
 
 -- one digit below another that is 0 or 1
 digit_within : (a b : ℕ) → a ≤ b → b < 2 → eqb a 1 ≡ true → eqb b 1 ≡ true
@@ -114,6 +116,12 @@ effect_by_flag-within Plain spec effective old new some inside = remap-within ef
 effect_by_flag-within Static spec effective old new some inside = effect_when_set-within spec new
 effect_by_flag-within Relative spec effective old new some inside = effect_when_set-within spec new
 
--- and stays so
-pub effect_after-within : (spec : Specification) (effective old new : ℕ) → 0 < weight_of new → IsWithin effective old → IsWithin (effect_after spec effective old new) new
-effect_after-within spec effective old new some inside = effect_by_flag-within spec.flag spec effective old new some inside
+never_empty-within : (rules : Rules) (set allowed : ℕ) → IsWithin set allowed → IsWithin (never_empty rules set allowed) allowed
+never_empty-within Document set allowed inside = inside
+never_empty-within Linux set allowed inside =
+    elim (cases_Bool (eqb set 0)) [ inl e ↦ rw e (λ node member. member) | inr e ↦ rw e inside ]
+
+-- and stays so, where it follows
+pub effect_after-within : (rules : Rules) (spec : Specification) (effective old new : ℕ) → 0 < weight_of new → stays rules spec.mode ≡ false → IsWithin effective old → IsWithin (effect_after rules spec effective old new) new
+effect_after-within rules spec effective old new some follows inside =
+    rw follows (never_empty-within rules (effect_by_flag spec.flag spec effective old new) new (effect_by_flag-within spec.flag spec effective old new some inside))

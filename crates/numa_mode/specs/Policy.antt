@@ -42,6 +42,8 @@ use Rattle.std.specs.Prelude.{◌++◌, codes, take, slice_get, bit_and}
 use Rattle.std.specs.Int.{bit_at, bit_not, w32}
 use Rattle.numa_mask.specs.NodeSet.{members, weight_of, set_of, both, fold_set, onto_set, remap_set}
 use Rattle.numa_mask.specs.Lists.{text_of}
+use Rattle.numa_machine.specs.declared.rules.Rules.{Rules}
+use Rattle.numa_machine.specs.declared.rules.Rules.TheVariants.{Document, Linux}
 use Rattle.numa_mode.specs.Within.{IsAtMostOne}
 use Rattle.numa_mode.specs.declared.modes.Mode.{Mode}
 use Rattle.numa_mode.specs.declared.modes.Mode.TheVariants.{Default, Preferred, Bind, Interleave}
@@ -220,9 +222,26 @@ effect_by_flag Plain spec effective old new = remap_set effective old new
 effect_by_flag Static spec effective old new = effect_when_set spec new
 effect_by_flag Relative spec effective old new = effect_when_set spec new
 
+-- by the documents a policy follows every change of the allowed nodes. The kernel leaves the nodes
+-- of PREFERRED and PREFERRED_MANY as they were set; LOCAL has none
+abbrev pub stays : Rules → Mode → Bool
+stays Document mode = false
+stays Linux Preferred = true
+stays Linux PreferredMany = true
+stays Linux Local = true
+stays Linux _ = false
+
+-- by the documents a set without nodes stays so, and the policy rests. The kernel takes all that are
+-- allowed in its place
+abbrev pub never_empty : Rules → ℕ → ℕ → ℕ
+never_empty Document set allowed = set
+never_empty Linux set allowed = if set == 0 then allowed else set
+
 -- the effective set once the allowed nodes changed from old to new
-abbrev pub effect_after : Specification → ℕ → ℕ → ℕ → ℕ
-effect_after spec effective old new = effect_by_flag spec.flag spec effective old new
+abbrev pub effect_after : Rules → Specification → ℕ → ℕ → ℕ → ℕ
+effect_after rules spec effective old new =
+    if stays rules spec.mode then effective
+    else never_empty rules (effect_by_flag spec.flag spec effective old new) new
 
 -- ---- records
 
@@ -230,8 +249,9 @@ abbrev pub record_when_set : Specification → ℕ → PolicyRecord
 record_when_set spec allowed =
     record { spec = spec; effective = effect_when_set spec allowed; home = None }
 
-abbrev pub record_after : PolicyRecord → ℕ → ℕ → PolicyRecord
-record_after r old new = record r { effective = effect_after r.spec r.effective old new }
+abbrev pub record_after : Rules → PolicyRecord → ℕ → ℕ → PolicyRecord
+record_after rules r old new =
+    record r { effective = effect_after rules r.spec r.effective old new }
 
 -- whether a policy counts: it has nodes, or needs none
 abbrev pub is_live : PolicyRecord → Bool

@@ -1,11 +1,14 @@
 //! The effective set of a policy that is set.
-ghost use Rattle.std.specs.Prelude.{◌≡◌, ◌<◌};
+ghost use Rattle.std.specs.Prelude.{◌≡◌, ◌≢◌, ◌<◌, false, true};
 ghost use Rattle.numa_mask.specs.NodeSet.{weight_of};
 ghost use Rattle.numa_mode.specs.Policy.{lowest, kept_nodes, given_nodes, effect_when_set};
-ghost use Rattle.numa_mode.specs.Within.{IsWithin};
+ghost use Rattle.numa_mode.specs.Policy.{effect_by_flag, effect_after, stays, never_empty};
+ghost use Rattle.numa_mode.specs.Policy.{is_preferred, is_local};
+ghost use Rattle.numa_mode.specs.Within.{IsWithin, IsAtMostOne};
 
 use crate::modes::{Mode, NodeFlag};
 use crate::specification::PolicySpec;
+use numa_machine::Rules;
 use numa_mask::NodeMask;
 
 /// The nodes that a policy has once it is set where these nodes are allowed, of which there are
@@ -54,4 +57,60 @@ fn lowest_of(set: &NodeMask) -> NodeMask
         alone.insert(node);
     }
     alone
+}
+
+/// The effective set once the allowed nodes have changed from `old` to `new`, of which there are
+/// `size`.
+pub(crate) fn effect_after(
+    rules: Rules,
+    spec: &PolicySpec,
+    set: &NodeMask,
+    old: &NodeMask,
+    new: &NodeMask,
+    size: u32,
+) -> NodeMask
+    requires size { size ≡ weight_of new.now }
+    requires some { 0 < size }
+    ensures after { result ≡ effect_after rules spec.now set.now old.now new.now }
+{
+    if stays(rules, spec.mode()) {
+        return *set;
+    }
+    let moved = moved(spec, set, old, new, size);
+    never_empty(rules, moved, new)
+}
+
+/// The nodes of a policy that follows the allowed nodes, as its flag has it.
+fn moved(spec: &PolicySpec, set: &NodeMask, old: &NodeMask, new: &NodeMask, size: u32) -> NodeMask
+    requires size { size ≡ weight_of new.now }
+    requires some { 0 < size }
+    ensures moved { result ≡ effect_by_flag spec.now.flag spec.now set.now old.now new.now }
+{
+    match spec.flag() {
+        NodeFlag::Plain => set.remap(old, new),
+        NodeFlag::Static | NodeFlag::Relative => effect(spec, new, size),
+    }
+}
+
+/// Whether a policy's nodes stay as they were set.
+fn stays(rules: Rules, mode: Mode) -> bool
+    ensures { result ≡ stays rules mode }
+{
+    match rules {
+        Rules::Document => false,
+        Rules::Linux => match mode {
+            Mode::Preferred | Mode::PreferredMany | Mode::Local => true,
+            _ => false,
+        },
+    }
+}
+
+/// The nodes, or, by the rules of the kernel, all that are allowed where there are none.
+fn never_empty(rules: Rules, set: NodeMask, allowed: &NodeMask) -> NodeMask
+    ensures { result ≡ never_empty rules set allowed.now }
+{
+    match rules {
+        Rules::Document => set,
+        Rules::Linux => { if set.is_empty() { *allowed } else { set } }
+    }
 }

@@ -3,13 +3,14 @@ ghost use Rattle.std.specs.Prelude.{◌≡◌, ◌≢◌, true, false, is_ok, is
 ghost use Rattle.std.specs.Prelude.{IfOk, IfSome, IsTrue, ◌↔◌};
 ghost use Rattle.numa_mode.specs.Policy.{is_default, is_preferred, is_local, is_live};
 ghost use Rattle.numa_mode.specs.Policy.{record_when_set, record_after, takes_home, with_home};
-ghost use Rattle.numa_mode.specs.Policy.{policy_text};
+ghost use Rattle.numa_mode.specs.Policy.{policy_text, stays};
 ghost use Rattle.numa_mode.specs.Within.{IsWithin, IsAtMostOne};
 
-use crate::effects::effect;
-use crate::modes::{Mode, NodeFlag};
+use crate::effects::{effect, effect_after};
+use crate::modes::Mode;
 use crate::specification::PolicySpec;
 use arrayvec::ArrayString;
+use numa_machine::Rules;
 use numa_mask::{NodeMask, list_text};
 use std::marker::Model;
 
@@ -68,24 +69,22 @@ impl Record {
 
     /// The record once the allowed nodes have changed from `old` to `new`: with a flag the
     /// effective set is read again from the nodes that were asked for, and without one the nodes
-    /// that stand move, as the kernel's bitmap_remap moves bits. The home node stays, allowed or
-    /// not.
+    /// that stand move, as the kernel's bitmap_remap moves bits. By the rules of the kernel
+    /// `Preferred` and `PreferredMany` stay as they are, and all of `new` stand in for a set that
+    /// would be empty. The home node stays, allowed or not.
     ///
     /// A node of `new` is allowed.
-    pub fn rebind(&self, old: &NodeMask, new: &NodeMask) -> Record
+    pub fn rebind(&self, rules: Rules, old: &NodeMask, new: &NodeMask) -> Record
         requires some { new.now ≢ 0 }
-        ensures rebind { result ≡ record_after self.now old.now new.now }
-        ensures within { IsWithin self.now.effective old.now → IsWithin result.effective new.now }
+        ensures rebind { result ≡ record_after rules self.now old.now new.now }
+        ensures within { stays rules self.now.spec.mode ≡ false
+            → IsWithin self.now.effective old.now → IsWithin result.effective new.now }
     {
         let spec = self.spec;
         let size = new.weight();
-        let effective = match spec.flag() {
-            NodeFlag::Plain => self.effective.remap(old, new),
-            NodeFlag::Static | NodeFlag::Relative => effect(&spec, new, size),
-        };
         Record {
             spec,
-            effective,
+            effective: effect_after(rules, &spec, &self.effective, old, new, size),
             home: self.home,
         }
     }

@@ -65,6 +65,7 @@ pub(crate) fn command_words(refusal: Refusal) -> &'static str {
             "the policy would have no node now; name an allowed one, or allow it first by mems"
         }
         Refusal::NotSupported => "a page has a policy that takes no home; leave that page out",
+        Refusal::NoPolicy => "no page has a policy of its own; bind one first",
         Refusal::TooManyTasks => {
             "as many tasks as the limits allow have a policy; raise T, or set one to default"
         }

@@ -64,8 +64,8 @@ module _ (machine : Hardware) (plan : PlanData) (history : List Command) (stands
   pub number-meant : (task page cpu node : ℕ) → cpu < machine.nodes → is_number node (planned_first plan task page cpu) ≡ (is_mapped history page && eqb (first_node machine history task page cpu) node)
   number-meant task page cpu node lt =
       elim (cases_Bool (is_mapped history page)) [
-        | inl t ↦ rw t (ap (λ o. is_number node (option_map (λ (nodes : List ℕ). get_or nodes 0 0) o)) (stands.lists task page cpu lt t))
-        | inr f ↦ rw f (ap (λ o. is_number node (option_map (λ (nodes : List ℕ). get_or nodes 0 0) o)) (stands.unmapped task page cpu f))
+        | inl t ↦ ap (λ o. is_number node (option_map (λ (nodes : List ℕ). get_or nodes 0 0) o)) (stands.lists task page cpu lt t) ∙ sym (ap (λ b. b && eqb (first_node machine history task page cpu) node) t)
+        | inr f ↦ ap (λ o. is_number node (option_map (λ (nodes : List ℕ). get_or nodes 0 0) o)) (stands.unmapped task page cpu f) ∙ sym (ap (λ b. b && eqb (first_node machine history task page cpu) node) f)
       ]
 
 -- the pages that two plans send to other nodes are those of the histories

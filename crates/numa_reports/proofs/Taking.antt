@@ -1,5 +1,5 @@
 -- Pages that are filled one by one, and range by range.
-use Rattle.std.proofs.Common.{◌≡◌, ℕ, zero, suc, ◌+◌, ◌-◌, ◌<◌, ◌≤◌, ◌^◌, Option, Some, None, List, [], ◌∷◌, refl, sym, ap, ◌∙◌, arith, inl, inr}
+use Rattle.std.proofs.Common.{◌≡◌, ℕ, zero, suc, ◌+◌, ◌-◌, ◌<◌, ◌≤◌, ◌^◌, Option, Some, None, List, [], ◌∷◌, refl, sym, ap, ◌∙◌, arith, inl, inr, cond}
 use Rattle.std.specs.Prelude.{unwrap_or}
 use Rattle.std.proofs.lemmas.Bool.{cases_Bool}
 use Rattle.numa_machine.specs.Machine.{Hardware}
@@ -8,6 +8,7 @@ use Rattle.numa_ranges.specs.declared.run.Run.{Run}
 use Rattle.numa_ranges.proofs.Apart.{apart-top, in_pages-above, in_pages-below, page_at-before}
 use Rattle.numa_plan.specs.Meaning.{PlanData, planned_list}
 use Rattle.numa_compile.specs.Standing.{PlanStandsFor}
+use Rattle.numa_space.specs.Lists.{node_list}
 use Rattle.numa_space.specs.Pages.{is_mapped}
 use Rattle.numa_space.specs.Standing.{SpaceState, StandsFor}
 use Rattle.numa_space.specs.declared.command.Command.{Command}
@@ -88,8 +89,8 @@ free-runs nodes free from n (run ∷ runs) apart all none =
 pub same-nodes : (machine : Hardware) (plan : PlanData) (history : List Command) (task cpu page : ℕ) → PlanStandsFor machine plan history → cpu < machine.nodes → planned_nodes plan task cpu page ≡ nodes_of machine history task cpu page
 same-nodes machine plan history task cpu page planned lt =
     elim (cases_Bool (is_mapped history page)) [
-      | inl t ↦ rw t (ap (λ (o : Option (List ℕ)). unwrap_or o []) (planned.lists task page cpu lt t))
-      | inr f ↦ rw f (ap (λ (o : Option (List ℕ)). unwrap_or o []) (planned.unmapped task page cpu f))
+      | inl t ↦ ap (λ (o : Option (List ℕ)). unwrap_or o []) (planned.lists task page cpu lt t) ∙ sym (ap (λ b. cond b (node_list machine history task page cpu) []) t)
+      | inr f ↦ ap (λ (o : Option (List ℕ)). unwrap_or o []) (planned.unmapped task page cpu f) ∙ sym (ap (λ b. cond b (node_list machine history task page cpu) []) f)
     ]
 
 -- a page that no range has, has no list

@@ -2,6 +2,7 @@
 use Rattle.std.proofs.Common.{◌≡◌, true, false, [], ◌∷◌, None, Some, codes, refl}
 use Rattle.std.specs.Prelude.{◌==◌, ◌&&◌, if◌then◌else◌}
 use Rattle.std.specs.Fmt.{digits}
+use Rattle.numa_machine.specs.declared.rules.Rules.TheVariants.{Document}
 use Rattle.numa_mask.specs.Lists.{item_of, ends_of, digit_of, numeral_of as node_numeral_of}
 use Rattle.numa_mask.specs.NodeSet.{members}
 use Rattle.numa_machine.specs.Machine.{Hardware, distance_order}
@@ -57,7 +58,7 @@ two-nodes_without_memory = refl
 -- ---- with a machine of two nodes, two mapped pages, and a policy of the first
 
 abbrev pub two_nodes : Hardware
-two_nodes = record { nodes = 2; memory = 3; distances = 10 ∷ 20 ∷ 20 ∷ 10 ∷ []; frames = 8 ∷ 8 ∷ [] }
+two_nodes = record { nodes = 2; memory = 3; distances = 10 ∷ 20 ∷ 20 ∷ 10 ∷ []; frames = 8 ∷ 8 ∷ []; rules = Document }
 
 -- the commands so far, none of them published
 world : World

@@ -2,6 +2,7 @@
 use Rattle.std.specs.Prelude.{ℕ, ◌==◌, ◌&&◌, ◌||◌, nat_le, nat_lt, Bool, Option, Some, List}
 use Rattle.std.specs.Prelude.{if◌then◌else◌}
 use Rattle.numa_machine.specs.Machine.{Hardware}
+use Rattle.numa_machine.specs.declared.rules.Rules.TheVariants.{Document}
 use Rattle.numa_machine.specs.Faults.{hardware_fault}
 use Rattle.numa_machine.specs.declared.fault.MachineFault.{MachineFault}
 use Rattle.numa_machine.specs.declared.fault.MachineFault.TheVariants as machine_fault
@@ -21,6 +22,7 @@ hardware_from nodes memory frames distances = record {
   memory = memory;
   distances = distances_for nodes distances;
   frames = frames_for nodes memory frames;
+  rules = Document;
 }
 
 -- the machine that a line describes, once its list of nodes with memory is read

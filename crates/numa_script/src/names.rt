@@ -46,7 +46,7 @@ static MACHINE_NAMES: [&[u8]; 5] = [
 ];
 
 /// The names of the refusals of commands.
-static REFUSAL_NAMES: [&[u8]; 14] = [
+static REFUSAL_NAMES: [&[u8]; 15] = [
     b"CommandsSpent",
     b"Unaligned",
     b"OutOfSpace",
@@ -58,19 +58,21 @@ static REFUSAL_NAMES: [&[u8]; 14] = [
     b"BadWeight",
     b"NodesNotAllowed",
     b"NotSupported",
+    b"NoPolicy",
     b"TooManyTasks",
     b"TooManyRanges",
     b"NoMemory",
 ];
 
 /// The names of the error numbers.
-static ERRNO_NAMES: [&[u8]; 6] = [
+static ERRNO_NAMES: [&[u8]; 7] = [
     b"EINVAL",
     b"ENOMEM",
     b"EEXIST",
     b"EFAULT",
     b"ENOSPC",
     b"EOPNOTSUPP",
+    b"ENOENT",
 ];
 
 /// The names of the refusals of questions.

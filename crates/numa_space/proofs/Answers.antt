@@ -14,7 +14,7 @@ use Rattle.numa_space.specs.declared.refusal.Refusal.TheVariants.{NoMemory}
 use Rattle.numa_space.proofs.Places.{allowed-next}
 use Rattle.numa_space.proofs.Pages.{pages-next}
 use Rattle.numa_space.proofs.Tasks.{weight-next, task-next, task_count-next}
-use Rattle.numa_space.proofs.Refused.{refusal-same, binds-mapped}
+use Rattle.numa_space.proofs.Refused.{refusal-same}
 
 -- a new space stands for the empty history
 pub stands-new : (space : SpaceState) → space.version ≡ 0 → space.allowed ≡ space.machine.memory → space.ranges ≡ [] → space.tasks ≡ [] → ((node : ℕ) → weight_at space.weights node ≡ 1) → StandsFor space []
@@ -34,11 +34,10 @@ stands-next old new history command stands none next =
     let pages : page_at old.ranges ≡ page_in old.machine history = λ i page. stands.pages page i in
     let tasks : record_of old.tasks ≡ task_record old.machine history = λ i task. stands.tasks task i in
     let weights : weight_at old.weights ≡ node_weight history = λ i node. stands.weights node i in
-    let mapped = binds-mapped old.machine old.bounds history command none in
     record {
       version = omega (arith, next.version, stands.version);
       allowed = next.allowed ∙ ap (λ a. allowed_next old.machine a command) stands.allowed ∙ sym (allowed-next old.machine history command) ∙ ap (λ m. allowed_nodes m (command ∷ history)) (sym next.machine);
-      pages = λ page. next.pages page ∙ (λ i. pages_next old.machine (stands.allowed i) (pages i) command page) ∙ sym (pages-next old.machine history command page mapped) ∙ ap (λ m. page_in m (command ∷ history) page) (sym next.machine);
+      pages = λ page. next.pages page ∙ (λ i. pages_next old.machine (stands.allowed i) (pages i) command page) ∙ sym (pages-next old.machine history command page) ∙ ap (λ m. page_in m (command ∷ history) page) (sym next.machine);
       tasks = λ task. next.tasks task ∙ (λ i. task_next old.machine (stands.allowed i) (tasks i) command task) ∙ sym (task-next old.machine history command task) ∙ ap (λ m. task_record m (command ∷ history) task) (sym next.machine);
       task_count = next.task_count ∙ (λ i. task_count_next (tasks i) (stands.task_count i) command) ∙ sym (task_count-next old.machine history command);
       weights = λ node. next.weights node ∙ (λ i. weight_next (weights i) command node) ∙ sym (weight-next history command node);

@@ -2,6 +2,8 @@
 use Rattle.std.proofs.Common.{◌≡◌, ◌<◌, ◌+◌, ◌-◌, ℕ, Bool, true, false, not, ◌&&◌, Option, Some, None, is_some, Result, Ok, Err, List, [], ◌∷◌, length, refl, ap, ◌∙◌, subst, arith}
 use Rattle.std.specs.Prelude.{if◌then◌else◌, nat_le, ◌==◌}
 use Rattle.std.proofs.lemmas.Bool.{lt-leb}
+use Rattle.numa_machine.specs.declared.rules.Rules.{Rules}
+use Rattle.numa_machine.specs.declared.rules.Rules.TheVariants.{Document, Linux}
 use Rattle.numa_mode.specs.Policy.{Specification, PolicyRecord, is_default, record_when_set}
 use Rattle.numa_ranges.specs.Runs.{page_at}
 use Rattle.numa_ranges.specs.Maps.{any_page, changed_span}
@@ -11,7 +13,7 @@ use Rattle.numa_space.specs.declared.refusal.Refusal.{Refusal}
 use Rattle.numa_space.specs.declared.refusal.Refusal.TheVariants.{Hole, NodesNotAllowed}
 use Rattle.numa_space.specs.Edits.{PageRanges, IsEdit, hole_cause, too_many}
 use Rattle.numa_space.specs.History.{page_of, page_count}
-use Rattle.numa_space.specs.Refusals.{PageMap, bad_span, first_of, has_no_node, refusal_in}
+use Rattle.numa_space.specs.Refusals.{PageMap, bad_span, first_of, has_no_node, is_linux, passes_holes, bind_cause, refusal_in}
 use Rattle.numa_space.specs.Standing.{SpaceState, record_of}
 use Rattle.numa_space.specs.Steps.{IsAnswer, IsNext, scene_in, record_now}
 
@@ -21,8 +23,13 @@ module _ (old : SpaceState) (start bytes : ℕ) (spec : Specification) (room : o
   abbrev pub bound : ℕ → ℕ → Option PolicyRecord → PageMap
   bound first count policy = changed_span first count (λ r. policy) (page_at old.ranges)
 
-  bind-cause : refusal_in (scene_in old (Mbind start bytes spec)) (Mbind start bytes spec) ≡ first_of (hole_cause (page_at old.ranges) (page_of start) (page_count bytes)) (too_many old.bounds.max_ranges (bound (page_of start) (page_count bytes) (record_now old.allowed spec)))
-  bind-cause = rw (lt-leb old.bounds.max_commands old.version room, span, some, node) refl
+  bind-cause : refusal_in (scene_in old (Mbind start bytes spec)) (Mbind start bytes spec) ≡ first_of (hole_cause (passes_holes old.machine.rules spec) (page_at old.ranges) (page_of start) (page_count bytes)) (too_many old.bounds.max_ranges (bound (page_of start) (page_count bytes) (record_now old.allowed spec)))
+  bind-cause = rw (lt-leb old.bounds.max_commands old.version room, span, some, node) (by_rules old.machine.rules)
+    where
+      by_rules : (r : Rules) → bind_cause r None (hole_cause (passes_holes old.machine.rules spec) (page_at old.ranges) (page_of start) (page_count bytes)) (too_many old.bounds.max_ranges (bound (page_of start) (page_count bytes) (record_now old.allowed spec)))
+          ≡ first_of (hole_cause (passes_holes old.machine.rules spec) (page_at old.ranges) (page_of start) (page_count bytes)) (too_many old.bounds.max_ranges (bound (page_of start) (page_count bytes) (record_now old.allowed spec)))
+      by_rules Document = refl
+      by_rules Linux = refl
 
   bind-next : (runs : List (Run (Option PolicyRecord))) → ((page : ℕ) → page_at runs page ≡ bound (page_of start) (page_count bytes) (record_now old.allowed spec) page) → IsNext old (Mbind start bytes spec) (record old { ranges = runs; version = old.version + 1 })
   bind-next runs pages = record { machine = refl; bounds = refl; version = refl; allowed = refl; pages = pages; tasks = λ task. refl; task_count = refl; weights = λ n. refl }
@@ -39,33 +46,36 @@ module _ (old : SpaceState) (start bytes : ℕ) (spec : Specification) (room : o
   by_result limit new (Ok u) (Some cause) e edit = let odd : ◌≡◌ {A = Result (Unit {0}) Refusal} (Ok u) (Err cause) = edit.0 in absurd (cc)
   by_result limit new (Err r) (Some cause) e edit = rw e (edit.0, ap (λ (p : PageRanges). record old { ranges = p.runs }) edit.1)
 
-  pub bind-answer : (first count limit : ℕ) (policy : Option PolicyRecord) (new : PageRanges) (result : Result (Unit {0}) Refusal)
-      → first ≡ page_of start → count ≡ page_count bytes → limit ≡ old.bounds.max_ranges → policy ≡ record_now old.allowed spec
-      → IsEdit (first_of (hole_cause (page_at old.ranges) first count) (too_many limit (bound first count policy))) (bound first count policy) (record { runs = old.ranges; limit = limit }) result new
+  pub bind-answer : (first count limit : ℕ) (policy : Option PolicyRecord) (passes : Bool) (new : PageRanges) (result : Result (Unit {0}) Refusal)
+      → first ≡ page_of start → count ≡ page_count bytes → limit ≡ old.bounds.max_ranges → policy ≡ record_now old.allowed spec → passes ≡ passes_holes old.machine.rules spec
+      → IsEdit (first_of (hole_cause passes (page_at old.ranges) first count) (too_many limit (bound first count policy))) (bound first count policy) (record { runs = old.ranges; limit = limit }) result new
       → IsAnswer old (Mbind start bytes spec) result (bind-after result new)
-  bind-answer first count limit policy new result is_first is_count is_limit is_policy edit =
-      let P : ℕ → ℕ → ℕ → Option PolicyRecord → Type 0 = λ a b l p. IsEdit (first_of (hole_cause (page_at old.ranges) a b) (too_many l (bound a b p))) (bound a b p) (record { runs = old.ranges; limit = limit }) result new in
+  bind-answer first count limit policy passes new result is_first is_count is_limit is_policy is_passes edit =
+      let P : ℕ → ℕ → ℕ → Option PolicyRecord → Type 0 = λ a b l p. IsEdit (first_of (hole_cause (passes_holes old.machine.rules spec) (page_at old.ranges) a b) (too_many l (bound a b p))) (bound a b p) (record { runs = old.ranges; limit = limit }) result new in
       let placed : P (page_of start) (page_count bytes) old.bounds.max_ranges (record_now old.allowed spec) =
       subst (λ p. P (page_of start) (page_count bytes) old.bounds.max_ranges p) is_policy
-      (subst (λ l. P (page_of start) (page_count bytes) l policy) is_limit (subst (λ b. P (page_of start) b limit policy) is_count (subst (λ a. P a count limit policy) is_first edit))) in
-      by_result limit new result (first_of (hole_cause (page_at old.ranges) (page_of start) (page_count bytes)) (too_many old.bounds.max_ranges (bound (page_of start) (page_count bytes) (record_now old.allowed spec)))) bind-cause placed
+      (subst (λ l. P (page_of start) (page_count bytes) l policy) is_limit (subst (λ b. P (page_of start) b limit policy) is_count (subst (λ a. P a count limit policy) is_first
+      (subst (λ h. IsEdit (first_of (hole_cause h (page_at old.ranges) first count) (too_many limit (bound first count policy))) (bound first count policy) (record { runs = old.ranges; limit = limit }) result new) is_passes edit)))) in
+      by_result limit new result (first_of (hole_cause (passes_holes old.machine.rules spec) (page_at old.ranges) (page_of start) (page_count bytes)) (too_many old.bounds.max_ranges (bound (page_of start) (page_count bytes) (record_now old.allowed spec)))) bind-cause placed
 
 module _ (old : SpaceState) (start bytes : ℕ) (spec : Specification) (room : old.version < old.bounds.max_commands) (span : bad_span start bytes ≡ None) (some : (bytes == 0) ≡ false) (node : has_no_node old.allowed spec ≡ true) where
-  -- a policy without a node is refused, behind a hole
-  pub bind-refused : (first count : ℕ) (refusal : Refusal) → first ≡ page_of start → count ≡ page_count bytes → refusal ≡ (if any_page (λ page. not (is_some (page_at old.ranges page))) first count then Hole else NodesNotAllowed)
+  -- a policy without a node is refused, by the documents behind a hole
+  pub bind-refused : (first count : ℕ) (refusal : Refusal) → first ≡ page_of start → count ≡ page_count bytes → refusal ≡ (if not (is_linux old.machine.rules) && any_page (λ page. not (is_some (page_at old.ranges page))) first count then Hole else NodesNotAllowed)
       → IsAnswer old (Mbind start bytes spec) (Err refusal) old
   bind-refused first count refusal is_first is_count is =
-      go (any_page (λ page. not (is_some (page_at old.ranges page))) (page_of start) (page_count bytes)) refl
-      (subst (λ b. refusal ≡ (if any_page (λ page. not (is_some (page_at old.ranges page))) (page_of start) b then Hole else NodesNotAllowed)) is_count
-      (subst (λ a. refusal ≡ (if any_page (λ page. not (is_some (page_at old.ranges page))) a count then Hole else NodesNotAllowed)) is_first is))
+      go old.machine.rules refl (any_page (λ page. not (is_some (page_at old.ranges page))) (page_of start) (page_count bytes)) refl
+      (is ∙ (λ i. if not (is_linux old.machine.rules) && any_page (λ page. not (is_some (page_at old.ranges page))) (is_first i) (is_count i) then Hole else NodesNotAllowed))
     where
-      go : (b : Bool) → any_page (λ page. not (is_some (page_at old.ranges page))) (page_of start) (page_count bytes) ≡ b → refusal ≡ (if b then Hole else NodesNotAllowed) → IsAnswer old (Mbind start bytes spec) (Err refusal) old
-      go true e is =
-          let cause : refusal_in (scene_in old (Mbind start bytes spec)) (Mbind start bytes spec) ≡ Some Hole = rw (lt-leb old.bounds.max_commands old.version room, span, some, e) refl in
-          rw cause (ap Err is, refl)
-      go false e is =
-          let cause : refusal_in (scene_in old (Mbind start bytes spec)) (Mbind start bytes spec) ≡ Some NodesNotAllowed = rw (lt-leb old.bounds.max_commands old.version room, span, some, e, node) refl in
-          rw cause (ap Err is, refl)
+      go : (r : Rules) → old.machine.rules ≡ r → (b : Bool) → any_page (λ page. not (is_some (page_at old.ranges page))) (page_of start) (page_count bytes) ≡ b → refusal ≡ (if not (is_linux old.machine.rules) && any_page (λ page. not (is_some (page_at old.ranges page))) (page_of start) (page_count bytes) then Hole else NodesNotAllowed) → IsAnswer old (Mbind start bytes spec) (Err refusal) old
+      go Document rules true e is =
+          let cause : refusal_in (scene_in old (Mbind start bytes spec)) (Mbind start bytes spec) ≡ Some Hole = rw (lt-leb old.bounds.max_commands old.version room, span, some, rules, e) refl in
+          rw cause (ap Err (rw (rules, e) at is), refl)
+      go Document rules false e is =
+          let cause : refusal_in (scene_in old (Mbind start bytes spec)) (Mbind start bytes spec) ≡ Some NodesNotAllowed = rw (lt-leb old.bounds.max_commands old.version room, span, some, rules, e, node) refl in
+          rw cause (ap Err (rw (rules, e) at is), refl)
+      go Linux rules b e is =
+          let cause : refusal_in (scene_in old (Mbind start bytes spec)) (Mbind start bytes spec) ≡ Some NodesNotAllowed = rw (lt-leb old.bounds.max_commands old.version room, span, some, rules, node) refl in
+          rw cause (ap Err (rw rules at is), refl)
 
 -- ---- a task's policy
 

@@ -33,7 +33,7 @@ map-cause same e limit at first pages index value =
       | false ↦ count-cause same e limit (with_span first pages index value at)
     ]
 
-pub set-cause : (same : Test) → same ≡ same_record → (limit : ℕ) (at : PageMap) (first pages : ℕ) (value : Option PolicyRecord) → option_map refusal_from (set_refusal same limit at first pages value) ≡ first_of (hole_cause at first pages) (too_many limit (changed_span first pages (λ old. value) at))
+pub set-cause : (same : Test) → same ≡ same_record → (limit : ℕ) (at : PageMap) (first pages : ℕ) (value : Option PolicyRecord) → option_map refusal_from (set_refusal same limit at first pages value) ≡ first_of (hole_cause false at first pages) (too_many limit (changed_span first pages (λ old. value) at))
 set-cause same e limit at first pages value =
     elim (any_page (λ page. not (is_some (at page))) first pages) as (λ b. option_map refusal_from (if b then Some fault.Hole else count_refusal same limit (changed_span first pages (λ old. value) at)) ≡ first_of (when b Hole) (too_many limit (changed_span first pages (λ old. value) at))) [
       | true ↦ refl
@@ -90,10 +90,10 @@ module _ (same : Test) (e : same ≡ same_record) (old new : Ranges (Option Poli
       → OnOk inner ((page : ℕ) → page_at new.runs page ≡ changed_span first pages (λ old. value) (page_at old.runs) page)
       → OnOk inner (set_refusal same old.max_ranges (page_at old.runs) first pages value ≡ None)
       → IfErr inner (IsRefusal (set_refusal same old.max_ranges (page_at old.runs) first pages value))
-      → IsEdit (first_of (hole_cause (page_at now.runs) first pages) (too_many now.limit (changed_span first pages (λ old. wanted) (page_at now.runs)))) (changed_span first pages (λ old. wanted) (page_at now.runs)) now outer (shown new)
+      → IsEdit (first_of (hole_cause false (page_at now.runs) first pages) (too_many now.limit (changed_span first pages (λ old. wanted) (page_at now.runs)))) (changed_span first pages (λ old. wanted) (page_at now.runs)) now outer (shown new)
   set-edit value wanted is ok accepted err =
-      let P : PageRanges → Type 0 = λ s. IsEdit (first_of (hole_cause (page_at s.runs) first pages) (too_many s.limit (changed_span first pages (λ old. wanted) (page_at s.runs)))) (changed_span first pages (λ old. wanted) (page_at s.runs)) s outer (shown new) in
-      let Q : Option PolicyRecord → Type 0 = λ v. IsEdit (first_of (hole_cause (page_at old.runs) first pages) (too_many old.max_ranges (changed_span first pages (λ old. v) (page_at old.runs)))) (changed_span first pages (λ old. v) (page_at old.runs)) (shown old) outer (shown new) in
+      let P : PageRanges → Type 0 = λ s. IsEdit (first_of (hole_cause false (page_at s.runs) first pages) (too_many s.limit (changed_span first pages (λ old. wanted) (page_at s.runs)))) (changed_span first pages (λ old. wanted) (page_at s.runs)) s outer (shown new) in
+      let Q : Option PolicyRecord → Type 0 = λ v. IsEdit (first_of (hole_cause false (page_at old.runs) first pages) (too_many old.max_ranges (changed_span first pages (λ old. v) (page_at old.runs)))) (changed_span first pages (λ old. v) (page_at old.runs)) (shown old) outer (shown new) in
       subst P view_is (subst Q is
       (edit-from (set_refusal same old.max_ranges (page_at old.runs) first pages value) _ (changed_span first pages (λ old. value) (page_at old.runs)) (shown old) (shown new) inner outer
       (set-cause same e old.max_ranges (page_at old.runs) first pages value) ok accepted err (kept_shown inner old new unchanged) answered))

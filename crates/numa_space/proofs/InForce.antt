@@ -6,8 +6,9 @@ use Rattle.std.specs.List.{list_any}
 use Rattle.numa_mask.specs.NodeSet.{both, members, weight_of}
 use Rattle.numa_mask.proofs.Images.{weight-some}
 use Rattle.numa_machine.specs.Machine.{Hardware}
-use Rattle.numa_mode.specs.Policy.{Specification, PolicyRecord, is_default, takes_home, with_home, record_when_set, record_after, effect_when_set, effect_after}
+use Rattle.numa_mode.specs.Policy.{Specification, PolicyRecord, is_default, takes_home, with_home, record_when_set, record_after, effect_when_set, stays, effect_after}
 use Rattle.numa_mode.proofs.Subsets.{both-within, effect_when_set-within, effect_after-within}
+use Rattle.numa_mode.specs.Within.{IsWithin}
 use Rattle.numa_ranges.specs.Runs.{page_at, in_pages}
 use Rattle.numa_ranges.specs.Maps.{changed_page}
 use Rattle.numa_space.specs.History.{page_of, page_count}
@@ -24,23 +25,36 @@ use Rattle.numa_space.proofs.NodeLists.{within-both, within-from_both, small-ins
 
 -- ---- one record
 
-pub in_force-now : (machine : Hardware) (allowed : ℕ) (spec : Specification) → IsInForce machine allowed (record_when_set spec allowed)
-in_force-now machine allowed spec = record {
-  inside = within-both (effect_when_set spec allowed) allowed (effect_when_set-within spec allowed);
+-- what is inside the allowed nodes has memory
+inside-memory : (machine : Hardware) (allowed set : ℕ) → both allowed machine.memory ≡ allowed → IsWithin set allowed → both set machine.memory ≡ set
+inside-memory machine allowed set memory inside = within-both set machine.memory (λ node member. within-from_both allowed machine.memory memory node (inside node member))
+
+pub in_force-now : (machine : Hardware) (allowed : ℕ) (spec : Specification) → both allowed machine.memory ≡ allowed → IsInForce machine allowed (record_when_set spec allowed)
+in_force-now machine allowed spec memory = record {
+  inside = λ follows. within-both (effect_when_set spec allowed) allowed (effect_when_set-within spec allowed);
+  memory = inside-memory machine allowed (effect_when_set spec allowed) memory (effect_when_set-within spec allowed);
   home = λ node none. absurd (cc);
 }
 
 pub in_force-home : (machine : Hardware) (allowed : ℕ) (r : PolicyRecord) (node : ℕ) → node < machine.nodes → IsInForce machine allowed r → IsInForce machine allowed (with_home r node)
 in_force-home machine allowed r node low force = record {
   inside = force.inside;
+  memory = force.memory;
   home = λ other same. let e : node ≡ other = cc in omega arith;
 }
 
-pub in_force-after : (machine : Hardware) (old new : ℕ) (r : PolicyRecord) → 0 < weight_of new → IsInForce machine old r → IsInForce machine new (record_after r old new)
-in_force-after machine old new r some force = record {
-  inside = within-both (effect_after r.spec r.effective old new) new (effect_after-within r.spec r.effective old new some (within-from_both r.effective old force.inside));
-  home = force.home;
-}
+pub in_force-after : (machine : Hardware) (old new : ℕ) (r : PolicyRecord) → 0 < weight_of new → both new machine.memory ≡ new → IsInForce machine old r → IsInForce machine new (record_after machine.rules r old new)
+in_force-after machine old new r some memory force =
+    let after : stays machine.rules r.spec.mode ≡ false → IsWithin (effect_after machine.rules r.spec r.effective old new) new =
+    λ follows. effect_after-within machine.rules r.spec r.effective old new some follows (within-from_both r.effective old (force.inside follows)) in
+    record {
+      inside = λ follows. within-both (effect_after machine.rules r.spec r.effective old new) new (after follows);
+      memory = elim (cases_Bool (stays machine.rules r.spec.mode)) [
+        | inl t ↦ rw t force.memory
+        | inr f ↦ inside-memory machine new (effect_after machine.rules r.spec r.effective old new) memory (after f)
+      ];
+      home = force.home;
+    }
 
 -- ---- records that may be missing
 
@@ -56,16 +70,16 @@ if_some-from_for (Some x) P h = h x refl
 abbrev pub Holds : Hardware → ℕ → Option PolicyRecord → Type 0
 Holds machine allowed r = IfSome r (IsInForce machine allowed)
 
-holds-now : (machine : Hardware) (allowed : ℕ) (spec : Specification) → Holds machine allowed (record_now allowed spec)
-holds-now machine allowed spec = elim (cases_Bool (is_default spec)) [ inl t ↦ rw t tt | inr f ↦ rw f (in_force-now machine allowed spec) ]
+holds-now : (machine : Hardware) (allowed : ℕ) (spec : Specification) → both allowed machine.memory ≡ allowed → Holds machine allowed (record_now allowed spec)
+holds-now machine allowed spec memory = elim (cases_Bool (is_default spec)) [ inl t ↦ rw t tt | inr f ↦ rw f (in_force-now machine allowed spec memory) ]
 
 holds-homed : (machine : Hardware) (allowed node : ℕ) (r : Option PolicyRecord) → node < machine.nodes → Holds machine allowed r → Holds machine allowed (policy_with_home node r)
 holds-homed machine allowed node None low h = tt
 holds-homed machine allowed node (Some r) low h = elim (cases_Bool (takes_home r)) [ inl t ↦ rw t (in_force-home machine allowed r node low h) | inr f ↦ rw f h ]
 
-holds-rebound : (machine : Hardware) (old new : ℕ) (r : Option PolicyRecord) → 0 < weight_of new → Holds machine old r → Holds machine new (policy_after old new r)
-holds-rebound machine old new None some h = tt
-holds-rebound machine old new (Some r) some h = in_force-after machine old new r some h
+holds-rebound : (machine : Hardware) (old new : ℕ) (r : Option PolicyRecord) → 0 < weight_of new → both new machine.memory ≡ new → Holds machine old r → Holds machine new (policy_after machine.rules old new r)
+holds-rebound machine old new None some memory h = tt
+holds-rebound machine old new (Some r) some memory h = in_force-after machine old new r some memory h
 
 -- the page's record, if it is mapped and has one, is in force
 abbrev pub PageHolds : Hardware → ℕ → Option (ℕ × Option PolicyRecord) → Type 0
@@ -151,7 +165,7 @@ module _ (scene : Scene) (small : scene.machine.memory < 2 ^ 256) (force : AreIn
   page-next (Unmap start bytes) page none = cond_both (in_pages (page_of start) (page_count bytes) page) None (scene.pages page) (PageHolds scene.machine scene.allowed) (λ e. tt) (λ e. force.at_pages page)
   page-next (Mbind start bytes spec) page none =
       cond_both (in_pages (page_of start) (page_count bytes) page) (changed_page (λ r. record_now scene.allowed spec) (scene.pages page)) (scene.pages page) (PageHolds scene.machine scene.allowed)
-      (λ e. page-changed scene.machine scene.allowed scene.allowed (λ r. record_now scene.allowed spec) (scene.pages page) (λ r h. holds-now scene.machine scene.allowed spec) (force.at_pages page))
+      (λ e. page-changed scene.machine scene.allowed scene.allowed (λ r. record_now scene.allowed spec) (scene.pages page) (λ r h. holds-now scene.machine scene.allowed spec force.memory) (force.at_pages page))
       (λ e. force.at_pages page)
   page-next (SetTask task spec) page none = force.at_pages page
   page-next (SetHome start bytes node) page none =
@@ -160,16 +174,16 @@ module _ (scene : Scene) (small : scene.machine.memory < 2 ^ 256) (force : AreIn
       (λ e. force.at_pages page)
   page-next (SetWeight node weight) page none = force.at_pages page
   page-next (SetMems mask) page none =
-      page-changed scene.machine scene.allowed (both mask scene.machine.memory) (policy_after scene.allowed (both mask scene.machine.memory)) (scene.pages page) (λ r h. holds-rebound scene.machine scene.allowed (both mask scene.machine.memory) r (some-mems mask none) h) (force.at_pages page)
+      page-changed scene.machine scene.allowed (both mask scene.machine.memory) (policy_after scene.machine.rules scene.allowed (both mask scene.machine.memory)) (scene.pages page) (λ r h. holds-rebound scene.machine scene.allowed (both mask scene.machine.memory) r (some-mems mask none) (memory-next (SetMems mask)) h) (force.at_pages page)
 
   held-next : (command : Command) (task : ℕ) → refusal_in scene command ≡ None → Holds scene.machine (allowed_next scene.machine scene.allowed command) (task_next scene.machine scene.allowed scene.task command task)
   held-next (Map start bytes offset) task none = force.at_tasks task
   held-next (Unmap start bytes) task none = force.at_tasks task
   held-next (Mbind start bytes spec) task none = force.at_tasks task
-  held-next (SetTask set spec) task none = cond_both (eqb set task) (record_now scene.allowed spec) (scene.task task) (Holds scene.machine scene.allowed) (λ e. holds-now scene.machine scene.allowed spec) (λ e. force.at_tasks task)
+  held-next (SetTask set spec) task none = cond_both (eqb set task) (record_now scene.allowed spec) (scene.task task) (Holds scene.machine scene.allowed) (λ e. holds-now scene.machine scene.allowed spec force.memory) (λ e. force.at_tasks task)
   held-next (SetHome start bytes node) task none = force.at_tasks task
   held-next (SetWeight node weight) task none = force.at_tasks task
-  held-next (SetMems mask) task none = holds-rebound scene.machine scene.allowed (both mask scene.machine.memory) (scene.task task) (some-mems mask none) (force.at_tasks task)
+  held-next (SetMems mask) task none = holds-rebound scene.machine scene.allowed (both mask scene.machine.memory) (scene.task task) (some-mems mask none) (memory-next (SetMems mask)) (force.at_tasks task)
 
   -- what is in force after an accepted command
   pub in_force-next : (command : Command) → refusal_in scene command ≡ None

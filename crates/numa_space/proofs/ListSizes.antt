@@ -5,7 +5,7 @@ use Rattle.std.proofs.lemmas.List.Elements.{All-append, All-filter, All-contains
 use Rattle.std.proofs.lemmas.List.FromFn.{length-range_with_len}
 use Rattle.std.specs.List.{range_with_len}
 use Rattle.std.specs.Prelude.{unwrap_or, slice_index}
-use Rattle.numa_mask.specs.NodeSet.{has, members, weight_of}
+use Rattle.numa_mask.specs.NodeSet.{has, both, members, weight_of}
 use Rattle.numa_mask.proofs.Sets.{members-below}
 use Rattle.numa_machine.specs.Machine.{Hardware, distance_order, IsDistanceOrder}
 use Rattle.numa_machine.specs.Weights.{interleave_node, weighted_node}
@@ -53,7 +53,7 @@ mode-short setting Interleave set from index = omega (arith, filter-short (has s
 mode-short setting Local set from index = omega (arith, filter-short (has setting.allowed) (distance_order setting.machine from), order-short setting.machine from)
 mode-short setting PreferredMany set from index =
     let order : List ℕ = distance_order setting.machine from in
-    omega (arith, length-append (within set order) (filter (λ node. has setting.allowed node && not (has set node)) order), split-short (has set) (has setting.allowed) order, order-short setting.machine from)
+    omega (arith, length-append (within (both set setting.allowed) order) (filter (λ node. has setting.allowed node && not (has (both set setting.allowed) node)) order), split-short (has (both set setting.allowed)) (has setting.allowed) order, order-short setting.machine from)
 mode-short setting WeightedInterleave set from index = omega (arith, filter-short (has setting.allowed) (distance_order setting.machine (weighted_node setting.weight set index)), order-short setting.machine (weighted_node setting.weight set index))
 
 -- a list has at most 256 nodes
@@ -71,7 +71,7 @@ mode-below setting Bind set from index = filtered-below (has set) setting.machin
 mode-below setting Interleave set from index = filtered-below (has setting.allowed) setting.machine (interleave_node set index)
 mode-below setting Local set from index = filtered-below (has setting.allowed) setting.machine from
 mode-below setting PreferredMany set from index =
-    All-append (λ node. node < 256) (within set (distance_order setting.machine from)) (filter (λ node. has setting.allowed node && not (has set node)) (distance_order setting.machine from)) (filtered-below (has set) setting.machine from) (filtered-below (λ node. has setting.allowed node && not (has set node)) setting.machine from)
+    All-append (λ node. node < 256) (within (both set setting.allowed) (distance_order setting.machine from)) (filter (λ node. has setting.allowed node && not (has (both set setting.allowed) node)) (distance_order setting.machine from)) (filtered-below (has (both set setting.allowed)) setting.machine from) (filtered-below (λ node. has setting.allowed node && not (has (both set setting.allowed) node)) setting.machine from)
 mode-below setting WeightedInterleave set from index = filtered-below (has setting.allowed) setting.machine (weighted_node setting.weight set index)
 
 -- and each is a node

@@ -9,7 +9,7 @@ use Rattle.numa_ranges.specs.Counts.{range_count}
 use Rattle.numa_ranges.proofs.Counted.{range_count-length}
 use Rattle.numa_space.specs.History.{Place}
 use Rattle.numa_space.specs.Policies.{policy_that_counts}
-use Rattle.numa_space.specs.Pages.{cover_of, is_unmap, is_mapped, index_of, bound_by, range_record, page_in, resolved_policy}
+use Rattle.numa_space.specs.Pages.{is_mapped, index_of, page_in, policy_of_range, resolved_policy}
 use Rattle.numa_space.specs.Lists.{list_for, setting_of, node_list}
 use Rattle.numa_space.specs.Same.{same_record}
 use Rattle.numa_space.specs.Refusals.{range_count_of}
@@ -23,28 +23,10 @@ use Rattle.numa_space.proofs.Same.{same_record-exact, same_record-refl}
 pub mapped-same : (space : SpaceState) (history : List Command) (page : ℕ) → StandsFor space history → is_some (page_at space.ranges page) ≡ is_mapped history page
 mapped-same space history page stands = ap (λ o. is_some o) (stands.pages page) ∙ page-is_some space.machine history page
 
--- the record of a page's range, from what is seen of the page; an unmapped page has none
-pub record-of_page : (machine : Hardware) (history : List Command) (page : ℕ) → option_and_then (λ (at : ℕ × Option PolicyRecord). at.1) (page_in machine history page) ≡ range_record machine history page
-record-of_page machine history page = go (cover_of history page)
-  where
-    by_command : (c : Command) (place : Place) → option_and_then (λ (at : ℕ × Option PolicyRecord). at.1) (if not (is_unmap c) then Some (index_of history page, bound_by machine page c place) else None) ≡ bound_by machine page c place
-    by_command (Map start bytes offset) place = refl
-    by_command (Unmap start bytes) place = refl
-    by_command (Mbind start bytes spec) place = refl
-    by_command (SetTask task spec) place = refl
-    by_command (SetHome start bytes node) place = refl
-    by_command (SetWeight node weight) place = refl
-    by_command (SetMems mask) place = refl
-
-    go : (o : Option Place) → option_and_then (λ (at : ℕ × Option PolicyRecord). at.1) (if option_map_or (λ place. not (is_unmap place.command)) o false then Some (index_of history page, option_and_then (λ place. bound_by machine page place.command place) o) else None) ≡ option_and_then (λ place. bound_by machine page place.command place) o
-    go None = refl
-    go (Some place) = by_command place.command place
-
 -- the policy that counts for a task at a page
 pub policy-same : (space : SpaceState) (history : List Command) (task page : ℕ) → StandsFor space history → policy_in space task page ≡ resolved_policy space.machine history task page
 policy-same space history task page stands =
-    let range : option_and_then (λ (at : ℕ × Option PolicyRecord). at.1) (page_at space.ranges page) ≡ range_record space.machine history page = ap (λ o. option_and_then (λ (at : ℕ × Option PolicyRecord). at.1) o) (stands.pages page) ∙ record-of_page space.machine history page in
-    λ i. policy_that_counts (range i) (stands.tasks task i)
+    λ i. policy_that_counts (policy_of_range (stands.pages page i)) (stands.tasks task i)
 
 pub setting-same : (space : SpaceState) (history : List Command) → StandsFor space history → setting_in space ≡ setting_of space.machine history
 setting-same space history stands = λ i. record { machine = space.machine; allowed = stands.allowed i; weight = λ node. stands.weights node i }

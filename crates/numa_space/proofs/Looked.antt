@@ -23,7 +23,7 @@ in_force-node inside space kept same r force node member = let P : SpaceState �
   where
     go : IsInForce inside.machine inside.allowed r → node < inside.machine.nodes
     go force =
-        let in_memory : has inside.machine.memory node ≡ true = within-from_both inside.allowed inside.machine.memory kept.sound.allowed_memory node (within-from_both r.effective inside.allowed force.inside node member) in
+        let in_memory : has inside.machine.memory node ≡ true = within-from_both r.effective inside.machine.memory force.memory node member in
         All-contains (λ n. n < inside.machine.nodes) (members inside.machine.memory) node kept.of_the_machine (contains-has inside.machine.memory node (below-has inside.machine.memory node kept.memory in_memory) in_memory)
 
 -- the policy that counts is in force

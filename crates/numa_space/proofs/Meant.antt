@@ -5,17 +5,15 @@ use Rattle.numa_machine.specs.Machine.{Hardware}
 use Rattle.numa_mode.specs.Policy.{PolicyRecord}
 use Rattle.numa_space.specs.Limited.{Bounds}
 use Rattle.numa_space.specs.Lists.{node_list}
-use Rattle.numa_space.specs.Pages.{index_of, page_in, range_record, resolved_policy}
+use Rattle.numa_space.specs.Pages.{index_of, page_in, policy_of_range, resolved_policy}
 use Rattle.numa_space.specs.Policies.{allowed_nodes, node_weight, task_record}
 use Rattle.numa_space.specs.Refusals.{PageMap, scene_of}
 use Rattle.numa_space.specs.Standing.{IsAccepted, IsInForce, IsNodeList}
 use Rattle.numa_space.specs.declared.command.Command.{Command}
 use Rattle.numa_space.proofs.InForce.{AreInForce, PageHolds, in_force-next}
-use Rattle.numa_space.proofs.Lists.{record-of_page}
 use Rattle.numa_space.proofs.NodeLists.{within-both, policy-nodes, resolved-some}
 use Rattle.numa_space.proofs.Pages.{pages-next}
 use Rattle.numa_space.proofs.Places.{allowed-next}
-use Rattle.numa_space.proofs.Refused.{binds-mapped}
 use Rattle.numa_space.proofs.Tasks.{task-next}
 
 -- the allowed nodes, pages and tasks as a history means them
@@ -37,8 +35,7 @@ module _ (machine : Hardware) (bounds : Bounds) (some : machine.memory ≢ 0) (s
   }
   meant (command ∷ history) accepted =
       let next = in_force-next (scene_of machine bounds history command) small (meant history accepted.1) command accepted.0 in
-      let mapped = binds-mapped machine bounds history command accepted.0 in
-      moved machine _ _ _ _ _ _ (sym (allowed-next machine history command)) (λ i page. sym (pages-next machine history command page mapped) i) (λ i task. sym (task-next machine history command task) i) next
+      moved machine _ _ _ _ _ _ (sym (allowed-next machine history command)) (λ i page. sym (pages-next machine history command page) i) (λ i task. sym (task-next machine history command task) i) next
 
   range-held : (allowed : ℕ) (o : Option (ℕ × Option PolicyRecord)) → PageHolds machine allowed o → IfSome (option_and_then (λ (at : ℕ × Option PolicyRecord). at.1) o) (IsInForce machine allowed)
   range-held allowed None h = tt
@@ -49,7 +46,5 @@ module _ (machine : Hardware) (bounds : Bounds) (some : machine.memory ≢ 0) (s
   meant-list history task page cpu accepted =
       let force : Meant machine history = meant history accepted in
       let allowed : ℕ = allowed_nodes machine history in
-      let range : IfSome (range_record machine history page) (IsInForce machine (allowed_nodes machine history)) =
-      subst (λ (o : Option PolicyRecord). IfSome o (IsInForce machine (allowed_nodes machine history))) (record-of_page machine history page) (range-held allowed (page_in machine history page) (force.at_pages page)) in
       policy-nodes machine (allowed_nodes machine history) small force.some force.memory (node_weight history) (resolved_policy machine history task page) cpu (index_of history page)
-      (resolved-some (range_record machine history page) (task_record machine history task) (IsInForce machine (allowed_nodes machine history)) range (force.at_tasks task))
+      (resolved-some (policy_of_range (page_in machine history page)) (task_record machine history task) (IsInForce machine (allowed_nodes machine history)) (range-held allowed (page_in machine history page) (force.at_pages page)) (force.at_tasks task))

@@ -3,7 +3,7 @@ use Rattle.std.proofs.Common.{◌≡◌, ◌≢◌, ℕ, zero, suc, ◌<◌, ◌
 use Rattle.std.proofs.lemmas.Bool.{cases_Bool}
 use Rattle.std.proofs.lemmas.List.Kept.{AllPairs-filter}
 use Rattle.std.specs.Prelude.{slice_index}
-use Rattle.numa_mask.specs.NodeSet.{has, members, weight_of}
+use Rattle.numa_mask.specs.NodeSet.{has, both, members, weight_of}
 use Rattle.numa_mask.proofs.Sets.{members-increasing}
 use Rattle.numa_machine.specs.Machine.{Hardware, distance, distance_order, nearer, IsDistanceOrder}
 use Rattle.numa_machine.specs.Weights.{interleave_node, IsInterleaveNode, total_weight, weighted_node, IsWeightedNode}
@@ -113,11 +113,11 @@ mode-is setting Local set from index some weights = near-is setting from
 mode-is setting Preferred set from index some weights = record { node = slice_index (members set) 0; chosen = lowest-is set some; is_row = near-is setting (slice_index (members set) 0) }
 mode-is setting Bind set from index some weights = row-is setting.machine from (has set)
 mode-is setting PreferredMany set from index some weights = record {
-  first = filter (has set) (distance_order setting.machine from);
-  others = filter (λ node. has setting.allowed node && not (has set node)) (distance_order setting.machine from);
-  both = refl;
-  is_first = row-is setting.machine from (has set);
-  is_others = row-is setting.machine from (λ node. has setting.allowed node && not (has set node));
+  first = filter (has (both set setting.allowed)) (distance_order setting.machine from);
+  others = filter (λ node. has setting.allowed node && not (has (both set setting.allowed) node)) (distance_order setting.machine from);
+  whole = refl;
+  is_first = row-is setting.machine from (has (both set setting.allowed));
+  is_others = row-is setting.machine from (λ node. has setting.allowed node && not (has (both set setting.allowed) node));
 }
 mode-is setting Interleave set from index some weights = record { node = interleave_node set index; chosen = IsInterleaveNode-interleave_node set index some; is_row = near-is setting (interleave_node set index) }
 mode-is setting WeightedInterleave set from index some weights =
@@ -130,6 +130,6 @@ mode-only setting Local set from index row is = near-only setting from row is
 mode-only setting Preferred set from index row is = around-only setting (IsLowest set) (slice_index (members set) 0) row (lowest-only set) is
 mode-only setting Bind set from index row is = row-only setting.machine from (has set) row is
 mode-only setting PreferredMany set from index row is =
-    is.both ∙ (λ i. row-only setting.machine from (has set) is.first is.is_first i ++ row-only setting.machine from (λ node. has setting.allowed node && not (has set node)) is.others is.is_others i)
+    is.whole ∙ (λ i. row-only setting.machine from (has (both set setting.allowed)) is.first is.is_first i ++ row-only setting.machine from (λ node. has setting.allowed node && not (has (both set setting.allowed) node)) is.others is.is_others i)
 mode-only setting Interleave set from index row is = around-only setting (IsInterleaveNode set index) (interleave_node set index) row (interleave_node_is set index) is
 mode-only setting WeightedInterleave set from index row is = around-only setting (IsWeightedNode setting.weight set index) (weighted_node setting.weight set index) row (weighted_node_is setting.weight set index) is

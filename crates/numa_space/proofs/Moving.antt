@@ -20,7 +20,7 @@ use Rattle.numa_space.specs.declared.command.Command.{Command}
 use Rattle.numa_space.specs.declared.command.Command.TheVariants.{Map, Unmap, Mbind, SetTask, SetHome, SetWeight, SetMems}
 use Rattle.numa_space.specs.declared.refusal.Refusal.TheVariants.{CommandsSpent, EmptyLength, BadOffset, Overlap}
 use Rattle.numa_space.specs.History.{page_of, page_count}
-use Rattle.numa_space.specs.Refusals.{PageMap, bad_span, cause_in, first_of, too_many_ranges, when}
+use Rattle.numa_space.specs.Refusals.{PageMap, bad_span, cause_in, first_of, too_many_ranges, when, bad_map_span}
 use Rattle.numa_space.specs.Same.{same_record}
 use Rattle.numa_space.specs.Spans.{span_first, span_pages, span_end, StaysInSpan, EditsSpan, span_edit}
 use Rattle.numa_space.specs.Standing.{SpaceState}
@@ -180,7 +180,7 @@ module _ (old new : SpaceState) (start bytes offset : ℕ) (step : IsStep old (M
       let room = first_of-none (when (nat_le old.bounds.max_commands old.version) CommandsSpent) (cause_in scene (Map start bytes offset)) step.accepted in
       let overlap = when (any_page (λ page. is_some (page_at old.ranges page)) (page_of start) (page_count bytes)) Overlap in
       let offsets = first_of (when (nat_le (2 ^ 35) offset) BadOffset) (first_of overlap (too_many_ranges scene)) in
-      let span = first_of-none (bad_span start bytes) (first_of (when (bytes == 0) EmptyLength) offsets) room.1 in
+      let span = first_of-none (bad_map_span old.machine.rules start bytes) (first_of (when (bytes == 0) EmptyLength) offsets) room.1 in
       let some = first_of-none (when (bytes == 0) EmptyLength) offsets span.1 in
       let index = first_of-none (when (nat_le (2 ^ 35) offset) BadOffset) (first_of overlap (too_many_ranges scene)) some.1 in
       let free = first_of-none overlap (too_many_ranges scene) index.1 in (

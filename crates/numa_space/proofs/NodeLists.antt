@@ -9,12 +9,15 @@ use Rattle.std.specs.Prelude.{option_and_then, unwrap_or, slice_index}
 use Rattle.numa_mask.specs.NodeSet.{has, both, members}
 use Rattle.numa_mask.proofs.Images.{same_set, has-both, below-has, members-some}
 use Rattle.numa_mask.proofs.Sets.{contains-has, members-have}
+use Rattle.numa_machine.specs.declared.rules.Rules.{Rules}
+use Rattle.numa_machine.specs.declared.rules.Rules.TheVariants.{Document, Linux}
 use Rattle.numa_machine.specs.Machine.{Hardware, distance_order, IsDistanceOrder}
 use Rattle.numa_machine.specs.Weights.{interleave_node, weighted_node}
 use Rattle.numa_machine.proofs.Rising.{IsIn, IsIn-from_Contains}
 use Rattle.numa_machine.proofs.Nearest.{IsDistanceOrder-distance_order}
-use Rattle.numa_mode.specs.Policy.{PolicyRecord, is_live, is_local, is_local_mode}
+use Rattle.numa_mode.specs.Policy.{PolicyRecord, is_live, is_local, is_local_mode, stays}
 use Rattle.numa_mode.specs.Within.{IsWithin}
+use Rattle.numa_mode.proofs.Subsets.{both-within}
 use Rattle.numa_mode.specs.declared.modes.Mode.{Mode}
 use Rattle.numa_mode.specs.declared.modes.Mode.TheVariants.{Default, Preferred, Bind, Interleave, Local, PreferredMany, WeightedInterleave}
 use Rattle.numa_ranges.specs.Runs.{page_at}
@@ -64,6 +67,10 @@ append-some : (xs ys : List ℕ) → xs ≢ [] → (xs ++ ys) ≢ []
 append-some [] ys some = absurd (some refl)
 append-some (x ∷ xs) ys some = λ odd. cc
 
+append-some_behind : (xs ys : List ℕ) → ys ≢ [] → (xs ++ ys) ≢ []
+append-some_behind [] ys some = some
+append-some_behind (x ∷ xs) ys some = λ odd. cc
+
 module _ (machine : Hardware) (allowed : ℕ) (small : machine.memory < 2 ^ 256) (some : allowed ≢ 0) (memory : both allowed machine.memory ≡ allowed) where
   -- the nodes of a set of allowed nodes, in the order of their distances
   ordered-nodes : (set from : ℕ) → set ≢ 0 → both set allowed ≡ set → IsNodeList allowed (within set (distance_order machine from))
@@ -84,23 +91,37 @@ module _ (machine : Hardware) (allowed : ℕ) (small : machine.memory < 2 ^ 256)
   near-nodes : (from : ℕ) → IsNodeList allowed (within allowed (distance_order machine from))
   near-nodes from = ordered-nodes allowed from some (within-both allowed allowed (λ node member. member))
 
-  -- those of a set before the others
-  preferred-nodes : (set from : ℕ) → set ≢ 0 → both set allowed ≡ set → IsNodeList allowed (within set (distance_order machine from) ++ filter (λ node. has allowed node && not (has set node)) (distance_order machine from))
-  preferred-nodes set from filled inside =
+  -- those of a set before the others: each allowed node is among the ones or the others
+  preferred-nodes : (set from : ℕ) → both set allowed ≡ set → IsNodeList allowed (within set (distance_order machine from) ++ filter (λ node. has allowed node && not (has set node)) (distance_order machine from))
+  preferred-nodes set from inside =
       let order : List ℕ = distance_order machine from in
-      let first : IsNodeList allowed (within set order) = ordered-nodes set from filled inside in
+      let is_order : IsDistanceOrder machine from (distance_order machine from) = IsDistanceOrder-distance_order machine from in
       let other : ℕ → Bool = λ node. has allowed node && not (has set node) in
       let passed : All (λ node. other node ≡ true) (filter other order) = filter_passes other order in
       let ours : All (λ node. has set node ≡ true) (within set order) = filter_passes (has set) order in
+      let below : allowed < 2 ^ 256 = small-inside allowed machine.memory memory small in
+      let node : ℕ = get_or (members allowed) 0 0 in
+      let member : has allowed node ≡ true = members-have allowed 0 0 (members-some allowed below some) in
+      let in_memory : has machine.memory node ≡ true = within-from_both allowed machine.memory memory node member in
+      let found : IsIn order node = IsIn-from_Contains order node ((is_order.nodes_with_memory node).1 (contains-has machine.memory node (below-has allowed node below member) in_memory)) in
       record {
-        some = append-some (within set order) (filter other order) first.some;
-        each_once = AllPairs-append (λ a b. a ≢ b) (within set order) (filter other order) first.each_once (AllPairs-filter (λ a b. a ≢ b) other order (IsDistanceOrder-distance_order machine from).without_repeats)
+        some = elim (cases_Bool (has set node)) [
+          | inl t ↦ append-some (within set order) (filter other order) (filter-some (has set) order node found t)
+          | inr f ↦ append-some_behind (within set order) (filter other order) (filter-some other order node found (λ i. member i && not (f i)))
+        ];
+        each_once = AllPairs-append (λ a b. a ≢ b) (within set order) (filter other order) (AllPairs-filter (λ a b. a ≢ b) (has set) order is_order.without_repeats) (AllPairs-filter (λ a b. a ≢ b) other order is_order.without_repeats)
             (λ k d l j e m same. apart (get_or (within set order) k d) (get_or (filter other order) j e) (ours k d l) (passed j e m) same);
-        inside = All-append (λ n. has allowed n ≡ true) (within set order) (filter other order) first.inside (All-weaker (λ n. other n ≡ true) (λ n. has allowed n ≡ true) (λ n t. (and_parts (has allowed n) (not (has set n)) t).0) (filter other order) passed);
+        inside = All-append (λ n. has allowed n ≡ true) (within set order) (filter other order)
+            (All-weaker (λ n. has set n ≡ true) (λ n. has allowed n ≡ true) (within-from_both set allowed inside) (within set order) ours)
+            (All-weaker (λ n. other n ≡ true) (λ n. has allowed n ≡ true) (λ n t. (and_parts (has allowed n) (not (has set n)) t).0) (filter other order) passed);
       }
     where
       apart : (a b : ℕ) → has set a ≡ true → (has allowed b && not (has set b)) ≡ true → a ≡ b → ⊥
       apart a b one two same = both_ways (has set b) (not-true (has set b) (and_parts (has allowed b) (not (has set b)) two).1) (ap (has set) (sym same) ∙ one)
+
+  bind-follows : (rules : Rules) → stays rules Bind ≡ false
+  bind-follows Document = refl
+  bind-follows Linux = refl
 
   -- a live policy of another mode than LOCAL has a node
   live-filled : (r : PolicyRecord) → is_live r ≡ true → is_local r.spec ≡ false → r.effective ≢ 0
@@ -110,14 +131,14 @@ module _ (machine : Hardware) (allowed : ℕ) (small : machine.memory < 2 ^ 256)
         | inr t ↦ both_ways (is_local r.spec) local t
       ]
 
-  -- the list of a live policy whose set is inside the allowed nodes
-  mode-nodes : (weight : ℕ → ℕ) (mode : Mode) (set from index : ℕ) → (is_local_mode mode ≡ false → set ≢ 0) → both set allowed ≡ set → IsNodeList allowed (list_by_mode (record { machine = machine; allowed = allowed; weight = weight }) mode set from index)
+  -- the list of a live policy that is in force
+  mode-nodes : (weight : ℕ → ℕ) (mode : Mode) (set from index : ℕ) → (is_local_mode mode ≡ false → set ≢ 0) → (stays machine.rules mode ≡ false → both set allowed ≡ set) → IsNodeList allowed (list_by_mode (record { machine = machine; allowed = allowed; weight = weight }) mode set from index)
   mode-nodes weight Default set from index filled inside = near-nodes from
   mode-nodes weight Preferred set from index filled inside = near-nodes (slice_index (members set) 0)
-  mode-nodes weight Bind set from index filled inside = ordered-nodes set from (filled refl) inside
+  mode-nodes weight Bind set from index filled inside = ordered-nodes set from (filled refl) (inside (bind-follows machine.rules))
   mode-nodes weight Interleave set from index filled inside = near-nodes (interleave_node set index)
   mode-nodes weight Local set from index filled inside = near-nodes from
-  mode-nodes weight PreferredMany set from index filled inside = preferred-nodes set from (filled refl) inside
+  mode-nodes weight PreferredMany set from index filled inside = preferred-nodes (both set allowed) from (within-both (both set allowed) allowed (both-within set allowed))
   mode-nodes weight WeightedInterleave set from index filled inside = near-nodes (weighted_node weight set index)
 
   pub policy-nodes : (weight : ℕ → ℕ) (policy : Option PolicyRecord) (cpu index : ℕ) → IfSome policy (λ r. IsInForce machine allowed r × (is_live r ≡ true)) → IsNodeList allowed (list_for (record { machine = machine; allowed = allowed; weight = weight }) policy cpu index)

@@ -9,7 +9,7 @@ use Rattle.numa_mode.specs.Policy.{Specification, PolicyRecord, is_default, take
 use Rattle.numa_ranges.specs.Maps.{changed_page}
 use Rattle.numa_space.specs.History.{Place, last_where, one_later, in_span}
 use Rattle.numa_space.specs.Policies.{allowed_nodes, effective_set, record_set}
-use Rattle.numa_space.specs.Pages.{covers, cover_of, is_unmap, is_mapped, maps, index_by, index_of, last_home, at_home, bound_by, range_record, page_in}
+use Rattle.numa_space.specs.Pages.{covers, cover_of, is_unmap, maps_or_unmaps, is_mapped, maps, index_by, index_of, last_home, at_home, bound_by, range_record, page_in}
 use Rattle.numa_space.specs.Steps.{record_now, policy_with_home, policy_after, pages_next}
 use Rattle.numa_space.specs.declared.command.Command.{Command}
 use Rattle.numa_space.specs.declared.command.Command.TheVariants.{Map, Unmap, Mbind, SetTask, SetHome, SetWeight, SetMems}
@@ -61,10 +61,10 @@ later-record machine page command change (Some place) none h = go place.command 
     go (SetMems mask) e = sym none
 
 -- a page that the command neither maps, unmaps nor binds
-kept : (machine : Hardware) (history : List Command) (page : ℕ) (command : Command) → covers page command ≡ false → maps page command ≡ false
+kept : (machine : Hardware) (history : List Command) (page : ℕ) (command : Command) → covers page command ≡ false → maps page command ≡ false → maps_or_unmaps page command ≡ false
     → page_in machine (command ∷ history) page ≡ with_record machine history page (option_and_then (λ place. bound_by machine page place.command place) (option_map (one_later command) (cover_of history page)))
-kept machine history page command c m =
-    rw (c, m) (λ i. if later-mapped command (cover_of history page) i then Some (later-index page command (last_where (maps page) history) i, option_and_then (λ place. bound_by machine page place.command place) (option_map (one_later command) (cover_of history page))) else None)
+kept machine history page command c m u =
+    rw (c, m, u) (λ i. if later-mapped command (last_where (maps_or_unmaps page) history) i then Some (later-index page command (last_where (maps page) history) i, option_and_then (λ place. bound_by machine page place.command place) (option_map (one_later command) (cover_of history page))) else None)
 
 -- ---- records of ranges
 
@@ -96,15 +96,15 @@ record-home_elsewhere machine history page start bytes node outside =
     none after = rw outside refl
 
 record-mems : (machine : Hardware) (history : List Command) (page mask : ℕ)
-    → option_and_then (λ place. bound_by machine page place.command place) (option_map (one_later (SetMems mask)) (cover_of history page)) ≡ policy_after (allowed_nodes machine history) (both mask machine.memory) (range_record machine history page)
+    → option_and_then (λ place. bound_by machine page place.command place) (option_map (one_later (SetMems mask)) (cover_of history page)) ≡ policy_after machine.rules (allowed_nodes machine history) (both mask machine.memory) (range_record machine history page)
 record-mems machine history page mask =
-    later-record machine page (SetMems mask) (policy_after (allowed_nodes machine history) (both mask machine.memory)) (cover_of history page) refl
+    later-record machine page (SetMems mask) (policy_after machine.rules (allowed_nodes machine history) (both mask machine.memory)) (cover_of history page) refl
     (λ place start bytes spec found is.
     let here : IsPlace (covers page) history place = rw found at (last_where-place (covers page) history) in
-    go place spec (effective-mems machine place.before place.after spec mask ∙ ap (λ a. effect_after spec (effective_set machine place.before place.after spec) a (both mask machine.memory)) (allowed-at_place machine (covers page) history place (ap changes_allowed is) here)))
+    go place spec (effective-mems machine place.before place.after spec mask ∙ ap (λ a. effect_after machine.rules spec (effective_set machine place.before place.after spec) a (both mask machine.memory)) (allowed-at_place machine (covers page) history place (ap changes_allowed is) here)))
   where
-    go : (place : Place) (spec : Specification) → effective_set machine place.before (SetMems mask ∷ place.after) spec ≡ effect_after spec (effective_set machine place.before place.after spec) (allowed_nodes machine history) (both mask machine.memory)
-        → option_map (at_home page (SetMems mask ∷ place.after)) (record_set machine spec (one_later (SetMems mask) place)) ≡ policy_after (allowed_nodes machine history) (both mask machine.memory) (option_map (at_home page place.after) (record_set machine spec place))
+    go : (place : Place) (spec : Specification) → effective_set machine place.before (SetMems mask ∷ place.after) spec ≡ effect_after machine.rules spec (effective_set machine place.before place.after spec) (allowed_nodes machine history) (both mask machine.memory)
+        → option_map (at_home page (SetMems mask ∷ place.after)) (record_set machine spec (one_later (SetMems mask) place)) ≡ policy_after machine.rules (allowed_nodes machine history) (both mask machine.memory) (option_map (at_home page place.after) (record_set machine spec place))
     go place spec moved =
         elim (cases_Bool (is_default spec)) [
           | inl d ↦ rw d refl
@@ -121,40 +121,37 @@ bound-now machine history page command spec =
 
 -- ---- one command more
 
--- each page that the command binds is mapped, as an accepted command finds it
-abbrev pub BindsMapped : List Command → Command → Type 0
-BindsMapped history (Mbind start bytes spec) = (page : ℕ) → in_span start bytes page ≡ true → is_mapped history page ≡ true
-BindsMapped history _ = Unit {0}
-
 changed-either : (change : Option PolicyRecord → Option PolicyRecord) (mapped : Bool) (index : ℕ) (r : Option PolicyRecord) → (if mapped then Some (index, change r) else None) ≡ changed_page change (if mapped then Some (index, r) else None)
 changed-either change true index r = refl
 changed-either change false index r = refl
 
 -- the index and the record of each page after one command more
-pub pages-next : (machine : Hardware) (history : List Command) (command : Command) (page : ℕ) → BindsMapped history command → page_in machine (command ∷ history) page ≡ pages_next machine (allowed_nodes machine history) (page_in machine history) command page
-pages-next machine history (Map start bytes offset) page mapped =
+pub pages-next : (machine : Hardware) (history : List Command) (command : Command) (page : ℕ) → page_in machine (command ∷ history) page ≡ pages_next machine (allowed_nodes machine history) (page_in machine history) command page
+pages-next machine history (Map start bytes offset) page =
     elim (cases_Bool (in_span start bytes page)) [
       | inl e ↦ rw e refl
-      | inr e ↦ kept machine history page (Map start bytes offset) e e ∙ ap (with_record machine history page) (record-other machine history page (Map start bytes offset) refl refl) ∙ rw e refl
+      | inr e ↦ kept machine history page (Map start bytes offset) e e e ∙ ap (with_record machine history page) (record-other machine history page (Map start bytes offset) refl refl) ∙ rw e refl
     ]
-pages-next machine history (Unmap start bytes) page mapped =
+pages-next machine history (Unmap start bytes) page =
     elim (cases_Bool (in_span start bytes page)) [
       | inl e ↦ rw e refl
-      | inr e ↦ kept machine history page (Unmap start bytes) e refl ∙ ap (with_record machine history page) (record-other machine history page (Unmap start bytes) refl refl) ∙ rw e refl
+      | inr e ↦ kept machine history page (Unmap start bytes) e refl e ∙ ap (with_record machine history page) (record-other machine history page (Unmap start bytes) refl refl) ∙ rw e refl
     ]
-pages-next machine history (Mbind start bytes spec) page mapped =
+pages-next machine history (Mbind start bytes spec) page =
     elim (cases_Bool (in_span start bytes page)) [
-      | inl e ↦ rw (e, mapped page e) (λ i. Some (later-index page (Mbind start bytes spec) (last_where (maps page) history) i, bound-now machine history page (Mbind start bytes spec) spec i))
-      | inr e ↦ kept machine history page (Mbind start bytes spec) e refl ∙ ap (with_record machine history page) (record-other machine history page (Mbind start bytes spec) refl refl) ∙ rw e refl
+      | inl e ↦
+          rw e ((λ i. if later-mapped (Mbind start bytes spec) (last_where (maps_or_unmaps page) history) i then Some (later-index page (Mbind start bytes spec) (last_where (maps page) history) i, bound-now machine history page (Mbind start bytes spec) spec i) else None)
+          ∙ changed-either (λ r. record_now (allowed_nodes machine history) spec) (is_mapped history page) (index_of history page) (range_record machine history page))
+      | inr e ↦ kept machine history page (Mbind start bytes spec) e refl refl ∙ ap (with_record machine history page) (record-other machine history page (Mbind start bytes spec) refl refl) ∙ rw e refl
     ]
-pages-next machine history (SetTask task spec) page mapped =
-    kept machine history page (SetTask task spec) refl refl ∙ ap (with_record machine history page) (record-other machine history page (SetTask task spec) refl refl)
-pages-next machine history (SetHome start bytes node) page mapped =
+pages-next machine history (SetTask task spec) page =
+    kept machine history page (SetTask task spec) refl refl refl ∙ ap (with_record machine history page) (record-other machine history page (SetTask task spec) refl refl)
+pages-next machine history (SetHome start bytes node) page =
     elim (cases_Bool (in_span start bytes page)) [
-      | inl e ↦ kept machine history page (SetHome start bytes node) refl refl ∙ ap (with_record machine history page) (record-home machine history page start bytes node e) ∙ changed-either (policy_with_home node) (is_mapped history page) (index_of history page) (range_record machine history page) ∙ rw e refl
-      | inr e ↦ kept machine history page (SetHome start bytes node) refl refl ∙ ap (with_record machine history page) (record-home_elsewhere machine history page start bytes node e) ∙ rw e refl
+      | inl e ↦ kept machine history page (SetHome start bytes node) refl refl refl ∙ ap (with_record machine history page) (record-home machine history page start bytes node e) ∙ changed-either (policy_with_home node) (is_mapped history page) (index_of history page) (range_record machine history page) ∙ rw e refl
+      | inr e ↦ kept machine history page (SetHome start bytes node) refl refl refl ∙ ap (with_record machine history page) (record-home_elsewhere machine history page start bytes node e) ∙ rw e refl
     ]
-pages-next machine history (SetWeight node weight) page mapped =
-    kept machine history page (SetWeight node weight) refl refl ∙ ap (with_record machine history page) (record-other machine history page (SetWeight node weight) refl refl)
-pages-next machine history (SetMems mask) page mapped =
-    kept machine history page (SetMems mask) refl refl ∙ ap (with_record machine history page) (record-mems machine history page mask) ∙ changed-either (policy_after (allowed_nodes machine history) (both mask machine.memory)) (is_mapped history page) (index_of history page) (range_record machine history page)
+pages-next machine history (SetWeight node weight) page =
+    kept machine history page (SetWeight node weight) refl refl refl ∙ ap (with_record machine history page) (record-other machine history page (SetWeight node weight) refl refl)
+pages-next machine history (SetMems mask) page =
+    kept machine history page (SetMems mask) refl refl refl ∙ ap (with_record machine history page) (record-mems machine history page mask) ∙ changed-either (policy_after machine.rules (allowed_nodes machine history) (both mask machine.memory)) (is_mapped history page) (index_of history page) (range_record machine history page)

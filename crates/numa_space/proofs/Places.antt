@@ -4,11 +4,13 @@ use Rattle.std.proofs.lemmas.Bool.{cases_Bool}
 use Rattle.std.specs.Option.{option_map}
 use Rattle.numa_mask.specs.NodeSet.{both}
 use Rattle.numa_machine.specs.Machine.{Hardware}
+use Rattle.numa_machine.specs.declared.rules.Rules.{Rules}
+use Rattle.numa_machine.specs.declared.rules.Rules.TheVariants.{Document, Linux}
 use Rattle.numa_mode.specs.Policy.{Specification, effect_when_set, effect_after}
 use Rattle.numa_mode.specs.declared.modes.NodeFlag.{NodeFlag}
 use Rattle.numa_mode.specs.declared.modes.NodeFlag.TheVariants.{Plain, Static, Relative}
 use Rattle.numa_space.specs.History.{Place, last_where, one_later}
-use Rattle.numa_space.specs.Policies.{allowed_nodes, effective_set}
+use Rattle.numa_space.specs.Policies.{allowed_nodes, documented_set, rebound_set, effective_set}
 use Rattle.numa_space.specs.Steps.{allowed_next}
 use Rattle.numa_space.specs.declared.command.Command.{Command}
 use Rattle.numa_space.specs.declared.command.Command.TheVariants.{Map, Unmap, Mbind, SetTask, SetHome, SetWeight, SetMems}
@@ -67,32 +69,67 @@ allowed-left_out machine before (SetMems mask ∷ after) command other = refl
 pub allowed-at_place : (machine : Hardware) (test : Command → Bool) (history : List Command) (place : Place) → changes_allowed place.command ≡ false → IsPlace test history place → allowed_nodes machine (place.after ++ place.before) ≡ allowed_nodes machine history
 allowed-at_place machine test history place other is = sym (ap (allowed_nodes machine) is.whole ∙ allowed-left_out machine place.before place.after place.command other)
 
--- ---- effective sets
+-- ---- effective sets, by the documents
 
 -- right after the command that sets the policy
-pub effective-now : (machine : Hardware) (history : List Command) (spec : Specification) → effective_set machine history [] spec ≡ effect_when_set spec (allowed_nodes machine history)
-effective-now machine history spec = go spec.flag refl
+documented-now : (machine : Hardware) (history : List Command) (spec : Specification) → documented_set machine history [] spec ≡ effect_when_set spec (allowed_nodes machine history)
+documented-now machine history spec = go spec.flag refl
   where
-    go : (f : NodeFlag) → spec.flag ≡ f → effective_set machine history [] spec ≡ effect_when_set spec (allowed_nodes machine history)
+    go : (f : NodeFlag) → spec.flag ≡ f → documented_set machine history [] spec ≡ effect_when_set spec (allowed_nodes machine history)
     go Plain e = rw e refl
     go Static e = rw e refl
     go Relative e = rw e refl
 
 -- after a change of the allowed nodes
-pub effective-mems : (machine : Hardware) (before after : List Command) (spec : Specification) (mask : ℕ) → effective_set machine before (SetMems mask ∷ after) spec ≡ effect_after spec (effective_set machine before after spec) (allowed_nodes machine (after ++ before)) (both mask machine.memory)
-effective-mems machine before after spec mask = go spec.flag refl
+documented-mems : (machine : Hardware) (before after : List Command) (spec : Specification) (mask : ℕ) → documented_set machine before (SetMems mask ∷ after) spec ≡ effect_after Document spec (documented_set machine before after spec) (allowed_nodes machine (after ++ before)) (both mask machine.memory)
+documented-mems machine before after spec mask = go spec.flag refl
   where
-    go : (f : NodeFlag) → spec.flag ≡ f → effective_set machine before (SetMems mask ∷ after) spec ≡ effect_after spec (effective_set machine before after spec) (allowed_nodes machine (after ++ before)) (both mask machine.memory)
+    go : (f : NodeFlag) → spec.flag ≡ f → documented_set machine before (SetMems mask ∷ after) spec ≡ effect_after Document spec (documented_set machine before after spec) (allowed_nodes machine (after ++ before)) (both mask machine.memory)
     go Plain e = rw e refl
     go Static e = rw e refl
     go Relative e = rw e refl
 
 -- after any other command
+documented-other : (machine : Hardware) (before after : List Command) (spec : Specification) (command : Command) → changes_allowed command ≡ false → documented_set machine before (command ∷ after) spec ≡ documented_set machine before after spec
+documented-other machine before after spec (Map start bytes offset) other = refl
+documented-other machine before after spec (Unmap start bytes) other = refl
+documented-other machine before after spec (Mbind start bytes s) other = refl
+documented-other machine before after spec (SetTask task s) other = refl
+documented-other machine before after spec (SetHome start bytes node) other = refl
+documented-other machine before after spec (SetWeight node weight) other = refl
+documented-other machine before after spec (SetMems mask) other = absurd (cc)
+
+-- ---- and by the rules of the machine
+
+rebound-other : (machine : Hardware) (before after : List Command) (spec : Specification) (command : Command) → changes_allowed command ≡ false → rebound_set machine before (command ∷ after) spec ≡ rebound_set machine before after spec
+rebound-other machine before after spec (Map start bytes offset) other = refl
+rebound-other machine before after spec (Unmap start bytes) other = refl
+rebound-other machine before after spec (Mbind start bytes s) other = refl
+rebound-other machine before after spec (SetTask task s) other = refl
+rebound-other machine before after spec (SetHome start bytes node) other = refl
+rebound-other machine before after spec (SetWeight node weight) other = refl
+rebound-other machine before after spec (SetMems mask) other = absurd (cc)
+
+-- right after the command that sets the policy
+pub effective-now : (machine : Hardware) (history : List Command) (spec : Specification) → effective_set machine history [] spec ≡ effect_when_set spec (allowed_nodes machine history)
+effective-now machine history spec = go machine.rules refl
+  where
+    go : (r : Rules) → machine.rules ≡ r → effective_set machine history [] spec ≡ effect_when_set spec (allowed_nodes machine history)
+    go Document e = rw e (documented-now machine history spec)
+    go Linux e = rw e refl
+
+-- after a change of the allowed nodes
+pub effective-mems : (machine : Hardware) (before after : List Command) (spec : Specification) (mask : ℕ) → effective_set machine before (SetMems mask ∷ after) spec ≡ effect_after machine.rules spec (effective_set machine before after spec) (allowed_nodes machine (after ++ before)) (both mask machine.memory)
+effective-mems machine before after spec mask = go machine.rules refl
+  where
+    go : (r : Rules) → machine.rules ≡ r → effective_set machine before (SetMems mask ∷ after) spec ≡ effect_after machine.rules spec (effective_set machine before after spec) (allowed_nodes machine (after ++ before)) (both mask machine.memory)
+    go Document e = rw e (documented-mems machine before after spec mask)
+    go Linux e = rw e refl
+
+-- after any other command
 pub effective-other : (machine : Hardware) (before after : List Command) (spec : Specification) (command : Command) → changes_allowed command ≡ false → effective_set machine before (command ∷ after) spec ≡ effective_set machine before after spec
-effective-other machine before after spec (Map start bytes offset) other = refl
-effective-other machine before after spec (Unmap start bytes) other = refl
-effective-other machine before after spec (Mbind start bytes s) other = refl
-effective-other machine before after spec (SetTask task s) other = refl
-effective-other machine before after spec (SetHome start bytes node) other = refl
-effective-other machine before after spec (SetWeight node weight) other = refl
-effective-other machine before after spec (SetMems mask) other = absurd (cc)
+effective-other machine before after spec command other = go machine.rules refl
+  where
+    go : (r : Rules) → machine.rules ≡ r → effective_set machine before (command ∷ after) spec ≡ effective_set machine before after spec
+    go Document e = rw e (documented-other machine before after spec command other)
+    go Linux e = rw e (rebound-other machine before after spec command other)

@@ -66,17 +66,17 @@ module _ (change : Option PolicyRecord → Option PolicyRecord) where
 
 pub count-task : (machine : Hardware) (history : List Command) (task : ℕ) (spec : Specification) → range_count_of machine (SetTask task spec ∷ history) ≡ range_count_of machine history
 count-task machine history task spec =
-    let same : page_in machine (SetTask task spec ∷ history) ≡ page_in machine history = λ i page. pages-next machine history (SetTask task spec) page tt i in
+    let same : page_in machine (SetTask task spec ∷ history) ≡ page_in machine history = λ i page. pages-next machine history (SetTask task spec) page i in
     ap (λ at. range_count same_record at) same
 
 pub count-weight : (machine : Hardware) (history : List Command) (node weight : ℕ) → range_count_of machine (SetWeight node weight ∷ history) ≡ range_count_of machine history
 count-weight machine history node weight =
-    let same : page_in machine (SetWeight node weight ∷ history) ≡ page_in machine history = λ i page. pages-next machine history (SetWeight node weight) page tt i in
+    let same : page_in machine (SetWeight node weight ∷ history) ≡ page_in machine history = λ i page. pages-next machine history (SetWeight node weight) page i in
     ap (λ at. range_count same_record at) same
 
 pub count-mems : (machine : Hardware) (history : List Command) (mask : ℕ) → range_count_of machine (SetMems mask ∷ history) ≤ range_count_of machine history
 count-mems machine history mask =
-    let change : Option PolicyRecord → Option PolicyRecord = policy_after (allowed_nodes machine history) (both mask machine.memory) in
-    let moved : page_in machine (SetMems mask ∷ history) ≡ (λ page. changed_page change (page_in machine history page)) = λ i page. pages-next machine history (SetMems mask) page tt i in
+    let change : Option PolicyRecord → Option PolicyRecord = policy_after machine.rules (allowed_nodes machine history) (both mask machine.memory) in
+    let moved : page_in machine (SetMems mask ∷ history) ≡ (λ page. changed_page change (page_in machine history page)) = λ i page. pages-next machine history (SetMems mask) page i in
     let fewer : range_count same_record (λ page. changed_page change (page_in machine history page)) ≤ range_count same_record (page_in machine history) = count-changed change (page_in machine history) in
     omega (arith, fewer, ap (λ at. range_count same_record at) moved)

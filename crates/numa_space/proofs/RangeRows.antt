@@ -17,13 +17,12 @@ use Rattle.numa_space.specs.History.{page_of, page_count}
 use Rattle.numa_space.specs.Policies.{allowed_nodes}
 use Rattle.numa_space.specs.Pages.{page_in}
 use Rattle.numa_space.specs.Same.{same_record}
-use Rattle.numa_space.specs.Refusals.{when, refusal_of, range_count_of}
+use Rattle.numa_space.specs.Refusals.{bad_map_span, when, refusal_of, range_count_of}
 use Rattle.numa_space.specs.Steps.{record_now, policy_with_home}
 use Rattle.numa_space.specs.declared.command.Command.{Command}
 use Rattle.numa_space.specs.declared.command.Command.TheVariants.{Map, Unmap, Mbind, SetTask, SetHome}
 use Rattle.numa_space.specs.declared.refusal.Refusal.TheVariants.{TooManyRanges}
 use Rattle.numa_space.proofs.Pages.{pages-next}
-use Rattle.numa_space.proofs.Refused.{span-mapped, mapped-from_page}
 use Rattle.numa_space.proofs.Same.{same_record-exact, same_record-refl}
 use Rattle.numa_space.proofs.Rows.{flat, in_a_row, asked}
 
@@ -46,7 +45,7 @@ counted machine history runs shows = count-joined same_record same_record-exact 
 
 -- a first map
 shows-first : (machine : Hardware) (start bytes offset : ℕ) → AreApart 0 (plain (page_of start) (page_count bytes) offset ∷ []) → Shows machine (Map start bytes offset ∷ []) (plain (page_of start) (page_count bytes) offset ∷ [])
-shows-first machine start bytes offset apart = record { apart = apart; pages = λ page. sym (pages-next machine [] (Map start bytes offset) page tt) }
+shows-first machine start bytes offset apart = record { apart = apart; pages = λ page. sym (pages-next machine [] (Map start bytes offset) page) }
 
 shows-edited : (machine : Hardware) (history : List Command) (command : Command) (first pages : ℕ) (edit : Option PolicyRecord → Option (Option PolicyRecord)) (runs : Runs) → Shows machine history runs
     → ((page : ℕ) → page_in machine (command ∷ history) page ≡ edited_span first pages edit (page_in machine history) page)
@@ -62,22 +61,22 @@ shows-bound : (machine : Hardware) (history : List Command) (start bytes : ℕ) 
     → Shows machine (Mbind start bytes spec ∷ history) (edit_of (page_of start) (page_of start + page_count bytes) (λ old. Some (record_now (allowed_nodes machine history) spec)) runs)
 shows-bound machine history start bytes spec runs shows whole =
     shows-edited machine history (Mbind start bytes spec) (page_of start) (page_count bytes) (λ old. Some (record_now (allowed_nodes machine history) spec)) runs shows
-    (λ page. pages-next machine history (Mbind start bytes spec) page (λ p inside. mapped-from_page machine history p (span-mapped (page_in machine history) start bytes whole p inside))
+    (λ page. pages-next machine history (Mbind start bytes spec) page
     ∙ ap (λ at. at page) (sym (changed-is (page_of start) (page_count bytes) (λ old. record_now (allowed_nodes machine history) spec) (page_in machine history))))
 
 shows-homed : (machine : Hardware) (history : List Command) (start bytes node : ℕ) (runs : Runs) → Shows machine history runs
     → Shows machine (SetHome start bytes node ∷ history) (edit_of (page_of start) (page_of start + page_count bytes) (λ old. Some (policy_with_home node old)) runs)
 shows-homed machine history start bytes node runs shows =
     shows-edited machine history (SetHome start bytes node) (page_of start) (page_count bytes) (λ old. Some (policy_with_home node old)) runs shows
-    (λ page. pages-next machine history (SetHome start bytes node) page tt ∙ ap (λ at. at page) (sym (changed-is (page_of start) (page_count bytes) (policy_with_home node) (page_in machine history))))
+    (λ page. pages-next machine history (SetHome start bytes node) page ∙ ap (λ at. at page) (sym (changed-is (page_of start) (page_count bytes) (policy_with_home node) (page_in machine history))))
 
 shows-unmapped : (machine : Hardware) (history : List Command) (start bytes : ℕ) (runs : Runs) → Shows machine history runs → Shows machine (Unmap start bytes ∷ history) (edit_of (page_of start) (page_of start + page_count bytes) (λ old. None) runs)
 shows-unmapped machine history start bytes runs shows =
     shows-edited machine history (Unmap start bytes) (page_of start) (page_count bytes) (λ old. None) runs shows
-    (λ page. pages-next machine history (Unmap start bytes) page tt ∙ ap (λ at. at page) (sym (without-is (page_of start) (page_count bytes) (page_in machine history))))
+    (λ page. pages-next machine history (Unmap start bytes) page ∙ ap (λ at. at page) (sym (without-is (page_of start) (page_count bytes) (page_in machine history))))
 
 shows-task : (machine : Hardware) (history : List Command) (task : ℕ) (spec : Specification) (runs : Runs) → Shows machine history runs → Shows machine (SetTask task spec ∷ history) runs
-shows-task machine history task spec runs shows = record { apart = shows.apart; pages = λ page. shows.pages page ∙ sym (pages-next machine history (SetTask task spec) page tt) }
+shows-task machine history task spec runs shows = record { apart = shows.apart; pages = λ page. shows.pages page ∙ sym (pages-next machine history (SetTask task spec) page) }
 
 -- ---- a policy in the middle of a range, and its removal
 
@@ -187,7 +186,7 @@ shows-appended machine history run start bytes offset shows some behind apart =
     let room : HasRoom (run ∷ []) 1 (page_of start) (page_of start + (page_count bytes - 1)) = record { within = omega arith; apart = shows.apart; maximal = (tt, tt); before = ((some, behind), tt); behind = tt } in
     record {
       apart = apart;
-      pages = λ page. page_at-placed (run ∷ []) 1 (plain (page_of start) (page_count bytes) offset) room page ∙ ap (λ at. with_span (page_of start) (page_count bytes) offset None at page) whole ∙ sym (pages-next machine history (Map start bytes offset) page tt);
+      pages = λ page. page_at-placed (run ∷ []) 1 (plain (page_of start) (page_count bytes) offset) room page ∙ ap (λ at. with_span (page_of start) (page_count bytes) offset None at page) whole ∙ sym (pages-next machine history (Map start bytes offset) page);
     }
 
 map-goes_on : range_count_of (flat 1) (Map 0x12000 0x1000 2 ∷ two_pages) ≡ 1
@@ -199,5 +198,5 @@ unfolding two_pages three_pages
 map-with_a_gap = counted (flat 1) (Map 0x12000 0x1000 9 ∷ two_pages) _ (shows-appended (flat 1) two_pages (plain 16 2 0) 0x12000 0x1000 9 shows-two (omega arith) (omega arith) (omega arith, omega arith, omega arith, (omega arith, omega arith, omega arith, omega arith)))
 
 map-splits_too_far : refusal_of (flat 1) single two_pages (Map 0x12000 0x1000 9) ≡ Some TooManyRanges
-unfolding members any_page single two_pages three_pages
+unfolding members any_page bad_map_span single two_pages three_pages
 map-splits_too_far = refused-by_count (range_count_of (flat 1) (Map 0x12000 0x1000 9 ∷ two_pages)) 1 2 map-with_a_gap refl

@@ -2,6 +2,7 @@
 use Rattle.std.proofs.Common.{◌≡◌, true, false, List, [], ◌∷◌, Some, None, Ok, Err, refl}
 use Rattle.numa_mask.specs.NodeSet.{set_of, members}
 use Rattle.numa_machine.specs.Machine.{Hardware, distance_order}
+use Rattle.numa_machine.specs.declared.rules.Rules.TheVariants.{Linux}
 use Rattle.numa_mode.specs.Policy.{specification_of}
 use Rattle.numa_mode.specs.declared.modes.Mode.TheVariants.{Default, Preferred, Bind, Interleave, Local}
 use Rattle.numa_mode.specs.declared.modes.NodeFlag.TheVariants.{Plain, Relative}
@@ -9,11 +10,11 @@ use Rattle.numa_mode.specs.declared.specification.SpecFault.TheVariants.{BothFla
 use Rattle.numa_ranges.specs.Maps.{any_page}
 use Rattle.numa_space.specs.Limited.{Bounds}
 use Rattle.numa_space.specs.Lists.{node_list}
-use Rattle.numa_space.specs.Refusals.{refusal_of, too_many_ranges, scene_of}
+use Rattle.numa_space.specs.Refusals.{bad_map_span, lacks_policy, refusal_of, too_many_ranges, scene_of}
 use Rattle.numa_space.specs.Standing.{place_refusal_of}
 use Rattle.numa_space.specs.declared.command.Command.{Command}
 use Rattle.numa_space.specs.declared.command.Command.TheVariants.{Map, Unmap, Mbind, SetTask, SetHome, SetWeight}
-use Rattle.numa_space.specs.declared.refusal.Refusal.TheVariants.{CommandsSpent, Unaligned, OutOfSpace, EmptyLength, BadOffset, Overlap, Hole, NoSuchNode, BadWeight, NodesNotAllowed, NotSupported, TooManyTasks}
+use Rattle.numa_space.specs.declared.refusal.Refusal.TheVariants.{CommandsSpent, Unaligned, OutOfSpace, EmptyLength, BadOffset, Overlap, Hole, NoSuchNode, BadWeight, NodesNotAllowed, NotSupported, NoPolicy, TooManyTasks}
 use Rattle.numa_space.specs.declared.refusal.PlaceRefusal.TheVariants.{BadCpu, Unmapped}
 use Rattle.numa_space.proofs.Rows.{flat, in_a_row, asked, mems}
 
@@ -26,11 +27,11 @@ two_maps : List Command
 two_maps = Map 0x12000 0x1000 2 ∷ Map 0x10000 0x1000 0 ∷ []
 
 bind-over_a_hole : refusal_of (flat 2) wide two_maps (Mbind 0x10000 0x3000 (asked Bind Plain (1 ∷ []))) ≡ Some Hole
-unfolding any_page two_maps wide
+unfolding any_page bad_map_span lacks_policy two_maps wide
 bind-over_a_hole = refl
 
 default-over_a_hole : refusal_of (flat 2) wide two_maps (Mbind 0x10000 0x3000 (asked Default Plain [])) ≡ Some Hole
-unfolding any_page two_maps wide
+unfolding any_page bad_map_span lacks_policy two_maps wide
 default-over_a_hole = refl
 
 mapped-has_a_list : node_list (flat 2) two_maps 1 0x10 0 ≡ 0 ∷ 1 ∷ []
@@ -52,44 +53,44 @@ last_page = Map 0x7ffffffff000 0x1000 0 ∷ []
 
 -- up to address 2^47 only the number of ranges can stand against a map
 map-up_to_the_end : refusal_of (flat 2) wide [] (Map 0x7ffffffff000 0x1000 0) ≡ too_many_ranges (scene_of (flat 2) wide [] (Map 0x7ffffffff000 0x1000 0))
-unfolding any_page wide
+unfolding any_page bad_map_span lacks_policy wide
 map-up_to_the_end = refl
 
 map-past_the_end : refusal_of (flat 2) wide last_page (Map 0x7ffffffff000 0x1001 0) ≡ Some OutOfSpace
-unfolding any_page last_page wide
+unfolding any_page bad_map_span lacks_policy last_page wide
 map-past_the_end = refl
 
 -- a sum above every u64 is no small number
 map-far_past_the_end : refusal_of (flat 2) wide [] (Map 0xfffffffffffff000 0x2000 0) ≡ Some OutOfSpace
-unfolding any_page wide
+unfolding any_page bad_map_span lacks_policy wide
 map-far_past_the_end = refl
 
 map-of_the_greatest_length : refusal_of (flat 2) wide [] (Map 0x10000 0xffffffffffffffff 0) ≡ Some OutOfSpace
-unfolding any_page wide
+unfolding any_page bad_map_span lacks_policy wide
 map-of_the_greatest_length = refl
 
 map-of_nothing : refusal_of (flat 2) wide last_page (Map 0x10000 0 0) ≡ Some EmptyLength
-unfolding any_page last_page wide
+unfolding any_page bad_map_span lacks_policy last_page wide
 map-of_nothing = refl
 
 bind-of_nothing : refusal_of (flat 2) wide last_page (Mbind 0x20000 0 (asked Bind Plain (1 ∷ []))) ≡ None
-unfolding any_page last_page wide
+unfolding any_page bad_map_span lacks_policy last_page wide
 bind-of_nothing = refl
 
 unmap-of_nothing : refusal_of (flat 2) wide last_page (Unmap 0x20000 0) ≡ None
-unfolding any_page last_page wide
+unfolding any_page bad_map_span lacks_policy last_page wide
 unmap-of_nothing = refl
 
 map-between_pages : refusal_of (flat 2) wide last_page (Map 0x10001 1 0) ≡ Some Unaligned
-unfolding any_page last_page wide
+unfolding any_page bad_map_span lacks_policy last_page wide
 map-between_pages = refl
 
 map-offset_too_large : refusal_of (flat 2) wide last_page (Map 0x30000 1 34359738368) ≡ Some BadOffset
-unfolding any_page last_page wide
+unfolding any_page bad_map_span lacks_policy last_page wide
 map-offset_too_large = refl
 
 map-over_a_map : refusal_of (flat 2) wide (Map 0x10000 1 0 ∷ last_page) (Map 0x10000 0x2000 5) ≡ Some Overlap
-unfolding any_page last_page wide
+unfolding any_page bad_map_span lacks_policy last_page wide
 map-over_a_map = refl
 
 part_of_a_page-is_mapped : node_list (flat 2) (Map 0x10000 1 0 ∷ last_page) 1 0x10 0 ≡ 0 ∷ 1 ∷ []
@@ -173,27 +174,27 @@ bound_run : List Command
 bound_run = Mbind 0x12000 0x1000 (asked Interleave Plain (0 ∷ 1 ∷ 2 ∷ [])) ∷ Mbind 0x10000 0x2000 (asked Bind Plain (0 ∷ 1 ∷ [])) ∷ Map 0x10000 0x4000 0 ∷ []
 
 home-over_interleave : refusal_of in_a_row wide bound_run (SetHome 0x10000 0x3000 2) ≡ Some NotSupported
-unfolding any_page bound_run wide
+unfolding any_page bad_map_span lacks_policy bound_run wide
 home-over_interleave = refl
 
 home-no_such_node : refusal_of in_a_row wide bound_run (SetHome 0x10000 0x1000 3) ≡ Some NoSuchNode
-unfolding any_page bound_run wide
+unfolding any_page bad_map_span lacks_policy bound_run wide
 home-no_such_node = refl
 
 home-of_bound_pages : refusal_of in_a_row wide bound_run (SetHome 0x11000 0x1000 2) ≡ too_many_ranges (scene_of in_a_row wide bound_run (SetHome 0x11000 0x1000 2))
-unfolding any_page bound_run wide
+unfolding any_page bad_map_span lacks_policy bound_run wide
 home-of_bound_pages = refl
 
 home-over_unmapped_pages : refusal_of in_a_row wide bound_run (SetHome 0x13000 0x2000 2) ≡ too_many_ranges (scene_of in_a_row wide bound_run (SetHome 0x13000 0x2000 2))
-unfolding any_page bound_run wide
+unfolding any_page bad_map_span lacks_policy bound_run wide
 home-over_unmapped_pages = refl
 
 home-of_nothing : refusal_of in_a_row wide bound_run (SetHome 0x20000 0 2) ≡ None
-unfolding any_page bound_run wide
+unfolding any_page bad_map_span lacks_policy bound_run wide
 home-of_nothing = refl
 
 home-of_nothing_at_no_such_node : refusal_of in_a_row wide bound_run (SetHome 0x20000 0 3) ≡ Some NoSuchNode
-unfolding any_page bound_run wide
+unfolding any_page bad_map_span lacks_policy bound_run wide
 home-of_nothing_at_no_such_node = refl
 
 -- ---- specifications
@@ -226,3 +227,40 @@ local-with_nodes = refl
 
 default-forgets_a_flag : specification_of Default true false 0 ≡ Ok (asked Default Plain [])
 default-forgets_a_flag = refl
+
+-- ---- by the rules of the kernel
+
+linux : Hardware
+linux = record (flat 2) { rules = Linux }
+
+linux-default_passes_over_a_hole : refusal_of linux wide two_maps (Mbind 0x10000 0x3000 (asked Default Plain [])) ≡ too_many_ranges (scene_of linux wide two_maps (Mbind 0x10000 0x3000 (asked Default Plain [])))
+unfolding any_page two_maps wide linux
+linux-default_passes_over_a_hole = refl
+
+linux-default_where_nothing_is_mapped : refusal_of linux wide two_maps (Mbind 0x11000 0x1000 (asked Default Plain [])) ≡ Some Hole
+unfolding any_page two_maps wide linux
+linux-default_where_nothing_is_mapped = refl
+
+linux-hole_stays_one : place_refusal_of linux (Mbind 0x10000 0x3000 (asked Default Plain []) ∷ two_maps) 0x11 0 ≡ Some Unmapped
+unfolding two_maps linux
+linux-hole_stays_one = refl
+
+linux-nodes_before_holes : refusal_of linux wide two_maps (Mbind 0x10000 0x3000 (asked Bind Plain (7 ∷ []))) ≡ Some NodesNotAllowed
+unfolding members any_page two_maps wide linux
+linux-nodes_before_holes = refl
+
+linux-map_of_the_last_page : refusal_of linux wide [] (Map 0x7ffffffff000 0x1000 0) ≡ Some OutOfSpace
+unfolding any_page bad_map_span wide linux
+linux-map_of_the_last_page = refl
+
+linux-unmap_of_nothing : refusal_of linux wide last_page (Unmap 0x20000 0) ≡ Some EmptyLength
+unfolding any_page last_page wide linux
+linux-unmap_of_nothing = refl
+
+linux-weight_zero : refusal_of linux wide one_page (SetWeight 1 0) ≡ None
+unfolding one_page wide linux
+linux-weight_zero = refl
+
+linux-home_without_policy : refusal_of linux wide one_page (SetHome 0x10000 0x1000 1) ≡ Some NoPolicy
+unfolding any_page lacks_policy one_page wide linux
+linux-home_without_policy = refl

@@ -2,6 +2,7 @@
 use Rattle.std.proofs.Common.{◌≡◌, ℕ, ◌^◌, ◌-◌, Some, None, ◌*◌, ◌/◌, ◌%◌, eqb, cond, List, [], ◌∷◌, map, take, replicate, refl}
 use Rattle.std.specs.List.{flat_map, range_with_len}
 use Rattle.numa_mask.specs.NodeSet.{set_of, members}
+use Rattle.numa_machine.specs.declared.rules.Rules.TheVariants.{Document, Linux}
 use Rattle.numa_machine.specs.Machine.{Hardware, distance_order}
 use Rattle.numa_machine.specs.Weights.{interleave_node, weighted_node, total_weight}
 use Rattle.numa_mode.specs.Policy.{Specification}
@@ -18,11 +19,11 @@ use Rattle.numa_space.specs.declared.command.Command.TheVariants.{Map, Unmap, Mb
 
 -- a machine whose nodes all have memory, each as far from each other one
 abbrev pub flat : ℕ → Hardware
-flat nodes = record { nodes = nodes; memory = set_of (range_with_len 0 nodes); distances = map (λ k. cond (eqb (k / nodes) (k % nodes)) 10 20) (range_with_len 0 (nodes * nodes)); frames = replicate nodes 8 }
+flat nodes = record { nodes = nodes; memory = set_of (range_with_len 0 nodes); distances = map (λ k. cond (eqb (k / nodes) (k % nodes)) 10 20) (range_with_len 0 (nodes * nodes)); frames = replicate nodes 8; rules = Document }
 
 -- three nodes in a row
 abbrev pub in_a_row : Hardware
-in_a_row = record { nodes = 3; memory = 7; distances = 10 ∷ 15 ∷ 20 ∷ 15 ∷ 10 ∷ 15 ∷ 20 ∷ 15 ∷ 10 ∷ []; frames = replicate 3 8 }
+in_a_row = record { nodes = 3; memory = 7; distances = 10 ∷ 15 ∷ 20 ∷ 15 ∷ 10 ∷ 15 ∷ 20 ∷ 15 ∷ 10 ∷ []; frames = replicate 3 8; rules = Document }
 
 -- a policy that is asked for with these nodes
 abbrev pub asked : Mode → NodeFlag → List ℕ → Specification
@@ -124,7 +125,7 @@ preferred-lowest = refl
 
 -- the greatest node that there can be: 255 folds to place 0 of three nodes
 many_nodes : Hardware
-many_nodes = record { nodes = 256; memory = 2 ^ 256 - 1; distances = []; frames = [] }
+many_nodes = record { nodes = 256; memory = 2 ^ 256 - 1; distances = []; frames = []; rules = Document }
 
 relative-many_nodes : task_record many_nodes (mems (64 ∷ 65 ∷ 66 ∷ []) ∷ SetTask 1 (asked Bind Relative (1 ∷ 255 ∷ [])) ∷ []) 1 ≡ Some (record { spec = asked Bind Relative (1 ∷ 255 ∷ []); effective = set_of (64 ∷ 65 ∷ []); home = None })
 unfolding members many_nodes
@@ -211,7 +212,7 @@ unmapped-keeps_indexes = refl
 
 -- node 1 has none
 gap_machine : Hardware
-gap_machine = record { nodes = 3; memory = set_of (0 ∷ 2 ∷ []); distances = 10 ∷ 20 ∷ 255 ∷ 20 ∷ 10 ∷ 20 ∷ 255 ∷ 20 ∷ 10 ∷ []; frames = 8 ∷ 0 ∷ 8 ∷ [] }
+gap_machine = record { nodes = 3; memory = set_of (0 ∷ 2 ∷ []); distances = 10 ∷ 20 ∷ 255 ∷ 20 ∷ 10 ∷ 20 ∷ 255 ∷ 20 ∷ 10 ∷ []; frames = 8 ∷ 0 ∷ 8 ∷ []; rules = Document }
 
 one_page : List Command
 one_page = Map 0x10000 0x1000 0 ∷ []
@@ -289,3 +290,28 @@ home-without_policy = refl
 preferred_many-with_home : node_list in_a_row (SetHome 0x13000 0x1000 2 ∷ Mbind 0x13000 0x1000 (asked PreferredMany Plain (1 ∷ [])) ∷ home_run) 1 0x13 0 ≡ 1 ∷ 2 ∷ 0 ∷ []
 unfolding members distance_order home_run bound_run
 preferred_many-with_home = refl
+
+-- ---- by the rules of the kernel
+
+linux : Hardware
+linux = record (flat 4) { rules = Linux }
+
+-- PREFERRED keeps its node, from which the allowed ones are looked for
+preferred-stays : node_list linux (mems (2 ∷ 3 ∷ []) ∷ SetTask 1 (asked Preferred Plain (1 ∷ [])) ∷ Map 0x10000 0x1000 0 ∷ []) 1 0x10 0 ≡ 2 ∷ 3 ∷ []
+unfolding members distance_order linux
+preferred-stays = refl
+
+-- so does PREFERRED_MANY: what of its set is allowed comes first
+many-stays : node_list linux (mems (0 ∷ 2 ∷ []) ∷ SetTask 1 (asked PreferredMany Plain (1 ∷ 2 ∷ [])) ∷ Map 0x10000 0x1000 0 ∷ []) 1 0x10 0 ≡ 2 ∷ 0 ∷ []
+unfolding members distance_order linux
+many-stays = refl
+
+-- a static policy that overlaps no allowed node has them all
+static-has_all : node_list linux (mems (2 ∷ 3 ∷ []) ∷ static_run) 1 0x10 0 ≡ 2 ∷ 3 ∷ []
+unfolding members distance_order static_run linux
+static-has_all = refl
+
+-- weight 0 puts back 1
+weight-put_back : firsts linux (SetWeight 0 0 ∷ weighted_run) 1 0x10 3 ≡ 0 ∷ 1 ∷ 1 ∷ []
+unfolding members distance_order weighted_node total_weight firsts weighted_run linux
+weight-put_back = refl

@@ -5,6 +5,7 @@ use Rattle.std.specs.Option.{option_map}
 use Rattle.std.specs.Prelude.{if◌then◌else◌, option_and_then}
 use Rattle.numa_mask.specs.NodeSet.{both}
 use Rattle.numa_machine.specs.Machine.{Hardware}
+use Rattle.numa_machine.specs.declared.rules.Rules.{Rules}
 use Rattle.numa_mode.specs.Policy.{Specification, PolicyRecord, is_default, effect_after}
 use Rattle.numa_space.specs.History.{Place, last_where, one_later}
 use Rattle.numa_space.specs.Policies.{allowed_nodes, effective_set, record_set, sets_task, set_by_task, task_record, tasks_of, node_weight}
@@ -49,15 +50,15 @@ record-other machine history task command same =
     (λ place t spec found is i. if is_default spec then None else Some (record { spec = spec; effective = effective-other machine place.before place.after spec command same i; home = None }))
 
 record-mems : (machine : Hardware) (history : List Command) (task mask : ℕ)
-    → option_and_then (λ place. set_by_task machine place.command place) (option_map (one_later (SetMems mask)) (last_where (sets_task task) history)) ≡ policy_after (allowed_nodes machine history) (both mask machine.memory) (task_record machine history task)
+    → option_and_then (λ place. set_by_task machine place.command place) (option_map (one_later (SetMems mask)) (last_where (sets_task task) history)) ≡ policy_after machine.rules (allowed_nodes machine history) (both mask machine.memory) (task_record machine history task)
 record-mems machine history task mask =
-    later-record machine (SetMems mask) (policy_after (allowed_nodes machine history) (both mask machine.memory)) (last_where (sets_task task) history) refl
+    later-record machine (SetMems mask) (policy_after machine.rules (allowed_nodes machine history) (both mask machine.memory)) (last_where (sets_task task) history) refl
     (λ place t spec found is.
     let here : IsPlace (sets_task task) history place = rw found at (last_where-place (sets_task task) history) in
-    go place spec (effective-mems machine place.before place.after spec mask ∙ ap (λ a. effect_after spec (effective_set machine place.before place.after spec) a (both mask machine.memory)) (allowed-at_place machine (sets_task task) history place (ap changes_allowed is) here)))
+    go place spec (effective-mems machine place.before place.after spec mask ∙ ap (λ a. effect_after machine.rules spec (effective_set machine place.before place.after spec) a (both mask machine.memory)) (allowed-at_place machine (sets_task task) history place (ap changes_allowed is) here)))
   where
-    go : (place : Place) (spec : Specification) → effective_set machine place.before (SetMems mask ∷ place.after) spec ≡ effect_after spec (effective_set machine place.before place.after spec) (allowed_nodes machine history) (both mask machine.memory)
-        → record_set machine spec (one_later (SetMems mask) place) ≡ policy_after (allowed_nodes machine history) (both mask machine.memory) (record_set machine spec place)
+    go : (place : Place) (spec : Specification) → effective_set machine place.before (SetMems mask ∷ place.after) spec ≡ effect_after machine.rules spec (effective_set machine place.before place.after spec) (allowed_nodes machine history) (both mask machine.memory)
+        → record_set machine spec (one_later (SetMems mask) place) ≡ policy_after machine.rules (allowed_nodes machine history) (both mask machine.memory) (record_set machine spec place)
     go place spec moved =
         elim (cases_Bool (is_default spec)) [
           | inl d ↦ rw d refl
@@ -123,9 +124,9 @@ length-left_out task tasks = omega (arith, both_parts task tasks)
 abbrev one_if_some : Option PolicyRecord → ℕ
 one_if_some r = if is_some r then 1 else 0
 
-some-rebound : (old new : ℕ) (r : Option PolicyRecord) → is_some (policy_after old new r) ≡ is_some r
-some-rebound old new None = refl
-some-rebound old new (Some r) = refl
+some-rebound : (rules : Rules) (old new : ℕ) (r : Option PolicyRecord) → is_some (policy_after rules old new r) ≡ is_some r
+some-rebound rules old new None = refl
+some-rebound rules old new (Some r) = refl
 
 -- each task with a record stands once among those that have one, and no other task does
 pub tasks-once : (machine : Hardware) (history : List Command) (task : ℕ) → times task (tasks_of history) ≡ one_if_some (task_record machine history task)
@@ -147,7 +148,7 @@ tasks-once machine (SetTask other spec ∷ history) task =
     ∙ ap one_if_some (sym (task-next machine history (SetTask other spec) task))
 tasks-once machine (SetHome start bytes node ∷ history) task = tasks-once machine history task ∙ ap one_if_some (sym (task-next machine history (SetHome start bytes node) task))
 tasks-once machine (SetWeight node weight ∷ history) task = tasks-once machine history task ∙ ap one_if_some (sym (task-next machine history (SetWeight node weight) task))
-tasks-once machine (SetMems mask ∷ history) task = tasks-once machine history task ∙ ap (λ b. if b then 1 else 0) (sym (some-rebound _ _ (task_record machine history task))) ∙ ap one_if_some (sym (task-next machine history (SetMems mask) task))
+tasks-once machine (SetMems mask ∷ history) task = tasks-once machine history task ∙ ap (λ b. if b then 1 else 0) (sym (some-rebound machine.rules _ _ (task_record machine history task))) ∙ ap one_if_some (sym (task-next machine history (SetMems mask) task))
 
 pub task_count-next : (machine : Hardware) (history : List Command) (command : Command) → length (tasks_of (command ∷ history)) ≡ task_count_next (task_record machine history) (length (tasks_of history)) command
 task_count-next machine history (Map start bytes offset) = refl

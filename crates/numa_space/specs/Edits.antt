@@ -11,7 +11,10 @@ use Rattle.numa_ranges.specs.declared.fault.RangeFault.TheVariants as fault
 use Rattle.numa_space.specs.declared.refusal.Refusal.{Refusal}
 use Rattle.numa_space.specs.declared.refusal.Refusal.TheVariants.{Overlap, Hole, TooManyRanges}
 use Rattle.numa_space.specs.declared.refusal.Refusal.TheVariants.{NoMemory}
-use Rattle.numa_space.specs.Refusals.{PageMap, when, takes_no_home}
+use Rattle.numa_space.specs.Refusals.{PageMap, when, lacks_pages, has_policy, takes_no_home}
+use Rattle.numa_space.specs.declared.page_ranges.PageTest.{PageTest}
+use Rattle.numa_space.specs.declared.page_ranges.PageTest.TheVariants.{IsMapped, HasPolicy}
+use Rattle.numa_space.specs.declared.page_ranges.PageTest.TheVariants.{TakesNoHome}
 use Rattle.numa_space.specs.Same.{same_record}
 
 -- the ranges of a space in rising order, and how many there may be
@@ -32,8 +35,8 @@ too_many limit after = when (nat_lt limit (range_count same_record after)) TooMa
 abbrev pub overlap_cause : PageMap → ℕ → ℕ → Option Refusal
 overlap_cause pages first count = when (any_page (λ page. is_some (pages page)) first count) Overlap
 
-abbrev pub hole_cause : PageMap → ℕ → ℕ → Option Refusal
-hole_cause pages first count = when (any_page (λ page. not (is_some (pages page))) first count) Hole
+abbrev pub hole_cause : Bool → PageMap → ℕ → ℕ → Option Refusal
+hole_cause passes pages first count = when (lacks_pages passes pages first count) Hole
 
 -- the first cause, or the pages afterwards; lack of memory where there is no cause; unchanged where
 -- it is refused
@@ -45,7 +48,13 @@ IsEdit cause after old result new =
     (λ refusal. (refusal ≡ NoMemory) × (new ≡ old)))
     (λ first. (result ≡ Err first) × (new ≡ old))
 
--- whether a run reaches into the pages from `first` up to `end`, and takes no home
-abbrev pub refuses : ℕ → ℕ → Run (Option PolicyRecord) → Bool
-refuses first end run = nat_lt run.first end &&
-    (nat_lt (first - run.first) run.pages && takes_no_home (Some (0, run.value)))
+-- whether a page passes a test
+abbrev pub passes : PageTest → Option (ℕ × Option PolicyRecord) → Bool
+passes IsMapped = is_some
+passes HasPolicy = has_policy
+passes TakesNoHome = takes_no_home
+
+-- whether a run reaches into the pages from `first` up to `end`, and its pages pass the test
+abbrev pub reaches : PageTest → ℕ → ℕ → Run (Option PolicyRecord) → Bool
+reaches test first end run = nat_lt run.first end &&
+    (nat_lt (first - run.first) run.pages && passes test (Some (0, run.value)))

@@ -6,10 +6,10 @@ use Rattle.numa_space.specs.declared.refusal.Refusal.TheVariants.{BadOffset, Ove
 use Rattle.numa_space.specs.declared.refusal.Refusal.TheVariants.{NoSuchNode, BadWeight}
 use Rattle.numa_space.specs.declared.refusal.Refusal.TheVariants.{NodesNotAllowed, NotSupported}
 use Rattle.numa_space.specs.declared.refusal.Refusal.TheVariants.{TooManyTasks, TooManyRanges}
-use Rattle.numa_space.specs.declared.refusal.Refusal.TheVariants.{NoMemory}
+use Rattle.numa_space.specs.declared.refusal.Refusal.TheVariants.{NoMemory, NoPolicy}
 use Rattle.numa_space.specs.declared.refusal.Errno.{Errno}
 use Rattle.numa_space.specs.declared.refusal.Errno.TheVariants.{EInval, ENoMem, EExist, EFault}
-use Rattle.numa_space.specs.declared.refusal.Errno.TheVariants.{ENoSpc, EOpNotSupp}
+use Rattle.numa_space.specs.declared.refusal.Errno.TheVariants.{ENoSpc, EOpNotSupp, ENoEnt}
 
 abbrev pub errno_of : Refusal → Errno
 errno_of CommandsSpent = ENoSpc
@@ -23,6 +23,7 @@ errno_of NoSuchNode = EInval
 errno_of BadWeight = EInval
 errno_of NodesNotAllowed = EInval
 errno_of NotSupported = EOpNotSupp
+errno_of NoPolicy = ENoEnt
 errno_of TooManyTasks = ENoMem
 errno_of TooManyRanges = ENoMem
 errno_of NoMemory = ENoMem

@@ -26,10 +26,15 @@ abbrev pub is_unmap : Command → Bool
 is_unmap (Unmap start bytes) = true
 is_unmap _ = false
 
--- a page is mapped where it has a cover that doesn't unmap it
+abbrev pub maps_or_unmaps : ℕ → Command → Bool
+maps_or_unmaps page (Map start bytes offset) = in_span start bytes page
+maps_or_unmaps page (Unmap start bytes) = in_span start bytes page
+maps_or_unmaps page _ = false
+
+-- a page is mapped where the last command that maps or unmaps it doesn't unmap it
 abbrev pub is_mapped : List Command → ℕ → Bool
 is_mapped history page = option_map_or (λ place. not (is_unmap place.command))
-    (cover_of history page) false
+    (last_where (maps_or_unmaps page) history) false
 
 -- ---- its index
 
@@ -76,7 +81,11 @@ page_in machine history page = if is_mapped history page
 
 -- ---- the policy that counts
 
+-- the record of a page's range, where the page is mapped
+abbrev pub policy_of_range : Option (ℕ × Option PolicyRecord) → Option PolicyRecord
+policy_of_range = option_and_then (λ at. at.1)
+
 -- the live policy of a page for a task; none is local allocation
 abbrev pub resolved_policy : Hardware → List Command → ℕ → ℕ → Option PolicyRecord
-resolved_policy machine history task page = policy_that_counts (range_record machine history page)
-    (task_record machine history task)
+resolved_policy machine history task page = policy_that_counts
+    (policy_of_range (page_in machine history page)) (task_record machine history task)

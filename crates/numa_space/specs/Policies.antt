@@ -4,8 +4,10 @@ use Rattle.std.specs.Prelude.{ℕ, ◌==◌, Bool, false, Option, Some, None, Li
 use Rattle.std.specs.Prelude.{not, option_and_then, if◌then◌else◌}
 use Rattle.numa_mask.specs.NodeSet.{both, remap_set}
 use Rattle.numa_machine.specs.Machine.{Hardware}
+use Rattle.numa_machine.specs.declared.rules.Rules.{Rules}
+use Rattle.numa_machine.specs.declared.rules.Rules.TheVariants.{Document, Linux}
 use Rattle.numa_mode.specs.Policy.{Specification, PolicyRecord, is_default, effect_when_set}
-use Rattle.numa_mode.specs.Policy.{is_live}
+use Rattle.numa_mode.specs.Policy.{is_live, effect_after}
 use Rattle.numa_mode.specs.declared.modes.NodeFlag.{NodeFlag}
 use Rattle.numa_mode.specs.declared.modes.NodeFlag.TheVariants.{Plain, Static, Relative}
 use Rattle.numa_space.specs.declared.command.Command.{Command}
@@ -32,17 +34,34 @@ followed_set machine before (SetMems mask ∷ later) set =
     (allowed_nodes machine (SetMems mask ∷ later ++ before))
 followed_set machine before (_ ∷ later) set = followed_set machine before later set
 
--- the effective set of a policy that was set right after the commands `before`, once the commands
--- `later` came too: with a flag it is worked out from the user's mask and the nodes that are
+-- by the documents, the effective set of a policy that was set right after the commands `before`,
+-- once the commands `later` came too: with a flag it is worked out from the user's mask and the nodes that are
 -- allowed now; without one it is worked out once, and follows
-abbrev pub effective_set : Hardware → List Command → List Command → Specification → ℕ
-effective_set machine before later spec = by_flag spec.flag
+abbrev pub documented_set : Hardware → List Command → List Command → Specification → ℕ
+documented_set machine before later spec = by_flag spec.flag
   where
     by_flag : NodeFlag → ℕ
     by_flag Static = effect_when_set spec (allowed_nodes machine (later ++ before))
     by_flag Relative = effect_when_set spec (allowed_nodes machine (later ++ before))
     by_flag Plain = followed_set machine before later
         (effect_when_set spec (allowed_nodes machine before))
+
+-- by the kernel: what each later change of the allowed nodes in turn makes of the set
+abbrev pub rebound_set : Hardware → List Command → List Command → Specification → ℕ
+rebound_set machine before [] spec = effect_when_set spec (allowed_nodes machine before)
+rebound_set machine before (SetMems mask ∷ later) spec =
+    effect_after Linux spec (rebound_set machine before later spec)
+    (allowed_nodes machine (later ++ before))
+    (allowed_nodes machine (SetMems mask ∷ later ++ before))
+rebound_set machine before (_ ∷ later) spec = rebound_set machine before later spec
+
+-- by the rules of the machine
+abbrev pub effective_set : Hardware → List Command → List Command → Specification → ℕ
+effective_set machine before later spec = by_rules machine.rules
+  where
+    by_rules : Rules → ℕ
+    by_rules Document = documented_set machine before later spec
+    by_rules Linux = rebound_set machine before later spec
 
 -- the record that a command at a place set, where its specification isn't DEFAULT; it has no home
 abbrev pub record_set : Hardware → Specification → Place → Option PolicyRecord
@@ -78,11 +97,15 @@ tasks_of (_ ∷ history) = tasks_of history
 
 -- ---- weights
 
+-- the weight that a command gives: 0 puts back 1, the weight of a node that was given none
+abbrev pub weight_given : ℕ → ℕ
+weight_given weight = if weight == 0 then 1 else weight
+
 -- the weight of a node: that of its last command, else 1 (sysfs, "weighted_interleave")
 abbrev pub node_weight : List Command → ℕ → ℕ
 node_weight [] node = 1
 node_weight (SetWeight n weight ∷ history) node =
-    if n == node then weight else node_weight history node
+    if n == node then weight_given weight else node_weight history node
 node_weight (_ ∷ history) node = node_weight history node
 
 -- ---- which of two policies counts

@@ -1,10 +1,12 @@
 -- The first cause that refuses a command, and the commands that are accepted.
-use Rattle.std.specs.Prelude.{ℕ, ◌+◌, ◌*◌, ◌%◌, ◌^◌, ◌&&◌, ◌||◌, not, ◌==◌, nat_lt, nat_le, Bool}
+use Rattle.std.specs.Prelude.{ℕ, ◌+◌, ◌-◌, ◌*◌, ◌%◌, ◌^◌, ◌&&◌, ◌||◌, not, ◌==◌, nat_lt, nat_le, Bool}
 use Rattle.std.specs.Prelude.{true, false, Option, Some, None, is_some, List, ◌∷◌, length}
 use Rattle.std.specs.Prelude.{if◌then◌else◌}
 use Rattle.std.specs.List.{list_any}
 use Rattle.numa_mask.specs.NodeSet.{both, members}
 use Rattle.numa_machine.specs.Machine.{Hardware}
+use Rattle.numa_machine.specs.declared.rules.Rules.{Rules}
+use Rattle.numa_machine.specs.declared.rules.Rules.TheVariants.{Document, Linux}
 use Rattle.numa_mode.specs.Policy.{Specification, PolicyRecord, is_default, is_local}
 use Rattle.numa_mode.specs.Policy.{effect_when_set, takes_home}
 use Rattle.numa_ranges.specs.Counts.{range_count}
@@ -20,6 +22,7 @@ use Rattle.numa_space.specs.declared.refusal.Refusal.TheVariants.{BadOffset, Ove
 use Rattle.numa_space.specs.declared.refusal.Refusal.TheVariants.{NoSuchNode, BadWeight}
 use Rattle.numa_space.specs.declared.refusal.Refusal.TheVariants.{NodesNotAllowed, NotSupported}
 use Rattle.numa_space.specs.declared.refusal.Refusal.TheVariants.{TooManyTasks, TooManyRanges}
+use Rattle.numa_space.specs.declared.refusal.Refusal.TheVariants.{NoPolicy}
 use Rattle.numa_space.specs.History.{page_of, page_count}
 use Rattle.numa_space.specs.Policies.{allowed_nodes, task_record, tasks_of}
 use Rattle.numa_space.specs.Pages.{page_in}
@@ -72,25 +75,66 @@ takes_no_home None = false
 takes_no_home (Some (index, None)) = false
 takes_no_home (Some (index, Some r)) = not (takes_home r)
 
+-- ---- where the kernel judges otherwise than the documents
+
+abbrev pub is_linux : Rules → Bool
+is_linux Linux = true
+is_linux Document = false
+
+-- the kernel maps nothing in the last page below address 2^47
+unfoldable pub bad_map_span : Rules → ℕ → ℕ → Option Refusal
+bad_map_span rules start bytes = first_of (bad_span start bytes)
+    (when (is_linux rules && nat_lt (2 ^ 35 - 1) (page_of start + page_count bytes)) OutOfSpace)
+
+-- the kernel passes over holes where an Mbind of DEFAULT takes policies away
+abbrev pub passes_holes : Rules → Specification → Bool
+passes_holes rules spec = is_linux rules && is_default spec
+
+-- a page that has to be mapped isn't: any of the span or, where holes are passed over, each
+abbrev pub lacks_pages : Bool → PageMap → ℕ → ℕ → Bool
+lacks_pages passes pages first count = if passes
+    then not (any_page (λ page. is_some (pages page)) first count)
+    else any_page (λ page. not (is_some (pages page))) first count
+
+-- the documents judge holes before nodes, the kernel nodes before holes
+abbrev pub bind_cause : Rules → Option Refusal → Option Refusal → Option Refusal → Option Refusal
+bind_cause rules nodes hole others = if is_linux rules then first_of nodes (first_of hole others)
+    else first_of hole (first_of nodes others)
+
+-- whether a page's range has a record
+abbrev pub has_policy : Option (ℕ × Option PolicyRecord) → Bool
+has_policy None = false
+has_policy (Some (index, policy)) = is_some policy
+
+-- the kernel gives no home where no page of the span has a policy of its own
+unfoldable pub lacks_policy : Rules → PageMap → ℕ → ℕ → Bool
+lacks_policy rules pages first count =
+    is_linux rules && not (any_page (λ page. has_policy (pages page)) first count)
+
+-- the kernel takes weight 0, to put back 1
+abbrev pub is_bad_weight : Rules → ℕ → Bool
+is_bad_weight rules weight = (weight == 0 && not (is_linux rules)) || nat_lt 255 weight
+
 -- ---- the causes of each command, in order
 
 abbrev pub cause_in : Scene → Command → Option Refusal
 cause_in scene (Map start bytes offset) =
-    first_of (bad_span start bytes)
+    first_of (bad_map_span scene.machine.rules start bytes)
     (first_of (when (bytes == 0) EmptyLength)
     (first_of (when (nat_le (2 ^ 35) offset) BadOffset)
     (first_of (when (any_page (λ page. is_some (scene.pages page)) (page_of start)
     (page_count bytes)) Overlap)
     (too_many_ranges scene))))
 cause_in scene (Unmap start bytes) =
-    first_of (bad_span start bytes) (if bytes == 0 then None else too_many_ranges scene)
+    first_of (bad_span start bytes) (if bytes == 0 then when (is_linux scene.machine.rules) EmptyLength
+    else too_many_ranges scene)
 cause_in scene (Mbind start bytes spec) =
     first_of (bad_span start bytes)
     (if bytes == 0 then None
-    else first_of (when (any_page (λ page. not (is_some (scene.pages page))) (page_of start)
+    else bind_cause scene.machine.rules (when (has_no_node scene.allowed spec) NodesNotAllowed)
+    (when (lacks_pages (passes_holes scene.machine.rules spec) scene.pages (page_of start)
     (page_count bytes)) Hole)
-    (first_of (when (has_no_node scene.allowed spec) NodesNotAllowed)
-    (too_many_ranges scene)))
+    (too_many_ranges scene))
 cause_in scene (SetTask task spec) =
     first_of (when (has_no_node scene.allowed spec) NodesNotAllowed)
     (when (not (is_default spec) && (not (is_some (scene.task task))
@@ -101,10 +145,12 @@ cause_in scene (SetHome start bytes node) =
     (if bytes == 0 then None
     else first_of (when (any_page (λ page. takes_no_home (scene.pages page)) (page_of start)
     (page_count bytes)) NotSupported)
-    (too_many_ranges scene)))
+    (first_of (when (lacks_policy scene.machine.rules scene.pages (page_of start)
+    (page_count bytes)) NoPolicy)
+    (too_many_ranges scene))))
 cause_in scene (SetWeight node weight) =
     first_of (when (nat_le scene.machine.nodes node) NoSuchNode)
-    (when (weight == 0 || nat_lt 255 weight) BadWeight)
+    (when (is_bad_weight scene.machine.rules weight) BadWeight)
 cause_in scene (SetMems mask) =
     first_of (when (list_any (λ node. nat_le scene.machine.nodes node) (members mask)) NoSuchNode)
     (when (both mask scene.machine.memory == 0) NodesNotAllowed)

@@ -1,7 +1,7 @@
 -- The node lists in words: which nodes each has, and in which order.
 use Rattle.std.specs.Prelude.{◌≡◌, ◌≢◌, ◌≤◌, ◌↔◌, ℕ, ◌&&◌, not, Bool, true, IsTrue, List, ◌++◌}
 use Rattle.std.specs.Prelude.{AllPairs, Contains}
-use Rattle.numa_mask.specs.NodeSet.{has, members}
+use Rattle.numa_mask.specs.NodeSet.{has, members, both}
 use Rattle.numa_machine.specs.Machine.{Hardware, nearer}
 use Rattle.numa_machine.specs.Weights.{IsInterleaveNode, IsWeightedNode}
 use Rattle.numa_mode.specs.declared.modes.Mode.{Mode}
@@ -31,7 +31,7 @@ pub record IsLowest (set node : ℕ) : Type 0 where
 pub record IsRowAndOthers (setting : Setting) (set from : ℕ) (row : List ℕ) : Type 0 where
   pub first : List ℕ
   pub others : List ℕ
-  pub both : row ≡ first ++ others
+  pub whole : row ≡ first ++ others
   pub is_first : IsRow setting.machine from (has set) first
   pub is_others : IsRow setting.machine from (λ node. has setting.allowed node
       && not (has set node)) others
@@ -49,7 +49,8 @@ IsModeRow setting Default set from index row = IsNearRow setting from row
 IsModeRow setting Local set from index row = IsNearRow setting from row
 IsModeRow setting Preferred set from index row = IsRowAround setting (IsLowest set) row
 IsModeRow setting Bind set from index row = IsRow setting.machine from (has set) row
-IsModeRow setting PreferredMany set from index row = IsRowAndOthers setting set from row
+IsModeRow setting PreferredMany set from index row =
+    IsRowAndOthers setting (both set setting.allowed) from row
 IsModeRow setting Interleave set from index row =
     IsRowAround setting (IsInterleaveNode set index) row
 IsModeRow setting WeightedInterleave set from index row =

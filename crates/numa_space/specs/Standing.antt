@@ -1,5 +1,5 @@
 -- What a space shows, and which histories it stands for.
-use Rattle.std.specs.Prelude.{◌≡◌, ◌≢◌, ◌≤◌, ◌<◌, ℕ, Bool, true, nat_eq, nat_le, is_some, Option}
+use Rattle.std.specs.Prelude.{◌≡◌, ◌≢◌, ◌≤◌, ◌<◌, ℕ, Bool, true, false, nat_eq, nat_le, is_some, Option}
 use Rattle.std.specs.Prelude.{Some, None, List, [], ◌∷◌, length, AllPairs, All, if◌then◌else◌}
 use Rattle.std.specs.Prelude.{option_and_then}
 use Rattle.std.specs.Option.{ForSome, option_map_or}
@@ -7,7 +7,7 @@ use Rattle.std.specs.Map.{lookup}
 use Rattle.numa_mask.specs.NodeSet.{has, both}
 use Rattle.numa_machine.specs.Machine.{Hardware}
 use Rattle.numa_machine.specs.Weights.{NodeWeights, weight_at}
-use Rattle.numa_mode.specs.Policy.{PolicyRecord}
+use Rattle.numa_mode.specs.Policy.{PolicyRecord, stays}
 use Rattle.numa_ranges.specs.Runs.{page_at}
 use Rattle.numa_ranges.specs.declared.run.Run.{Run}
 use Rattle.numa_space.specs.Limited.{Bounds}
@@ -93,10 +93,11 @@ pub record IsNodeList (allowed : ℕ) (nodes : List ℕ) : Type 0 where
 
 -- ---- what holds of every space
 
--- a policy that is in force where these nodes are allowed: its set is inside them, and its home is
--- a node of the machine
+-- a policy that is in force where these nodes are allowed: its set is inside them, where it follows
+-- them, its nodes have memory, and its home is a node of the machine
 pub record IsInForce (machine : Hardware) (allowed : ℕ) (r : PolicyRecord) : Type 0 where
-  pub inside : both r.effective allowed ≡ r.effective
+  pub inside : stays machine.rules r.spec.mode ≡ false → both r.effective allowed ≡ r.effective
+  pub memory : both r.effective machine.memory ≡ r.effective
   pub home : ForSome r.home (λ node. node < machine.nodes)
 
 pub record IsSound (space : SpaceState) : Type 0 where

@@ -5,6 +5,7 @@ use Rattle.std.specs.Prelude.{if◌then◌else◌, ◌≤◌, ◌∷◌, OnOk, O
 use Rattle.std.specs.Option.{option_map}
 use Rattle.numa_mask.specs.NodeSet.{both}
 use Rattle.numa_machine.specs.Machine.{Hardware}
+use Rattle.numa_machine.specs.declared.rules.Rules.{Rules}
 use Rattle.numa_machine.specs.Weights.{weight_at}
 use Rattle.numa_mode.specs.Policy.{Specification, PolicyRecord, is_default, takes_home, with_home}
 use Rattle.numa_mode.specs.Policy.{record_when_set, record_after}
@@ -17,6 +18,7 @@ use Rattle.numa_space.specs.declared.command.Command.TheVariants.{SetHome, SetWe
 use Rattle.numa_space.specs.declared.refusal.Refusal.{Refusal}
 use Rattle.numa_space.specs.declared.refusal.Refusal.TheVariants.{NoMemory}
 use Rattle.numa_space.specs.History.{page_of, page_count}
+use Rattle.numa_space.specs.Policies.{weight_given}
 use Rattle.numa_space.specs.Refusals.{Scene, PageMap, refusal_in, refusal_of}
 use Rattle.numa_space.specs.Standing.{SpaceState, StandsFor, accepted_of, record_of}
 
@@ -29,8 +31,8 @@ abbrev pub policy_with_home : ℕ → Option PolicyRecord → Option PolicyRecor
 policy_with_home node = option_map (λ r. if takes_home r then with_home r node else r)
 
 -- a record, once the allowed nodes changed
-abbrev pub policy_after : ℕ → ℕ → Option PolicyRecord → Option PolicyRecord
-policy_after old new = option_map (λ r. record_after r old new)
+abbrev pub policy_after : Rules → ℕ → ℕ → Option PolicyRecord → Option PolicyRecord
+policy_after rules old new = option_map (λ r. record_after rules r old new)
 
 abbrev pub allowed_next : Hardware → ℕ → Command → ℕ
 allowed_next machine allowed (SetMems mask) = both mask machine.memory
@@ -46,14 +48,14 @@ pages_next machine allowed pages (Mbind start bytes spec) page =
 pages_next machine allowed pages (SetHome start bytes node) page =
     changed_span (page_of start) (page_count bytes) (policy_with_home node) pages page
 pages_next machine allowed pages (SetMems mask) page =
-    changed_page (policy_after allowed (both mask machine.memory)) (pages page)
+    changed_page (policy_after machine.rules allowed (both mask machine.memory)) (pages page)
 pages_next machine allowed pages _ page = pages page
 
 abbrev pub task_next : Hardware → ℕ → (ℕ → Option PolicyRecord) → Command → ℕ → Option PolicyRecord
 task_next machine allowed tasks (SetTask task spec) other =
     if task == other then record_now allowed spec else tasks other
 task_next machine allowed tasks (SetMems mask) other =
-    policy_after allowed (both mask machine.memory) (tasks other)
+    policy_after machine.rules allowed (both mask machine.memory) (tasks other)
 task_next machine allowed tasks _ other = tasks other
 
 abbrev pub task_count_next : (ℕ → Option PolicyRecord) → ℕ → Command → ℕ
@@ -62,7 +64,8 @@ task_count_next tasks count (SetTask task spec) =
 task_count_next tasks count _ = count
 
 abbrev pub weight_next : (ℕ → ℕ) → Command → ℕ → ℕ
-weight_next weights (SetWeight node weight) other = if node == other then weight else weights other
+weight_next weights (SetWeight node weight) other = if node == other then weight_given weight
+    else weights other
 weight_next weights _ other = weights other
 
 -- the space after a command that was accepted

@@ -1,6 +1,6 @@
 //! The pages of a space: a map that splits and joins, with refusals as a space gives them.
 ghost use Rattle.std.specs.Prelude.{◌≡◌, ◌≢◌, ◌+◌, ◌<◌, ◌≤◌, ◌^◌, ℕ, Some, None, Option, Ok, Err};
-ghost use Rattle.std.specs.Prelude.{IfOk, MatchResult, is_some, not, [], length, Contains, ◌↔◌};
+ghost use Rattle.std.specs.Prelude.{IfOk, MatchResult, is_some, not, false, [], length, Contains, ◌↔◌};
 ghost use Rattle.std.specs.Prelude.{slice_get};
 ghost use Rattle.numa_mode.specs.Policy.{PolicyRecord};
 ghost use Rattle.numa_ranges.specs.Runs.{AreApart, AreMaximal, page_at};
@@ -10,20 +10,31 @@ ghost use Rattle.numa_ranges.specs.Maps.{any_page, IsSpan};
 ghost use Rattle.numa_ranges.specs.Numbered.{AreRowsOf};
 ghost use Rattle.numa_ranges.specs.Maps.{with_span, without_span, changed_span, changed_page};
 ghost use Rattle.numa_space.specs.Edits.{IsEdit, too_many, overlap_cause, hole_cause, refusal_from};
-ghost use Rattle.numa_space.specs.Edits.{refuses};
+ghost use Rattle.numa_space.specs.Edits.{passes, reaches};
 ghost use Rattle.numa_space.specs.Refusals.{first_of};
 ghost use Rattle.numa_space.specs.Same.{same_record};
 ghost use Rattle.numa_space.specs.Steps.{policy_with_home, policy_after};
-ghost use Rattle.numa_space.specs.Refusals.{takes_no_home};
 
 use crate::range_record::RangeRecord;
 use crate::refusal::Refusal;
+use numa_machine::Rules;
 use numa_mask::NodeMask;
 use numa_mode::Record;
 use numa_ranges::{RangeFault, RangeIter, RangeMap, Row, Run};
 use numa_rows::{Iter, Owned};
 use std::alloc::{AllocError, Global};
 use std::marker::Model;
+
+/// What is asked of the pages of a span.
+#[derive(Clone, Copy)]
+pub(crate) enum PageTest {
+    /// Whether it is mapped.
+    IsMapped,
+    /// Whether its range has a policy of its own.
+    HasPolicy,
+    /// Whether its range has a policy that takes no home node.
+    TakesNoHome,
+}
 
 /// The mapped pages, each with its index and the policy of its range.
 #[derive(Drop)]
@@ -128,21 +139,55 @@ impl Pages {
         answered(self.map.unmap_span(first, pages))
     }
 
-    /// Gives the pages of a span a policy of their own, or takes it away.
+    /// Gives the pages of a span a policy of their own, or takes it away; where holes are passed
+    /// over, those of them that are mapped.
     pub(crate) fn bind_span(
         &mut self,
         first: u64,
         pages: u64,
         policy: Option<Record>,
+        passes_holes: bool,
     ) -> Result<(), Refusal>
         requires span { IsSpan first pages }
-        ensures edit { IsEdit (first_of (hole_cause (page_at self.old.runs) first pages)
+        ensures edit { IsEdit (first_of (hole_cause passes_holes (page_at self.old.runs) first pages)
+            (too_many self.old.limit (changed_span first pages (λ old. policy)
+            (page_at self.old.runs)))) (changed_span first pages (λ old. policy)
+            (page_at self.old.runs)) self.old result self.new }
+        ensures limit { self.new.limit ≡ self.old.limit }
+    {
+        if !passes_holes {
+            return self.bind_whole(first, pages, policy);
+        }
+        if !self.has_page(PageTest::IsMapped, first, pages) {
+            return Err(Refusal::Hole);
+        }
+        self.bind_mapped(first, pages, policy)
+    }
+
+    /// Gives the pages of a span a policy, where all of them are mapped.
+    fn bind_whole(&mut self, first: u64, pages: u64, policy: Option<Record>) -> Result<(), Refusal>
+        requires span { IsSpan first pages }
+        ensures edit { IsEdit (first_of (hole_cause false (page_at self.old.runs) first pages)
             (too_many self.old.limit (changed_span first pages (λ old. policy)
             (page_at self.old.runs)))) (changed_span first pages (λ old. policy)
             (page_at self.old.runs)) self.old result self.new }
         ensures limit { self.new.limit ≡ self.old.limit }
     {
         answered(self.map.set_span(first, pages, RangeRecord::of(policy)))
+    }
+
+    /// Gives the mapped pages of a span a policy.
+    fn bind_mapped(&mut self, first: u64, pages: u64, policy: Option<Record>) -> Result<(), Refusal>
+        requires span { IsSpan first pages }
+        ensures edit { IsEdit (too_many self.old.limit (changed_span first pages (λ old. policy)
+            (page_at self.old.runs))) (changed_span first pages (λ old. policy)
+            (page_at self.old.runs)) self.old result self.new }
+        ensures limit { self.new.limit ≡ self.old.limit }
+    {
+        let bound = |value: &RangeRecord| -> RangeRecord
+            ensures { result ≡ policy }
+        { RangeRecord::of(policy) };
+        answered(self.map.update_span(first, pages, bound))
     }
 
     /// Whether some page of a span isn't mapped.
@@ -171,29 +216,29 @@ impl Pages {
     }
 
     /// Moves every policy with a change of the allowed nodes; takes no memory.
-    pub(crate) fn rebind(&mut self, old: &NodeMask, new: &NodeMask)
+    pub(crate) fn rebind(&mut self, rules: Rules, old: &NodeMask, new: &NodeMask)
         requires some { new.now ≢ 0 }
         ensures pages { (page : ℕ) → page_at self.new.runs page
-            ≡ changed_page (policy_after old.now new.now) (page_at self.old.runs page) }
+            ≡ changed_page (policy_after rules old.now new.now) (page_at self.old.runs page) }
         ensures limit { self.new.limit ≡ self.old.limit }
     {
         let (from, to) = (*old, *new);
         let moved = |value: &RangeRecord| -> RangeRecord
             requires { to ≢ 0 }
-            ensures { result ≡ policy_after from to value.now }
-        { value.rebound(&from, &to) };
+            ensures { result ≡ policy_after rules from to value.now }
+        { value.rebound(rules, &from, &to) };
         self.map.update_all(moved);
     }
 
-    /// Whether some mapped page of a span has a policy of its own that takes no home node.
-    pub(crate) fn refuses_home(&self, first: u64, pages: u64) -> bool
+    /// Whether some page of a span passes a test.
+    pub(crate) fn has_page(&self, test: PageTest, first: u64, pages: u64) -> bool
         requires span { IsSpan first pages }
-        ensures { result ≡ any_page (λ page. takes_no_home (page_at self.now.runs page)) first
+        ensures { result ≡ any_page (λ page. passes test (page_at self.now.runs page)) first
             pages }
     {
         let end = first + pages;
         for run in self.map.iter() {
-            if refuses(&run, first, end) {
+            if reaches(test, &run, first, end) {
                 return true;
             }
         }
@@ -201,13 +246,24 @@ impl Pages {
     }
 }
 
-/// Whether a run reaches into the pages from `first` up to `end`, and takes no home node.
-fn refuses(run: &Run<RangeRecord>, first: u64, end: u64) -> bool
-    ensures { result ≡ refuses first end run.now }
+/// Whether a mapped page whose range has this record passes a test.
+fn passes(test: PageTest, value: &RangeRecord) -> bool
+    ensures { result ≡ passes test (Some (0, value.now)) }
+{
+    match test {
+        PageTest::IsMapped => true,
+        PageTest::HasPolicy => value.policy().is_some(),
+        PageTest::TakesNoHome => value.takes_no_home(),
+    }
+}
+
+/// Whether a run reaches into the pages from `first` up to `end`, and they pass a test.
+fn reaches(test: PageTest, run: &Run<RangeRecord>, first: u64, end: u64) -> bool
+    ensures { result ≡ reaches test first end run.now }
 {
     let passed = first.saturating_sub(run.first);
-    let takes_no_home = run.value.takes_no_home();
-    run.first < end && passed < run.pages && takes_no_home
+    let passes = passes(test, &run.value);
+    run.first < end && passed < run.pages && passes
 }
 
 /// A map's answer, as a space's.

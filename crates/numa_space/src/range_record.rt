@@ -3,6 +3,7 @@ ghost use Rattle.std.specs.Prelude.{◌≡◌, ◌≢◌, Some};
 ghost use Rattle.numa_space.specs.Steps.{policy_with_home, policy_after};
 ghost use Rattle.numa_space.specs.Refusals.{takes_no_home};
 
+use numa_machine::Rules;
 use numa_mask::NodeMask;
 use numa_mode::Record;
 use numa_ranges::Exact;
@@ -48,13 +49,13 @@ impl RangeRecord {
     }
 
     /// The same, once the allowed nodes changed.
-    pub(crate) fn rebound(&self, old: &NodeMask, new: &NodeMask) -> RangeRecord
+    pub(crate) fn rebound(&self, rules: Rules, old: &NodeMask, new: &NodeMask) -> RangeRecord
         requires { new.now ≢ 0 }
-        ensures { result ≡ policy_after old.now new.now self.now }
+        ensures { result ≡ policy_after rules old.now new.now self.now }
     {
         let policy = match &self.policy {
             None => None,
-            Some(policy) => Some(policy.rebind(old, new)),
+            Some(policy) => Some(policy.rebind(rules, old, new)),
         };
         RangeRecord { policy }
     }

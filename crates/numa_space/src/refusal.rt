@@ -9,9 +9,9 @@ pub enum Refusal {
     CommandsSpent,
     /// The start is no multiple of 4,096.
     Unaligned,
-    /// The span ends above address 2^47.
+    /// The span ends above address 2^47; by the rules of the kernel, a map above 2^47 - 4096.
     OutOfSpace,
-    /// A map of no bytes.
+    /// A map of no bytes; by the rules of the kernel an unmap too.
     EmptyLength,
     /// The offset of a map is 2^35 pages or more.
     BadOffset,
@@ -21,12 +21,14 @@ pub enum Refusal {
     Hole,
     /// A node is named that the machine lacks.
     NoSuchNode,
-    /// A weight of 0 or above 255.
+    /// A weight above 255, or of 0 by the rules of the documents.
     BadWeight,
     /// The policy would have no node when it is set, or the new allowed nodes have no memory.
     NodesNotAllowed,
     /// A home for a page whose own policy is neither BIND nor PREFERRED_MANY.
     NotSupported,
+    /// By the rules of the kernel, a home for a span of which no page has a policy of its own.
+    NoPolicy,
     /// As many tasks as the limits allow have a policy.
     TooManyTasks,
     /// There would be more ranges than the limits allow.
@@ -44,6 +46,7 @@ pub enum Errno {
     EFault,
     ENoSpc,
     EOpNotSupp,
+    ENoEnt,
 }
 
 impl Refusal {
@@ -66,6 +69,7 @@ impl Refusal {
             Refusal::Overlap => Errno::EExist,
             Refusal::Hole => Errno::EFault,
             Refusal::NotSupported => Errno::EOpNotSupp,
+            Refusal::NoPolicy => Errno::ENoEnt,
         }
     }
 }

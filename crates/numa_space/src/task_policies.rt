@@ -6,6 +6,7 @@ ghost use Rattle.numa_space.specs.Standing.{record_of};
 ghost use Rattle.numa_space.specs.Steps.{policy_after};
 
 use indexmap::IndexMap;
+use numa_machine::Rules;
 use numa_mask::NodeMask;
 use numa_mode::Record;
 use std::alloc::{AllocError, Global};
@@ -92,14 +93,14 @@ impl Tasks {
     }
 
     /// Moves every policy with a change of the allowed nodes; takes no memory.
-    pub(crate) fn rebind(&mut self, old: &NodeMask, new: &NodeMask)
+    pub(crate) fn rebind(&mut self, rules: Rules, old: &NodeMask, new: &NodeMask)
         requires some { new.now ≢ 0 }
         ensures records { (task : ℕ) → record_of self.new task
-            ≡ policy_after old.now new.now (record_of self.old task) }
+            ≡ policy_after rules old.now new.now (record_of self.old task) }
         ensures count { length self.new ≡ length self.old }
     {
         for k in 0..self.0.len() {
-            let moved = self.0[k].rebind(old, new);
+            let moved = self.0[k].rebind(rules, old, new);
             self.0[k] = moved;
         }
     }

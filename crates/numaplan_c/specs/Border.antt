@@ -2,6 +2,7 @@
 use Rattle.std.specs.Prelude.{◌≡◌, ◌≢◌, ◌==◌, ◌&&◌, ◌||◌, ℕ, Bool, true, not, nat_le, nat_lt}
 use Rattle.std.specs.Prelude.{if◌then◌else◌, List, length, is_some, MatchResult}
 use Rattle.std.specs.Prelude.{Option, Some, None, IfSome, Result, Ok, Err}
+use Rattle.numa_machine.specs.declared.rules.Rules.TheVariants.{Document}
 use Rattle.numa_mask.specs.declared.list.ListFault.{ListFault}
 use Rattle.numa_space.specs.declared.command.Command.{Command}
 use Rattle.numa_space.specs.declared.event.Event.{Event}
@@ -79,6 +80,7 @@ IsMachineOf list frames distances machine = (memory : ℕ) × (list ≡ Ok memor
   memory = memory;
   distances = distances;
   frames = frames;
+  rules = Document;
 })
 
 -- that machine, these limits and so many workers

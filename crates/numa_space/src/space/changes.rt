@@ -1,5 +1,5 @@
 //! What each command changes.
-ghost use Rattle.std.specs.Prelude.{◌≡◌, ◌+◌, ◌<◌, ◌≤◌, ◌^◌, ◌&&◌, ℕ, true, false, not, nat_le};
+ghost use Rattle.std.specs.Prelude.{◌≡◌, ◌+◌, ◌<◌, ◌≤◌, ◌^◌, ◌&&◌, ◌||◌, ◌-◌, ◌==◌, ℕ, true, false, not, nat_le, nat_lt};
 ghost use Rattle.std.specs.Prelude.{is_some, length, Option, Some, None, MatchResult, IfErr};
 ghost use Rattle.std.specs.Prelude.{if◌then◌else◌};
 ghost use Rattle.std.specs.List.{list_any};
@@ -9,14 +9,18 @@ ghost use Rattle.numa_ranges.specs.Maps.{any_page};
 ghost use Rattle.numa_ranges.specs.Runs.{page_at};
 ghost use Rattle.numa_space.specs.declared.command.Command.{Command};
 ghost use Rattle.numa_space.specs.History.{page_of, page_count};
-ghost use Rattle.numa_space.specs.Refusals.{bad_span, has_no_node};
+ghost use Rattle.numa_ranges.specs.Maps.{IsSpan};
+ghost use Rattle.numa_space.specs.Policies.{weight_given};
+ghost use Rattle.numa_space.specs.Refusals.{bad_span, has_no_node, is_linux, passes_holes};
+ghost use Rattle.numa_space.specs.Refusals.{lacks_policy, is_bad_weight, bad_map_span};
 ghost use Rattle.numa_space.specs.Standing.{SpaceState, record_of};
 ghost use Rattle.numa_space.specs.Steps.{IsAnswer, MayNeedRoom, record_now};
 
 use crate::command::{Command, PAGE_BYTES};
+use crate::page_ranges::PageTest;
 use crate::refusal::Refusal;
 use crate::space::Space;
-use numa_machine::WeightFault;
+use numa_machine::{Rules, WeightFault};
 use numa_mask::NodeMask;
 use numa_mode::{Mode, PolicySpec, Record};
 
@@ -45,6 +49,65 @@ fn has_node_from(mask: &NodeMask, first: u32) -> bool
 }
 
 impl Space {
+    /// Whether the rules of the kernel count.
+    fn is_linux(&self) -> bool
+        ensures { result ≡ is_linux self.now.machine.rules }
+    {
+        match self.machine.rules() {
+            Rules::Document => false,
+            Rules::Linux => true,
+        }
+    }
+
+    /// The first page of a span that is to be mapped, and the number of its pages: the kernel maps
+    /// nothing in the last page below 2^47.
+    #[tactic(auto, unfolding(crate::specs::Refusals::bad_map_span))]
+    fn map_span_of(&self, start: u64, length: u64) -> Result<(u64, u64), Refusal>
+        ensures span { MatchResult result
+            (λ span. (bad_map_span self.now.machine.rules start length ≡ None)
+            × (span.0 ≡ page_of start) × (span.1 ≡ page_count length))
+            (λ refusal. bad_map_span self.now.machine.rules start length ≡ Some refusal) }
+        ensures within { MatchResult result (λ span. span.0 + span.1 ≤ 2 ^ 35)
+            (λ refusal. Unit {0}) }
+    {
+        let (first, pages) = span_of(start, length)?;
+        if self.is_linux() && (1 << 35) - 1 < first + pages {
+            return Err(Refusal::OutOfSpace);
+        }
+        Ok((first, pages))
+    }
+
+    /// Whether an Mbind passes over holes: that of DEFAULT does in the kernel.
+    fn passes_holes(&self, spec: &PolicySpec) -> bool
+        ensures { result ≡ passes_holes self.now.machine.rules spec.now }
+    {
+        self.is_linux() && spec.mode() == Mode::Default
+    }
+
+    /// Whether no page of a span has a policy of its own, where the kernel asks for one.
+    #[tactic(auto, unfolding(crate::specs::Refusals::lacks_policy))]
+    fn lacks_policy(&self, first: u64, pages: u64) -> bool
+        requires span { IsSpan first pages }
+        ensures { result ≡ lacks_policy self.now.machine.rules (page_at self.now.ranges) first pages }
+    {
+        self.is_linux() && !self.pages.has_page(PageTest::HasPolicy, first, pages)
+    }
+
+    /// The weight that a number asks for: in the kernel 0 puts back 1. By the documents 0 stays, and
+    /// is refused.
+    fn weight_meant(&self, weight: u32) -> u32
+        ensures bad { (result == 0 || nat_lt 255 result)
+            ≡ is_bad_weight self.now.machine.rules weight }
+        ensures given { is_bad_weight self.now.machine.rules weight ≡ false
+            → result ≡ weight_given weight }
+    {
+        if weight == 0 && self.is_linux() {
+            1
+        } else {
+            weight
+        }
+    }
+
     /// Carries out a command, or refuses it.
     pub(super) fn answer(&mut self, command: &Command) -> Result<(), Refusal>
         ensures answer { IsAnswer self.old command.now result self.new }
@@ -99,7 +162,7 @@ impl Space {
         ensures room { IfErr result (λ refusal. refusal ≡ Refusal.NoMemory
             → MayNeedRoom (Command.Map start length offset)) }
     {
-        let (first, pages) = span_of(start, length)?;
+        let (first, pages) = self.map_span_of(start, length)?;
         if length == 0 {
             return Err(Refusal::EmptyLength);
         }
@@ -119,6 +182,9 @@ impl Space {
     {
         let (first, pages) = span_of(start, length)?;
         if length == 0 {
+            if self.is_linux() {
+                return Err(Refusal::EmptyLength);
+            }
             self.version += 1;
             return Ok(());
         }
@@ -127,13 +193,15 @@ impl Space {
         Ok(())
     }
 
-    /// The refusal of a policy that has no node, for a span: a hole in it comes first.
+    /// The refusal of a policy that has no node, for a span: by the documents a hole in it comes
+    /// first.
     fn hole_or_nodes(&self, first: u64, pages: u64) -> Refusal
         requires span { first + pages ≤ 2 ^ 35 }
-        ensures { result ≡ (if any_page (λ page. not (is_some (page_at self.now.ranges page))) first
-            pages then Refusal.Hole else Refusal.NodesNotAllowed) }
+        ensures { result ≡ (if not (is_linux self.now.machine.rules)
+            && any_page (λ page. not (is_some (page_at self.now.ranges page))) first pages
+            then Refusal.Hole else Refusal.NodesNotAllowed) }
     {
-        if self.pages.has_hole(first, pages) {
+        if !self.is_linux() && self.pages.has_hole(first, pages) {
             Refusal::Hole
         } else {
             Refusal::NodesNotAllowed
@@ -154,7 +222,8 @@ impl Space {
         let Ok(policy) = self.policy_of(spec) else {
             return Err(self.hole_or_nodes(first, pages));
         };
-        self.pages.bind_span(first, pages, policy)?;
+        let passes_holes = self.passes_holes(&spec);
+        self.pages.bind_span(first, pages, policy, passes_holes)?;
         self.version += 1;
         Ok(())
     }
@@ -203,8 +272,11 @@ impl Space {
             self.version += 1;
             return Ok(());
         }
-        if self.pages.refuses_home(first, pages) {
+        if self.pages.has_page(PageTest::TakesNoHome, first, pages) {
             return Err(Refusal::NotSupported);
+        }
+        if self.lacks_policy(first, pages) {
+            return Err(Refusal::NoPolicy);
         }
         self.pages.home_span(first, pages, node as u8)?;
         self.version += 1;
@@ -217,7 +289,8 @@ impl Space {
         ensures room { IfErr result (λ refusal. refusal ≡ Refusal.NoMemory
             → MayNeedRoom (Command.SetWeight node weight)) }
     {
-        match self.weights.set(node, weight) {
+        let meant = self.weight_meant(weight);
+        match self.weights.set(node, meant) {
             Ok(()) => {}
             Err(WeightFault::NoSuchNode) => return Err(Refusal::NoSuchNode),
             Err(WeightFault::BadWeight) => return Err(Refusal::BadWeight),
@@ -240,8 +313,9 @@ impl Space {
             return Err(Refusal::NodesNotAllowed);
         }
         let before = self.allowed;
-        self.pages.rebind(&before, &allowed);
-        self.tasks.rebind(&before, &allowed);
+        let rules = self.machine.rules();
+        self.pages.rebind(rules, &before, &allowed);
+        self.tasks.rebind(rules, &before, &allowed);
         self.allowed = allowed;
         self.version += 1;
         Ok(())

@@ -141,7 +141,7 @@ impl Space {
             Mode::Default | Mode::Local => self.near(from),
             Mode::Preferred => self.near(u32::from(first_node(&set))),
             Mode::Bind => self.nearest(&set, from),
-            Mode::PreferredMany => self.nearest_before_others(&set, from),
+            Mode::PreferredMany => self.nearest_before_others(&set.and(&self.allowed), from),
             Mode::Interleave => self.near(u32::from(interleave_node(&set, index))),
             Mode::WeightedInterleave => {
                 self.near(u32::from(weighted_node(&self.weights, &set, index)))

@@ -5,12 +5,12 @@ use Rattle.numa_space.specs.Lists.{near}
 use Rattle.numa_space.specs.Standing.{setting_in}
 use Rattle.numa_compile.specs.Rules.{row_from}
 use Rattle.numa_compile.specs.declared.reach.Reach.TheVariants.{Only}
-use Rattle.numa_compile.proofs.AllowedLemmas.{node-low}
+use Rattle.numa_compile.proofs.AllowedLemmas.{node-low_memory}
 use Rattle.numa_compile.proofs.RuleSteps.{gives-same}
 use Rattle.numa_compile.proofs.rules.preferred_rule.Goals as goal
 
 pub fixed_rule-requires-clause-from : goal.fixed_rule-requires-clause-from
-fixed_rule-requires-clause-from c = omega (arith, c.from-node.ensures, node-low c.args.space.now c.args.set.now c.first_node.result c.requires.ready c.requires.allowed c.first_node.ensures.member)
+fixed_rule-requires-clause-from c = omega (arith, c.from-node.ensures, node-low_memory c.args.space.now c.args.set.now c.first_node.result c.requires.ready c.requires.memory c.first_node.ensures.member)
 
 pub returns : goal.returns
 returns c =

@@ -6,7 +6,7 @@ use Rattle.numa_mode.specs.declared.modes.Mode.TheVariants.{Default, Local, Pref
 use Rattle.numa_space.specs.Lists.{within}
 use Rattle.numa_space.specs.Standing.{setting_in}
 use Rattle.numa_compile.specs.Rules.{GivesRows}
-use Rattle.numa_compile.proofs.AllowedLemmas.{all-allowed, filled-by, policy-allowed}
+use Rattle.numa_compile.proofs.AllowedLemmas.{all-allowed, filled-by, policy-allowed, policy-memory, bind-follows, interleave-follows, weighted-follows}
 use Rattle.numa_compile.proofs.RuleSteps.{gives-policy}
 use Rattle.numa_compile.proofs.rules.rule_of.Goals as goal
 
@@ -32,37 +32,31 @@ pub rule_by_home-requires-in-Bind-clause-some : goal.rule_by_home-requires-in-Bi
 rule_by_home-requires-in-Bind-clause-some c = filled-by c.args.policy.now c.spec.result c.mode.result Bind c.effective-set.result c.requires.live c.spec.ensures.spec c.mode.ensures c.in-Bind.is refl c.effective-set.ensures.effective
 
 pub rule_by_home-requires-in-Bind-clause-allowed : goal.rule_by_home-requires-in-Bind-clause-allowed
-rule_by_home-requires-in-Bind-clause-allowed c = policy-allowed c.args.policy.now c.effective-set.result c.args.space.now.allowed c.requires.in_force.inside c.effective-set.ensures.effective
+rule_by_home-requires-in-Bind-clause-allowed c = policy-allowed c.args.space.now.machine.rules c.args.policy.now c.spec.result c.mode.result Bind c.effective-set.result c.args.space.now.allowed c.requires.in_force.inside c.spec.ensures.spec c.mode.ensures c.in-Bind.is (bind-follows c.args.space.now.machine.rules) c.effective-set.ensures.effective
 
 pub rule_by_home-requires-in-Bind-clause-home : goal.rule_by_home-requires-in-Bind-clause-home
 rule_by_home-requires-in-Bind-clause-home c = subst (λ (h : Option ℕ). ForSome h (λ node. node < c.args.space.now.machine.nodes)) (sym c.home-in-Bind.ensures.home) c.requires.in_force.home
 
-pub rule_by_home-requires-in-PreferredMany-clause-some : goal.rule_by_home-requires-in-PreferredMany-clause-some
-rule_by_home-requires-in-PreferredMany-clause-some c = filled-by c.args.policy.now c.spec.result c.mode.result PreferredMany c.effective-set.result c.requires.live c.spec.ensures.spec c.mode.ensures c.in-PreferredMany.is refl c.effective-set.ensures.effective
-
-pub rule_by_home-requires-in-PreferredMany-clause-allowed : goal.rule_by_home-requires-in-PreferredMany-clause-allowed
-rule_by_home-requires-in-PreferredMany-clause-allowed c = policy-allowed c.args.policy.now c.effective-set.result c.args.space.now.allowed c.requires.in_force.inside c.effective-set.ensures.effective
-
-pub rule_by_home-requires-in-PreferredMany-clause-home : goal.rule_by_home-requires-in-PreferredMany-clause-home
-rule_by_home-requires-in-PreferredMany-clause-home c = subst (λ (h : Option ℕ). ForSome h (λ node. node < c.args.space.now.machine.nodes)) (sym c.home-in-PreferredMany.ensures.home) c.requires.in_force.home
+pub many_rule-requires-clause-home : goal.many_rule-requires-clause-home
+many_rule-requires-clause-home c = subst (λ (h : Option ℕ). ForSome h (λ node. node < c.args.space.now.machine.nodes)) (sym c.home-in-PreferredMany.ensures.home) c.requires.in_force.home
 
 pub preferred_rule-requires-clause-some : goal.preferred_rule-requires-clause-some
 preferred_rule-requires-clause-some c = filled-by c.args.policy.now c.spec.result c.mode.result Preferred c.effective-set.result c.requires.live c.spec.ensures.spec c.mode.ensures c.in-Preferred.is refl c.effective-set.ensures.effective
 
-pub preferred_rule-requires-clause-allowed : goal.preferred_rule-requires-clause-allowed
-preferred_rule-requires-clause-allowed c = policy-allowed c.args.policy.now c.effective-set.result c.args.space.now.allowed c.requires.in_force.inside c.effective-set.ensures.effective
+pub preferred_rule-requires-clause-memory : goal.preferred_rule-requires-clause-memory
+preferred_rule-requires-clause-memory c = policy-memory c.args.policy.now c.effective-set.result c.args.space.now.machine.memory c.requires.in_force.memory c.effective-set.ensures.effective
 
 pub interleave_rule-requires-clause-some : goal.interleave_rule-requires-clause-some
 interleave_rule-requires-clause-some c = filled-by c.args.policy.now c.spec.result c.mode.result Interleave c.effective-set.result c.requires.live c.spec.ensures.spec c.mode.ensures c.in-Interleave.is refl c.effective-set.ensures.effective
 
 pub interleave_rule-requires-clause-allowed : goal.interleave_rule-requires-clause-allowed
-interleave_rule-requires-clause-allowed c = policy-allowed c.args.policy.now c.effective-set.result c.args.space.now.allowed c.requires.in_force.inside c.effective-set.ensures.effective
+interleave_rule-requires-clause-allowed c = policy-allowed c.args.space.now.machine.rules c.args.policy.now c.spec.result c.mode.result Interleave c.effective-set.result c.args.space.now.allowed c.requires.in_force.inside c.spec.ensures.spec c.mode.ensures c.in-Interleave.is (interleave-follows c.args.space.now.machine.rules) c.effective-set.ensures.effective
 
 pub weighted_rule-requires-clause-some : goal.weighted_rule-requires-clause-some
 weighted_rule-requires-clause-some c = filled-by c.args.policy.now c.spec.result c.mode.result WeightedInterleave c.effective-set.result c.requires.live c.spec.ensures.spec c.mode.ensures c.in-WeightedInterleave.is refl c.effective-set.ensures.effective
 
 pub weighted_rule-requires-clause-allowed : goal.weighted_rule-requires-clause-allowed
-weighted_rule-requires-clause-allowed c = policy-allowed c.args.policy.now c.effective-set.result c.args.space.now.allowed c.requires.in_force.inside c.effective-set.ensures.effective
+weighted_rule-requires-clause-allowed c = policy-allowed c.args.space.now.machine.rules c.args.policy.now c.spec.result c.mode.result WeightedInterleave c.effective-set.result c.args.space.now.allowed c.requires.in_force.inside c.spec.ensures.spec c.mode.ensures c.in-WeightedInterleave.is (weighted-follows c.args.space.now.machine.rules) c.effective-set.ensures.effective
 
 pub returns-in-Default : goal.returns-in-Default
 returns-in-Default c =
@@ -87,10 +81,10 @@ returns-in-Bind c =
 
 pub returns-in-PreferredMany : goal.returns-in-PreferredMany
 returns-in-PreferredMany c =
-    IfOk-weaker c.rule_by_home-in-PreferredMany.result _ _
+    IfOk-weaker c.many_rule.result _ _
     (λ rule gives.
     gives-policy (setting_in c.args.space.now) rule c.args.policy.now c.spec.result c.mode.result PreferredMany c.effective-set.result c.home-in-PreferredMany.result c.spec.ensures.spec c.mode.ensures c.in-PreferredMany.is c.effective-set.ensures.effective c.home-in-PreferredMany.ensures.home
-    gives) c.rule_by_home-in-PreferredMany.ensures
+    gives) c.many_rule.ensures
 
 pub returns-in-Preferred : goal.returns-in-Preferred
 returns-in-Preferred c =

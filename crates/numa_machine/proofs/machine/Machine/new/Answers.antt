@@ -1,7 +1,8 @@
 use Rattle.std.proofs.Common.{◌≡◌, None, [], sym, ap, ◌∙◌}
+use Rattle.numa_machine.specs.declared.rules.Rules.TheVariants.{Document}
 use Rattle.numa_machine.specs.Machine.{all_orders}
 use Rattle.numa_machine.specs.Faults.{machine_fault}
-use Rattle.numa_machine.proofs.Stored.{all_orders-frames}
+use Rattle.numa_machine.proofs.Stored.{all_orders-same}
 use Rattle.numa_machine.proofs.NoFault.{few_nodes}
 use Rattle.numa_machine.proofs.machine.Machine.new.Goals as goal
 
@@ -18,6 +19,6 @@ invariant_of-result c =
           ∙ no_fault;
       orders_of_nodes =
           c.in_ok-orders.ensures
-          ∙ ap (λ xs. all_orders (record { nodes = c.args.nodes; memory = c.args.memory; distances = xs; frames = [] })) (sym c.in_ok-distances.ensures.items)
-          ∙ all_orders-frames c.args.nodes c.args.memory c.in_ok-distances.distances.items [] c.in_ok-frames.frames.items;
+          ∙ ap (λ xs. all_orders (record { nodes = c.args.nodes; memory = c.args.memory; distances = xs; frames = []; rules = Document })) (sym c.in_ok-distances.ensures.items)
+          ∙ sym (all_orders-same (record { nodes = c.args.nodes; memory = c.args.memory; distances = c.in_ok-distances.distances.items; frames = []; rules = Document }) c.in_ok-frames.frames.items Document);
     }

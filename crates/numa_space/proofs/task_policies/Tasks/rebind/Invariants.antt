@@ -3,4 +3,4 @@ use Rattle.numa_space.proofs.Moved.{moved_first}
 use Rattle.numa_space.proofs.task_policies.Tasks.rebind.Given as goal
 
 abbrev pub invariant-loop-k : goal.invariant-loop-k
-invariant-loop-k l = l.self-inside.0.entries ≡ moved_first l.old l.new l.k l.fn.self
+invariant-loop-k l = l.self-inside.0.entries ≡ moved_first l.rules l.old l.new l.k l.fn.self

@@ -1,7 +1,7 @@
 use Rattle.numa_space.specs.contracts.range_record.RangeRecordPartialEq.TheImpl as range_test
 use Rattle.numa_space.proofs.SameTest.{range_test-same}
 use Rattle.numa_space.proofs.Editing.{set-edit}
-use Rattle.numa_space.proofs.page_ranges.Pages.bind_span.Goals as goal
+use Rattle.numa_space.proofs.page_ranges.Pages.bind_whole.Goals as goal
 
 pub returns-clause-edit : goal.returns-clause-edit
 returns-clause-edit c =
