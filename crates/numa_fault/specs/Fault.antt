@@ -30,6 +30,7 @@ pub record LetsIn (before after : ReaderState) : Type 0 where
   pub enters : after.enters ≡ before.enters + 1
   pub refused : after.refused ≡ before.refused
   pub history : Extends before.history after.history
+  pub versions : Extends before.versions after.versions
 
 -- one entry that was refused: nothing but the two numbers changes
 abbrev pub refused_once : ReaderState → ReaderState

@@ -32,6 +32,7 @@ no_reader = record {
     machine = record { nodes = 0; memory = 0; distances = []; frames = []; rules = Document };
   };
   history = [];
+  versions = [];
   enters = 0;
   refused = 0;
 }

@@ -8,6 +8,7 @@ use Rattle.numa_space.specs.Refusals.{refusal_of as command_refusal}
 use Rattle.numa_space.specs.declared.command.Command.{Command}
 use Rattle.numa_space.specs.declared.refusal.Refusal.{Refusal}
 use Rattle.numa_publish.specs.Batches.{Extends}
+use Rattle.numa_publish.proofs.Lists.{extends_shorter, no_length}
 use Rattle.numa_publish.specs.Shown.{DeskState, Refuses, ViewState, accepted_commands, and_newest}
 use Rattle.numa_core.specs.World.{Setup, World, first_commands, is_published, opening, owner_of}
 use Rattle.numa_core.specs.Steps.{because, refused_or, effect_of, world_after}
@@ -147,6 +148,17 @@ viewed s world desk view is history versions newest =
           ∙ any-behind versions.0 view.versions (length view.history) (first-any view.versions (length view.history) newest);
       commands = ap (λ (h : List Command). first_commands (length view.history) h) all ∙ behind (desk.pending ++ history.0) view.history;
     }
+
+-- of two lists of one length that one list extends each is the other
+same-list : (xs ys both : List Command) → Extends xs both → Extends ys both → length xs ≡ length ys → ys ≡ xs
+same-list xs ys both p q e =
+    let more : Extends xs ys = extends_shorter p.0 q.0 xs ys (sym p.1 ∙ q.1) (omega (arith, e)) in
+    let none : length more.0 ≤ 0 = omega (arith, e, ap (λ (h : List Command). length h) more.1, length-append more.0 xs) in
+    more.1 ∙ ap (λ (h : List Command). h ++ xs) (no_length more.0 none)
+
+-- so is what a reader has seen that learns a receipt of the same version
+pub receipted : (world : World) (seen told both : List Command) → Extends seen both → Extends told both → length seen ≡ length told → IsPublishedIn world told → IsPublishedIn world seen
+receipted world seen told both p q e is = subst (λ (h : List Command). IsPublishedIn world h) (same-list seen told both p q e) is
 
 -- a published history is no longer than the world's
 fits : (world : World) (history : List Command) → IsPublishedIn world history → length history ≤ length world.history

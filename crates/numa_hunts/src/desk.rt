@@ -7,10 +7,10 @@ ghost use Rattle.numa_space.specs.declared.event.CoreRefusal.{CoreRefusal};
 ghost use Rattle.numa_space.specs.declared.event.Event.{Event};
 ghost use Rattle.numa_space.specs.declared.event.CoreReply.{CoreReply};
 ghost use Rattle.numa_hunts.specs.Desks.{IsDeskOf, LeadsTo};
-ghost use Rattle.numa_hunts.specs.Moments.{moment_of};
+ghost use Rattle.numa_hunts.specs.Moments.{IsPublishedIn, moment_of};
 
 use numa_machine::{Machine, NoMemory};
-use numa_publish::{Desk, Receipt};
+use numa_publish::{Desk, PlanReader, Receipt};
 use numa_space::{Command, Limits, Refusal};
 use std::alloc::Global;
 use std::sync::Wait;
@@ -63,6 +63,18 @@ pub fn publish<R: Wait>(desk: &mut Desk, rt: &R) -> Result<Receipt, NoMemory>
     ensures idle { OnOk result (desk.old.pending ≡ [] → desk.new ≡ desk.old) }
     ensures err { OnErr result ((s : Setup) (world : World) → IsDeskOf s world desk.old
         → LeadsTo s world (moment_of Event.Publish (Err CoreRefusal.NoMemory)) desk.new) }
+    ensures receipt { IfOk result (λ r. (s : Setup) (world : World) → IsDeskOf s world desk.new
+        → IsPublishedIn world r.history) }
 {
     desk.publish(rt)
+}
+
+/// `PlanReader::learn`: where the receipt is of the version that the reader has seen, what it has
+/// seen is published in each world in which the receipt's history is.
+pub fn learn(reader: PlanReader, receipt: &Receipt) -> PlanReader
+    requires { receipt.now.desk ≡ reader.desk }
+    ensures seen { (world : World) → length reader.history ≡ length receipt.now.history
+        → IsPublishedIn world receipt.now.history → IsPublishedIn world reader.history }
+{
+    reader.learn(receipt)
 }

@@ -11,7 +11,8 @@ ghost use Rattle.numa_fault.specs.Fault.{IsServed, list_of, refusal_of};
 ghost use Rattle.numa_fault.specs.declared.refusal.FaultRefusal.{FaultRefusal};
 ghost use Rattle.numa_pool.specs.Seats.{SeatView};
 ghost use Rattle.numa_publish.specs.Batches.{Extends};
-ghost use Rattle.numa_publish.specs.Shown.{DeskState, Refuses, ViewState, accepted_commands};
+ghost use Rattle.numa_publish.specs.Shown.{DeskState, ReaderState, ReceiptState, Refuses, ViewState};
+ghost use Rattle.numa_publish.specs.Shown.{accepted_commands};
 ghost use Rattle.numa_space.specs.declared.command.Command.{Command};
 ghost use Rattle.numa_space.specs.declared.placement.Placement.{Placement};
 ghost use Rattle.numa_space.specs.declared.refusal.Refusal.{Refusal};
@@ -69,7 +70,8 @@ pub fn a_desk_stays_the_worlds()
 {}
 
 /// What a desk has published is published in its world, and stays so at every moment. So is what a
-/// view shows, which the desk had published at some time.
+/// view shows, which the desk had published at some time; and what a reader has seen, where it learns
+/// a receipt of the same version.
 pub fn what_is_published_stays()
     ensures desk { (s : Setup) (world : World) (desk : DeskState) → IsDeskOf s world desk
         → IsPublishedIn world desk.published }
@@ -78,6 +80,10 @@ pub fn what_is_published_stays()
         → Extends view.versions desk.versions
         → slice_get view.versions 0 ≡ Some (length view.history)
         → IsPublishedIn world view.history }
+    ensures receipt { (world : World) (reader learnt : ReaderState) (receipt : ReceiptState)
+        → Extends reader.history learnt.history → Extends receipt.history learnt.history
+        → length reader.history ≡ length receipt.history → IsPublishedIn world receipt.history
+        → IsPublishedIn world reader.history }
     ensures stays { (s : Setup) (world : World) (m : Moment) (history : List Command)
         → IsPublishedIn world history
         → IsPublishedIn (after_moment s world m) history }

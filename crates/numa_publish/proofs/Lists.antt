@@ -16,6 +16,9 @@ prefix_trans xs ys zs p q = (p.0 ++ q.0, sym (append_assoc xs p.0 q.0) ∙ (ap (
 pub extends_self : {A : Type 0} (xs : List A) → Extends xs xs
 extends_self xs = ([], refl)
 
+pub extends_none : {A : Type 0} (xs : List A) → Extends [] xs
+extends_none xs = (xs, sym (append-nil xs))
+
 pub extends_trans : {A : Type 0} (xs ys zs : List A) → Extends xs ys → Extends ys zs → Extends xs zs
 extends_trans xs ys zs p q = (q.0 ++ p.0, q.1 ∙ (ap (λ w. q.0 ++ w) p.1 ∙ sym (append_assoc q.0 p.0 xs)))
 

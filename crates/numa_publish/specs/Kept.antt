@@ -8,7 +8,7 @@ use Rattle.numa_space.specs.Standing.{SpaceState, StandsFor}
 use Rattle.numa_publish.specs.declared.issue.Issue.{Issue}
 use Rattle.numa_publish.specs.declared.past.Past.{Past}
 use Rattle.numa_publish.specs.declared.rule.Knows.{Knows}
-use Rattle.numa_publish.specs.Batches.{history_of, not_logged}
+use Rattle.numa_publish.specs.Batches.{Extends, history_of, not_logged}
 use Rattle.numa_publish.specs.Knowing.{IsEarlier, told_by}
 use Rattle.numa_publish.specs.Shown.{ReaderState, ViewState}
 
@@ -47,28 +47,31 @@ pub record IsReaderKept (past : Past) (known : Knows) : Type 0 where
   pub version_is : past.version ≡ length (history_of past.front.log)
   pub named : known.named ≡ true
   pub book_is : known.front.book ≡ past.front.book
+  pub behind : Extends past.versions known.versions
 
 -- a view, by such a reader, of this issue
 pub record IsViewKept (past : Past) (known : Knows) (issue : Issue) : Type 0 where
   pub reader : IsReaderKept past known
   pub log_is : past.front.log ≡ issue.front.log
   pub machine_is : known.machine ≡ issue.machine
+  pub versions_are : past.versions ≡ issue.versions
 
 -- what clauses see of a reader with this past, of a desk of this machine
 abbrev pub reader_shown : Past → Hardware → ReaderState
 reader_shown past machine = record {
   desk = record { book = past.front.book; machine = machine };
   history = history_of past.front.log;
+  versions = past.versions;
   enters = past.enters;
   refused = past.refused;
 }
 
--- and of a view, by such a reader, of this issue
-abbrev pub view_shown : Past → Hardware → Issue → ViewState
-view_shown past machine issue = record {
+-- and of a view by such a reader
+abbrev pub view_shown : Past → Hardware → ViewState
+view_shown past machine = record {
   desk = record { book = past.front.book; machine = machine };
   history = history_of past.front.log;
-  versions = issue.versions;
+  versions = past.versions;
   enters = past.enters;
   refused = past.refused;
 }

@@ -164,12 +164,14 @@ impl Desk {
 
     /// A receipt of the published version.
     fn receipt(&self) -> Receipt
-        ensures { (result.desk ≡ self.now.desk) × (result.history ≡ self.now.published) }
+        ensures { (result.desk ≡ self.now.desk) × (result.history ≡ self.now.published)
+            × (result.versions ≡ self.now.versions) }
     {
         let issue: &Issue = &self.writer.published().issue;
         Receipt::new(
             &issue.front,
             self.space.space().machine(),
+            &issue.versions,
             issue.plan.version(),
         )
     }
@@ -185,7 +187,8 @@ impl Desk {
         ensures ok { OnOk result
             ((self.new.published ≡ accepted_commands self.old) × (self.new.pending ≡ [])) }
         ensures receipt { IfOk result (λ r.
-            (r.desk ≡ self.new.desk) × (r.history ≡ self.new.published)) }
+            (r.desk ≡ self.new.desk) × (r.history ≡ self.new.published)
+            × (r.versions ≡ self.new.versions)) }
         ensures versions { OnOk result (self.new.versions ≡ versions_after self.old) }
         ensures desk { (self.new.desk ≡ self.old.desk) × (self.new.bounds ≡ self.old.bounds) }
         ensures unchanged { OnErr result (self.new ≡ self.old) }

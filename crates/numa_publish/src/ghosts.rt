@@ -78,6 +78,15 @@ impl Versions {
         Versions { list }
     }
 
+    /// The same.
+    pub fn again(&self) -> Versions
+        ensures { result ≡ self.now }
+    {
+        Versions {
+            list: self.list.again(),
+        }
+    }
+
     /// The same, with this version in front.
     pub fn and(&self, version: u64) -> Versions
         ensures { result ≡ version ∷ self.now }

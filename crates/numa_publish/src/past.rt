@@ -1,14 +1,16 @@
 //! What a reader has behind it.
-ghost use Rattle.std.specs.Prelude.{◌≡◌};
+ghost use Rattle.std.specs.Prelude.{◌≡◌, []};
 
+use crate::ghosts::Versions;
 use crate::log::Front;
 use numa_count::Count;
 
-/// What a reader takes along, whether it looks or not: the beginning of the log that it has seen,
-/// the version of that, how many enters it made, and how many of them were refused.
+/// What a reader takes along, whether it looks or not: the beginning of the log that it has seen or
+/// learnt, the versions published up to the one that it saw last, the version of that beginning, how many enters it made, and how many of them were refused.
 #[derive(Drop)]
 pub struct Past {
     pub front: Front,
+    pub versions: Versions,
     pub version: u64,
     pub enters: Count,
     pub refused: Count,
@@ -17,10 +19,17 @@ pub struct Past {
 impl Past {
     /// The past of a reader that has seen nothing but version 0.
     pub fn none(front: Front) -> Past
-        ensures { result ≡ record { front = front; version = 0; enters = 0; refused = 0 } }
+        ensures { result ≡ record {
+          front = front;
+          versions = [];
+          version = 0;
+          enters = 0;
+          refused = 0;
+        } }
     {
         Past {
             front,
+            versions: Versions::none(),
             version: 0,
             enters: Count::zero(),
             refused: Count::zero(),

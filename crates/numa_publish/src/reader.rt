@@ -68,6 +68,7 @@ impl PlanReader {
         ensures one { IsOneOf self.history receipt.now.history result.history }
         ensures own { Extends self.history result.history }
         ensures told { Extends receipt.now.history result.history }
+        ensures versions { result.versions ≡ self.versions }
         ensures counts { (result.enters ≡ self.enters) × (result.refused ≡ self.refused) }
     {
         let PlanReader { reader, mut past } = self;
@@ -92,6 +93,8 @@ impl PlanReader {
         ensures desk { MatchResult result (λ v. v.desk ≡ self.desk) (λ r. r.desk ≡ self.desk) }
         ensures seen { MatchResult result
             (λ v. Extends self.history v.history) (λ r. r.history ≡ self.history) }
+        ensures versions { MatchResult result
+            (λ v. Extends self.versions v.versions) (λ r. r.versions ≡ self.versions) }
         ensures published { IfOk result (λ v. slice_index v.versions 0 ≡ length v.history) }
         ensures enters { MatchResult result
             (λ v. v.enters ≡ self.enters + 1) (λ r. r.enters ≡ self.enters + 1) }
@@ -120,6 +123,7 @@ impl PlanReader {
             return Err(PlanReader::back(reader, past));
         }
         past.front = next;
+        past.versions = issue.versions.again();
         past.version = shown;
         Ok(PlanView::new(reading, past))
     }

@@ -2,7 +2,7 @@
 ghost use Rattle.std.specs.Prelude.{◌≡◌, length};
 ghost use Rattle.numa_publish.specs.Batches.{history_of};
 
-use crate::ghosts::About;
+use crate::ghosts::{About, Versions};
 use crate::log::Front;
 use numa_machine::Machine;
 use std::marker::Model;
@@ -15,6 +15,7 @@ use std::marker::Model;
 pub struct Receipt {
     pub(crate) front: Front,
     machine: About,
+    versions: Versions,
     version: u64,
 }
 
@@ -28,6 +29,7 @@ impl Model for Receipt {
     ghost view = { λ r. record {
       desk = record { book = r.front.book; machine = r.machine };
       history = history_of r.front.log;
+      versions = r.versions;
     } };
 
     ghost invariant = { λ r. r.version ≡ length (history_of r.front.log) };
@@ -35,14 +37,21 @@ impl Model for Receipt {
 
 impl Receipt {
     /// The receipt of this beginning of the log.
-    pub(crate) fn new(front: &Front, machine: &Machine, version: u64) -> Receipt
+    pub(crate) fn new(
+        front: &Front,
+        machine: &Machine,
+        versions: &Versions,
+        version: u64,
+    ) -> Receipt
         requires { version ≡ length (history_of front.now.log) }
         ensures desk { result.desk ≡ record { book = front.now.book; machine = machine.now } }
         ensures history { result.history ≡ history_of front.now.log }
+        ensures versions { result.versions ≡ versions.now }
     {
         Receipt {
             front: front.again(),
             machine: About::of(machine),
+            versions: versions.again(),
             version,
         }
     }

@@ -41,8 +41,7 @@ impl Model for PlanView {
 
     ghost Value = { ViewState };
 
-    ghost view = { λ r. view_shown r.past (place_view r.reading.place).machine
-        (arc_value r.reading.part.value.issue) };
+    ghost view = { λ r. view_shown r.past (place_view r.reading.place).machine };
 
     ghost invariant = { λ r. IsViewKept r.past (place_view r.reading.place)
         (arc_value r.reading.part.value.issue) };
@@ -53,8 +52,7 @@ impl PlanView {
     pub(crate) fn new(reading: ShownReading, past: Past) -> PlanView
         requires { IsViewKept past (place_view reading.place)
             (arc_value reading.part.value.issue) }
-        ensures { result ≡ view_shown past (place_view reading.place).machine
-            (arc_value reading.part.value.issue) }
+        ensures { result ≡ view_shown past (place_view reading.place).machine }
     {
         PlanView { reading, past }
     }
@@ -147,6 +145,7 @@ impl PlanView {
     pub fn leave(self) -> PlanReader
         ensures desk { result.desk ≡ self.desk }
         ensures history { result.history ≡ self.history }
+        ensures versions { result.versions ≡ self.versions }
         ensures counts { (result.enters ≡ self.enters) × (result.refused ≡ self.refused) }
     {
         let PlanView { reading, past } = self;

@@ -1,4 +1,4 @@
-use Rattle.numa_hunts.proofs.Desking.{shows, stays, viewed}
+use Rattle.numa_hunts.proofs.Desking.{receipted, shows, stays, viewed}
 use Rattle.numa_hunts.proofs.laws.what_is_published_stays.Goals as goal
 
 pub returns-clause-desk : goal.returns-clause-desk
@@ -9,3 +9,6 @@ returns-clause-stays c s world m history is = stays s world m.version m.event m.
 
 pub returns-clause-view : goal.returns-clause-view
 returns-clause-view c = viewed
+
+pub returns-clause-receipt : goal.returns-clause-receipt
+returns-clause-receipt c world reader learnt receipt own told e is = receipted world reader.history receipt.history learnt.history own told e is
