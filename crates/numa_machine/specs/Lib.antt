@@ -1,4 +1,5 @@
 pub mod Machine
+pub mod Rules
 pub mod Faults
 pub mod Weights
 pub mod Sound

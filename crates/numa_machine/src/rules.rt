@@ -1,4 +1,6 @@
 //! Whose rules a machine follows.
+ghost use Rattle.std.specs.Prelude.{◌≡◌};
+ghost use Rattle.numa_machine.specs.Rules.{is_linux};
 
 /// Whose rules count where Linux's documents and its kernel differ (docs/KERNEL.md).
 #[derive(Clone, Copy, Debug, PartialEq, Eq)]
@@ -7,4 +9,16 @@ pub enum Rules {
     Document,
     /// Those of the running kernel, 6.1 to 6.12.
     Linux,
+}
+
+impl Rules {
+    /// Whether those of the running kernel count.
+    pub fn is_linux(self) -> bool
+        ensures { result ≡ is_linux self }
+    {
+        match self {
+            Rules::Document => false,
+            Rules::Linux => true,
+        }
+    }
 }

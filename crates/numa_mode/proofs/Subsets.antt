@@ -1,7 +1,7 @@
 -- Effective sets are inside the allowed nodes.
-use Rattle.std.proofs.Common.{◌≡◌, ℕ, ◌^◌, ◌%◌, ◌<◌, ◌≤◌, true, false, eqb, Option, Some, None, List, [], ◌∷◌, get_or, fold, map, take, All, refl, sym, ap, ◌∙◌, arith, inl, inr, subst, slice_get}
+use Rattle.std.proofs.Common.{◌≡◌, ◌≢◌, ℕ, ◌^◌, ◌%◌, ◌<◌, ◌≤◌, true, false, eqb, Option, Some, None, List, [], ◌∷◌, get_or, fold, map, take, All, refl, sym, ap, ◌∙◌, arith, inl, inr, subst, slice_get}
 use Rattle.std.proofs.Math.Nat.{mod-lt}
-use Rattle.std.proofs.lemmas.Bool.{cases_eq, cases_Bool}
+use Rattle.std.proofs.lemmas.Bool.{cases_eq, cases_Bool, both_ways, eq-eqb}
 use Rattle.std.proofs.lemmas.Bool.Decides.{nat_tests}
 use Rattle.std.specs.Int.{bit_at}
 use Rattle.std.specs.List.{filter_map, range_with_len, AllByRecursion, cons_option}
@@ -116,10 +116,16 @@ effect_by_flag-within Plain spec effective old new some inside = remap-within ef
 effect_by_flag-within Static spec effective old new some inside = effect_when_set-within spec new
 effect_by_flag-within Relative spec effective old new some inside = effect_when_set-within spec new
 
-never_empty-within : (rules : Rules) (set allowed : ℕ) → IsWithin set allowed → IsWithin (never_empty rules set allowed) allowed
+-- a set inside the allowed nodes stays inside them where none of them would be left
+pub never_empty-within : (rules : Rules) (set allowed : ℕ) → IsWithin set allowed → IsWithin (never_empty rules set allowed) allowed
 never_empty-within Document set allowed inside = inside
 never_empty-within Linux set allowed inside =
     elim (cases_Bool (eqb set 0)) [ inl e ↦ rw e (λ node member. member) | inr e ↦ rw e inside ]
+
+-- and has a node where some are allowed
+pub never_empty-some : (set allowed : ℕ) → allowed ≢ 0 → never_empty Linux set allowed ≢ 0
+never_empty-some set allowed some =
+    elim (cases_Bool (eqb set 0)) [ inl e ↦ rw e some | inr e ↦ rw e (λ none. both_ways (eqb set 0) e (eq-eqb set 0 none)) ]
 
 -- and stays so, where it follows
 pub effect_after-within : (rules : Rules) (spec : Specification) (effective old new : ℕ) → 0 < weight_of new → stays rules spec.mode ≡ false → IsWithin effective old → IsWithin (effect_after rules spec effective old new) new

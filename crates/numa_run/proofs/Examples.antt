@@ -2,7 +2,7 @@
 use Rattle.std.proofs.Common.{◌≡◌, true, false, [], ◌∷◌, None, Some, codes, refl}
 use Rattle.std.specs.Prelude.{◌==◌, ◌&&◌, if◌then◌else◌}
 use Rattle.std.specs.Fmt.{digits}
-use Rattle.numa_machine.specs.declared.rules.Rules.TheVariants.{Document}
+use Rattle.numa_machine.specs.declared.rules.Rules.TheVariants.{Document, Linux}
 use Rattle.numa_mask.specs.Lists.{item_of, ends_of, digit_of, numeral_of as node_numeral_of}
 use Rattle.numa_mask.specs.NodeSet.{members}
 use Rattle.numa_machine.specs.Machine.{Hardware, distance_order}
@@ -55,6 +55,14 @@ two-nodes_without_memory : answer_of true start (line_of (codes "machine 2 0-1 8
 unfolding line_of keyword_of number_of numeral_of in_64_bits distances_of members item_of ends_of node_numeral_of digit_of outcome_of text_of
 two-nodes_without_memory = refl
 
+rules-of_the_kernel : (after false start (line_of (codes "rules linux"))).rules ≡ Linux
+unfolding line_of keyword_of outcome_of
+rules-of_the_kernel = refl
+
+rules-are_taken : answer_of false start (line_of (codes "rules linux")) ≡ codes "rules ok\n"
+unfolding line_of keyword_of outcome_of text_of
+rules-are_taken = refl
+
 -- ---- with a machine of two nodes, two mapped pages, and a policy of the first
 
 abbrev pub two_nodes : Hardware
@@ -65,7 +73,7 @@ world : World
 world = record { history = Mbind 0x10000 0x1000 (record { mode = Bind; flag = Plain; mask = 2 }) ∷ Map 0x10000 0x2000 0 ∷ []; published = opening.published; worker = opening.worker; owner = opening.owner }
 
 bound : State
-bound = record { bounds = usual_bounds; machine = Some two_nodes; world = world; resident = [] }
+bound = record { bounds = usual_bounds; rules = Document; machine = Some two_nodes; world = world; resident = [] }
 
 bound-page : answer_of false bound (line_of (codes "place 1 0x10fff 0")) ≡ codes "v2: 1\n"
 unfolding line_of keyword_of number_of numeral_of in_64_bits members distance_order digits bound world outcome_of text_of
@@ -145,7 +153,7 @@ counts-past_the_mapped_pages = refl
 
 -- with both commands published
 published : State
-published = record { bounds = usual_bounds; machine = Some two_nodes; world = record { history = world.history; published = 2 ∷ 0 ∷ []; worker = world.worker; owner = world.owner }; resident = [] }
+published = record { bounds = usual_bounds; rules = Document; machine = Some two_nodes; world = record { history = world.history; published = 2 ∷ 0 ∷ []; worker = world.worker; owner = world.owner }; resident = [] }
 
 -- the first frame of node 1 is worker 0's, and kept for page 16
 placed : Placement
@@ -154,6 +162,7 @@ placed = record { version = 2; task = 1; page = 16; node = 1; frame = record { n
 resident : State
 resident = record {
   bounds = usual_bounds;
+  rules = Document;
   machine = Some two_nodes;
   world = record { history = world.history; published = 2 ∷ 0 ∷ []; worker = world.worker; owner = λ n k. if (n == 1) && (k == 0) then Some 0 else None };
   resident = (16, placed) ∷ [];

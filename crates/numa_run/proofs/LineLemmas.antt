@@ -6,7 +6,7 @@ use Rattle.numa_machine.specs.Machine.{Hardware}
 use Rattle.numa_machine.specs.Faults.{hardware_fault}
 use Rattle.numa_machine.specs.declared.fault.MachineFault.{MachineFault}
 use Rattle.numa_machine.specs.declared.fault.MachineFault.TheVariants as machine_fault
-use Rattle.numa_space.specs.Limited.{Bounds}
+use Rattle.numa_machine.specs.declared.rules.Rules.{Rules}
 use Rattle.numa_core.specs.World.{Setup, opening}
 use Rattle.numa_core.specs.Standing.{LeadsTo, setup_of}
 use Rattle.numa_script.specs.declared.policy.WordFault.TheVariants as word_fault
@@ -24,49 +24,62 @@ use Rattle.numa_run.specs.States.{setup_with}
 use Rattle.numa_script.specs.Texts.{text_of}
 use Rattle.numa_run.specs.Work.{Outcome}
 use Rattle.numa_run.specs.declared.running.Running.{Running}
+use Rattle.numa_run.specs.declared.settings.Settings.{Settings}
 use Rattle.numa_run.specs.declared.running.Taken.TheVariants as taken
 use Rattle.numa_script.specs.declared.reply.Reply.{Reply}
 use Rattle.numa_script.specs.declared.reply.Reply.TheVariants as reply
 
 -- ---- before a machine is ready
 
-first_is : (limits : Bounds) (said : Line) (refused : Bool) (state : State) → Stands limits None state → outcome_of refused state said ≡ served_first refused state said
+first_is : (settings : Settings) (said : Line) (refused : Bool) (state : State) → Stands settings None state → outcome_of refused state said ≡ served_first refused state said
 unfolding outcome_of
-first_is limits said refused state stands = ap (λ m. served_by m refused state said) stands.1
+first_is settings said refused state stands = ap (λ m. served_by m refused state said) stands.2
 
 -- a line that changes nothing
-pub first_same : (limits : Bounds) (said : Line) (answer : Reply) (refused : Bool) → ((state : State) → served_first refused state said ≡ with_reply answer state) → Replies limits None said (Some answer) limits None
-first_same limits said answer refused right =
+pub first_same : (settings : Settings) (said : Line) (answer : Reply) (refused : Bool) → ((state : State) → served_first refused state said ≡ with_reply answer state) → Replies settings None said (Some answer) settings None
+first_same settings said answer refused right =
     λ state stands.
-    let is : outcome_of refused state said ≡ with_reply answer state = first_is limits said refused state stands ∙ right state in
-    (refused, sym (ap (λ r. reply_in r.answer) is), subst (λ (r : Served). Stands limits None r.state) (sym is) stands)
+    let is : outcome_of refused state said ≡ with_reply answer state = first_is settings said refused state stands ∙ right state in
+    (refused, sym (ap (λ r. reply_in r.answer) is), subst (λ (r : Served). Stands settings None r.state) (sym is) stands)
 
 -- limits that are taken
-pub first_limits : (limits : Bounds) (ranges tasks commands : ℕ) → limits_fit ranges tasks ≡ true →
-    Replies limits None (line.Limits ranges tasks commands) (Some reply.LimitsOk) (record { max_ranges = ranges; max_tasks = tasks; max_commands = commands }) None
-first_limits limits ranges tasks commands fits =
+pub first_limits : (settings : Settings) (ranges tasks commands : ℕ) → limits_fit ranges tasks ≡ true →
+    Replies settings None (line.Limits ranges tasks commands) (Some reply.LimitsOk) (record { limits = record { max_ranges = ranges; max_tasks = tasks; max_commands = commands }; rules = settings.rules }) None
+first_limits settings ranges tasks commands fits =
     λ state stands.
-    let taken : State = record { bounds = record { max_ranges = ranges; max_tasks = tasks; max_commands = commands }; machine = state.machine; world = state.world; resident = state.resident } in
+    let taken : State = record { bounds = record { max_ranges = ranges; max_tasks = tasks; max_commands = commands }; rules = state.rules; machine = state.machine; world = state.world; resident = state.resident } in
     let is : outcome_of false state (line.Limits ranges tasks commands) ≡ with_reply reply.LimitsOk taken =
-    first_is limits (line.Limits ranges tasks commands) false state stands ∙ ap (λ b. if b then with_reply reply.LimitsOk taken else with_reply reply.BadLimits state) fits in
-    (false, sym (ap (λ r. reply_in r.answer) is), subst (λ (r : Served). Stands (record { max_ranges = ranges; max_tasks = tasks; max_commands = commands }) None r.state) (sym is) (refl, stands.1))
+    first_is settings (line.Limits ranges tasks commands) false state stands ∙ ap (λ b. if b then with_reply reply.LimitsOk taken else with_reply reply.BadLimits state) fits in
+    let after_it : Settings = record { limits = record { max_ranges = ranges; max_tasks = tasks; max_commands = commands }; rules = settings.rules } in
+    (false, sym (ap (λ r. reply_in r.answer) is), subst (λ (r : Served). Stands after_it None r.state) (sym is) (refl, stands.1, stands.2))
 
-pub first_no_limits : (limits : Bounds) (ranges tasks commands : ℕ) → limits_fit ranges tasks ≡ false → Replies limits None (line.Limits ranges tasks commands) (Some reply.BadLimits) limits None
-first_no_limits limits ranges tasks commands none = first_same limits (line.Limits ranges tasks commands) reply.BadLimits false (λ state. rw none refl)
+-- rules that are taken
+pub first_rules : (settings : Settings) (rules : Rules) →
+    Replies settings None (line.Rules rules) (Some reply.RulesOk) (record { limits = settings.limits; rules = rules }) None
+first_rules settings rules =
+    λ state stands.
+    let taken : State = record { bounds = state.bounds; rules = rules; machine = state.machine; world = state.world; resident = state.resident } in
+    let is : outcome_of false state (line.Rules rules) ≡ with_reply reply.RulesOk taken = first_is settings (line.Rules rules) false state stands in
+    let after_it : Settings = record { limits = settings.limits; rules = rules } in
+    (false, sym (ap (λ r. reply_in r.answer) is), subst (λ (r : Served). Stands after_it None r.state) (sym is) (stands.0, refl, stands.2))
+
+pub first_no_limits : (settings : Settings) (ranges tasks commands : ℕ) → limits_fit ranges tasks ≡ false → Replies settings None (line.Limits ranges tasks commands) (Some reply.BadLimits) settings None
+first_no_limits settings ranges tasks commands none = first_same settings (line.Limits ranges tasks commands) reply.BadLimits false (λ state. rw none refl)
 
 -- a machine that is ready
-pub first_ready : (limits : Bounds) (said : MachineLine) (memory : ℕ) (running : Running) → said.memory ≡ Ok memory → first_fault false (hardware_of said memory) ≡ None
-    → setup_of running.core ≡ setup_with (hardware_of said memory) limits → LeadsTo [] running.core → running.resident ≡ []
-    → Replies limits None (line.Machine said) (Some reply.Ready) limits (Some running)
-first_ready limits said memory running named sound setup leads resident =
+pub first_ready : (settings : Settings) (said : MachineLine) (memory : ℕ) (running : Running) → said.memory ≡ Ok memory → first_fault false (hardware_of said memory settings.rules) ≡ None
+    → setup_of running.core ≡ setup_with (hardware_of said memory settings.rules) settings.limits → LeadsTo [] running.core → running.resident ≡ []
+    → Replies settings None (line.Machine said) (Some reply.Ready) settings (Some running)
+first_ready settings said memory running named sound setup leads resident =
     λ state stands.
-    let ready : State = record { bounds = state.bounds; machine = Some (hardware_of said memory); world = opening; resident = [] } in
+    let ready : State = record { bounds = state.bounds; rules = state.rules; machine = Some (hardware_of said memory state.rules); world = opening; resident = [] } in
+    let sound_there : first_fault false (hardware_of said memory state.rules) ≡ None = subst (λ (r : Rules). first_fault false (hardware_of said memory r) ≡ None) (sym stands.1) sound in
     let is : outcome_of false state (line.Machine said) ≡ with_reply reply.Ready ready =
-    first_is limits (line.Machine said) false state stands ∙ ap (λ m. machine_outcome false said m state) named ∙ ap (λ f. machine_unless f (hardware_of said memory) state) sound in
+    first_is settings (line.Machine said) false state stands ∙ ap (λ m. machine_outcome false said m state) named ∙ ap (λ f. machine_unless f (hardware_of said memory state.rules) state) sound_there in
     let reached : RunsAs running ready = record {
       core = record {
         bounds = stands.0 ∙ sym (ap (λ s. s.bounds) setup);
-        machine = ap Some (sym (ap (λ s. s.machine) setup));
+        machine = ap (λ r. Some (hardware_of said memory r)) stands.1 ∙ ap Some (sym (ap (λ s. s.machine) setup));
         workers = ap (λ s. s.workers) setup;
         world = leads.stands;
       };
@@ -74,14 +87,24 @@ first_ready limits said memory running named sound setup leads resident =
     } in
     (false, sym (ap (λ r. reply_in r.answer) is), subst (λ (r : Served). RunsAs running r.state) (sym is) reached)
 
--- a machine that is refused
-pub first_bad : (limits : Bounds) (said : MachineLine) (memory : ℕ) (refused : Bool) (fault : MachineFault) → said.memory ≡ Ok memory → first_fault refused (hardware_of said memory) ≡ Some fault
-    → Replies limits None (line.Machine said) (Some (reply.BadMachine fault)) limits None
-first_bad limits said memory refused fault named why =
-    first_same limits (line.Machine said) (reply.BadMachine fault) refused (λ state. ap (λ m. machine_outcome refused said m state) named ∙ ap (λ f. machine_unless f (hardware_of said memory) state) why)
+-- a line that changes nothing, by the rules that were chosen before it
+first_same-by_rules : (settings : Settings) (said : Line) (answer : Reply) (refused : Bool) → ((state : State) → state.rules ≡ settings.rules → served_first refused state said ≡ with_reply answer state) → Replies settings None said (Some answer) settings None
+first_same-by_rules settings said answer refused right =
+    λ state stands.
+    let is : outcome_of refused state said ≡ with_reply answer state = first_is settings said refused state stands ∙ right state stands.1 in
+    (refused, sym (ap (λ r. reply_in r.answer) is), subst (λ (r : Served). Stands settings None r.state) (sym is) stands)
 
-pub first_bad_list : (limits : Bounds) (said : MachineLine) (fault : ListFault) → said.memory ≡ Err fault → Replies limits None (line.Machine said) (Some (reply.BadWord (word_fault.List fault))) limits None
-first_bad_list limits said fault named = first_same limits (line.Machine said) (reply.BadWord (word_fault.List fault)) false (λ state. ap (λ m. machine_outcome false said m state) named)
+-- a machine that is refused
+pub first_bad : (settings : Settings) (said : MachineLine) (memory : ℕ) (refused : Bool) (fault : MachineFault) → said.memory ≡ Ok memory → first_fault refused (hardware_of said memory settings.rules) ≡ Some fault
+    → Replies settings None (line.Machine said) (Some (reply.BadMachine fault)) settings None
+first_bad settings said memory refused fault named why =
+    first_same-by_rules settings (line.Machine said) (reply.BadMachine fault) refused
+    (λ state same.
+    let why_there : first_fault refused (hardware_of said memory state.rules) ≡ Some fault = subst (λ (r : Rules). first_fault refused (hardware_of said memory r) ≡ Some fault) (sym same) why in
+    ap (λ m. machine_outcome refused said m state) named ∙ ap (λ f. machine_unless f (hardware_of said memory state.rules) state) why_there)
+
+pub first_bad_list : (settings : Settings) (said : MachineLine) (fault : ListFault) → said.memory ≡ Err fault → Replies settings None (line.Machine said) (Some (reply.BadWord (word_fault.List fault))) settings None
+first_bad_list settings said fault named = first_same settings (line.Machine said) (reply.BadWord (word_fault.List fault)) false (λ state. ap (λ m. machine_outcome false said m state) named)
 
 -- where a machine has no fault, its core may find no memory
 pub core-starved : (hardware : Hardware) → first_fault false hardware ≡ None → first_fault true hardware ≡ Some machine_fault.NoMemory
@@ -139,9 +162,9 @@ told_later old new said answer P takes told =
     let t = takes state stands in
     (t.0, t.2, subst P (text-of_reply (outcome_of t.0 state said).answer answer t.1) told)
 
-pub told_first : (limits limits_then : Bounds) (running_then : Option Running) (said : Line) (answer : Reply) (P : List ℕ → Type 0) → Replies limits None said (Some answer) limits_then running_then → P (text_of answer)
-    → (state : State) → Stands limits None state → (refused : Bool) × Stands limits_then running_then (after refused state said) × P (answer_of refused state said)
-told_first limits limits_then running_then said answer P replies told =
+pub told_first : (settings settings_then : Settings) (running_then : Option Running) (said : Line) (answer : Reply) (P : List ℕ → Type 0) → Replies settings None said (Some answer) settings_then running_then → P (text_of answer)
+    → (state : State) → Stands settings None state → (refused : Bool) × Stands settings_then running_then (after refused state said) × P (answer_of refused state said)
+told_first settings settings_then running_then said answer P replies told =
     λ state stands.
     let t = replies state stands in
     (t.0, t.2, subst P (text-of_reply (outcome_of t.0 state said).answer answer t.1) told)

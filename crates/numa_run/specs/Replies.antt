@@ -63,6 +63,7 @@ abbrev pub machine_unless : Option MachineFault → Hardware → State → Serve
 machine_unless None hardware state =
     with_reply reply.Ready (record {
       bounds = state.bounds;
+      rules = state.rules;
       machine = Some hardware;
       world = opening;
       resident = [];
@@ -75,13 +76,16 @@ abbrev pub machine_outcome : Bool → MachineLine → Result ℕ ListFault → S
 machine_outcome refused said (Err fault) state =
     with_reply (reply.BadWord (word_fault.List fault)) state
 machine_outcome refused said (Ok memory) state =
-    machine_unless (first_fault refused (hardware_of said memory)) (hardware_of said memory) state
+    let hardware = hardware_of said memory state.rules in
+    machine_unless (first_fault refused hardware) hardware state
 
 abbrev pub served_first : Bool → State → Line → Served
 served_first refused state line.Silent = with_reply reply.Silent state
 served_first refused state line.Malformed = with_reply reply.BadWords state
 served_first refused state (line.Limits ranges tasks commands) =
     limits_outcome ranges tasks commands state
+served_first refused state (line.Rules rules) =
+    with_reply reply.RulesOk (record state { rules = rules })
 served_first refused state (line.Machine said) = machine_outcome refused said said.memory state
 served_first refused state (line.Command said) = with_reply reply.BadState state
 served_first refused state (line.Question said) = with_reply reply.BadState state
@@ -107,6 +111,7 @@ served_later refused machine state line.Silent = with_reply reply.Silent state
 served_later refused machine state line.Malformed = with_reply reply.BadWords state
 served_later refused machine state (line.Limits ranges tasks commands) =
     with_reply reply.BadState state
+served_later refused machine state (line.Rules rules) = with_reply reply.BadState state
 served_later refused machine state (line.Machine said) = with_reply reply.BadState state
 served_later refused machine state (line.Command said) = command_outcome refused machine state said
 served_later refused machine state (line.Question said) =

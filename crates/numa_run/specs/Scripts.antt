@@ -11,9 +11,9 @@ use Rattle.numa_script.specs.declared.reply.Reply.{Reply}
 use Rattle.numa_run.specs.declared.script.Script.{Script}
 
 -- the script stands for the state that its lines so far have led to: its machine is ready where the
--- state's is, and stands for it; else its limits are the state's
+-- state's is, and stands for it; else its limits and rules are the state's
 abbrev pub ScriptStandsFor : Script → State → Type 0
-ScriptStandsFor script state = Stands script.limits script.running state
+ScriptStandsFor script state = Stands script.settings script.running state
 
 -- the pages that are placed on the machine that is ready in the state
 abbrev pub IsResidentIn : Kept → State → Type 0

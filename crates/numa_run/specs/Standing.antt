@@ -1,6 +1,5 @@
 -- Which states a running machine stands for, and what it does with lines.
 use Rattle.std.specs.Prelude.{◌≡◌, Bool, Option, Some, None}
-use Rattle.numa_space.specs.Limited.{Bounds}
 use Rattle.numa_core.specs.Standing.{CoreState, CoreStandsFor, setup_of}
 use Rattle.numa_script.specs.declared.line.Line.{Line}
 use Rattle.numa_script.specs.declared.line.Line.TheVariants as line
@@ -9,6 +8,7 @@ use Rattle.numa_run.specs.States.{State}
 use Rattle.numa_run.specs.Work.{Outcome}
 use Rattle.numa_script.specs.declared.reply.Reply.{Reply}
 use Rattle.numa_run.specs.declared.running.Running.{Running}
+use Rattle.numa_run.specs.declared.settings.Settings.{Settings}
 use Rattle.numa_run.specs.declared.running.Taken.{Taken}
 use Rattle.numa_run.specs.declared.running.Taken.TheVariants as taken
 
@@ -25,10 +25,11 @@ pub record RunsAs (running : Running) (state : State) : Type 0 where
   pub core : IsCoreIn running.core state
   pub resident : running.resident ≡ state.resident
 
--- without a running machine the limits are those of the machine to come
-abbrev pub Stands : Bounds → Option Running → State → Type 0
-Stands limits None state = (state.bounds ≡ limits) × (state.machine ≡ None)
-Stands limits (Some running) state = RunsAs running state
+-- without a running machine the limits and rules are those of the machine to come
+abbrev pub Stands : Settings → Option Running → State → Type 0
+Stands settings None state =
+    (state.bounds ≡ settings.limits) × (state.rules ≡ settings.rules) × (state.machine ≡ None)
+Stands settings (Some running) state = RunsAs running state
 
 -- the state, with what the line made of its world and placed pages
 abbrev pub state_with : State → Outcome → State
@@ -42,12 +43,12 @@ Does old answer new outcome =
     × RunsAs new (state_with state (outcome refused state))
 
 -- the line has the reply that the definition says, and the state that it says is reached
-abbrev pub Replies : Bounds → Option Running → Line → Option Reply → Bounds → Option Running
+abbrev pub Replies : Settings → Option Running → Line → Option Reply → Settings → Option Running
     → Type 0
-Replies limits running said answer limits_then running_then =
-    (state : State) → Stands limits running state
+Replies settings running said answer settings_then running_then =
+    (state : State) → Stands settings running state
     → (refused : Bool) × (answer ≡ reply_of refused state said)
-    × Stands limits_then running_then (after refused state said)
+    × Stands settings_then running_then (after refused state said)
 
 -- the same where a machine is ready; a question and a line `maps` are passed on, and change nothing
 abbrev pub Takes : Running → Line → Taken → Running → Type 0

@@ -1,14 +1,17 @@
 -- What the lines of a script so far have brought about.
 use Rattle.std.specs.Prelude.{Option, None, []}
 use Rattle.numa_machine.specs.Machine.{Hardware}
+use Rattle.numa_machine.specs.declared.rules.Rules.{Rules}
+use Rattle.numa_machine.specs.declared.rules.Rules.TheVariants.{Document}
 use Rattle.numa_space.specs.Limited.{Bounds}
 use Rattle.numa_core.specs.World.{Setup, World, opening}
 use Rattle.numa_maps.specs.Residents.{Kept}
 
--- the limits; the machine, once it is ready; the core's world, with the accepted commands; and the
--- pages that `touch` has placed
+-- the limits; whose rules count on the machine to come; the machine, once it is ready; the core's
+-- world, with the accepted commands; and the pages that `touch` has placed
 pub record State : Type 0 where
   pub bounds : Bounds
+  pub rules : Rules
   pub machine : Option Hardware
   pub world : World
   pub resident : Kept
@@ -19,7 +22,13 @@ usual_bounds = record { max_ranges = 65536; max_tasks = 1024; max_commands = 429
 
 -- before the first line
 abbrev pub start : State
-start = record { bounds = usual_bounds; machine = None; world = opening; resident = [] }
+start = record {
+  bounds = usual_bounds;
+  rules = Document;
+  machine = None;
+  world = opening;
+  resident = [];
+}
 
 -- a core has 4 workers
 abbrev pub setup_with : Hardware → Bounds → Setup

@@ -6,6 +6,7 @@ mod judging;
 mod questions;
 mod running;
 pub mod script;
+mod settings;
 pub mod streams;
 
 pub use numa_script::{Reply, Win, names, reply};

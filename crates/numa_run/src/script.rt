@@ -10,9 +10,10 @@ ghost use Rattle.numa_run.specs.Standing.{Replies, Stands};
 use crate::build::build;
 use crate::judging::fault_in;
 use crate::running::{Running, Taken};
+use crate::settings::Settings;
 use line_server::{Serve, Watched};
 use numa_core::Core;
-use numa_machine::MachineFault;
+use numa_machine::{MachineFault, Rules};
 use numa_maps::Resident;
 use numa_script::line::parse;
 use numa_script::tell::say_reply;
@@ -24,22 +25,25 @@ use std::io::Write;
 /// How many workers a machine has.
 const WORKERS: u32 = 4;
 
-/// A script that is being answered: the limits of the machine to come, and the machine that is
-/// ready.
+/// A script that is being answered: the limits and the rules of the machine to come, and the machine
+/// that is ready.
 #[derive(Drop)]
 pub struct Script {
-    pub(crate) limits: Limits,
+    pub(crate) settings: Settings,
     pub(crate) running: Option<Running>,
 }
 
 impl Script {
-    /// Before the first line: no machine, and the limits that hold where no line gives others.
-    /// Takes no memory.
+    /// Before the first line: no machine, and the limits and rules that hold where no line gives
+    /// others. Takes no memory.
     pub fn new() -> Script
         ensures { ScriptStandsFor result start }
     {
         Script {
-            limits: Limits::new(65_536, 1_024, u32::MAX).unwrap(),
+            settings: Settings {
+                limits: Limits::new(65_536, 1_024, u32::MAX).unwrap(),
+                rules: Rules::Document,
+            },
             running: None,
         }
     }
@@ -81,23 +85,33 @@ impl Script {
     /// Takes limits, where no machine is ready.
     fn limit(&mut self, ranges: u32, tasks: u32, commands: u32) -> Reply
         requires { self.old.running ≡ None }
-        ensures { Replies self.old.limits None (Line.Limits ranges tasks commands)
-            (Some result) self.new.limits self.new.running }
+        ensures { Replies self.old.settings None (Line.Limits ranges tasks commands)
+            (Some result) self.new.settings self.new.running }
     {
         match Limits::new(ranges, tasks, commands) {
             Some(limits) => {
-                self.limits = limits;
+                self.settings.limits = limits;
                 Reply::LimitsOk
             }
             None => Reply::BadLimits,
         }
     }
 
+    /// Takes whose rules count, where no machine is ready.
+    fn choose(&mut self, rules: Rules) -> Reply
+        requires { self.old.running ≡ None }
+        ensures { Replies self.old.settings None (Line.Rules rules)
+            (Some result) self.new.settings self.new.running }
+    {
+        self.settings.rules = rules;
+        Reply::RulesOk
+    }
+
     /// Makes the machine that a line describes, where none is ready.
     fn describe(&mut self, alloc: Global, said: &MachineLine<'_>) -> Reply
         requires { self.old.running ≡ None }
-        ensures { Replies self.old.limits None (Line.Machine said.now)
-            (Some result) self.new.limits self.new.running }
+        ensures { Replies self.old.settings None (Line.Machine said.now)
+            (Some result) self.new.settings self.new.running }
     {
         let MachineLine {
             nodes,
@@ -109,11 +123,18 @@ impl Script {
             Ok(memory) => *memory,
             Err(fault) => return Reply::BadWord(WordFault::List(*fault)),
         };
-        let machine = match build(alloc, *nodes, memory, frames, distances) {
+        let machine = match build(
+            alloc,
+            *nodes,
+            memory,
+            frames,
+            distances,
+            self.settings.rules,
+        ) {
             Ok(machine) => machine,
             Err(fault) => return Reply::BadMachine(fault),
         };
-        match Core::new(alloc, machine, self.limits, WORKERS) {
+        match Core::new(alloc, machine, self.settings.limits, WORKERS) {
             Ok(core) => {
                 self.running = Some(Running::new(alloc, core));
                 Reply::Ready
@@ -139,8 +160,8 @@ impl Script {
     /// Does what a line says where no machine is ready.
     pub(crate) fn reply_first(&mut self, alloc: Global, line: &Line<'_>) -> Reply
         requires { self.old.running ≡ None }
-        ensures { Replies self.old.limits None line.now
-            (Some result) self.new.limits self.new.running }
+        ensures { Replies self.old.settings None line.now
+            (Some result) self.new.settings self.new.running }
     {
         match line {
             Line::Silent => Reply::Silent,
@@ -150,6 +171,7 @@ impl Script {
                 tasks,
                 commands,
             } => self.limit(*ranges, *tasks, *commands),
+            Line::Rules(rules) => self.choose(*rules),
             Line::Machine(said) => self.describe(alloc, said),
             Line::Command(_) => Reply::BadState,
             Line::Question(_) => Reply::BadState,

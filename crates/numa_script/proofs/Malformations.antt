@@ -11,8 +11,8 @@ use Rattle.numa_space.specs.declared.event.Event.TheVariants as event
 use Rattle.numa_space.specs.declared.command.Command.{Command}
 use Rattle.numa_space.specs.declared.command.Command.TheVariants as command
 use Rattle.numa_script.specs.Causes.{parameters_of, form_of, misfit_of, misfit_else, number_misfit, unless_readable, fault_behind, first_misfit, keyword_fault, words_fault, width_of, empty_word, empty_else, is_stray, stray_else, fault_of, is_malformed}
-use Rattle.numa_script.specs.Lines.{keyword_of, line_after, limits_line, machine_line, map_line, unmap_line, mbind_line, home_line, task_line, weight_line, mems_line, place_line, span_line, counts_line, ranges_line, maps_line, words_line, with_policy, with_nodes, is_silent, has_empty_word, line_of}
-use Rattle.numa_script.specs.Machines.{frames_of, distances_of}
+use Rattle.numa_script.specs.Lines.{keyword_of, line_after, limits_line, rules_line, machine_line, map_line, unmap_line, mbind_line, home_line, task_line, weight_line, mems_line, place_line, span_line, counts_line, ranges_line, maps_line, words_line, with_policy, with_nodes, is_silent, has_empty_word, line_of}
+use Rattle.numa_script.specs.Machines.{frames_of, distances_of, rules_of}
 use Rattle.numa_script.specs.Numbers.{below, few_of, number_of, small_of, page_of, node_of, frame_number_of, span_pages_of}
 use Rattle.numa_script.specs.Parts.{words_of}
 use Rattle.numa_script.specs.Policies.{policy_of}
@@ -256,6 +256,14 @@ says_limits c (a ∷ b ∷ d ∷ []) =
     (small a) (small b) (small d)
 says_limits c (a ∷ b ∷ d ∷ e ∷ words) = too_many keyword.Limits c (a ∷ b ∷ d ∷ e ∷ words) (omega arith)
 
+says_rules : (c : ℕ) (words : List (List ℕ)) → is_some (fault_behind keyword.Rules c words) ≡ said (rules_line words)
+says_rules c [] = too_few keyword.Rules c [] (omega arith)
+says_rules c (a ∷ []) =
+    enough keyword.Rules c (a ∷ []) refl
+    ∙ one line.Rules _ (rules_of a) (λ x. refl)
+    (readable (rules_of a))
+says_rules c (a ∷ b ∷ words) = too_many keyword.Rules c (a ∷ b ∷ words) (omega arith)
+
 says_machine : (c : ℕ) (words : List (List ℕ)) → is_some (fault_behind keyword.Machine c words) ≡ said (machine_line words)
 says_machine c [] = too_few keyword.Machine c [] (omega arith)
 says_machine c (a ∷ []) = too_few keyword.Machine c (a ∷ []) (omega arith)
@@ -446,6 +454,7 @@ says_release c (a ∷ b ∷ d ∷ words) = too_many keyword.Release c (a ∷ b �
 -- a line of a keyword
 says : (k : Keyword) (c : ℕ) (words : List (List ℕ)) → is_some (fault_behind k c words) ≡ said (line_after k words)
 says keyword.Limits c words = says_limits c words
+says keyword.Rules c words = says_rules c words
 says keyword.Machine c words = says_machine c words
 says keyword.Map c words = says_map c words
 says keyword.Unmap c words = says_unmap c words

@@ -1,5 +1,6 @@
 -- Lines of scripts, and what they say.
 use Rattle.std.specs.Prelude.{◌≡◌, codes, Ok, refl}
+use Rattle.numa_machine.specs.declared.rules.Rules.TheVariants.{Document, Linux}
 use Rattle.numa_space.specs.declared.event.Event.TheVariants as event
 use Rattle.numa_space.specs.declared.command.Command.TheVariants as command
 use Rattle.numa_script.specs.Lines.{line_of, keyword_of}
@@ -69,6 +70,20 @@ touching = refl
 releasing : line_of (codes "release 0 0x11000") ≡ line.Work (work.Release 0 17)
 unfolding line_of keyword_of number_of numeral_of in_64_bits
 releasing = refl
+
+-- ---- before a machine
+
+the_kernels_rules : line_of (codes "rules linux") ≡ line.Rules Linux
+unfolding line_of keyword_of
+the_kernels_rules = refl
+
+the_documents_rules : line_of (codes "rules document") ≡ line.Rules Document
+unfolding line_of keyword_of
+the_documents_rules = refl
+
+nobodys_rules : line_of (codes "rules posix") ≡ line.Malformed
+unfolding line_of keyword_of
+nobodys_rules = refl
 
 -- ---- commands
 

@@ -4,7 +4,7 @@ use Rattle.std.specs.Prelude.{position, slice_index, nat_lt, is_some, if◌then�
 use Rattle.std.specs.Prelude.{None}
 use Rattle.std.specs.Option.{option_map}
 use Rattle.numa_script.specs.Lines.{keyword_of, is_silent}
-use Rattle.numa_script.specs.Machines.{frames_of, distances_of}
+use Rattle.numa_script.specs.Machines.{frames_of, distances_of, rules_of}
 use Rattle.numa_script.specs.Numbers.{number_of}
 use Rattle.numa_script.specs.Parts.{words_of}
 use Rattle.numa_script.specs.declared.keyword.Keyword.{Keyword}
@@ -26,6 +26,7 @@ use Rattle.numa_script.specs.declared.parameter.Parameter.TheVariants as paramet
 -- the table of lines: what each keyword wants behind it
 abbrev pub parameters_of : Keyword → List Parameter
 parameters_of keyword.Limits = parameter.Ranges ∷ parameter.Tasks ∷ parameter.Commands ∷ []
+parameters_of keyword.Rules = parameter.Rules ∷ []
 parameters_of keyword.Machine =
     parameter.Nodes ∷ parameter.Memory ∷ parameter.Frames ∷ parameter.Distances ∷ []
 parameters_of keyword.Map = parameter.Start ∷ parameter.Length ∷ parameter.Offset ∷ []
@@ -72,6 +73,7 @@ form_of parameter.Word = form.Number 4294967295
 form_of parameter.SpanPages = form.Number 65536
 form_of parameter.FrameNode = form.Number 255
 form_of parameter.Frame = form.Number 65535
+form_of parameter.Rules = form.Rules
 form_of parameter.Frames = form.Frames
 form_of parameter.Distances = form.Distances
 form_of parameter.Memory = form.Any
@@ -90,6 +92,7 @@ unless_readable false = Some Unreadable
 -- how a word isn't of its form
 abbrev pub misfit_of : Form → List ℕ → Option Misfit
 misfit_of (form.Number greatest) word = number_misfit greatest (number_of word)
+misfit_of form.Rules word = unless_readable (is_some (rules_of word))
 misfit_of form.Frames word = unless_readable (is_some (frames_of word))
 misfit_of form.Distances word = unless_readable (is_some (distances_of word))
 misfit_of form.Any word = None
@@ -181,6 +184,7 @@ abbrev pub is_malformed : Line → Bool
 is_malformed line.Silent = false
 is_malformed line.Malformed = true
 is_malformed (line.Limits ranges tasks commands) = false
+is_malformed (line.Rules rules) = false
 is_malformed (line.Machine said) = false
 is_malformed (line.Command said) = false
 is_malformed (line.Question said) = false

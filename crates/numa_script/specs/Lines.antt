@@ -14,7 +14,7 @@ use Rattle.numa_script.specs.Parts.{words_of}
 use Rattle.numa_script.specs.Present.{with_two, with_three, two_of, three_of}
 use Rattle.numa_script.specs.Present.{four_of, two_words, three_words, four_words}
 use Rattle.numa_script.specs.Numbers.{number_of, small_of, few_of}
-use Rattle.numa_script.specs.Machines.{frames_of, distances_of}
+use Rattle.numa_script.specs.Machines.{frames_of, distances_of, rules_of}
 use Rattle.numa_script.specs.Policies.{policy_of}
 use Rattle.numa_script.specs.Workers.{publish_work, begin_work, look_work, try_work, give_work}
 use Rattle.numa_script.specs.Workers.{touch_work, release_work}
@@ -31,6 +31,7 @@ use Rattle.numa_script.specs.declared.line.Question.TheVariants as question
 -- the first word of a keyword's lines
 abbrev pub first_word_of : Keyword → List ℕ
 first_word_of keyword.Limits = codes "limits"
+first_word_of keyword.Rules = codes "rules"
 first_word_of keyword.Machine = codes "machine"
 first_word_of keyword.Map = codes "map"
 first_word_of keyword.Unmap = codes "unmap"
@@ -60,7 +61,8 @@ keywords_of letters =
     keyword.Span ∷ keyword.Look ∷ keyword.Give ∷ keyword.Maps ∷ keyword.Home ∷ keyword.Task
     ∷ keyword.Mems ∷ []
     else if letters == 5 then
-    keyword.Place ∷ keyword.Begin ∷ keyword.Touch ∷ keyword.Mbind ∷ keyword.Unmap ∷ []
+    keyword.Place ∷ keyword.Begin ∷ keyword.Touch ∷ keyword.Mbind ∷ keyword.Unmap
+    ∷ keyword.Rules ∷ []
     else if letters == 6 then
     keyword.Counts ∷ keyword.Ranges ∷ keyword.Weight ∷ keyword.Limits ∷ []
     else if letters == 7 then keyword.Publish ∷ keyword.Release ∷ keyword.Machine ∷ []
@@ -91,6 +93,11 @@ with_nodes f (Err wrong) = line.Command (Err (fault.List wrong))
 abbrev pub limits_line : List (List ℕ) → Option Line
 limits_line words =
     option_map (λ v. line.Limits v.0 v.1 v.2) (three_of small_of small_of small_of words)
+
+-- rules RULES
+abbrev pub rules_line : List (List ℕ) → Option Line
+rules_line (word ∷ []) = option_map line.Rules (rules_of word)
+rules_line _ = None
 
 -- machine NODES MEM FRAMES DIST
 abbrev pub machine_line : List (List ℕ) → Option Line
@@ -171,6 +178,7 @@ maps_line _ = None
 
 abbrev pub line_after : Keyword → List (List ℕ) → Option Line
 line_after keyword.Limits words = limits_line words
+line_after keyword.Rules words = rules_line words
 line_after keyword.Machine words = machine_line words
 line_after keyword.Map words = map_line words
 line_after keyword.Unmap words = unmap_line words

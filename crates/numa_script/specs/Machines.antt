@@ -1,14 +1,25 @@
--- The words of a machine line that are lists of numbers: its frames and its distances.
-use Rattle.std.specs.Prelude.{ℕ, ◌==◌, List, [], ◌∷◌, map, codes, Option, Some, if◌then◌else◌}
+-- The words before a machine is ready: whose rules count, and those of a machine line that are lists
+-- of numbers, its frames and its distances.
+use Rattle.std.specs.Prelude.{ℕ, ◌==◌, List, [], ◌∷◌, map, codes, Option, Some, None}
+use Rattle.std.specs.Prelude.{if◌then◌else◌}
 use Rattle.std.specs.List.{range_with_len, flat_map}
 use Rattle.std.specs.Str.{bytes_eq}
 use Rattle.std.specs.Option.{option_map}
 use Rattle.numa_mask.specs.NodeSet.{has}
+use Rattle.numa_machine.specs.declared.rules.Rules.{Rules}
+use Rattle.numa_machine.specs.declared.rules.Rules.TheVariants.{Document, Linux}
 use Rattle.numa_script.specs.Numbers.{item_of, below}
 use Rattle.numa_script.specs.Parts.{items_of, rows_of}
 use Rattle.numa_script.specs.Present.{each_of}
 use Rattle.numa_script.specs.declared.machine.Distances.{Distances}
 use Rattle.numa_script.specs.declared.machine.Distances.TheVariants.{Flat, Table}
+
+-- a RULES word: those of the documents, or those of the running kernel
+abbrev pub rules_of : List ℕ → Option Rules
+rules_of word =
+    if bytes_eq word (codes "document") then Some Document
+    else if bytes_eq word (codes "linux") then Some Linux
+    else None
 
 -- the items of a table, its rows written one after the other
 abbrev pub entries_of : List ℕ → List (List ℕ)

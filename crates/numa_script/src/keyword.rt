@@ -9,6 +9,8 @@ use Keyword::*;
 pub enum Keyword {
     /// `limits`
     Limits,
+    /// `rules`
+    Rules,
     /// `machine`
     Machine,
     /// `map`
@@ -52,10 +54,10 @@ pub enum Keyword {
 }
 
 /// The first words of lines, in the order of the keywords.
-static NAMES: [&str; 21] = [
-    "limits", "machine", "map", "unmap", "mbind", "home", "task", "weight", "mems", "place",
-    "span", "counts", "ranges", "maps", "publish", "begin", "look", "try", "give", "touch",
-    "release",
+static NAMES: [&str; 22] = [
+    "limits", "rules", "machine", "map", "unmap", "mbind", "home", "task", "weight", "mems",
+    "place", "span", "counts", "ranges", "maps", "publish", "begin", "look", "try", "give",
+    "touch", "release",
 ];
 
 impl Keyword {
@@ -76,7 +78,7 @@ fn keywords(letters: usize) -> &'static [Keyword]
     match letters {
         3 => &[Try, Map],
         4 => &[Span, Look, Give, Maps, Home, Task, Mems],
-        5 => &[Place, Begin, Touch, Mbind, Unmap],
+        5 => &[Place, Begin, Touch, Mbind, Unmap, Rules],
         6 => &[Counts, Ranges, Weight, Limits],
         7 => &[Publish, Release, Machine],
         _ => &[],

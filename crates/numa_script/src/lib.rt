@@ -13,6 +13,7 @@ pub mod parts;
 pub mod policy;
 mod reading;
 pub mod reply;
+mod rules;
 mod table;
 pub mod tell;
 pub mod work;

@@ -4,6 +4,7 @@ ghost use Rattle.std.specs.Option.{option_map};
 ghost use Rattle.numa_script.specs.Lines.{limits_line, machine_line, mbind_line, task_line};
 ghost use Rattle.numa_script.specs.Lines.{mems_line, place_line, span_line, counts_line};
 ghost use Rattle.numa_script.specs.Lines.{ranges_line, maps_line, line_after, words_line};
+ghost use Rattle.numa_script.specs.Lines.{rules_line};
 ghost use Rattle.numa_script.specs.Lines.{is_silent, has_empty_word, line_of};
 
 use crate::keyword::{Keyword, read_keyword};
@@ -12,7 +13,9 @@ use crate::number::{few_pages, number, small};
 use crate::parts::{Parts, words};
 use crate::policy::{WordFault, read_policy};
 use crate::reading::{four, four_words, three, three_words, two, two_words};
+use crate::rules::read_rules;
 use crate::work::{Work, begin, give, look, publish, release, touch, try_frame};
+use numa_machine::Rules;
 use numa_mask::{ListFault, NodeMask, read_list};
 use numa_space::Command;
 use numa_space::Command::{Map, SetHome, SetWeight, Unmap};
@@ -79,6 +82,8 @@ pub enum Line<'a> {
         tasks: u32,
         commands: u32,
     },
+    /// Whose rules count on the machine to come.
+    Rules(Rules),
     /// A machine.
     Machine(MachineLine<'a>),
     /// A command, or the fault of its list or policy, which counts once a machine is ready.
@@ -111,6 +116,13 @@ fn limits(words: Parts) -> Option<Line>
         tasks,
         commands,
     })
+}
+
+/// `rules RULES`
+fn rules(words: Parts) -> Option<Line>
+    ensures { result ≡ rules_line words.entry }
+{
+    Some(Line::Rules(read_rules(words.only()?)?))
 }
 
 /// `machine NODES MEM FRAMES DIST`
@@ -237,6 +249,7 @@ fn line_after(keyword: Keyword, words: Parts) -> Option<Line>
 {
     match keyword {
         Keyword::Limits => limits(words),
+        Keyword::Rules => rules(words),
         Keyword::Machine => machine(words),
         Keyword::Map => command_line(three(words).map(|(start, length, offset)| Map {
             start,

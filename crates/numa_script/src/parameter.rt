@@ -5,6 +5,7 @@ ghost use Rattle.numa_script.specs.Causes.{parameters_of, form_of, misfit_of};
 use crate::keyword::Keyword;
 use crate::machine;
 use crate::number::number;
+use crate::rules::read_rules;
 use Parameter::*;
 
 /// A word behind the first of a line.
@@ -16,6 +17,8 @@ pub enum Parameter {
     Tasks,
     /// C, the most accepted commands.
     Commands,
+    /// RULES, whose rules count.
+    Rules,
     /// NODES, how many nodes the machine has.
     Nodes,
     /// MEM, the nodes with memory.
@@ -63,6 +66,8 @@ pub enum Parameter {
 pub enum Form {
     /// A number of at most so much.
     Number(u64),
+    /// `document` or `linux`.
+    Rules,
     /// Decimal numbers below 2^32, with commas between them.
     Frames,
     /// `flat`, or decimal numbers of at most 255, with commas and semicolons between them.
@@ -104,6 +109,7 @@ impl Parameter {
             Parameter::SpanPages => Form::Number(65_536),
             Parameter::FrameNode => Form::Number(255),
             Parameter::Frame => Form::Number(65_535),
+            Parameter::Rules => Form::Rules,
             Parameter::Frames => Form::Frames,
             Parameter::Distances => Form::Distances,
             Parameter::Memory | Parameter::List | Parameter::Policy => Form::Any,
@@ -116,6 +122,7 @@ impl Parameter {
             Parameter::Ranges => "R",
             Parameter::Tasks => "T",
             Parameter::Commands => "C",
+            Parameter::Rules => "RULES",
             Parameter::Nodes => "NODES",
             Parameter::Memory => "MEM",
             Parameter::Frames => "FRAMES",
@@ -155,6 +162,7 @@ pub fn read_misfit(form: Form, word: &[u8]) -> Option<Misfit>
 {
     match form {
         Form::Number(greatest) => number_misfit(greatest, word),
+        Form::Rules if read_rules(word).is_none() => Some(Misfit::Unreadable),
         Form::Frames if machine::Frames::read(word).is_none() => Some(Misfit::Unreadable),
         Form::Distances if machine::Distances::read(word).is_none() => Some(Misfit::Unreadable),
         _ => None,
@@ -167,6 +175,7 @@ pub fn parameters(keyword: Keyword) -> &'static [Parameter]
 {
     match keyword {
         Keyword::Limits => &[Ranges, Tasks, Commands],
+        Keyword::Rules => &[Parameter::Rules],
         Keyword::Machine => &[Nodes, Memory, Frames, Distances],
         Keyword::Map => &[Start, Length, Offset],
         Keyword::Unmap => &[Start, Length],

@@ -43,6 +43,8 @@ pub enum Reply {
     LimitsOk,
     /// The limits are too high.
     BadLimits,
+    /// The rules are taken.
+    RulesOk,
     /// The machine is ready.
     Ready,
     /// The machine is refused.

@@ -13,7 +13,8 @@ use Rattle.numa_space.specs.declared.refusal.Refusal.{Refusal}
 use Rattle.numa_space.specs.declared.refusal.Refusal.TheVariants.{Hole, NodesNotAllowed}
 use Rattle.numa_space.specs.Edits.{PageRanges, IsEdit, hole_cause, too_many}
 use Rattle.numa_space.specs.History.{page_of, page_count}
-use Rattle.numa_space.specs.Refusals.{PageMap, bad_span, first_of, has_no_node, is_linux, passes_holes, bind_cause, refusal_in}
+use Rattle.numa_machine.specs.Rules.{is_linux}
+use Rattle.numa_space.specs.Refusals.{PageMap, bad_span, first_of, has_no_node, passes_holes, bind_cause, refusal_in}
 use Rattle.numa_space.specs.Standing.{SpaceState, record_of}
 use Rattle.numa_space.specs.Steps.{IsAnswer, IsNext, scene_in, record_now}
 

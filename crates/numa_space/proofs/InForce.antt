@@ -5,14 +5,18 @@ use Rattle.std.specs.Option.{ForSome}
 use Rattle.std.specs.List.{list_any}
 use Rattle.numa_mask.specs.NodeSet.{both, members, weight_of}
 use Rattle.numa_mask.proofs.Images.{weight-some}
+use Rattle.std.proofs.lemmas.Nat.{and_le_r}
 use Rattle.numa_machine.specs.Machine.{Hardware}
-use Rattle.numa_mode.specs.Policy.{Specification, PolicyRecord, is_default, takes_home, with_home, record_when_set, record_after, effect_when_set, stays, effect_after}
-use Rattle.numa_mode.proofs.Subsets.{both-within, effect_when_set-within, effect_after-within}
+use Rattle.numa_machine.specs.declared.rules.Rules.{Rules}
+use Rattle.numa_machine.specs.declared.rules.Rules.TheVariants.{Document, Linux}
+use Rattle.numa_mode.specs.Policy.{Specification, PolicyRecord, is_default, takes_home, with_home, record_when_set, record_after, effect_when_set, stays, never_empty, effect_after}
+use Rattle.numa_mode.proofs.Subsets.{both-within, effect_when_set-within, effect_after-within, never_empty-within, never_empty-some}
 use Rattle.numa_mode.specs.Within.{IsWithin}
 use Rattle.numa_ranges.specs.Runs.{page_at, in_pages}
 use Rattle.numa_ranges.specs.Maps.{changed_page}
 use Rattle.numa_space.specs.History.{page_of, page_count}
-use Rattle.numa_space.specs.Refusals.{Scene, PageMap, when, bad_span, has_no_node, cause_in, refusal_in}
+use Rattle.numa_space.specs.Policies.{mems_of}
+use Rattle.numa_space.specs.Refusals.{Scene, PageMap, when, bad_span, has_no_node, lacks_mems, cause_in, refusal_in}
 use Rattle.numa_space.specs.Standing.{SpaceState, record_of, IsInForce, IsSound}
 use Rattle.numa_space.specs.Steps.{record_now, policy_with_home, policy_after, allowed_next, pages_next, task_next, task_count_next, IsNext, scene_in, IsAnswer}
 use Rattle.numa_space.specs.declared.command.Command.{Command}
@@ -103,11 +107,31 @@ held-moved m n a b o p d e f h = subst (λ o. Holds n b o) f (subst (λ a. Holds
 
 -- ---- what an accepted command says
 
-mems-some : (scene : Scene) (mask : ℕ) → refusal_in scene (SetMems mask) ≡ None → both mask scene.machine.memory ≢ 0
-mems-some scene mask none empty =
+-- some node of a machine has memory, where some are allowed
+memory-some : (allowed memory : ℕ) → allowed ≢ 0 → both allowed memory ≡ allowed → memory ≢ 0
+memory-some allowed memory some inside none =
+    some (omega (arith, and_le_r allowed memory))
+
+-- what a mask allows has memory
+mems-memory : (machine : Hardware) (mask : ℕ) → both (mems_of machine mask) machine.memory ≡ mems_of machine mask
+unfolding mems_of
+mems-memory machine mask =
+    let set = never_empty machine.rules (both mask machine.memory) machine.memory in
+    within-both set machine.memory (never_empty-within machine.rules (both mask machine.memory) machine.memory (both-within mask machine.memory))
+
+-- a mask that does not lack nodes, by the rules, allows some
+allows-some : (rules : Rules) (mask memory : ℕ) → memory ≢ 0 → lacks_mems rules mask memory ≡ false → never_empty rules (both mask memory) memory ≢ 0
+unfolding lacks_mems
+allows-some Document mask memory some few empty = both_ways (eqb (both mask memory) 0) few (eq-eqb (both mask memory) 0 empty)
+allows-some Linux mask memory some few empty = never_empty-some (both mask memory) memory some empty
+
+-- a mask that is accepted allows some nodes
+mems-some : (scene : Scene) (mask : ℕ) → scene.machine.memory ≢ 0 → refusal_in scene (SetMems mask) ≡ None → mems_of scene.machine mask ≢ 0
+unfolding mems_of
+mems-some scene mask memory none =
     let causes = first_of-none (when (leb scene.bounds.max_commands scene.version) CommandsSpent) (cause_in scene (SetMems mask)) none in
-    let rest = first_of-none (when (list_any (λ node. leb scene.machine.nodes node) (members mask)) NoSuchNode) (when (eqb (both mask scene.machine.memory) 0) NodesNotAllowed) causes.1 in
-    both_ways (eqb (both mask scene.machine.memory) 0) (when-none (eqb (both mask scene.machine.memory) 0) NodesNotAllowed rest.1) (eq-eqb (both mask scene.machine.memory) 0 empty)
+    let rest = first_of-none (when (list_any (λ node. leb scene.machine.nodes node) (members mask)) NoSuchNode) (when (lacks_mems scene.machine.rules mask scene.machine.memory) NodesNotAllowed) causes.1 in
+    allows-some scene.machine.rules mask scene.machine.memory memory (when-none (lacks_mems scene.machine.rules mask scene.machine.memory) NodesNotAllowed rest.1)
 
 home-node : (scene : Scene) (start bytes node : ℕ) → refusal_in scene (SetHome start bytes node) ≡ None → node < scene.machine.nodes
 home-node scene start bytes node none =
@@ -138,6 +162,10 @@ pub record AreInForce (machine : Hardware) (allowed : ℕ) (pages : PageMap) (ta
   pub at_tasks : (task : ℕ) → Holds machine allowed (tasks task)
 
 module _ (scene : Scene) (small : scene.machine.memory < 2 ^ 256) (force : AreInForce scene.machine scene.allowed scene.pages scene.task) where
+  -- the machine has a node with memory
+  memory : scene.machine.memory ≢ 0
+  memory = memory-some scene.allowed scene.machine.memory force.some force.memory
+
   some-next : (command : Command) → refusal_in scene command ≡ None → allowed_next scene.machine scene.allowed command ≢ 0
   some-next (Map start bytes offset) none = force.some
   some-next (Unmap start bytes) none = force.some
@@ -145,7 +173,7 @@ module _ (scene : Scene) (small : scene.machine.memory < 2 ^ 256) (force : AreIn
   some-next (SetTask task spec) none = force.some
   some-next (SetHome start bytes node) none = force.some
   some-next (SetWeight node weight) none = force.some
-  some-next (SetMems mask) none = mems-some scene mask none
+  some-next (SetMems mask) none = mems-some scene mask memory none
 
   memory-next : (command : Command) → both (allowed_next scene.machine scene.allowed command) scene.machine.memory ≡ allowed_next scene.machine scene.allowed command
   memory-next (Map start bytes offset) = force.memory
@@ -154,11 +182,11 @@ module _ (scene : Scene) (small : scene.machine.memory < 2 ^ 256) (force : AreIn
   memory-next (SetTask task spec) = force.memory
   memory-next (SetHome start bytes node) = force.memory
   memory-next (SetWeight node weight) = force.memory
-  memory-next (SetMems mask) = within-both (both mask scene.machine.memory) scene.machine.memory (both-within mask scene.machine.memory)
+  memory-next (SetMems mask) = mems-memory scene.machine mask
 
-  some-mems : (mask : ℕ) → refusal_in scene (SetMems mask) ≡ None → 0 < weight_of (both mask scene.machine.memory)
+  some-mems : (mask : ℕ) → refusal_in scene (SetMems mask) ≡ None → 0 < weight_of (mems_of scene.machine mask)
   some-mems mask none =
-      weight-some (both mask scene.machine.memory) (small-inside (both mask scene.machine.memory) scene.machine.memory (within-both (both mask scene.machine.memory) scene.machine.memory (both-within mask scene.machine.memory)) small) (mems-some scene mask none)
+      weight-some (mems_of scene.machine mask) (small-inside (mems_of scene.machine mask) scene.machine.memory (mems-memory scene.machine mask) small) (mems-some scene mask memory none)
 
   page-next : (command : Command) (page : ℕ) → refusal_in scene command ≡ None → PageHolds scene.machine (allowed_next scene.machine scene.allowed command) (pages_next scene.machine scene.allowed scene.pages command page)
   page-next (Map start bytes offset) page none = cond_both (in_pages (page_of start) (page_count bytes) page) (Some (offset + (page - page_of start), None)) (scene.pages page) (PageHolds scene.machine scene.allowed) (λ e. tt) (λ e. force.at_pages page)
@@ -174,7 +202,7 @@ module _ (scene : Scene) (small : scene.machine.memory < 2 ^ 256) (force : AreIn
       (λ e. force.at_pages page)
   page-next (SetWeight node weight) page none = force.at_pages page
   page-next (SetMems mask) page none =
-      page-changed scene.machine scene.allowed (both mask scene.machine.memory) (policy_after scene.machine.rules scene.allowed (both mask scene.machine.memory)) (scene.pages page) (λ r h. holds-rebound scene.machine scene.allowed (both mask scene.machine.memory) r (some-mems mask none) (memory-next (SetMems mask)) h) (force.at_pages page)
+      page-changed scene.machine scene.allowed (mems_of scene.machine mask) (policy_after scene.machine.rules scene.allowed (mems_of scene.machine mask)) (scene.pages page) (λ r h. holds-rebound scene.machine scene.allowed (mems_of scene.machine mask) r (some-mems mask none) (memory-next (SetMems mask)) h) (force.at_pages page)
 
   held-next : (command : Command) (task : ℕ) → refusal_in scene command ≡ None → Holds scene.machine (allowed_next scene.machine scene.allowed command) (task_next scene.machine scene.allowed scene.task command task)
   held-next (Map start bytes offset) task none = force.at_tasks task
@@ -183,7 +211,7 @@ module _ (scene : Scene) (small : scene.machine.memory < 2 ^ 256) (force : AreIn
   held-next (SetTask set spec) task none = cond_both (eqb set task) (record_now scene.allowed spec) (scene.task task) (Holds scene.machine scene.allowed) (λ e. holds-now scene.machine scene.allowed spec force.memory) (λ e. force.at_tasks task)
   held-next (SetHome start bytes node) task none = force.at_tasks task
   held-next (SetWeight node weight) task none = force.at_tasks task
-  held-next (SetMems mask) task none = holds-rebound scene.machine scene.allowed (both mask scene.machine.memory) (scene.task task) (some-mems mask none) (memory-next (SetMems mask)) (force.at_tasks task)
+  held-next (SetMems mask) task none = holds-rebound scene.machine scene.allowed (mems_of scene.machine mask) (scene.task task) (some-mems mask none) (memory-next (SetMems mask)) (force.at_tasks task)
 
   -- what is in force after an accepted command
   pub in_force-next : (command : Command) → refusal_in scene command ≡ None

@@ -3,12 +3,11 @@ use Rattle.std.proofs.Common.{◌≡◌, ℕ, Bool, true, false, not, List, [], 
 use Rattle.std.proofs.lemmas.Bool.{cases_Bool}
 use Rattle.std.specs.Option.{option_map, option_map_or}
 use Rattle.std.specs.Prelude.{if◌then◌else◌, option_and_then}
-use Rattle.numa_mask.specs.NodeSet.{both}
 use Rattle.numa_machine.specs.Machine.{Hardware}
 use Rattle.numa_mode.specs.Policy.{Specification, PolicyRecord, is_default, takes_home, mode_takes_home, effect_after}
 use Rattle.numa_ranges.specs.Maps.{changed_page}
 use Rattle.numa_space.specs.History.{Place, last_where, one_later, in_span}
-use Rattle.numa_space.specs.Policies.{allowed_nodes, effective_set, record_set}
+use Rattle.numa_space.specs.Policies.{allowed_nodes, effective_set, record_set, mems_of}
 use Rattle.numa_space.specs.Pages.{covers, cover_of, is_unmap, maps_or_unmaps, is_mapped, maps, index_by, index_of, last_home, at_home, bound_by, range_record, page_in}
 use Rattle.numa_space.specs.Steps.{record_now, policy_with_home, policy_after, pages_next}
 use Rattle.numa_space.specs.declared.command.Command.{Command}
@@ -96,15 +95,15 @@ record-home_elsewhere machine history page start bytes node outside =
     none after = rw outside refl
 
 record-mems : (machine : Hardware) (history : List Command) (page mask : ℕ)
-    → option_and_then (λ place. bound_by machine page place.command place) (option_map (one_later (SetMems mask)) (cover_of history page)) ≡ policy_after machine.rules (allowed_nodes machine history) (both mask machine.memory) (range_record machine history page)
+    → option_and_then (λ place. bound_by machine page place.command place) (option_map (one_later (SetMems mask)) (cover_of history page)) ≡ policy_after machine.rules (allowed_nodes machine history) (mems_of machine mask) (range_record machine history page)
 record-mems machine history page mask =
-    later-record machine page (SetMems mask) (policy_after machine.rules (allowed_nodes machine history) (both mask machine.memory)) (cover_of history page) refl
+    later-record machine page (SetMems mask) (policy_after machine.rules (allowed_nodes machine history) (mems_of machine mask)) (cover_of history page) refl
     (λ place start bytes spec found is.
     let here : IsPlace (covers page) history place = rw found at (last_where-place (covers page) history) in
-    go place spec (effective-mems machine place.before place.after spec mask ∙ ap (λ a. effect_after machine.rules spec (effective_set machine place.before place.after spec) a (both mask machine.memory)) (allowed-at_place machine (covers page) history place (ap changes_allowed is) here)))
+    go place spec (effective-mems machine place.before place.after spec mask ∙ ap (λ a. effect_after machine.rules spec (effective_set machine place.before place.after spec) a (mems_of machine mask)) (allowed-at_place machine (covers page) history place (ap changes_allowed is) here)))
   where
-    go : (place : Place) (spec : Specification) → effective_set machine place.before (SetMems mask ∷ place.after) spec ≡ effect_after machine.rules spec (effective_set machine place.before place.after spec) (allowed_nodes machine history) (both mask machine.memory)
-        → option_map (at_home page (SetMems mask ∷ place.after)) (record_set machine spec (one_later (SetMems mask) place)) ≡ policy_after machine.rules (allowed_nodes machine history) (both mask machine.memory) (option_map (at_home page place.after) (record_set machine spec place))
+    go : (place : Place) (spec : Specification) → effective_set machine place.before (SetMems mask ∷ place.after) spec ≡ effect_after machine.rules spec (effective_set machine place.before place.after spec) (allowed_nodes machine history) (mems_of machine mask)
+        → option_map (at_home page (SetMems mask ∷ place.after)) (record_set machine spec (one_later (SetMems mask) place)) ≡ policy_after machine.rules (allowed_nodes machine history) (mems_of machine mask) (option_map (at_home page place.after) (record_set machine spec place))
     go place spec moved =
         elim (cases_Bool (is_default spec)) [
           | inl d ↦ rw d refl
@@ -154,4 +153,4 @@ pages-next machine history (SetHome start bytes node) page =
 pages-next machine history (SetWeight node weight) page =
     kept machine history page (SetWeight node weight) refl refl refl ∙ ap (with_record machine history page) (record-other machine history page (SetWeight node weight) refl refl)
 pages-next machine history (SetMems mask) page =
-    kept machine history page (SetMems mask) refl refl refl ∙ ap (with_record machine history page) (record-mems machine history page mask) ∙ changed-either (policy_after machine.rules (allowed_nodes machine history) (both mask machine.memory)) (is_mapped history page) (index_of history page) (range_record machine history page)
+    kept machine history page (SetMems mask) refl refl refl ∙ ap (with_record machine history page) (record-mems machine history page mask) ∙ changed-either (policy_after machine.rules (allowed_nodes machine history) (mems_of machine mask)) (is_mapped history page) (index_of history page) (range_record machine history page)

@@ -2,7 +2,6 @@
 use Rattle.std.proofs.Common.{◌≡◌, ℕ, Bool, true, false, List, [], ◌∷◌, ◌++◌, Option, Some, None, IfSome, refl, sym, ap, ◌∙◌, inl, inr}
 use Rattle.std.proofs.lemmas.Bool.{cases_Bool}
 use Rattle.std.specs.Option.{option_map}
-use Rattle.numa_mask.specs.NodeSet.{both}
 use Rattle.numa_machine.specs.Machine.{Hardware}
 use Rattle.numa_machine.specs.declared.rules.Rules.{Rules}
 use Rattle.numa_machine.specs.declared.rules.Rules.TheVariants.{Document, Linux}
@@ -10,7 +9,7 @@ use Rattle.numa_mode.specs.Policy.{Specification, effect_when_set, effect_after}
 use Rattle.numa_mode.specs.declared.modes.NodeFlag.{NodeFlag}
 use Rattle.numa_mode.specs.declared.modes.NodeFlag.TheVariants.{Plain, Static, Relative}
 use Rattle.numa_space.specs.History.{Place, last_where, one_later}
-use Rattle.numa_space.specs.Policies.{allowed_nodes, documented_set, rebound_set, effective_set}
+use Rattle.numa_space.specs.Policies.{allowed_nodes, documented_set, rebound_set, effective_set, set_by, mems_of}
 use Rattle.numa_space.specs.Steps.{allowed_next}
 use Rattle.numa_space.specs.declared.command.Command.{Command}
 use Rattle.numa_space.specs.declared.command.Command.TheVariants.{Map, Unmap, Mbind, SetTask, SetHome, SetWeight, SetMems}
@@ -81,10 +80,10 @@ documented-now machine history spec = go spec.flag refl
     go Relative e = rw e refl
 
 -- after a change of the allowed nodes
-documented-mems : (machine : Hardware) (before after : List Command) (spec : Specification) (mask : ℕ) → documented_set machine before (SetMems mask ∷ after) spec ≡ effect_after Document spec (documented_set machine before after spec) (allowed_nodes machine (after ++ before)) (both mask machine.memory)
+documented-mems : (machine : Hardware) (before after : List Command) (spec : Specification) (mask : ℕ) → documented_set machine before (SetMems mask ∷ after) spec ≡ effect_after Document spec (documented_set machine before after spec) (allowed_nodes machine (after ++ before)) (mems_of machine mask)
 documented-mems machine before after spec mask = go spec.flag refl
   where
-    go : (f : NodeFlag) → spec.flag ≡ f → documented_set machine before (SetMems mask ∷ after) spec ≡ effect_after Document spec (documented_set machine before after spec) (allowed_nodes machine (after ++ before)) (both mask machine.memory)
+    go : (f : NodeFlag) → spec.flag ≡ f → documented_set machine before (SetMems mask ∷ after) spec ≡ effect_after Document spec (documented_set machine before after spec) (allowed_nodes machine (after ++ before)) (mems_of machine mask)
     go Plain e = rw e refl
     go Static e = rw e refl
     go Relative e = rw e refl
@@ -112,24 +111,24 @@ rebound-other machine before after spec (SetMems mask) other = absurd (cc)
 
 -- right after the command that sets the policy
 pub effective-now : (machine : Hardware) (history : List Command) (spec : Specification) → effective_set machine history [] spec ≡ effect_when_set spec (allowed_nodes machine history)
-effective-now machine history spec = go machine.rules refl
+effective-now machine history spec = go machine.rules
   where
-    go : (r : Rules) → machine.rules ≡ r → effective_set machine history [] spec ≡ effect_when_set spec (allowed_nodes machine history)
-    go Document e = rw e (documented-now machine history spec)
-    go Linux e = rw e refl
+    go : (r : Rules) → set_by machine history [] spec r ≡ effect_when_set spec (allowed_nodes machine history)
+    go Document = documented-now machine history spec
+    go Linux = refl
 
 -- after a change of the allowed nodes
-pub effective-mems : (machine : Hardware) (before after : List Command) (spec : Specification) (mask : ℕ) → effective_set machine before (SetMems mask ∷ after) spec ≡ effect_after machine.rules spec (effective_set machine before after spec) (allowed_nodes machine (after ++ before)) (both mask machine.memory)
-effective-mems machine before after spec mask = go machine.rules refl
+pub effective-mems : (machine : Hardware) (before after : List Command) (spec : Specification) (mask : ℕ) → effective_set machine before (SetMems mask ∷ after) spec ≡ effect_after machine.rules spec (effective_set machine before after spec) (allowed_nodes machine (after ++ before)) (mems_of machine mask)
+effective-mems machine before after spec mask = go machine.rules
   where
-    go : (r : Rules) → machine.rules ≡ r → effective_set machine before (SetMems mask ∷ after) spec ≡ effect_after machine.rules spec (effective_set machine before after spec) (allowed_nodes machine (after ++ before)) (both mask machine.memory)
-    go Document e = rw e (documented-mems machine before after spec mask)
-    go Linux e = rw e refl
+    go : (r : Rules) → set_by machine before (SetMems mask ∷ after) spec r ≡ effect_after r spec (set_by machine before after spec r) (allowed_nodes machine (after ++ before)) (mems_of machine mask)
+    go Document = documented-mems machine before after spec mask
+    go Linux = refl
 
 -- after any other command
 pub effective-other : (machine : Hardware) (before after : List Command) (spec : Specification) (command : Command) → changes_allowed command ≡ false → effective_set machine before (command ∷ after) spec ≡ effective_set machine before after spec
-effective-other machine before after spec command other = go machine.rules refl
+effective-other machine before after spec command other = go machine.rules
   where
-    go : (r : Rules) → machine.rules ≡ r → effective_set machine before (command ∷ after) spec ≡ effective_set machine before after spec
-    go Document e = rw e (documented-other machine before after spec command other)
-    go Linux e = rw e (rebound-other machine before after spec command other)
+    go : (r : Rules) → set_by machine before (command ∷ after) spec r ≡ set_by machine before after spec r
+    go Document = documented-other machine before after spec command other
+    go Linux = rebound-other machine before after spec command other

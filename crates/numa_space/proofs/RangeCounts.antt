@@ -1,13 +1,12 @@
 -- Commands that name no pages don't raise the number of ranges.
 use Rattle.std.proofs.Common.{◌≡◌, ℕ, zero, suc, ◌+◌, ◌≤◌, ◌&&◌, not, eqb, Bool, true, is_some, Option, Some, None, List, ◌∷◌, refl, ap, arith, inl, inr}
 use Rattle.std.proofs.lemmas.Bool.{cases_Bool, both_ways, and_parts, and_from, not-true}
-use Rattle.numa_mask.specs.NodeSet.{both}
 use Rattle.numa_machine.specs.Machine.{Hardware}
 use Rattle.numa_mode.specs.Policy.{Specification, PolicyRecord}
 use Rattle.numa_ranges.specs.Counts.{goes_on, is_start, count_pages, range_count}
 use Rattle.numa_ranges.specs.Maps.{changed_page}
 use Rattle.numa_space.specs.Pages.{page_in}
-use Rattle.numa_space.specs.Policies.{allowed_nodes}
+use Rattle.numa_space.specs.Policies.{allowed_nodes, mems_of}
 use Rattle.numa_space.specs.Refusals.{PageMap, range_count_of}
 use Rattle.numa_space.specs.Same.{same_record}
 use Rattle.numa_space.specs.Steps.{policy_after}
@@ -76,7 +75,7 @@ count-weight machine history node weight =
 
 pub count-mems : (machine : Hardware) (history : List Command) (mask : ℕ) → range_count_of machine (SetMems mask ∷ history) ≤ range_count_of machine history
 count-mems machine history mask =
-    let change : Option PolicyRecord → Option PolicyRecord = policy_after machine.rules (allowed_nodes machine history) (both mask machine.memory) in
+    let change : Option PolicyRecord → Option PolicyRecord = policy_after machine.rules (allowed_nodes machine history) (mems_of machine mask) in
     let moved : page_in machine (SetMems mask ∷ history) ≡ (λ page. changed_page change (page_in machine history page)) = λ i page. pages-next machine history (SetMems mask) page i in
     let fewer : range_count same_record (λ page. changed_page change (page_in machine history page)) ≤ range_count same_record (page_in machine history) = count-changed change (page_in machine history) in
     omega (arith, fewer, ap (λ at. range_count same_record at) moved)

@@ -3,12 +3,11 @@ use Rattle.std.proofs.Common.{◌≡◌, ℕ, ◌+◌, ◌-◌, false, not, eqb,
 use Rattle.std.proofs.lemmas.Bool.{cases_Bool, eqb-true}
 use Rattle.std.specs.Option.{option_map}
 use Rattle.std.specs.Prelude.{if◌then◌else◌, option_and_then}
-use Rattle.numa_mask.specs.NodeSet.{both}
 use Rattle.numa_machine.specs.Machine.{Hardware}
 use Rattle.numa_machine.specs.declared.rules.Rules.{Rules}
 use Rattle.numa_mode.specs.Policy.{Specification, PolicyRecord, is_default, effect_after}
 use Rattle.numa_space.specs.History.{Place, last_where, one_later}
-use Rattle.numa_space.specs.Policies.{allowed_nodes, effective_set, record_set, sets_task, set_by_task, task_record, tasks_of, node_weight}
+use Rattle.numa_space.specs.Policies.{allowed_nodes, effective_set, record_set, sets_task, set_by_task, task_record, tasks_of, node_weight, mems_of}
 use Rattle.numa_space.specs.Steps.{record_now, policy_after, task_next, task_count_next, weight_next}
 use Rattle.numa_space.specs.declared.command.Command.{Command}
 use Rattle.numa_space.specs.declared.command.Command.TheVariants.{Map, Unmap, Mbind, SetTask, SetHome, SetWeight, SetMems}
@@ -50,15 +49,15 @@ record-other machine history task command same =
     (λ place t spec found is i. if is_default spec then None else Some (record { spec = spec; effective = effective-other machine place.before place.after spec command same i; home = None }))
 
 record-mems : (machine : Hardware) (history : List Command) (task mask : ℕ)
-    → option_and_then (λ place. set_by_task machine place.command place) (option_map (one_later (SetMems mask)) (last_where (sets_task task) history)) ≡ policy_after machine.rules (allowed_nodes machine history) (both mask machine.memory) (task_record machine history task)
+    → option_and_then (λ place. set_by_task machine place.command place) (option_map (one_later (SetMems mask)) (last_where (sets_task task) history)) ≡ policy_after machine.rules (allowed_nodes machine history) (mems_of machine mask) (task_record machine history task)
 record-mems machine history task mask =
-    later-record machine (SetMems mask) (policy_after machine.rules (allowed_nodes machine history) (both mask machine.memory)) (last_where (sets_task task) history) refl
+    later-record machine (SetMems mask) (policy_after machine.rules (allowed_nodes machine history) (mems_of machine mask)) (last_where (sets_task task) history) refl
     (λ place t spec found is.
     let here : IsPlace (sets_task task) history place = rw found at (last_where-place (sets_task task) history) in
-    go place spec (effective-mems machine place.before place.after spec mask ∙ ap (λ a. effect_after machine.rules spec (effective_set machine place.before place.after spec) a (both mask machine.memory)) (allowed-at_place machine (sets_task task) history place (ap changes_allowed is) here)))
+    go place spec (effective-mems machine place.before place.after spec mask ∙ ap (λ a. effect_after machine.rules spec (effective_set machine place.before place.after spec) a (mems_of machine mask)) (allowed-at_place machine (sets_task task) history place (ap changes_allowed is) here)))
   where
-    go : (place : Place) (spec : Specification) → effective_set machine place.before (SetMems mask ∷ place.after) spec ≡ effect_after machine.rules spec (effective_set machine place.before place.after spec) (allowed_nodes machine history) (both mask machine.memory)
-        → record_set machine spec (one_later (SetMems mask) place) ≡ policy_after machine.rules (allowed_nodes machine history) (both mask machine.memory) (record_set machine spec place)
+    go : (place : Place) (spec : Specification) → effective_set machine place.before (SetMems mask ∷ place.after) spec ≡ effect_after machine.rules spec (effective_set machine place.before place.after spec) (allowed_nodes machine history) (mems_of machine mask)
+        → record_set machine spec (one_later (SetMems mask) place) ≡ policy_after machine.rules (allowed_nodes machine history) (mems_of machine mask) (record_set machine spec place)
     go place spec moved =
         elim (cases_Bool (is_default spec)) [
           | inl d ↦ rw d refl

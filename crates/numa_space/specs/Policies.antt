@@ -7,7 +7,7 @@ use Rattle.numa_machine.specs.Machine.{Hardware}
 use Rattle.numa_machine.specs.declared.rules.Rules.{Rules}
 use Rattle.numa_machine.specs.declared.rules.Rules.TheVariants.{Document, Linux}
 use Rattle.numa_mode.specs.Policy.{Specification, PolicyRecord, is_default, effect_when_set}
-use Rattle.numa_mode.specs.Policy.{is_live, effect_after}
+use Rattle.numa_mode.specs.Policy.{is_live, effect_after, never_empty}
 use Rattle.numa_mode.specs.declared.modes.NodeFlag.{NodeFlag}
 use Rattle.numa_mode.specs.declared.modes.NodeFlag.TheVariants.{Plain, Static, Relative}
 use Rattle.numa_space.specs.declared.command.Command.{Command}
@@ -16,11 +16,15 @@ use Rattle.numa_space.specs.History.{Place, last_where}
 
 -- ---- the allowed nodes
 
--- the nodes of the last change of the allowed nodes that have memory; before any, all nodes with
--- memory
+-- the nodes that a mask allows: those of its nodes that have memory. Where none has, the kernel
+-- allows what the parent control group does, all nodes with memory
+unfoldable pub mems_of : Hardware → ℕ → ℕ
+mems_of machine mask = never_empty machine.rules (both mask machine.memory) machine.memory
+
+-- what the last change of the allowed nodes allows; before any, all nodes with memory
 abbrev pub allowed_nodes : Hardware → List Command → ℕ
 allowed_nodes machine [] = machine.memory
-allowed_nodes machine (SetMems mask ∷ history) = both mask machine.memory
+allowed_nodes machine (SetMems mask ∷ history) = mems_of machine mask
 allowed_nodes machine (_ ∷ history) = allowed_nodes machine history
 
 -- ---- the effective set of a policy
@@ -55,13 +59,13 @@ rebound_set machine before (SetMems mask ∷ later) spec =
     (allowed_nodes machine (SetMems mask ∷ later ++ before))
 rebound_set machine before (_ ∷ later) spec = rebound_set machine before later spec
 
+abbrev pub set_by : Hardware → List Command → List Command → Specification → Rules → ℕ
+set_by machine before later spec Document = documented_set machine before later spec
+set_by machine before later spec Linux = rebound_set machine before later spec
+
 -- by the rules of the machine
 abbrev pub effective_set : Hardware → List Command → List Command → Specification → ℕ
-effective_set machine before later spec = by_rules machine.rules
-  where
-    by_rules : Rules → ℕ
-    by_rules Document = documented_set machine before later spec
-    by_rules Linux = rebound_set machine before later spec
+effective_set machine before later spec = set_by machine before later spec machine.rules
 
 -- the record that a command at a place set, where its specification isn't DEFAULT; it has no home
 abbrev pub record_set : Hardware → Specification → Place → Option PolicyRecord

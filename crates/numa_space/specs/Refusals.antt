@@ -5,6 +5,7 @@ use Rattle.std.specs.Prelude.{if◌then◌else◌}
 use Rattle.std.specs.List.{list_any}
 use Rattle.numa_mask.specs.NodeSet.{both, members}
 use Rattle.numa_machine.specs.Machine.{Hardware}
+use Rattle.numa_machine.specs.Rules.{is_linux}
 use Rattle.numa_machine.specs.declared.rules.Rules.{Rules}
 use Rattle.numa_machine.specs.declared.rules.Rules.TheVariants.{Document, Linux}
 use Rattle.numa_mode.specs.Policy.{Specification, PolicyRecord, is_default, is_local}
@@ -77,10 +78,6 @@ takes_no_home (Some (index, Some r)) = not (takes_home r)
 
 -- ---- where the kernel judges otherwise than the documents
 
-abbrev pub is_linux : Rules → Bool
-is_linux Linux = true
-is_linux Document = false
-
 -- the kernel maps nothing in the last page below address 2^47
 unfoldable pub bad_map_span : Rules → ℕ → ℕ → Option Refusal
 bad_map_span rules start bytes = first_of (bad_span start bytes)
@@ -114,6 +111,11 @@ lacks_policy rules pages first count =
 -- the kernel takes weight 0, to put back 1
 abbrev pub is_bad_weight : Rules → ℕ → Bool
 is_bad_weight rules weight = (weight == 0 && not (is_linux rules)) || nat_lt 255 weight
+
+-- a mask allows no node: by the documents none of its nodes has memory, by the kernel it has none
+unfoldable pub lacks_mems : Rules → ℕ → ℕ → Bool
+lacks_mems Document mask memory = both mask memory == 0
+lacks_mems Linux mask memory = mask == 0
 
 -- ---- the causes of each command, in order
 
@@ -153,7 +155,7 @@ cause_in scene (SetWeight node weight) =
     (when (is_bad_weight scene.machine.rules weight) BadWeight)
 cause_in scene (SetMems mask) =
     first_of (when (list_any (λ node. nat_le scene.machine.nodes node) (members mask)) NoSuchNode)
-    (when (both mask scene.machine.memory == 0) NodesNotAllowed)
+    (when (lacks_mems scene.machine.rules mask scene.machine.memory) NodesNotAllowed)
 
 -- the first cause, that of the number of commands before all others
 abbrev pub refusal_in : Scene → Command → Option Refusal

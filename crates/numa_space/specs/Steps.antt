@@ -18,7 +18,7 @@ use Rattle.numa_space.specs.declared.command.Command.TheVariants.{SetHome, SetWe
 use Rattle.numa_space.specs.declared.refusal.Refusal.{Refusal}
 use Rattle.numa_space.specs.declared.refusal.Refusal.TheVariants.{NoMemory}
 use Rattle.numa_space.specs.History.{page_of, page_count}
-use Rattle.numa_space.specs.Policies.{weight_given}
+use Rattle.numa_space.specs.Policies.{mems_of, weight_given}
 use Rattle.numa_space.specs.Refusals.{Scene, PageMap, refusal_in, refusal_of}
 use Rattle.numa_space.specs.Standing.{SpaceState, StandsFor, accepted_of, record_of}
 
@@ -35,7 +35,7 @@ abbrev pub policy_after : Rules → ℕ → ℕ → Option PolicyRecord → Opti
 policy_after rules old new = option_map (λ r. record_after rules r old new)
 
 abbrev pub allowed_next : Hardware → ℕ → Command → ℕ
-allowed_next machine allowed (SetMems mask) = both mask machine.memory
+allowed_next machine allowed (SetMems mask) = mems_of machine mask
 allowed_next machine allowed _ = allowed
 
 abbrev pub pages_next : Hardware → ℕ → PageMap → Command → PageMap
@@ -48,14 +48,14 @@ pages_next machine allowed pages (Mbind start bytes spec) page =
 pages_next machine allowed pages (SetHome start bytes node) page =
     changed_span (page_of start) (page_count bytes) (policy_with_home node) pages page
 pages_next machine allowed pages (SetMems mask) page =
-    changed_page (policy_after machine.rules allowed (both mask machine.memory)) (pages page)
+    changed_page (policy_after machine.rules allowed (mems_of machine mask)) (pages page)
 pages_next machine allowed pages _ page = pages page
 
 abbrev pub task_next : Hardware → ℕ → (ℕ → Option PolicyRecord) → Command → ℕ → Option PolicyRecord
 task_next machine allowed tasks (SetTask task spec) other =
     if task == other then record_now allowed spec else tasks other
 task_next machine allowed tasks (SetMems mask) other =
-    policy_after machine.rules allowed (both mask machine.memory) (tasks other)
+    policy_after machine.rules allowed (mems_of machine mask) (tasks other)
 task_next machine allowed tasks _ other = tasks other
 
 abbrev pub task_count_next : (ℕ → Option PolicyRecord) → ℕ → Command → ℕ

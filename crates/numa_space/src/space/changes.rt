@@ -1,6 +1,7 @@
 //! What each command changes.
 ghost use Rattle.std.specs.Prelude.{◌≡◌, ◌+◌, ◌<◌, ◌≤◌, ◌^◌, ◌&&◌, ◌||◌, ◌-◌, ◌==◌, ℕ, true, false, not, nat_le, nat_lt};
 ghost use Rattle.std.specs.Prelude.{is_some, length, Option, Some, None, MatchResult, IfErr};
+ghost use Rattle.std.specs.Prelude.{◌≢◌, MatchOption, IfSome};
 ghost use Rattle.std.specs.Prelude.{if◌then◌else◌};
 ghost use Rattle.std.specs.List.{list_any};
 ghost use Rattle.numa_mask.specs.NodeSet.{members};
@@ -11,7 +12,9 @@ ghost use Rattle.numa_space.specs.declared.command.Command.{Command};
 ghost use Rattle.numa_space.specs.History.{page_of, page_count};
 ghost use Rattle.numa_ranges.specs.Maps.{IsSpan};
 ghost use Rattle.numa_space.specs.Policies.{weight_given};
-ghost use Rattle.numa_space.specs.Refusals.{bad_span, has_no_node, is_linux, passes_holes};
+ghost use Rattle.numa_machine.specs.Rules.{is_linux};
+ghost use Rattle.numa_space.specs.Policies.{mems_of};
+ghost use Rattle.numa_space.specs.Refusals.{bad_span, has_no_node, passes_holes, lacks_mems};
 ghost use Rattle.numa_space.specs.Refusals.{lacks_policy, is_bad_weight, bad_map_span};
 ghost use Rattle.numa_space.specs.Standing.{SpaceState, record_of};
 ghost use Rattle.numa_space.specs.Steps.{IsAnswer, MayNeedRoom, record_now};
@@ -53,10 +56,7 @@ impl Space {
     fn is_linux(&self) -> bool
         ensures { result ≡ is_linux self.now.machine.rules }
     {
-        match self.machine.rules() {
-            Rules::Document => false,
-            Rules::Linux => true,
-        }
+        self.machine.rules().is_linux()
     }
 
     /// The first page of a span that is to be mapped, and the number of its pages: the kernel maps
@@ -299,6 +299,37 @@ impl Space {
         Ok(())
     }
 
+    /// The nodes that a mask allows; None where it allows none.
+    #[tactic(auto, unfolding(crate::specs::Refusals::lacks_mems, crate::specs::Policies::mems_of))]
+    fn mems_of(&self, mask: &NodeMask) -> Option<NodeMask>
+        ensures mems { MatchOption result
+            (lacks_mems self.now.machine.rules mask.now self.now.machine.memory ≡ true)
+            (λ allowed. (lacks_mems self.now.machine.rules mask.now self.now.machine.memory ≡ false)
+            × (allowed ≡ mems_of self.now.machine mask.now)) }
+        ensures some { IfSome result (λ allowed. allowed ≢ 0) }
+    {
+        let memory = self.machine.memory();
+        let allowed = mask.and(&memory);
+        match self.machine.rules() {
+            Rules::Document => {
+                if allowed.is_empty() {
+                    return None;
+                }
+                Some(allowed)
+            }
+            Rules::Linux => {
+                if mask.is_empty() {
+                    return None;
+                }
+                if allowed.is_empty() {
+                    return Some(memory);
+                }
+                Some(allowed)
+            }
+        }
+    }
+
+    /// Changes the allowed nodes.
     fn set_mems(&mut self, mask: NodeMask) -> Result<(), Refusal>
         requires { self.old.version < self.old.bounds.max_commands }
         ensures answer { IsAnswer self.old (Command.SetMems mask) result self.new }
@@ -308,10 +339,9 @@ impl Space {
         if has_node_from(&mask, self.machine.nodes()) {
             return Err(Refusal::NoSuchNode);
         }
-        let allowed = mask.and(&self.machine.memory());
-        if allowed.is_empty() {
+        let Some(allowed) = self.mems_of(&mask) else {
             return Err(Refusal::NodesNotAllowed);
-        }
+        };
         let before = self.allowed;
         let rules = self.machine.rules();
         self.pages.rebind(rules, &before, &allowed);

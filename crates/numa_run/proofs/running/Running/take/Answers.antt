@@ -16,6 +16,9 @@ returns-in-Malformed c = rw c.in-Malformed.is (later_same c.args.self.now line.M
 pub returns-in-Limits : goal.returns-in-Limits
 returns-in-Limits c = rw c.in-Limits.is (later_same c.args.self.now _ reply.BadState (λ machine state. refl))
 
+pub returns-in-Rules : goal.returns-in-Rules
+returns-in-Rules c = rw c.in-Rules.is (later_same c.args.self.now _ reply.BadState (λ machine state. refl))
+
 pub returns-in-Machine : goal.returns-in-Machine
 returns-in-Machine c = rw c.in-Machine.is (later_same c.args.self.now _ reply.BadState (λ machine state. refl))
 

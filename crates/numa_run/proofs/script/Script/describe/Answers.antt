@@ -7,22 +7,22 @@ use Rattle.numa_machine.specs.declared.fault.MachineFault.TheVariants as machine
 use Rattle.numa_run.proofs.script.Script.describe.Goals as goal
 
 pub returns-in-Err : goal.returns-in-Err
-returns-in-Err c = rw c.requires (first_bad_list c.args.self.now.limits c.args.said.now c.in-Err.fault c.in-Err.is)
+returns-in-Err c = rw c.requires (first_bad_list c.args.self.now.settings c.args.said.now c.in-Err.fault c.in-Err.is)
 
 pub returns-in-Err-build : goal.returns-in-Err-build
 returns-in-Err-build c =
     let why = c.in-Err-build.ensures.err in
-    rw c.requires (first_bad c.args.self.now.limits c.args.said.now c.in-Ok.memory why.0 c.in-Err-build.fault c.in-Ok.is why.1)
+    rw c.requires (first_bad c.args.self.now.settings c.args.said.now c.in-Ok.memory why.0 c.in-Err-build.fault c.in-Ok.is why.1)
 
 pub returns-in-Err-new : goal.returns-in-Err-new
 returns-in-Err-new c =
     let made = c.in-Ok-build.ensures.ok in
-    rw c.requires (first_bad c.args.self.now.limits c.args.said.now c.in-Ok.memory true machine_fault.NoMemory c.in-Ok.is (core-starved (hardware_of c.args.said.now c.in-Ok.memory) (ap (first_fault false) (sym made.0) ∙ made.1)))
+    rw c.requires (first_bad c.args.self.now.settings c.args.said.now c.in-Ok.memory true machine_fault.NoMemory c.in-Ok.is (core-starved (hardware_of c.args.said.now c.in-Ok.memory c.args.self.now.settings.rules) (ap (first_fault false) (sym made.0) ∙ made.1)))
 
 pub returns-in-Ok-new : goal.returns-in-Ok-new
 returns-in-Ok-new c =
     let made = c.in-Ok-build.ensures.ok in
     let core = c.new-in-Ok-new.ensures.core in
-    let setup = ap setup_of core ∙ c.in-Ok-new.ensures.setup ∙ ap (λ machine. setup_with machine c.args.self.now.limits) made.0 in
-    (first_ready c.args.self.now.limits c.args.said.now c.in-Ok.memory c.new-in-Ok-new.result c.in-Ok.is (ap (first_fault false) (sym made.0) ∙ made.1) setup
+    let setup = ap setup_of core ∙ c.in-Ok-new.ensures.setup ∙ ap (λ machine. setup_with machine c.args.self.now.settings.limits) made.0 in
+    (first_ready c.args.self.now.settings c.args.said.now c.in-Ok.memory c.new-in-Ok-new.result c.in-Ok.is (ap (first_fault false) (sym made.0) ∙ made.1) setup
     (subst (LeadsTo []) (sym core) c.in-Ok-new.ensures.opens) c.new-in-Ok-new.ensures.resident)
