@@ -63,6 +63,7 @@ enum {
     NP_NOT_SUPPORTED = 20,     /* EOPNOTSUPP: a home for a policy that takes none */
     NP_TOO_MANY_TASKS = 21,    /* ENOMEM: as many tasks have a policy as the limits allow */
     NP_TOO_MANY_RANGES = 22,   /* ENOMEM: there would be more ranges than the limits allow */
+    NP_NO_POLICY_THERE = 23,   /* ENOENT: by the kernel's rules, a home where no page has a policy */
 
     /* an event of a worker, or a question, is refused */
     NP_NO_SUCH_WORKER = 30, /* there are not so many workers */

@@ -22,7 +22,7 @@ NAMES = {
     1: "Closed", 2: "Open", 3: "NoMemory", 4: "NoRoom", 5: "Unknown", 6: "AnswerLost",
     10: "CommandsSpent", 11: "Unaligned", 12: "OutOfSpace", 13: "EmptyLength", 14: "BadOffset",
     15: "Overlap", 16: "Hole", 17: "NoSuchNode", 18: "BadWeight", 19: "NodesNotAllowed",
-    20: "NotSupported", 21: "TooManyTasks", 22: "TooManyRanges",
+    20: "NotSupported", 21: "TooManyTasks", 22: "TooManyRanges", 23: "NoPolicy",
     30: "NoSuchWorker", 31: "Busy", 32: "Idle", 33: "BadTry", 34: "NotOwned", 35: "BadCpu",
     36: "Unmapped", 37: "NoRange", 38: "PlacedTwice", 41: "Exhausted", 42: "AllTaken",
     50: "BadNodeCount", 51: "NoMemoryNode", 52: "BadDistance", 53: "TooManyFrames",

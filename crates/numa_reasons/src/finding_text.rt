@@ -11,6 +11,9 @@ use numa_script::{Cause, Form, Misfit, Parameter, WordFault};
 use numa_space::Refusal;
 use std::alloc::AllocError;
 
+/// What RULES isn't.
+const RULES_FORM: &str = " is neither document nor linux";
+
 /// What FRAMES isn't.
 const FRAMES_FORM: &str = " are no decimal numbers below 2^32 with commas between them";
 
@@ -42,6 +45,7 @@ fn put_form(text: &mut Text, parameter: Parameter) {
     text.put(parameter.name());
     match parameter.form() {
         Form::Number(greatest) => text.put_number(" is no number from 0 to ", greatest),
+        Form::Rules => text.put(RULES_FORM),
         Form::Frames => text.put(FRAMES_FORM),
         Form::Distances => text.put(DISTANCES_FORM),
         Form::Any => {}
@@ -214,7 +218,9 @@ fn detail_words(detail: Detail) -> &'static str {
     match detail {
         Detail::Malformed(_) => ": ",
         Detail::NoMachine => ": no machine is ready; limits and machine come first",
-        Detail::MachineReady => ": a machine is ready already; limits and machine come before it",
+        Detail::MachineReady => {
+            ": a machine is ready already; limits, rules and machine come before it"
+        }
         Detail::CarriageReturn => "; the line ends with a carriage return",
         _ => "",
     }

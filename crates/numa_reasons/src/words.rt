@@ -54,8 +54,10 @@ pub(crate) fn command_words(refusal: Refusal) -> &'static str {
         Refusal::CommandsSpent =>
             "as many commands as the limits allow were accepted; raise C of limits",
         Refusal::Unaligned => "START is no multiple of 4096; round it down, and LENGTH up",
-        Refusal::OutOfSpace => "the span ends above address 2^47; use lower addresses",
-        Refusal::EmptyLength => "LENGTH is 0; map at least one byte",
+        Refusal::OutOfSpace => {
+            "the span ends above address 2^47, or 2^47 - 4096 by linux rules; use lower addresses"
+        },
+        Refusal::EmptyLength => "LENGTH is 0; name at least one byte",
         Refusal::BadOffset => "OFFSET is 2^35 or more; it is in pages, not in bytes",
         Refusal::Overlap => "a page is mapped already; unmap it first",
         Refusal::Hole => "a page isn't mapped; map it first, or bind each mapped part by itself",

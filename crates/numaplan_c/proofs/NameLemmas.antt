@@ -20,6 +20,7 @@ numbered-same refusal.NodesNotAllowed = refl
 numbered-same refusal.NotSupported = refl
 numbered-same refusal.TooManyTasks = refl
 numbered-same refusal.TooManyRanges = refl
+numbered-same refusal.NoPolicy = refl
 numbered-same refusal.NoMemory = refl
 
 pub name-same : (cause : Refusal) → answer_name (refusal_code cause) ≡ refusal_name cause
@@ -37,4 +38,5 @@ name-same refusal.NodesNotAllowed = refl
 name-same refusal.NotSupported = refl
 name-same refusal.TooManyTasks = refl
 name-same refusal.TooManyRanges = refl
+name-same refusal.NoPolicy = refl
 name-same refusal.NoMemory = refl

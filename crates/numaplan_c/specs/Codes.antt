@@ -3,7 +3,7 @@
 --     0          it is done
 --     1 to 4     the handle is closed; it is open; out of memory; no room for the answer
 --     5, 6       no such number; the line was served, out of memory for its answer
---     10 to 22   a command is refused
+--     10 to 23   a command is refused
 --     30 to 38   an event or a question is refused
 --     40, 41     the worker goes on; every frame of every listed node is met
 --     42         every frame of every listed node was found taken
@@ -41,6 +41,7 @@ refusal_code refusal.NodesNotAllowed = 19
 refusal_code refusal.NotSupported = 20
 refusal_code refusal.TooManyTasks = 21
 refusal_code refusal.TooManyRanges = 22
+refusal_code refusal.NoPolicy = 23
 refusal_code refusal.NoMemory = 3
 
 abbrev pub cause_code : CoreRefusal → ℕ

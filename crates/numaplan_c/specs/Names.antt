@@ -17,7 +17,7 @@ refusals =
     refusal.CommandsSpent ∷ refusal.Unaligned ∷ refusal.OutOfSpace ∷ refusal.EmptyLength
     ∷ refusal.BadOffset ∷ refusal.Overlap ∷ refusal.Hole ∷ refusal.NoSuchNode
     ∷ refusal.BadWeight ∷ refusal.NodesNotAllowed ∷ refusal.NotSupported
-    ∷ refusal.TooManyTasks ∷ refusal.TooManyRanges ∷ []
+    ∷ refusal.TooManyTasks ∷ refusal.TooManyRanges ∷ refusal.NoPolicy ∷ []
 
 -- the refusal of a command that has this number
 abbrev pub refusal_numbered : ℕ → Option Refusal
@@ -88,6 +88,7 @@ errno_number errno.EExist = 17
 errno_number errno.EFault = 14
 errno_number errno.ENoSpc = 28
 errno_number errno.EOpNotSupp = 95
+errno_number errno.ENoEnt = 2
 
 abbrev pub errno_or : Option Refusal → ℕ → ℕ
 errno_or (Some cause) other = errno_number (errno_of cause)

@@ -62,12 +62,15 @@ pub(crate) enum Code {
     NoNodeAllowed = 76,
 }
 
-/// The number of a command's refusal: but for want of memory they stand in order from 10.
+/// The number of a command's refusal: most stand in order from 10; a later one has a later number.
 pub(crate) fn refusal_code(refusal: Refusal) -> u32
     ensures { result ≡ refusal_code refusal }
 {
     match refusal {
         Refusal::NoMemory => Code::NoMemory as u32,
+        Refusal::TooManyTasks => 21,
+        Refusal::TooManyRanges => 22,
+        Refusal::NoPolicy => 23,
         refusal => 10 + refusal as u32,
     }
 }

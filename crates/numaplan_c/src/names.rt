@@ -28,6 +28,7 @@ fn refusal_numbered(code: u32) -> Option<Refusal>
         20 => Some(Refusal::NotSupported),
         21 => Some(Refusal::TooManyTasks),
         22 => Some(Refusal::TooManyRanges),
+        23 => Some(Refusal::NoPolicy),
         _ => None,
     }
 }
@@ -127,6 +128,7 @@ fn errno_number(errno: Errno) -> u32
         Errno::EFault => 14,
         Errno::ENoSpc => 28,
         Errno::EOpNotSupp => 95,
+        Errno::ENoEnt => 2,
     }
 }
 
