@@ -1,9 +1,9 @@
 #!/usr/bin/env python3
-"""Compares what a kernel answered with what numaplan answers: compare.py PROGRAM SEEN..
+"""Compares what a kernel answered with what numaplan answers: compare.py PROGRAM RULES SEEN..
 
-SEEN is what boot.py printed. The nodes' distances are taken from the kernel's fallback orders, as
-docs/KERNEL.md says. A difference falls under a row of that page's table of differences, or is told. The
-last line counts; the status is 1 where a difference falls under no row. Not proved."""
+RULES is `document` or `linux`, as the line `rules` has them. SEEN is what boot.py printed. The nodes' distances are taken from the kernel's fallback orders, as
+docs/KERNEL.md says. A difference falls under a row of that page's table of differences, which for
+`linux` has few, or is told. The last line counts; the status is 1 where a difference falls under no row. Not proved."""
 
 import collections
 import subprocess
@@ -21,7 +21,11 @@ ROWS = {
     "no policy": "home where no page of the span has a policy",
     "home": "home over a page with a policy of another mode",
     "unmap": "unmap of length 0",
+    "word": "mbind of length 0 with a faulty policy",
 }
+
+# the rows that are left under each set of rules
+LEFT = {"document": set(ROWS), "linux": {"home", "word"}}
 
 
 def machine_line(name, orders):
@@ -52,9 +56,9 @@ def read_seen(path):
     return scripts
 
 
-def ask(program, machine, lines):
+def ask(program, rules, machine, lines):
     """numaplan's answers; of a place line the first node, a colon, and the policy shown there."""
-    script = [machine]
+    script = [f"rules {rules}", machine]
     for line in lines:
         script.append(line)
         if line.startswith("place "):
@@ -62,7 +66,7 @@ def ask(program, machine, lines):
     text = "\n".join(script) + "\n"
     run = subprocess.run([program, "run"], input=text, capture_output=True, text=True, check=True)
     said = iter(run.stdout.splitlines())
-    next(said)  # (ready)
+    next(said), next(said)  # (rules ok, ready)
     for line in lines:
         answer = next(said)
         if line.startswith("place "):
@@ -92,7 +96,7 @@ def cause(line, mine, seen, before):
     words = line.split()
     if words[0] == "mbind":
         if int(words[2], 16) == 0 and seen == "ok":
-            return "length 0"
+            return "word" if mine.startswith("bad policy") else "length 0"
         if mine == "refused Hole EFAULT" and words[3].startswith("default") and seen == "ok":
             return "default"
         if mine == "refused Hole EFAULT" and seen == "EINVAL":
@@ -116,12 +120,12 @@ def cause(line, mine, seen, before):
     return None
 
 
-def compare(program, script, counts):
-    """Compares one script; prints the differences that fall under no row."""
+def compare(program, rules, script, counts):
+    """Compares one script; prints the differences that fall under no row that is left."""
     name, machine, lines = script
     before = set()  # what may count from here on: an accepted mems, and rows that change the state
-    for (line, seen), mine in zip(lines, ask(program, machine, [line for line, _ in lines])):
-        if "default" in before:
+    for (line, seen), mine in zip(lines, ask(program, rules, machine, [line for line, _ in lines])):
+        if "default" in before:  # (a hole that a kernel passes over, by the documents' rules)
             counts["behind a DEFAULT over a hole"] += 1
             continue
         counts["lines"] += 1
@@ -133,7 +137,7 @@ def compare(program, script, counts):
             counts["refused"] += seen.startswith("E")
             continue
         row = cause(line, mine, seen, before)
-        if row is None:
+        if row not in LEFT[rules]:
             counts["new"] += 1
             print(f"{name}: {line}: numaplan {mine}, the kernel {seen}")
         else:
@@ -144,10 +148,10 @@ def compare(program, script, counts):
 def main():
     counts = collections.Counter()
     scripts = 0
-    for path in sys.argv[2:]:
+    for path in sys.argv[3:]:
         for script in read_seen(path):
             scripts += 1
-            compare(sys.argv[1], script, counts)
+            compare(sys.argv[1], sys.argv[2], script, counts)
     for row, count in sorted(counts.items()):
         if row not in ("lines", "refused", "new"):
             print(f"{count} {row}")
