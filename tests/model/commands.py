@@ -1,10 +1,11 @@
 """The commands: the first cause that refuses each, and what an accepted one changes. Each function
 is given a copy of the space to change, and answers the cause of a refusal or None.
 
-Written from docs/SCRIPT.md and docs/internals/MODEL.md alone. Not proved."""
+Written from docs/SCRIPT.md and docs/internals/MODEL.md alone; what `rules linux` does otherwise, from
+the kernel's mm/mempolicy.c, mm/mmap.c and kernel/cgroup/cpuset.c. Not proved."""
 
-from space import (ERRNO, LAST, PAGE, Piece, has_hole, inside, lacks_nodes, page_count, page_of,
-                   ranges, record_after, record_when_set)
+from space import (ERRNO, LAST, PAGE, Piece, has_hole, inside, lacks_nodes, mapped_pages, page_count,
+                   page_of, ranges, record_after, record_when_set)
 
 
 def span_cause(start, length):
@@ -31,6 +32,8 @@ def map_span(space, start, length, offset):
     cause = span_cause(start, length)
     if cause:
         return cause
+    if space.machine.is_linux and page_of(start) + page_count(length) > LAST - 1:
+        return "OutOfSpace"  # TASK_SIZE is a page less than 2^47
     if length == 0:
         return "EmptyLength"
     if offset >= LAST:
@@ -46,7 +49,7 @@ def unmap(space, start, length):
     """`unmap`: the mapped pages of a span are mapped no more."""
     cause = span_cause(start, length)
     if cause or length == 0:
-        return cause
+        return cause or ("EmptyLength" if space.machine.is_linux else None)
     gone = inside(space, *span_of(start, length))
     space.pieces = [piece for piece in space.pieces if piece not in gone]
     return range_cause(space)
@@ -66,13 +69,22 @@ def mbind(space, start, length, asked):
     if cause or length == 0:
         return cause
     first, end = span_of(start, length)
-    if has_hole(space, first, end):
+    if space.machine.is_linux and lacks_nodes(space, asked):
+        return "NodesNotAllowed"  # mpol_new and mpol_set_nodemask come before any area
+    if lacks_pages(space, first, end, asked):
         return "Hole"
     if lacks_nodes(space, asked):
         return "NodesNotAllowed"
     record = record_when_set(asked, space.allowed)
     set_records(space, inside(space, first, end), lambda _: record)
     return range_cause(space)
+
+
+def lacks_pages(space, first, end, asked):
+    """A page isn't mapped; in a kernel, for `default`, none is (MPOL_MF_DISCONTIG_OK)."""
+    if space.machine.is_linux and asked.mode == "default":
+        return mapped_pages(space, first, end) == 0
+    return has_hole(space, first, end)
 
 
 def home(space, start, length, node):
@@ -88,6 +100,8 @@ def home(space, start, length, node):
     pieces = inside(space, *span_of(start, length))
     if any(piece.record and piece.record.mode not in ("bind", "many") for piece in pieces):
         return "NotSupported"
+    if space.machine.is_linux and not any(piece.record for piece in pieces):
+        return "NoPolicy"  # what the call answers where it met no policy
     set_records(space, pieces, lambda record: record and record._replace(home=node))
     return range_cause(space)
 
@@ -106,9 +120,11 @@ def task(space, number, asked):
 
 
 def weight(space, node, value):
-    """`weight`: a node of the machine has a weight of 1 to 255."""
+    """`weight`: a node of the machine has a weight of 1 to 255; 0 puts back the first, in sysfs."""
     if node >= space.machine.nodes:
         return "NoSuchNode"
+    if space.machine.is_linux and value == 0:
+        value = 1
     if not 1 <= value <= 255:
         return "BadWeight"
     space.weights[node] = value
@@ -120,12 +136,15 @@ def mems(space, nodes):
     if max(nodes) >= space.machine.nodes:
         return "NoSuchNode"
     allowed = nodes & space.machine.memory
+    if space.machine.is_linux and not allowed:
+        allowed = space.machine.memory  # what the parent allows, in cgroup v2
     if not allowed:
         return "NodesNotAllowed"
     old, space.allowed = space.allowed, allowed
-    set_records(space, space.pieces, lambda record: record_after(record, old, allowed))
+    is_linux = space.machine.is_linux
+    set_records(space, space.pieces, lambda record: record_after(record, old, allowed, is_linux))
     for number, record in space.tasks.items():
-        space.tasks[number] = record_after(record, old, allowed)
+        space.tasks[number] = record_after(record, old, allowed, is_linux)
     return None
 
 

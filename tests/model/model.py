@@ -28,6 +28,7 @@ class State:
 
     def __init__(self):
         self.limits = (65536, 1024, 2**32 - 1)
+        self.rules = "document"
         self.space = None
         self.crew = None
 
@@ -43,11 +44,18 @@ def limits(state, ranges_most, tasks_most, commands_most):
     return "limits ok"
 
 
+def rules(state, whose):
+    """`rules`: the documents' or the kernel's; the last ones count."""
+    state.rules = whose
+    return "rules ok"
+
+
 def machine(state, *words):
     """`machine`: the machine, once."""
     made, fault = machine_of(*words)
     if fault:
         return f"bad machine {fault}"
+    made.is_linux = state.rules == "linux"
     state.space = Space(made, state.limits)
     state.crew = Crew(state.space)
     return "ready"
@@ -167,7 +175,7 @@ def answer(state, line):
         name, arguments = line_of(line)
     except BadWords:
         return "bad words"
-    if (state.space is None) != (name in ("limits", "machine")):
+    if (state.space is None) != (name in ("limits", "rules", "machine")):
         return "bad state"
     for argument in arguments:
         if isinstance(argument, Fault):
@@ -179,6 +187,8 @@ def served(state, name, arguments):
     """The answer to a line that is neither faulty nor at the wrong time."""
     if name == "limits":
         return limits(state, *arguments)
+    if name == "rules":
+        return rules(state, *arguments)
     if name == "machine":
         return machine(state, *arguments)
     if name in COMMANDS:

@@ -246,7 +246,7 @@ class Script(Words):
     def odd(self):
         """Lines that say nothing, lines at the wrong time, and lines of some 4,096 bytes."""
         silent = ["", "#", "# a remark", "#" * 4097, "#" * 5000]
-        late = [" ", "machine 2 0-1 8 flat", "machine 2 0-1 8 fla", "limits 1 1 1", "limits 1 1"]
+        late = [" ", "machine 2 0-1 8 flat", "machine 2 0-1 8 fla", "limits 1 1 1", "rules linux", "limits 1 1"]
         full = "mems 0" + ",0" * 2045  # 4,096 bytes
         self.add(self.dice.choice(silent + late + [full, full + "0", full[:-1]]))
 
@@ -254,11 +254,13 @@ class Script(Words):
         """Limits, machine, a mapping and policies."""
         if self.likely(0.1):
             self.say(self.dice.choice(["ranges", "publish", "mems 0", "mems a", "map 0 1", "exit",
-                                       "maps 0", "give 0 0 0", "give 0 256 0", "task 1 x"]))
+                                       "maps 0", "rules", "give 0 0 0", "give 0 256 0", "task 1 x"]))
         if self.likely(0.3):
             self.say("limits", *self.bounds_of_limits())
         if self.likely(0.35):
             self.say("limits", *self.small_limits())
+        if self.likely(0.5):
+            self.say("rules", self.dice.choice(["linux"] * 8 + ["document", "kernel"]))
         words = self.machine_words()
         if self.likely(0.25):
             self.say("machine", *self.bad_machine(list(words)))

@@ -173,10 +173,18 @@ def distances(word):
     return [item(part, 256) for part in word.replace(";", ",").split(",")]
 
 
+def rules(word):
+    """RULES: `document` or `linux`."""
+    if word not in ("document", "linux"):
+        raise BadWords
+    return word
+
+
 # ---- lines
 
 FORMS = {
     "limits": [small, small, small],
+    "rules": [rules],
     "machine": [small, node_list, frames, distances],
     "map": [number, number, number],
     "unmap": [number, number],
