@@ -14,13 +14,6 @@ use std::io::{Read, Write};
 /// What added lines are told by.
 const ADDED: &str = "--then";
 
-/// Who touches the pages: a task, on a CPU of a node.
-#[derive(Clone, Copy)]
-pub struct Asked {
-    pub task: u32,
-    pub cpu: u32,
-}
-
 /// What stands in the space that a script has led to.
 fn outlook_in(alloc: Global, script: &Script) -> Result<Outlook, Halt> {
     let space = match space_of(script) {
@@ -44,7 +37,7 @@ fn lacking_node(free: &[FreePages], nodes: u32) -> Option<u8> {
 /// Where all mapped pages would go, if they were touched now.
 #[derive(Drop)]
 struct Prediction<'a> {
-    asked: Asked,
+    asked: Touch,
     format: Format,
     free: &'a [FreePages],
 }
@@ -58,11 +51,7 @@ impl Question for Prediction<'_> {
         let Ok(plan) = compile(alloc, space) else {
             return Err(Halt::Stopped(Stop::Memory));
         };
-        let touch = Touch {
-            task: self.asked.task,
-            cpu: self.asked.cpu,
-        };
-        let text = filling_text(alloc, space, &plan, touch, self.format, self.free);
+        let text = filling_text(alloc, space, &plan, self.asked, self.format, self.free);
         drop(plan);
         match text {
             Ok(text) => Ok(text),
@@ -81,7 +70,7 @@ impl Question for Prediction<'_> {
 pub fn predict<R: Read + Drop, W: Write, T: Write + Drop>(
     alloc: Global,
     texts: Vec<(String, R)>,
-    asked: Asked,
+    asked: Touch,
     format: Format,
     free: &[FreePages],
     output: &mut W,
@@ -112,7 +101,7 @@ fn difference_of(
     alloc: Global,
     before: &Outlook,
     script: &Script,
-    asked: Asked,
+    asked: Touch,
 ) -> Result<Vec<u8>, Halt> {
     let nodes = match space_of(script) {
         Ok(space) => space.machine().nodes(),
@@ -148,7 +137,7 @@ fn difference_from<T: Write>(
     before: &Outlook,
     findings: &mut Findings<T>,
     lines: &[String],
-    asked: Asked,
+    asked: Touch,
 ) -> Result<Vec<u8>, Halt> {
     match play_lines(findings, lines) {
         Ok(()) => difference_of(alloc, before, findings.script(), asked),
@@ -161,7 +150,7 @@ fn difference<T: Write>(
     alloc: Global,
     findings: &mut Findings<T>,
     lines: &[String],
-    asked: Asked,
+    asked: Touch,
 ) -> Result<Vec<u8>, Halt> {
     let before = match outlook_before(alloc, findings) {
         Ok(before) => before,
@@ -183,7 +172,7 @@ pub fn diff<R: Read + Drop, W: Write, T: Write + Drop>(
     alloc: Global,
     texts: Vec<(String, R)>,
     lines: &[String],
-    asked: Asked,
+    asked: Touch,
     output: &mut W,
     told: T,
 ) -> Result<(), Halt> {

@@ -1,10 +1,10 @@
 //! Why a page goes where it goes, after scripts.
-use crate::asking::Asked;
 use crate::halt::Halt;
 use crate::question::{Question, ask};
 use numa_files::Stop;
 use numa_machine::Machine;
 use numa_reasons::{Explanation, ReasonFault, say_explanation};
+use numa_reports::Touch;
 use numa_space::{PlaceRefusal, Space};
 use std::alloc::Global;
 use std::io::{Read, Write};
@@ -24,7 +24,7 @@ fn text_of(alloc: Global, machine: &Machine, said: &Explanation) -> Result<Vec<u
 /// Why a page goes where it goes, if it were touched now.
 #[derive(Drop)]
 struct Reasons {
-    asked: Asked,
+    asked: Touch,
     page: u64,
 }
 
@@ -55,7 +55,7 @@ impl Question for Reasons {
 pub fn explain<R: Read + Drop, W: Write, T: Write + Drop>(
     alloc: Global,
     texts: Vec<(String, R)>,
-    asked: Asked,
+    asked: Touch,
     page: u64,
     output: &mut W,
     told: T,

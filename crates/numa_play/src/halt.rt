@@ -3,9 +3,9 @@ ghost use Rattle.std.specs.Prelude.{◌≡◌};
 ghost use Rattle.numa_files.specs.declared.reading.Stop.TheVariants as stop;
 ghost use Rattle.numa_play.specs.declared.halt.Halt.TheVariants as halt;
 
-use crate::traces::ReplayFault;
 use numa_files::Stop;
 use numa_reports::ReportFault;
+use numa_traces::ReplayFault;
 use std::alloc::AllocError;
 
 /// Why a question about played scripts has no answer. Then nothing of one was written, but for

@@ -1,11 +1,11 @@
 //! Traces that are replayed after scripts.
 use crate::halt::Halt;
 use crate::question::{Question, ask};
-use crate::traces::{Replaying, Shape, replay_lines, report_text};
 use numa_compile::compile;
 use numa_files::Stop;
 use numa_plan::Plan;
 use numa_space::Space;
+use numa_traces::{Replaying, Shape, replay_lines, report_text};
 use std::alloc::Global;
 use std::io::{Read, Write};
 

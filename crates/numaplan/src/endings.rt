@@ -1,7 +1,8 @@
 //! How the program ends.
-use crate::jobs::JobFault;
+use numa_command_line::JobFault;
 use numa_files::Stop;
-use numa_play::{Asked, Halt};
+use numa_play::Halt;
+use numa_reports::Touch;
 use numa_script::RunFault;
 use std::io;
 use std::io::{ErrorKind, Write};
@@ -87,7 +88,7 @@ fn end_trace(rt: &impl Eprint, trace: &str, place: u64, why: &str) -> ExitCode {
 }
 
 /// Ends with the answer to a question about played scripts, or with why there is none.
-pub fn answered(rt: &impl Eprint, asked: Asked, answer: Result<(), Halt>) -> ExitCode {
+pub fn answered(rt: &impl Eprint, asked: Touch, answer: Result<(), Halt>) -> ExitCode {
     if let Err(Halt::NoNode(nodes)) = answer {
         return lack_node(rt, "--cpu ", asked.cpu, "", nodes);
     }

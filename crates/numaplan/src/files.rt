@@ -1,6 +1,5 @@
 //! The files that a word is given: `-` is standard input, which is also read where none is named.
-use crate::jobs::JobFault;
-use clap::ArgMatches;
+use numa_command_line::JobFault;
 use std::alloc::{AllocError, Global};
 use std::fs::OpenFile;
 use std::io::{ErrorKind, IsTerminal, Read};
@@ -24,32 +23,6 @@ impl<F: Read, I: Read> Read for Source<F, I> {
             Source::Standard(input) => input.read(buffer),
         }
     }
-}
-
-/// Adds copies of texts.
-fn add_texts(alloc: Global, said: &[&str], texts: &mut Vec<String>) -> Result<(), AllocError> {
-    for text in said {
-        texts.push(String::from_str(alloc, text)?)?;
-    }
-    Ok(())
-}
-
-/// The values of an argument, as they were given.
-pub fn texts_of(
-    alloc: Global,
-    matches: &ArgMatches<'_>,
-    id: &str,
-) -> Result<Vec<String>, AllocError> {
-    let mut texts = Vec::new(alloc);
-    match add_texts(alloc, matches.get_strs(id).unwrap_or(&[]), &mut texts) {
-        Ok(()) => Ok(texts),
-        Err(error) => Err(error),
-    }
-}
-
-/// The files that are named.
-pub fn named(alloc: Global, matches: &ArgMatches<'_>) -> Result<Vec<String>, AllocError> {
-    texts_of(alloc, matches, "FILE")
 }
 
 /// Standard input. On a terminal a line says that a script is awaited.

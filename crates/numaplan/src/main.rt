@@ -5,18 +5,15 @@
 #![tactic(auto)]
 
 ghost use Rattle.std.specs.Prelude.{IfOk};
-ghost use Rattle.numaplan.specs.Jobs.{CanBeDone};
+ghost use Rattle.numa_command_line.specs.Jobs.{CanBeDone};
 
 mod answering;
-mod command_line;
 mod endings;
 mod files;
-mod jobs;
 mod words;
 
-use command_line::job;
 use endings::tell_fault;
-use jobs::{Job, JobFault, Work};
+use numa_command_line::{Job, JobFault, Work, job};
 use std::env::Env;
 use std::io::{IsTerminal, Read};
 use std::process::ExitCode;

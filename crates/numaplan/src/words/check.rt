@@ -1,25 +1,11 @@
-//! `numaplan check [FILE]..`: tells what is wrong with scripts.
+//! Tells what is wrong with scripts.
 use crate::endings::stop;
-use crate::words::usage::{FILES, Word};
 use std::io;
 use std::io::Read;
 use std::process::ExitCode;
 
 /// The status where something was told.
 const TOLD: u8 = 3;
-
-/// The word.
-pub const WORD: Word = Word {
-    name: "check",
-    line: "Tells what is wrong with scripts, and what to do about it",
-    about: "Tells what is wrong with scripts, and writes no answers. For each line that `run` \
-answers by a fault or a refusal there is one line on standard output: the file, the line, for bad \
-words the column in bytes, the answer, and its cause with what to do. Lines that need a machine \
-while none is ready are counted at the end. The status is 3 where anything was told, and else 0.",
-    more: "Example, from the top of the repository:\n  ./numaplan check \
-examples/why-refused.numaplan",
-    arguments: &[FILES],
-};
 
 /// Checks the scripts.
 pub fn check<R, S>(rt: &R, texts: Vec<(String, S)>) -> ExitCode

@@ -1,66 +1,12 @@
-//! `numaplan replay --trace TRACE [FILE]..`: tells what a trace of accesses meets.
+//! Tells what a trace of accesses meets.
 use crate::endings::{Told, ended};
 use crate::files;
-use crate::jobs::{JobFault, Work};
-use crate::words::usage::{Argument, FILES, Takes, Word};
-use clap::ArgMatches;
-use numa_play::Shape;
-use std::alloc::Global;
+use numa_command_line::JobFault;
+use numa_traces::Shape;
 use std::io;
 use std::io::{IsTerminal, Read};
 use std::process::ExitCode;
 use std::rt::Files;
-
-/// The option `--trace TRACE`.
-const TRACE: Argument = Argument {
-    name: "trace",
-    value: "TRACE",
-    help: "The file of the trace; - is standard input",
-    is_required: true,
-    takes: Takes::Text,
-};
-
-/// The option `--format FORMAT`.
-const FORMAT: Argument = Argument {
-    name: "format",
-    value: "FORMAT",
-    help: "How the answer is written",
-    is_required: false,
-    takes: Takes::OneOf(&["text", "json"]),
-};
-
-/// The word.
-pub const WORD: Word = Word {
-    name: "replay",
-    line: "Tells what a trace of accesses meets after scripts",
-    about: "Replays a trace of accesses after the scripts, on the frames of their machine, where \
-no page is placed yet: the first touch of a page places it on the first node of its list that has \
-a frame left, and later accesses go to where it lies. Tells, by task and in all, how many \
-accesses went to which node (N0=) and over which distance (D10=), how many faults placed a page \
-and how many found no frame, and how many accesses those made. A line of the trace is TASK \
-ADDRESS CPU [COUNT], in decimal or 0x; an empty line or one that begins with # says nothing. \
-Script lines that are faulty or refused are told on standard error as by `check`, and passed \
-over. The status is 3 where no machine is ready after the scripts, or a line of the trace can't \
-be replayed.",
-    more: "Example, from the top of the repository:\n  ./numaplan replay --trace \
-examples/replayed.trace examples/interleaved-range.numaplan",
-    arguments: &[TRACE, FORMAT, FILES],
-};
-
-/// The format of this name.
-fn format_of(name: Option<&str>) -> Shape {
-    match name {
-        Some("json") => Shape::Json,
-        _ => Shape::Text,
-    }
-}
-
-/// What its words ask for.
-pub fn work(alloc: Global, matches: &ArgMatches<'_>) -> Result<Work, JobFault> {
-    let trace = files::texts_of(alloc, matches, "trace")?;
-    let format = format_of(matches.get_str("format"));
-    Ok(Work::Replay { trace, format })
-}
 
 /// Replays a trace of this name after scripts.
 fn replay<R, S, T>(

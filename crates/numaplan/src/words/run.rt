@@ -1,35 +1,12 @@
-//! `numaplan run [FILE]..`: answers scripts.
+//! Answers scripts.
 use crate::answering::Answering;
 use crate::endings::{fail, stop};
 use crate::files;
-use crate::words::usage::{Argument, FILES, Takes, Word};
 use numa_files::{Echo, Joined, Lines, Stop, read_all};
 use numa_script::{RunFault, Watched};
 use std::io;
 use std::io::Read;
 use std::process::ExitCode;
-
-/// The option `--echo`.
-const ECHO: Argument = Argument {
-    name: "echo",
-    value: "",
-    help: "Writes each line of the script, and its answer behind `=> `",
-    is_required: false,
-    takes: Takes::Nothing,
-};
-
-/// The word.
-pub const WORD: Word = Word {
-    name: "run",
-    line: "Answers the scripts of files, or of standard input",
-    about: "Answers a script. The script is read from the files in turn, or from standard input, \
-and its answers are written to standard output: one line for each line of the script, but none \
-for an empty line or a comment, and for `maps` one for each range.",
-    more: "Example, from the top of the repository:\n  ./numaplan run \
-examples/first-run.numaplan\n\nThe language of scripts is told in docs/SCRIPT.md of the \
-repository.",
-    arguments: &[ECHO, FILES],
-};
 
 /// Answers what these readers hold, as one script.
 fn answer_sources<R, S>(rt: &R, sources: Vec<S>) -> Result<(), RunFault>

@@ -1,0 +1,70 @@
+//! What the program is asked to do.
+use numa_reports::{Format, FreePages, Touch};
+use numa_traces::Shape;
+use std::alloc::{AllocError, Global};
+
+/// What is asked of pages that a task would touch.
+#[derive(Drop)]
+pub enum Question {
+    /// Where pages would go, where nodes are named in `free`, with so many free pages on these.
+    Predict {
+        format: Format,
+        free: Vec<FreePages>,
+    },
+    /// Which pages would go elsewhere if these lines were added to the scripts.
+    Diff(Vec<String>),
+    /// Why this page goes where it goes.
+    Explain(u64),
+}
+
+/// What is done with scripts, which are read in turn.
+#[derive(Drop)]
+pub enum Work {
+    /// To answer them; each line beside its answer, where `echo` says so.
+    Run { echo: bool },
+    /// To compare worked scripts with what their lines are answered.
+    Expect,
+    /// To tell what is wrong with them.
+    Check,
+    /// To answer a question about the state that they lead to.
+    Ask { asked: Touch, question: Question },
+    /// To replay the trace of the one file that `trace` names after them.
+    Replay { trace: Vec<String>, format: Shape },
+}
+
+/// What the program is asked to do.
+#[derive(Drop)]
+pub enum Job {
+    /// To do this with the scripts of these files, `-` being standard input, which is read where
+    /// none is named.
+    Scripts { files: Vec<String>, work: Work },
+    /// To let so many workers place pages while policies change.
+    Storm(u32),
+}
+
+/// Why there is no job, or it was not begun.
+#[derive(Drop)]
+pub enum JobFault {
+    /// Help, or the version, was asked for: its text.
+    Help(String),
+    /// The command line is faulty: what to tell.
+    Usage(String),
+    /// There was no memory.
+    NoMemory,
+}
+
+impl JobFault {
+    /// A faulty command line, and what to tell.
+    pub fn usage(alloc: Global, words: &str) -> JobFault {
+        match String::from_str(alloc, words) {
+            Ok(text) => JobFault::Usage(text),
+            Err(_) => JobFault::NoMemory,
+        }
+    }
+}
+
+impl From<AllocError> for JobFault {
+    fn from(_error: AllocError) -> JobFault {
+        JobFault::NoMemory
+    }
+}

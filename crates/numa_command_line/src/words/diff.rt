@@ -1,0 +1,37 @@
+//! `numaplan diff --task T --cpu C --then LINE [FILE]..`: tells which pages would go elsewhere.
+use crate::jobs::{JobFault, Question, Work};
+use crate::texts;
+use crate::usage::{Argument, FILES, Takes, Word};
+use crate::words::asked;
+use crate::words::asked::{CPU, TASK};
+use clap::ArgMatches;
+use std::alloc::Global;
+
+/// The option `--then LINE`.
+const THEN: Argument = Argument {
+    name: "then",
+    value: "LINE",
+    help: "A script line that is added; several in turn",
+    is_required: true,
+    takes: Takes::Texts,
+};
+
+/// The word.
+pub const WORD: Word = Word {
+    name: "diff",
+    line: "Tells which pages would go elsewhere if lines were added to scripts",
+    about: "Tells which pages would go to another node if script lines were added to the scripts, \
+and a task touched each of them on a CPU of one node: for each span of pages of which some do, \
+how many from which node to which, and in all. Pages that are mapped only before or only after \
+are left out. Lines that are faulty or refused are told on standard error as by `check`, and \
+passed over. The status is 3 where no machine is ready after the scripts.",
+    more: "Example, from the top of the repository:\n  ./numaplan diff --task 1 --cpu 0 --then \
+'mems 0' examples/homes.numaplan",
+    arguments: &[TASK, CPU, THEN, FILES],
+};
+
+/// What its words ask for.
+pub fn work(alloc: Global, matches: &ArgMatches<'_>) -> Result<Work, JobFault> {
+    let lines = texts::texts_of(alloc, matches, "then")?;
+    asked::work(alloc, matches, Question::Diff(lines))
+}

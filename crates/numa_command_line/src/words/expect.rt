@@ -1,0 +1,26 @@
+//! `numaplan expect FILE..`: compares worked scripts with what their lines are answered.
+use crate::usage::{Argument, Takes, Word};
+
+/// The argument `FILE..`.
+const WORKED: Argument = Argument {
+    name: "FILE",
+    value: "",
+    help: "Worked scripts; - is standard input",
+    is_required: true,
+    takes: Takes::Files,
+};
+
+/// The word.
+pub const WORD: Word = Word {
+    name: "expect",
+    line: "Compares the answers that scripts hold with those that they get",
+    about: "Answers worked scripts, which hold the answers that are wanted as `run --echo` writes \
+them, and tells each answer that is another. Each file is a script of its own. A line holds a \
+script line and its answer, as LINE => ANSWER, or a script line alone, or, behind `=> `, the next \
+line of the answer to the script line above; a script line of which no answer stands there is \
+carried out and not compared. The last line on standard output counts the lines of answers: as \
+wanted, not so, and not compared.",
+    more: "The status is 0 where all are as wanted, and else 3.\n\nExample, from the top of the \
+repository:\n  ./numaplan expect examples/*.answers",
+    arguments: &[WORKED],
+};

@@ -1,0 +1,46 @@
+//! `numaplan explain --task T --cpu C ADDRESS [FILE]..`: tells why a page goes where it goes.
+use crate::jobs::{JobFault, Question, Work};
+use crate::usage::{Argument, FILES, Takes, Word};
+use crate::words::asked;
+use crate::words::asked::{CPU, TASK};
+use clap::ArgMatches;
+use numa_script::number::number;
+use std::alloc::Global;
+
+/// What is told where the address is faulty.
+const BAD_ADDRESS: &str =
+    "error: '<ADDRESS>' takes a number below 2^64, decimal or 0x and hexadecimal\n\nFor more \
+information, try '--help'.\n";
+
+/// The argument `ADDRESS`.
+const ADDRESS: Argument = Argument {
+    name: "ADDRESS",
+    value: "",
+    help: "An address of the page, in bytes",
+    is_required: true,
+    takes: Takes::Bare,
+};
+
+/// The word.
+pub const WORD: Word = Word {
+    name: "explain",
+    line: "Tells why a page goes where it goes",
+    about: "Tells why memory for a page is looked for on its nodes, if a task touched the page \
+now on a CPU of one node: in six lines the nodes in order, the range with the page's index, which \
+policy counts and why the other doesn't, the sets of nodes, the rule that chose the first node \
+with its arithmetic, and the order of the others with their distances. Lines that are faulty or \
+refused are told on standard error as by `check`, and passed over. The status is 3 where no \
+machine is ready after the scripts.",
+    more: "Example, from the top of the repository:\n  ./numaplan explain --task 1 --cpu 3 \
+0x32000 examples/interleaved-range.numaplan",
+    arguments: &[TASK, CPU, ADDRESS, FILES],
+};
+
+/// What its words ask for.
+pub fn work(alloc: Global, matches: &ArgMatches<'_>) -> Result<Work, JobFault> {
+    let word = matches.get_str("ADDRESS").unwrap_or("");
+    match number(word.as_bytes()) {
+        Some(address) => asked::work(alloc, matches, Question::Explain(address / 4096)),
+        None => Err(JobFault::usage(alloc, BAD_ADDRESS)),
+    }
+}

@@ -1,0 +1,24 @@
+//! `numaplan run [FILE]..`: answers scripts.
+use crate::usage::{Argument, FILES, Takes, Word};
+
+/// The option `--echo`.
+const ECHO: Argument = Argument {
+    name: "echo",
+    value: "",
+    help: "Writes each line of the script, and its answer behind `=> `",
+    is_required: false,
+    takes: Takes::Nothing,
+};
+
+/// The word.
+pub const WORD: Word = Word {
+    name: "run",
+    line: "Answers the scripts of files, or of standard input",
+    about: "Answers a script. The script is read from the files in turn, or from standard input, \
+and its answers are written to standard output: one line for each line of the script, but none \
+for an empty line or a comment, and for `maps` one for each range.",
+    more: "Example, from the top of the repository:\n  ./numaplan run \
+examples/first-run.numaplan\n\nThe language of scripts is told in docs/SCRIPT.md of the \
+repository.",
+    arguments: &[ECHO, FILES],
+};

@@ -1,0 +1,79 @@
+-- What a trace meets on a machine, by a plan. A trace is the list of its accesses, the newest
+-- first.
+use Rattle.std.specs.Prelude.{◌≡◌, ℕ, ◌<◌, Bool, not, is_some, Some, None, List, [], ◌∷◌}
+use Rattle.std.specs.Prelude.{slice_index, unwrap_or, if◌then◌else◌}
+use Rattle.numa_machine.specs.Machine.{Hardware, frames_of}
+use Rattle.numa_plan.specs.Meaning.{PlanData, place_refusal, planned_list}
+use Rattle.numa_traces.specs.Placing.{Frames, node_of, frames_with_page}
+use Rattle.numa_traces.specs.Tallies.{IsFull, Tallied, Way, is_way, no_accesses, tally_at}
+use Rattle.numa_traces.specs.Tallies.{with_accesses}
+use Rattle.numa_traces.specs.declared.access.Access.{Access}
+use Rattle.numa_traces.specs.declared.fault.ReplayFault.{ReplayFault}
+use Rattle.numa_traces.specs.declared.fault.ReplayFault.TheVariants.{Malformed, Refused}
+use Rattle.numa_traces.specs.declared.fault.ReplayFault.TheVariants.{TooMany, NoMemory}
+use Rattle.numa_traces.specs.declared.tallies.Tally.{Tally}
+
+-- no page is placed, and every frame is free
+pub record IsFresh (machine : Hardware) (frames : Frames) : Type 0 where
+  pub pages : frames.pages ≡ []
+  pub free : (node : ℕ) → node < machine.nodes
+      → slice_index frames.free node ≡ frames_of machine node
+
+-- the frames after a trace: each access touches its page, whose list is the plan's
+abbrev pub frames_after : PlanData → Frames → List Access → Frames
+frames_after plan start [] = start
+frames_after plan start (access ∷ trace) =
+    frames_with_page (frames_after plan start trace) access.page
+    (unwrap_or (planned_list plan access.task access.page access.cpu) [])
+
+-- whether an access is a fault: its page isn't placed
+abbrev pub is_first : Frames → Access → Bool
+is_first frames access = not (is_some (node_of frames.pages access.page))
+
+-- the way of an access: to the node on which its page lies once it is touched
+abbrev pub way_from : PlanData → Frames → Access → Way
+way_from plan frames access = (
+  access.task,
+  access.cpu,
+  node_of (frames_with_page frames access.page
+      (unwrap_or (planned_list plan access.task access.page access.cpu) [])).pages access.page,
+)
+
+-- the same after a trace
+abbrev pub is_fault : PlanData → Frames → List Access → Access → Bool
+is_fault plan start trace access = is_first (frames_after plan start trace) access
+
+abbrev pub way_of : PlanData → Frames → List Access → Access → Way
+way_of plan start trace access = way_from plan (frames_after plan start trace) access
+
+-- the accesses of a trace that went a way, and how many of them were faults
+abbrev pub tally_of : PlanData → Frames → List Access → Way → Tally
+tally_of plan start [] way = no_accesses
+tally_of plan start (access ∷ trace) way =
+    if is_way (way_of plan start trace access) way
+    then with_accesses (tally_of plan start trace way) access.count
+    (is_fault plan start trace access)
+    else tally_of plan start trace way
+
+-- the frames, and how many accesses went which way
+pub record Replayed : Type 0 where
+  pub frames : Frames
+  pub tallies : Tallied
+
+-- a trace was replayed from a fresh machine
+pub record IsReplay (machine : Hardware) (plan : PlanData) (trace : List Access) (met : Replayed)
+    : Type 0 where
+  pub start : Frames
+  pub fresh : IsFresh machine start
+  pub frames : met.frames ≡ frames_after plan start trace
+  pub tallies : (way : Way) → tally_at met.tallies way ≡ tally_of plan start trace way
+
+-- why an access that was read can't be replayed: the plan refuses it, for this cause; else a number
+-- of its way would pass 2^64 - 1, or there was no memory
+abbrev pub EndsReplay : PlanData → Replayed → Access → ReplayFault → Type 0
+EndsReplay plan met access (Malformed fault) = ⊥
+EndsReplay plan met access (Refused refusal) =
+    place_refusal plan access.page access.cpu ≡ Some refusal
+EndsReplay plan met access TooMany = (place_refusal plan access.page access.cpu ≡ None)
+    × IsFull met.tallies (way_from plan met.frames access) access.count (is_first met.frames access)
+EndsReplay plan met access NoMemory = place_refusal plan access.page access.cpu ≡ None

@@ -1,0 +1,25 @@
+//! Traces of accesses that are replayed: where each page is placed when it is first touched, and
+//! how many accesses go where.
+//!
+//! A [`Memory`] has the frames of a machine and the pages that lie in them. A [`Replay`] takes the
+//! accesses of a trace in turn: the first touch of a page places it on the first node of its list
+//! that has a frame left, and later accesses go there, whichever task makes them. [`replay_lines`]
+//! reads a trace from a reader.
+#![tactic(auto)]
+
+mod access;
+mod fault;
+mod memory;
+mod reading;
+mod replay;
+mod report;
+mod summary;
+mod tallies;
+
+pub use access::{Access, read_access};
+pub use fault::{AccessFault, ReplayFault};
+pub use memory::Memory;
+pub use reading::{Replaying, replay_lines};
+pub use replay::Replay;
+pub use report::{Shape, report_text};
+pub use tallies::{Tallies, Tally, Way};

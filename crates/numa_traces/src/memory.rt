@@ -1,0 +1,99 @@
+//! The frames of a machine, and the pages that lie in them.
+ghost use Rattle.std.specs.Prelude.{◌≡◌, ◌<◌, ℕ, IfOk, OnOk, OnErr, None, [], slice_index};
+ghost use Rattle.numa_machine.specs.Machine.{frames_of};
+ghost use Rattle.numa_traces.specs.Placing.{first_free, node_of, frames_with_page};
+
+use numa_machine::Machine;
+use std::alloc::{AllocError, Global};
+use std::collections::BTreeMap;
+use std::marker::Model;
+
+/// How many frames each node has left, and on which node each placed page lies.
+#[derive(Drop)]
+pub struct Memory {
+    nodes: BTreeMap<u64, u8>,
+    free: Vec<u32>,
+}
+
+impl Model for Memory {
+    ghost use Rattle.numa_traces.specs.Placing.{Frames};
+
+    ghost Value = { Frames };
+
+    ghost view = { λ a. record { pages = a.nodes.entries; free = a.free.items } };
+}
+
+/// How many frames each node of a machine has.
+fn all_frames(alloc: Global, machine: &Machine) -> Result<Vec<u32>, AllocError>
+    ensures { IfOk result (λ frames. (node : ℕ) → node < machine.now.nodes
+        → slice_index frames.items node ≡ frames_of machine.now node) }
+{
+    let mut frames = Vec::new(alloc);
+    for node in 0..machine.nodes() {
+        if let Err(_) = frames.push(machine.frames(node)) {
+            return Err(AllocError);
+        }
+    }
+    Ok(frames)
+}
+
+impl Memory {
+    /// The memory of a machine on which no page is placed.
+    pub fn new(alloc: Global, machine: &Machine) -> Result<Memory, AllocError>
+        ensures pages { IfOk result (λ memory. memory.pages ≡ []) }
+        ensures free { IfOk result (λ memory. (node : ℕ) → node < machine.now.nodes
+            → slice_index memory.free node ≡ frames_of machine.now node) }
+    {
+        let free = all_frames(alloc, machine)?;
+        Ok(Memory {
+            nodes: BTreeMap::new(alloc),
+            free,
+        })
+    }
+
+    /// The node on which a page lies, where it is placed.
+    pub fn node_of(&self, page: u64) -> Option<u8>
+        ensures { result ≡ node_of self.now.pages page }
+    {
+        self.nodes.get(&page).copied()
+    }
+
+    /// How many frames a node has left.
+    fn frames_left(&self, node: u8) -> u32
+        ensures { result ≡ slice_index self.now.free node }
+    {
+        self.free.get(usize::from(node)).copied().unwrap_or(0)
+    }
+
+    /// The first node of a list that has a frame left.
+    fn first_free(&self, nodes: &[u8]) -> Option<u8>
+        ensures { result ≡ first_free self.now.free nodes.now }
+    {
+        for node in nodes {
+            if self.frames_left(*node) > 0 {
+                return Some(*node);
+            }
+        }
+        None
+    }
+
+    /// Places a page that isn't placed yet on the first node of its list that has a frame left.
+    /// None where no node of the list has one, and then nothing has changed, as where there was no
+    /// memory for the page's place.
+    pub fn place(&mut self, page: u64, nodes: &[u8]) -> Result<Option<u8>, AllocError>
+        requires { node_of self.old.pages page ≡ None }
+        ensures node { IfOk result (λ node. node ≡ first_free self.old.free nodes.now) }
+        ensures lies { IfOk result (λ node. node_of self.new.pages page ≡ node) }
+        ensures placed { OnOk result (self.new ≡ frames_with_page self.old page nodes.now) }
+        ensures unchanged { OnErr result (self.new ≡ self.old) }
+    {
+        let Some(node) = self.first_free(nodes) else {
+            return Ok(None);
+        };
+        if let Err(_) = self.nodes.insert(page, node) {
+            return Err(AllocError);
+        }
+        self.free[usize::from(node)] -= 1;
+        Ok(Some(node))
+    }
+}

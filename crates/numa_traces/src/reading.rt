@@ -1,0 +1,109 @@
+//! Traces that are read, line by line.
+ghost use Rattle.std.specs.Prelude.{◌≡◌, None, IfOk, IfErr, IsSome, OnOk};
+ghost use Rattle.numa_files.specs.declared.reading.Stop.TheVariants as stop;
+ghost use Rattle.numa_traces.specs.Accesses.{access_of};
+ghost use Rattle.numa_traces.specs.Reading.{EndsAtLine, IsBegun, ReplaysLine, TakesLine};
+ghost use Rattle.numa_traces.specs.declared.fault.ReplayFault.TheVariants as fault;
+
+use crate::access::read_access;
+use crate::fault::ReplayFault;
+use crate::replay::Replay;
+use numa_files::{Lines, Stop, TakeLine, read_all};
+use numa_machine::Machine;
+use numa_plan::Plan;
+use std::alloc::{AllocError, Global};
+use std::io::Read;
+
+/// The lines of a trace, replayed by a plan up to the first one that can't be.
+#[derive(Drop)]
+pub struct Replaying<'a> {
+    plan: &'a Plan,
+    replay: Replay,
+    // The first line that can't be replayed, and why.
+    fault: Option<(u64, ReplayFault)>,
+}
+
+impl<'a> Replaying<'a> {
+    /// Before the first line: no page of the machine is placed. The plan is the machine's.
+    pub fn new(
+        alloc: Global,
+        machine: &Machine,
+        plan: &'a Plan,
+    ) -> Result<Replaying<'a>, AllocError>
+        ensures { IfOk result (IsBegun machine.now plan.now) }
+    {
+        match Replay::new(alloc, machine) {
+            Ok(replay) => Ok(Replaying {
+                plan,
+                replay,
+                fault: None,
+            }),
+            Err(fault) => Err(fault),
+        }
+    }
+
+    /// The replay of the lines so far, or of those before the first fault.
+    pub fn replay(&self) -> &Replay
+        ensures { result.now ≡ self.now.replay }
+    {
+        &self.replay
+    }
+
+    /// The first line that can't be replayed, from 1, and why.
+    pub fn fault(&self) -> Option<(u64, ReplayFault)>
+        ensures { result ≡ self.now.fault }
+    {
+        self.fault
+    }
+
+    /// Takes the access of a line.
+    fn take_access(&mut self, line: &[u8]) -> Result<(), ReplayFault>
+        ensures ok { OnOk result (ReplaysLine (access_of line.now) self.old self.new) }
+        ensures err { IfErr result (EndsAtLine (access_of line.now) self.old) }
+    {
+        match read_access(line) {
+            Err(fault) => Err(ReplayFault::Malformed(fault)),
+            Ok(None) => Ok(()),
+            Ok(Some(access)) => self.replay.take(self.plan, access),
+        }
+    }
+}
+
+impl TakeLine for Replaying<'_> {
+    fn take(&mut self, _name: &str, place: u64, line: &[u8]) -> Result<(), Stop>
+        ensures over { IsSome self.old.fault → OnOk result (self.new ≡ self.old) }
+        ensures next { self.old.fault ≡ None → OnOk result
+            (TakesLine place (access_of line.now) self.old self.new) }
+        ensures stop { IfErr result (λ why. (why ≡ stop.Memory)
+            × EndsAtLine (access_of line.now) self.old fault.NoMemory) }
+    {
+        if let Some(_) = self.fault {
+            return Ok(());
+        }
+        match self.take_access(line) {
+            Ok(()) => Ok(()),
+            Err(ReplayFault::NoMemory) => Err(Stop::Memory),
+            Err(fault) => {
+                self.fault = Some((place, fault));
+                Ok(())
+            }
+        }
+    }
+}
+
+/// Reads a trace and replays its lines, up to the first one that can't be.
+///
+/// # Errors
+/// Where a read failed, or there was no memory.
+pub fn replay_lines<'a, R: Read + Drop>(
+    alloc: Global,
+    trace: Vec<(String, R)>,
+    replaying: Replaying<'a>,
+) -> Result<Replaying<'a>, Stop> {
+    let mut lines = Lines::new(alloc, replaying);
+    if let Err(why) = read_all(trace, &mut lines) {
+        drop(lines);
+        return Err(why);
+    }
+    Ok(lines.taker)
+}

@@ -1,0 +1,89 @@
+//! A trace that is replayed, access by access.
+ghost use Rattle.std.specs.Prelude.{◌≡◌, ◌<◌, ◌∷◌, [], List, Some, IfOk, IfErr, OnOk};
+ghost use Rattle.numa_machine.specs.Machine.{Hardware};
+ghost use Rattle.numa_plan.specs.Meaning.{PlanData, place_refusal, planned_list};
+ghost use Rattle.numa_traces.specs.Replaying.{EndsReplay, IsReplay};
+ghost use Rattle.numa_traces.specs.declared.access.Access.{Access};
+
+use crate::access::Access;
+use crate::fault::ReplayFault;
+use crate::memory::Memory;
+use crate::tallies::Tallies;
+use numa_machine::Machine;
+use numa_plan::{Plan, Steps};
+use numa_space::PlaceRefusal;
+use std::alloc::{AllocError, Global};
+use std::marker::Model;
+
+/// A trace that is replayed.
+#[derive(Drop)]
+pub struct Replay {
+    memory: Memory,
+    tallies: Tallies,
+}
+
+impl Model for Replay {
+    ghost use Rattle.numa_traces.specs.Replaying.{Replayed};
+
+    ghost Value = { Replayed };
+
+    ghost view = { λ a. record { frames = a.memory; tallies = a.tallies } };
+}
+
+/// The nodes on which the first touch of an access looks for a frame.
+fn nodes_for(plan: &Plan, access: Access) -> Result<&[u8], PlaceRefusal>
+    ensures ok { IfOk result (λ row. (access.cpu < plan.now.nodes)
+        × (planned_list plan.now access.task access.page access.cpu ≡ Some row.now)) }
+    ensures err { IfErr result (λ refusal. place_refusal plan.now access.page access.cpu
+        ≡ Some refusal) }
+{
+    plan.choice(access.task, access.page, access.cpu, &mut Steps::new())
+}
+
+impl Replay {
+    /// Before the first access: no page is placed.
+    pub fn new(alloc: Global, machine: &Machine) -> Result<Replay, AllocError>
+        ensures { (plan : PlanData) → IfOk result (IsReplay machine.now plan []) }
+    {
+        let memory = Memory::new(alloc, machine)?;
+        Ok(Replay {
+            memory,
+            tallies: Tallies::new(alloc),
+        })
+    }
+
+    /// How many accesses went which way.
+    pub fn tallies(&self) -> &Tallies
+        ensures { result.now ≡ self.now.tallies }
+    {
+        &self.tallies
+    }
+
+    /// Takes an access: where its page isn't placed, its first touch places it by the plan.
+    ///
+    /// # Errors
+    /// `Refused` where the plan has no such node, else where the page isn't mapped; else `TooMany`
+    /// where a count would pass 2^64 - 1, `NoMemory` where there was none. The replay has ended
+    /// then.
+    pub fn take(&mut self, plan: &Plan, access: Access) -> Result<(), ReplayFault>
+        ensures ok { (machine : Hardware) (trace : List Access)
+            → IsReplay machine plan.now trace self.old
+            → OnOk result (IsReplay machine plan.now (access ∷ trace) self.new) }
+        ensures err { IfErr result (EndsReplay plan.now self.old access) }
+    {
+        let (task, page, cpu) = (access.task, access.page, access.cpu);
+        let list = match nodes_for(plan, access) {
+            Ok(list) => list,
+            Err(refusal) => return Err(ReplayFault::Refused(refusal)),
+        };
+        if let Some(node) = self.memory.node_of(page) {
+            return self
+                .tallies
+                .add((task, cpu, Some(node)), access.count, false);
+        }
+        let Ok(node) = self.memory.place(page, list) else {
+            return Err(ReplayFault::NoMemory);
+        };
+        self.tallies.add((task, cpu, node), access.count, true)
+    }
+}

@@ -1,0 +1,239 @@
+//! What a replayed trace met, as text or JSON.
+use crate::replay::Replay;
+use crate::summary::Summary;
+use crate::tallies::{Tally, Way};
+use numa_machine::Machine;
+use numa_reports::{Object, Written};
+use serde_json::Value;
+use std::alloc::{AllocError, Global};
+
+/// How a report is written.
+#[derive(Clone, Copy)]
+pub enum Shape {
+    /// A line for each task, and one for all.
+    Text,
+    /// One JSON object (RFC 8259).
+    Json,
+}
+
+/// What tells the parts of a summary. Once there was no memory for one, no more is told.
+trait Tell {
+    /// Tells a number under its name.
+    fn tell_number(&mut self, name: &str, number: u64);
+
+    /// Tells each count that isn't 0, with its number: by the names of all and of one, or in a form
+    /// with both.
+    fn tell_counts(&mut self, all: &str, one: &str, form: &[u8], counts: &[u64; 256]);
+}
+
+/// Tells what a task met, or all.
+fn tell_summary<T: Tell>(teller: &mut T, said: &Summary) {
+    teller.tell_number("accesses", said.accesses);
+    teller.tell_counts("nodes", "node", b" N$=$", &said.nodes);
+    teller.tell_counts("distances", "distance", b" D$=$", &said.distances);
+    teller.tell_number("placed", said.placed);
+    teller.tell_number("exhausted", said.exhausted);
+    teller.tell_number("unserved", said.unserved);
+}
+
+impl Tell for Written {
+    fn tell_number(&mut self, name: &str, number: u64) {
+        self.put(b" ");
+        self.put(name.as_bytes());
+        self.put(b"=");
+        self.put_number(number);
+    }
+
+    fn tell_counts(&mut self, _all: &str, _one: &str, form: &[u8], counts: &[u64; 256]) {
+        for number in 0..256 {
+            if counts[number] > 0 {
+                self.put_form(form, &[number as u64, counts[number]]);
+            }
+        }
+    }
+}
+
+/// A count, with its number under this name.
+fn count_value(alloc: Global, name: &str, number: usize, count: u64) -> Result<Value, AllocError> {
+    let mut object = Object::new(alloc);
+    object.put_number(name, number as u64);
+    object.put_number("accesses", count);
+    object.made()
+}
+
+/// Appends each count that isn't 0, with its number under this name.
+fn push_values(
+    alloc: Global,
+    items: &mut Vec<Value>,
+    name: &str,
+    counts: &[u64; 256],
+) -> Result<(), AllocError> {
+    for number in 0..256 {
+        if counts[number] > 0 {
+            items.push(count_value(alloc, name, number, counts[number])?)?;
+        }
+    }
+    Ok(())
+}
+
+/// The counts that aren't 0, each with its number under this name.
+fn count_values(alloc: Global, name: &str, counts: &[u64; 256]) -> Result<Value, AllocError> {
+    let mut items = Vec::new(alloc);
+    match push_values(alloc, &mut items, name, counts) {
+        Ok(()) => Ok(Value::from(items)),
+        Err(fault) => {
+            drop(items);
+            Err(fault)
+        }
+    }
+}
+
+impl Tell for Object {
+    fn tell_number(&mut self, name: &str, number: u64) {
+        self.put_number(name, number);
+    }
+
+    fn tell_counts(&mut self, all: &str, one: &str, _form: &[u8], counts: &[u64; 256]) {
+        self.put(all, count_values(self.alloc(), one, counts));
+    }
+}
+
+/// The object of a task, or of all.
+fn summary_text(alloc: Global, task: Option<u32>, said: &Summary) -> Result<Vec<u8>, AllocError> {
+    let mut object = Object::new(alloc);
+    if let Some(task) = task {
+        object.put_number("task", task as u64);
+    }
+    tell_summary(&mut object, said);
+    match object.made() {
+        Ok(value) => value.to_vec(alloc),
+        Err(fault) => Err(fault),
+    }
+}
+
+/// A report that is being written.
+#[derive(Drop)]
+struct Sheet {
+    format: Shape,
+    written: Written,
+    // The task whose accesses are added up, if there is one, and what stands before its object.
+    task: Option<u32>,
+    before: &'static str,
+    of_task: Summary,
+    of_all: Summary,
+}
+
+/// Says an object of a task, or of all.
+fn say_object(written: &mut Written, task: Option<u32>, said: &Summary) {
+    match summary_text(written.alloc(), task, said) {
+        Ok(object) => written.put(object.as_slice()),
+        Err(_) => written.lack(),
+    }
+}
+
+/// Says a line of a task, or of all, behind these words.
+fn say_line(written: &mut Written, said: &Summary) {
+    tell_summary(written, said);
+    written.put(b"\n");
+}
+
+impl Sheet {
+    /// Before the first task.
+    fn new(alloc: Global, format: Shape) -> Sheet {
+        Sheet {
+            format,
+            written: Written::new(alloc),
+            task: None,
+            before: "\n",
+            of_task: Summary::new(),
+            of_all: Summary::new(),
+        }
+    }
+
+    /// Says the task whose accesses are added up, if there is one.
+    fn end_task(&mut self) {
+        let Some(task) = self.task else {
+            return;
+        };
+        let written = &mut self.written;
+        match self.format {
+            Shape::Text => {
+                written.put_form(b"task $", &[task as u64]);
+                say_line(written, &self.of_task);
+            }
+            Shape::Json => {
+                written.put(self.before.as_bytes());
+                self.before = ",\n";
+                say_object(written, Some(task), &self.of_task);
+            }
+        }
+    }
+
+    /// Adds the accesses that went a way; those of a task stand together.
+    fn add(&mut self, machine: &Machine, way: &Way, tally: &Tally) {
+        let (task, cpu, node) = *way;
+        if self.task != Some(task) {
+            self.end_task();
+            self.task = Some(task);
+            self.of_task = Summary::new();
+        }
+        let place = place_of(machine, cpu, node);
+        self.of_task.add(place, tally);
+        self.of_all.add(place, tally);
+    }
+
+    /// Says what all tasks met.
+    fn end(&mut self) {
+        self.end_task();
+        let written = &mut self.written;
+        match self.format {
+            Shape::Text => {
+                written.put(b"total");
+                say_line(written, &self.of_all);
+            }
+            Shape::Json => {
+                written.put(b"\n],\"total\":");
+                say_object(written, None, &self.of_all);
+                written.put(b"}\n");
+            }
+        }
+    }
+
+    /// Says what a replayed trace met.
+    fn say(&mut self, machine: &Machine, replay: &Replay) {
+        if let Shape::Json = self.format {
+            self.written.put(b"{\"tasks\":[");
+        }
+        for (way, tally) in replay.tallies().iter() {
+            self.add(machine, way, tally);
+        }
+        self.end();
+    }
+}
+
+/// Where the page of an access lies, and how far that is from the CPU's node; both nodes are the
+/// machine's.
+fn place_of(machine: &Machine, cpu: u32, node: Option<u8>) -> Option<(u8, u8)> {
+    let Some(node) = node else {
+        return None;
+    };
+    let nodes = machine.nodes();
+    if cpu < nodes && (node as u32) < nodes {
+        return Some((node, machine.distance(cpu, node as u32)));
+    }
+    Some((node, 255))
+}
+
+/// What a replayed trace met, by task and in all: the accesses by the page's node and by its
+/// distance from the CPU's, the faults that placed a page and those that found no frame, and the
+/// accesses that went nowhere for that. The machine is that of the replay.
+pub fn report_text(
+    alloc: Global,
+    machine: &Machine,
+    replay: &Replay,
+    format: Shape,
+) -> Result<Vec<u8>, AllocError> {
+    let mut sheet = Sheet::new(alloc, format);
+    sheet.say(machine, replay);
+    sheet.written.take()
+}
