@@ -5,7 +5,7 @@ ghost use Rattle.numa_command_line.specs.Jobs.{CanBeDone};
 use crate::jobs::{Job, JobFault, Work};
 use crate::texts;
 use crate::usage::with_word;
-use crate::words::{all_words, diff, explain, predict, replay, storm};
+use crate::words::{WORD_COUNT, diff, explain, predict, replay, storm, word_at};
 use clap::error::ErrorKind;
 use clap::{ArgMatches, Command, Error};
 use std::alloc::{AllocError, Global};
@@ -68,8 +68,8 @@ fn bare_program<'a>(alloc: Global) -> Command<'a> {
 /// The commands that the program knows.
 fn command<'a>(alloc: Global) -> Result<Command<'a>, AllocError> {
     let mut program = bare_program(alloc);
-    for word in all_words() {
-        program = with_word(alloc, program, word)?;
+    for place in 0..WORD_COUNT {
+        program = with_word(alloc, program, word_at(place))?;
     }
     Ok(program)
 }

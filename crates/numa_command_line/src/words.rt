@@ -12,19 +12,19 @@ pub mod storm;
 
 use crate::usage::Word;
 
-/// All words, in the order in which help names them.
-static WORDS: [Word; 8] = [
-    run::WORD,
-    check::WORD,
-    expect::WORD,
-    predict::WORD,
-    diff::WORD,
-    explain::WORD,
-    replay::WORD,
-    storm::WORD,
-];
+/// How many words there are.
+pub const WORD_COUNT: usize = 8;
 
-/// All words. (What the list holds would stand in every goal of a caller that named it.)
-pub fn all_words() -> &'static [Word] {
-    &WORDS
+/// The words, in the order in which help names them, from 0 on.
+pub fn word_at(place: usize) -> &'static Word {
+    match place {
+        0 => run::word(),
+        1 => check::word(),
+        2 => expect::word(),
+        3 => predict::word(),
+        4 => diff::word(),
+        5 => explain::word(),
+        6 => replay::word(),
+        _ => storm::word(),
+    }
 }

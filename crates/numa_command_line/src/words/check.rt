@@ -1,8 +1,8 @@
 //! `numaplan check [FILE]..`: tells what is wrong with scripts.
 use crate::usage::{FILES, Word};
 
-/// The word.
-pub const WORD: Word = Word {
+/// What is said of the word.
+static WORD: Word = Word {
     name: "check",
     line: "Tells what is wrong with scripts, and what to do about it",
     about: "Tells what is wrong with scripts, and writes no answers. For each line that `run` \
@@ -13,3 +13,8 @@ while none is ready are counted at the end. The status is 3 where anything was t
 examples/why-refused.numaplan",
     arguments: &[FILES],
 };
+
+/// The word.
+pub fn word() -> &'static Word {
+    &WORD
+}

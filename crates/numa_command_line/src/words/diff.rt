@@ -16,8 +16,8 @@ const THEN: Argument = Argument {
     takes: Takes::Texts,
 };
 
-/// The word.
-pub const WORD: Word = Word {
+/// What is said of the word.
+static WORD: Word = Word {
     name: "diff",
     line: "Tells which pages would go elsewhere if lines were added to scripts",
     about: "Tells which pages would go to another node if script lines were added to the scripts, \
@@ -29,6 +29,11 @@ passed over. The status is 3 where no machine is ready after the scripts.",
 'mems 0' examples/homes.numaplan",
     arguments: &[TASK, CPU, THEN, FILES],
 };
+
+/// The word.
+pub fn word() -> &'static Word {
+    &WORD
+}
 
 /// What its words ask for.
 pub fn work(alloc: Global, matches: &ArgMatches<'_>) -> Result<Work, JobFault> {

@@ -10,8 +10,8 @@ const WORKED: Argument = Argument {
     takes: Takes::Files,
 };
 
-/// The word.
-pub const WORD: Word = Word {
+/// What is said of the word.
+static WORD: Word = Word {
     name: "expect",
     line: "Compares the answers that scripts hold with those that they get",
     about: "Answers worked scripts, which hold the answers that are wanted as `run --echo` writes \
@@ -24,3 +24,8 @@ wanted, not so, and not compared.",
 repository:\n  ./numaplan expect examples/*.answers",
     arguments: &[WORKED],
 };
+
+/// The word.
+pub fn word() -> &'static Word {
+    &WORD
+}

@@ -21,8 +21,8 @@ const ADDRESS: Argument = Argument {
     takes: Takes::Bare,
 };
 
-/// The word.
-pub const WORD: Word = Word {
+/// What is said of the word.
+static WORD: Word = Word {
     name: "explain",
     line: "Tells why a page goes where it goes",
     about: "Tells why memory for a page is looked for on its nodes, if a task touched the page \
@@ -35,6 +35,11 @@ machine is ready after the scripts.",
 0x32000 examples/interleaved-range.numaplan",
     arguments: &[TASK, CPU, ADDRESS, FILES],
 };
+
+/// The word.
+pub fn word() -> &'static Word {
+    &WORD
+}
 
 /// What its words ask for.
 pub fn work(alloc: Global, matches: &ArgMatches<'_>) -> Result<Work, JobFault> {

@@ -18,8 +18,8 @@ const FORMAT: Argument = Argument {
     takes: Takes::OneOf(&["text", "json", "csv", "svg"]),
 };
 
-/// The word.
-pub const WORD: Word = Word {
+/// What is said of the word.
+static WORD: Word = Word {
     name: "predict",
     line: "Tells where pages would go after scripts, if a task touched them",
     about: "Tells where all mapped pages would go after the scripts, if a task touched each of \
@@ -33,6 +33,11 @@ machine is ready after the scripts.",
 examples/homes.numaplan",
     arguments: &[TASK, CPU, FORMAT, FREE, FILES],
 };
+
+/// The word.
+pub fn word() -> &'static Word {
+    &WORD
+}
 
 /// The format of this name.
 fn format_of(name: Option<&str>) -> Format {

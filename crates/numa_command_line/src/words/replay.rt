@@ -24,8 +24,8 @@ const FORMAT: Argument = Argument {
     takes: Takes::OneOf(&["text", "json"]),
 };
 
-/// The word.
-pub const WORD: Word = Word {
+/// What is said of the word.
+static WORD: Word = Word {
     name: "replay",
     line: "Tells what a trace of accesses meets after scripts",
     about: "Replays a trace of accesses after the scripts, on the frames of their machine, where \
@@ -41,6 +41,11 @@ be replayed.",
 examples/replayed.trace examples/interleaved-range.numaplan",
     arguments: &[TRACE, FORMAT, FILES],
 };
+
+/// The word.
+pub fn word() -> &'static Word {
+    &WORD
+}
 
 /// The format of this name.
 fn format_of(name: Option<&str>) -> Shape {

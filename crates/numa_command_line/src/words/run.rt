@@ -10,8 +10,8 @@ const ECHO: Argument = Argument {
     takes: Takes::Nothing,
 };
 
-/// The word.
-pub const WORD: Word = Word {
+/// What is said of the word.
+static WORD: Word = Word {
     name: "run",
     line: "Answers the scripts of files, or of standard input",
     about: "Answers a script. The script is read from the files in turn, or from standard input, \
@@ -22,3 +22,8 @@ examples/first-run.numaplan\n\nThe language of scripts is told in docs/SCRIPT.md
 repository.",
     arguments: &[ECHO, FILES],
 };
+
+/// The word.
+pub fn word() -> &'static Word {
+    &WORD
+}

@@ -20,8 +20,8 @@ const WORKERS: Argument = Argument {
     takes: Takes::Text,
 };
 
-/// The word.
-pub const WORD: Word = Word {
+/// What is said of the word.
+static WORD: Word = Word {
     name: "storm",
     line: "Lets workers place pages while policies change, and compares each placement",
     about: "Lets K workers, each in a thread of its own, place 320 pages on a machine of 4 nodes \
@@ -33,6 +33,11 @@ status is 0 where all is as it must be whichever thread is first, and else 1.",
     more: "Example, from the top of the repository:\n  ./numaplan storm --workers 4",
     arguments: &[WORKERS],
 };
+
+/// The word.
+pub fn word() -> &'static Word {
+    &WORD
+}
 
 /// The job that its words ask for.
 pub fn job(alloc: Global, matches: &ArgMatches<'_>) -> Result<Job, JobFault>
