@@ -2,8 +2,9 @@
 use crate::finding::Detail;
 use crate::pages::{first_mapped, first_unmapped, first_without_home, is_mapped};
 use numa_core::{Core, CoreRefusal, Event};
+use numa_mask::ListFault;
 use numa_run::{Reply, Script};
-use numa_script::{Line, Question, Work, why_malformed};
+use numa_script::{Line, Question, WordFault, Work, why_malformed};
 use numa_space::{Command, Refusal, Space};
 
 /// How many bytes a page has.
@@ -139,6 +140,65 @@ fn ends_with_return(line: &[u8]) -> bool {
     line.last() == Some(&b'\r')
 }
 
+/// Whether a byte stands between the items of a line.
+fn is_between(byte: u8) -> bool {
+    byte == b' ' || byte == b':' || byte == b','
+}
+
+/// Whether `all` stands in a line where nodes should.
+fn names_all(line: &[u8]) -> bool {
+    line.split(|byte| is_between(*byte))
+        .any(|item| item == b"all".as_slice())
+}
+
+/// Whether an item is a number of more than four digits, the first of them 0.
+fn has_zeros(item: &[u8]) -> bool {
+    item.len() > 4 && item.starts_with(b"0") && item.iter().all(|byte| byte.is_ascii_digit())
+}
+
+/// Whether a node of a line is a number of more than four digits, the first of them 0.
+fn has_long_node(line: &[u8]) -> bool {
+    line.split(|byte| is_between(*byte) || *byte == b'-')
+        .any(has_zeros)
+}
+
+/// Whether the second word of a line begins with 0, and has more digits, but no `0x`.
+fn is_decimal_start(line: &[u8]) -> bool {
+    match line.split(|byte| *byte == b' ').nth(1) {
+        Some(word) => word.len() > 1 && word.starts_with(b"0") && !word.starts_with(b"0x"),
+        None => false,
+    }
+}
+
+/// The highest node of the machine that is ready, or that the line describes.
+fn highest_node(script: &Script, said: &Line<'_>) -> Detail {
+    match (script.core(), said) {
+        (Some(core), _) => Detail::AllNodes(core.space().machine().nodes().saturating_sub(1)),
+        (None, Line::Machine(machine)) => Detail::AllNodes(machine.nodes.saturating_sub(1)),
+        _ => Detail::None,
+    }
+}
+
+/// What is known of a fault of a list or a policy.
+fn word_detail(script: &Script, line: &[u8], said: &Line<'_>, fault: WordFault) -> Detail {
+    if ends_with_return(line) {
+        return Detail::CarriageReturn;
+    }
+    if line.contains(&b'\t') {
+        return Detail::Tab;
+    }
+    if fault != WordFault::List(ListFault::BadDigit) {
+        return Detail::None;
+    }
+    if names_all(line) {
+        return highest_node(script, said);
+    }
+    if has_long_node(line) {
+        return Detail::LeadingZeros;
+    }
+    Detail::None
+}
+
 /// What is known of a fault or a refusal of a line, by the script after it.
 pub(crate) fn detail_of(script: &Script, line: &[u8], said: &Line<'_>, fault: Reply) -> Detail {
     match fault {
@@ -148,7 +208,10 @@ pub(crate) fn detail_of(script: &Script, line: &[u8], said: &Line<'_>, fault: Re
         },
         Reply::BadState if script.core().is_some() => Detail::MachineReady,
         Reply::BadState => Detail::NoMachine,
-        Reply::BadWord(_) if ends_with_return(line) => Detail::CarriageReturn,
+        Reply::BadWord(fault) => word_detail(script, line, said, fault),
+        Reply::Refused(CoreRefusal::Command(Refusal::Unaligned)) if is_decimal_start(line) => {
+            Detail::DecimalStart
+        }
         Reply::Refused(cause) => match script.core() {
             Some(core) => refusal_detail(core, said, cause),
             None => Detail::None,

@@ -21,6 +21,14 @@ pub enum Detail {
     MachineReady,
     /// The line ends with a carriage return, which stands in its list or policy.
     CarriageReturn,
+    /// A tab stands in a list or a policy.
+    Tab,
+    /// `all` stands where nodes should; the highest node of the machine.
+    AllNodes(u32),
+    /// A node's number has more than four digits, the first of them 0.
+    LeadingZeros,
+    /// START begins with 0 and has no `0x`, so that it is decimal.
+    DecimalStart,
     /// A page, by its number: the first that stands in the way, or that is missing.
     Page(u64),
     /// A page, by its number, that is mapped and isn't published yet.

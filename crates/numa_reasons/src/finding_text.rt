@@ -21,6 +21,18 @@ const FRAMES_FORM: &str = " are no decimal numbers below 2^32 with commas betwee
 const DISTANCES_FORM: &str =
     " is neither flat nor decimal numbers of at most 255 with commas and semicolons";
 
+/// What is told of a carriage return.
+const RETURN: &str =
+    "a carriage return; lines end with a line feed alone: take it out, as tr -d '\\r' does";
+
+/// What is told of a tab.
+const TAB: &str =
+    "a tab; words stand between single spaces: write one, or nothing at the end of a line";
+
+/// What is told of a START that is decimal and looks like another.
+const DECIMAL_START: &str = "START begins with 0 and has no 0x, so it is decimal, and no multiple \
+of 4096; write 0x before hexadecimal digits";
+
 /// What stands behind a page that is mapped and isn't published.
 const UNPUBLISHED: &str = " is mapped, but not published yet; publish first";
 
@@ -44,7 +56,10 @@ fn put_usage(text: &mut Text, keyword: Keyword) {
 fn put_form(text: &mut Text, parameter: Parameter) {
     text.put(parameter.name());
     match parameter.form() {
-        Form::Number(greatest) => text.put_number(" is no number from 0 to ", greatest),
+        Form::Number(greatest) => {
+            text.put_number(" is no number from 0 to ", greatest);
+            text.put(", decimal or hexadecimal behind 0x");
+        }
         Form::Rules => text.put(RULES_FORM),
         Form::Frames => text.put(FRAMES_FORM),
         Form::Distances => text.put(DISTANCES_FORM),
@@ -66,8 +81,8 @@ fn put_misfit(text: &mut Text, parameter: Parameter, misfit: Misfit) {
 /// Appends a byte that no word has.
 fn put_byte(text: &mut Text, byte: u8) {
     match byte {
-        b'\r' => text.put("a carriage return; lines end with a line feed alone"),
-        b'\t' => text.put("a tab; words stand between single spaces"),
+        b'\r' => text.put(RETURN),
+        b'\t' => text.put(TAB),
         _ => {
             text.put_hex("the byte ", byte as u64);
             text.put(", which no word has");
@@ -79,9 +94,9 @@ fn put_byte(text: &mut Text, byte: u8) {
 fn cause_words(cause: Cause) -> &'static str {
     match cause {
         Cause::TooLong => "the line has more than 4096 bytes",
-        Cause::LeadingSpace => "a space at the beginning of the line",
-        Cause::TrailingSpace => "a space at the end of the line",
-        Cause::TwoSpaces => "two spaces in a row",
+        Cause::LeadingSpace => "a space at the beginning of the line; take it out",
+        Cause::TrailingSpace => "a space at the end of the line; take it out",
+        Cause::TwoSpaces => "two spaces in a row; write one",
         Cause::UnknownWord => "no line begins with this word",
         Cause::TooFewWords(_) => "too few words",
         Cause::TooManyWords(_) => "too many words",
@@ -186,6 +201,7 @@ fn put_refusal(text: &mut Text, cause: CoreRefusal, detail: Detail) {
         }
         Detail::Count(count) => put_counted(text, cause, " (now ", count, ")"),
         Detail::Mems => text.put("none of these nodes has memory; name one that has"),
+        Detail::DecimalStart => text.put(DECIMAL_START),
         _ => text.put(worker_words(cause)),
     }
 }
@@ -221,18 +237,37 @@ fn detail_words(detail: Detail) -> &'static str {
         Detail::MachineReady => {
             ": a machine is ready already; limits, rules and machine come before it"
         }
-        Detail::CarriageReturn => "; the line ends with a carriage return",
+        Detail::CarriageReturn => "; the line ends with ",
+        Detail::Tab => "; the line has ",
+        Detail::LeadingZeros => "; leave the first zeros out",
         _ => "",
+    }
+}
+
+/// Appends what to write in place of `all`, on a machine with this highest node.
+fn put_all(text: &mut Text, last: u32) {
+    text.put("; in place of all write 0");
+    if last > 0 {
+        text.put_number("-", last as u64);
+    }
+}
+
+/// Appends what else is known of a fault of words or of the state.
+fn put_detail(text: &mut Text, detail: Detail) {
+    text.put(detail_words(detail));
+    match detail {
+        Detail::Malformed(malformed) => put_cause(text, malformed.cause),
+        Detail::CarriageReturn => text.put(RETURN),
+        Detail::Tab => text.put(TAB),
+        Detail::AllNodes(last) => put_all(text, last),
+        _ => {}
     }
 }
 
 /// Appends what is wrong with a line.
 fn put_finding(text: &mut Text, finding: &Finding) {
     put_answer(text, finding.fault, finding.detail);
-    text.put(detail_words(finding.detail));
-    if let Detail::Malformed(malformed) = finding.detail {
-        put_cause(text, malformed.cause);
-    }
+    put_detail(text, finding.detail);
 }
 
 /// Appends what is wrong with a line: its answer, and why, with what to do, where there is
