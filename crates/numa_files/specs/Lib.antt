@@ -1,3 +1,4 @@
 pub mod Worked
 pub mod Echo
 pub mod Joined
+pub mod Counts

@@ -45,3 +45,9 @@ abbrev pub IsWithin : List ℕ → LineForm → Type 0
 IsWithin line Script = ⊤
 IsWithin line (Answered end) = (end ≤ 4097) × (end + 4 ≤ length line)
 IsWithin line Answer = 3 ≤ length line
+
+-- whether a line of this form holds an answer that is wanted
+abbrev pub wants_answer : LineForm → Bool
+wants_answer Script = false
+wants_answer (Answered end) = true
+wants_answer Answer = true

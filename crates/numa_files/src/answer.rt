@@ -1,5 +1,6 @@
 //! An answer, with which the lines that are wanted are compared.
-ghost use Rattle.std.specs.Prelude.{◌≤◌, length};
+ghost use Rattle.std.specs.Prelude.{◌≡◌, ◌≤◌, length};
+ghost use Rattle.numa_files.specs.Counts.{is_over};
 
 use memchr::memchr;
 use std::alloc::Global;
@@ -32,7 +33,9 @@ impl Answer {
     }
 
     /// Whether it has no further line.
-    pub(crate) fn is_over(&self) -> bool {
+    pub(crate) fn is_over(&self) -> bool
+        ensures { result ≡ is_over self.now }
+    {
         self.line >= self.text.len()
     }
 

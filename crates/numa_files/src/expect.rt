@@ -1,7 +1,9 @@
 //! Worked scripts, compared with what their lines are answered as they are read.
-ghost use Rattle.std.specs.Prelude.{◌≤◌, length};
+ghost use Rattle.std.specs.Prelude.{◌≡◌, ℕ, ◌≤◌, Bool, List, length, if◌then◌else◌};
+ghost use Rattle.numa_files.specs.Counts.{with_different, with_end, with_idle, with_rest};
 
 use crate::answer::Answer;
+use crate::counts::Counts;
 use crate::reading::{Stop, TakeText};
 use crate::told::Told;
 use crate::worked::{HEAD, LineForm, read_form};
@@ -9,24 +11,23 @@ use memchr::memchr;
 use std::alloc::{AllocError, Global};
 use std::io::Write;
 
+/// What is told of a text in which no answer is wanted.
+const NOTHING: &str = "nothing is compared: no answer stands behind ' => '";
+
 /// What answers script lines.
 pub trait Respond {
+    /// Whether an answer tells a fault or a refusal.
+    ghost is_fault: { List ℕ → Bool };
+
     /// Begins a script.
     fn begin(&mut self);
 
     /// Puts the answer to a line into a text that is empty: whole lines with their line feeds.
     fn respond(&mut self, line: &[u8], answer: &mut Vec<u8>) -> Result<(), AllocError>;
-}
 
-/// How many answers were compared: lines, of which a long answer has several.
-#[derive(Clone, Copy)]
-pub struct Counts {
-    /// As wanted.
-    pub same: u64,
-    /// Not as wanted, wanted and not given, or given beyond what was wanted.
-    pub different: u64,
-    /// Script lines with an answer, of which the worked script says nothing.
-    pub uncompared: u64,
+    /// Whether such an answer tells a fault or a refusal.
+    fn tells_fault(&self, answer: &[u8]) -> bool
+        ensures { result ≡ is_fault answer.now };
 }
 
 /// What is known of the line that is read.
@@ -52,9 +53,10 @@ struct Comparison<W> {
     name: String,
     place: u64,
     reading: Reading,
-    // The answer to the latest script line, and whether anything is wanted.
+    // The answer to the latest script line, whether it is wanted, and whether one in this text is.
     answer: Answer,
     is_wanted: bool,
+    is_worked: bool,
 }
 
 /// Worked scripts, a script of its own in each text, that are compared with their answers.
@@ -75,8 +77,10 @@ impl<W: Write> Comparison<W> {
     }
 
     /// Ends that: what was given. Counts it.
-    fn tell_given(&mut self) {
-        self.counts.different = self.counts.different.saturating_add(1);
+    fn tell_given(&mut self)
+        ensures { self.new.counts ≡ with_different self.old.counts }
+    {
+        self.counts.add_different();
         self.told
             .tell_given(self.answer.is_over(), self.answer.line());
     }
@@ -99,7 +103,7 @@ impl<W: Write> Comparison<W> {
     fn end_wanted(&mut self) {
         if let Reading::Same = self.reading {
             if self.answer.end_line() {
-                self.counts.same = self.counts.same.saturating_add(1);
+                self.counts.add_same();
                 return;
             }
             self.tell_wanted();
@@ -108,23 +112,39 @@ impl<W: Write> Comparison<W> {
         self.answer.go_on();
     }
 
-    /// Counts what was given beyond what was wanted, and tells it where something was.
-    #[cold]
-    #[inline(never)]
-    fn count_rest(&mut self) {
-        if !self.is_wanted {
-            self.counts.uncompared = self.counts.uncompared.saturating_add(1);
-            return;
-        }
+    /// Tells of the line before the one at hand that this was wanted in place of what was given.
+    fn tell_rest(&mut self, wanted: &[u8])
+        ensures { self.new.counts ≡ with_different self.old.counts }
+    {
         let last = self.place.saturating_sub(1);
-        self.told.tell_wanted(self.name.as_str(), last, b"no more");
+        self.told.tell_wanted(self.name.as_str(), last, wanted);
         self.tell_given();
     }
 
+    /// Counts what was given beyond what was wanted, and tells it where something was, or where it
+    /// is a fault.
+    #[cold]
+    #[inline(never)]
+    fn count_rest<A: Respond>(&mut self, answerer: &A)
+        ensures { self.new.counts ≡ with_rest self.old.is_wanted
+            (A.is_fault self.old.answer.text.items) self.old.counts }
+    {
+        if self.is_wanted {
+            return self.tell_rest(b"no more");
+        }
+        if answerer.tells_fault(self.answer.text.as_slice()) {
+            return self.tell_rest(b"no fault");
+        }
+        self.counts.add_uncompared();
+    }
+
     /// Ends the answer to the latest script line.
-    fn end_answer(&mut self) {
+    fn end_answer<A: Respond>(&mut self, answerer: &A)
+        ensures { self.new.counts ≡ with_end self.old.answer self.old.is_wanted
+            (A.is_fault self.old.answer.text.items) self.old.counts }
+    {
         if !self.answer.is_over() {
-            self.count_rest();
+            self.count_rest(answerer);
         }
         self.answer.clear();
         self.is_wanted = false;
@@ -138,16 +158,30 @@ impl<W: Write> Comparison<W> {
             None => false,
         };
         if is_same {
-            self.counts.same = self.counts.same.saturating_add(1);
+            self.counts.add_same();
             self.answer.clear();
             self.reading = Reading::Passed;
         }
         is_same
     }
 
+    /// Ends the text: tells where no answer was wanted in it.
+    fn end_text(&mut self)
+        ensures { self.new.counts
+            ≡ (if self.old.is_worked then self.old.counts else with_idle self.old.counts) }
+    {
+        if self.is_worked {
+            return;
+        }
+        self.counts.add_idle();
+        let name = self.name.as_str();
+        let text = format!(in self.told.alloc; "{name}: {NOTHING}\n");
+        self.told.tell_text(text);
+    }
+
     /// Has a script line answered.
     fn ask<A: Respond>(&mut self, answerer: &mut A, line: &[u8]) {
-        self.end_answer();
+        self.end_answer(answerer);
         if let Err(_) = answerer.respond(line, &mut self.answer.text) {
             self.told.stop(Stop::Memory);
         }
@@ -162,6 +196,7 @@ impl<W: Write> Comparison<W> {
             }
             LineForm::Answered(end) => {
                 self.ask(answerer, &head[..end]);
+                self.is_worked = true;
                 let wanted = &head[end + 4..];
                 if is_whole && self.take_whole(wanted) {
                     return;
@@ -173,6 +208,7 @@ impl<W: Write> Comparison<W> {
             LineForm::Answer => {
                 self.reading = Reading::Same;
                 self.is_wanted = true;
+                self.is_worked = true;
                 self.want(&head[3..]);
             }
         }
@@ -184,16 +220,13 @@ impl<A: Respond, W: Write> Expect<A, W> {
     pub fn new(alloc: Global, answerer: A, output: W) -> Expect<A, W> {
         let comparison = Comparison {
             told: Told::new(alloc, output),
-            counts: Counts {
-                same: 0,
-                different: 0,
-                uncompared: 0,
-            },
+            counts: Counts::new(),
             name: String::new(alloc),
             place: 1,
             reading: Reading::Head,
             answer: Answer::new(alloc),
             is_wanted: false,
+            is_worked: false,
         };
         Expect {
             answerer,
@@ -203,7 +236,9 @@ impl<A: Respond, W: Write> Expect<A, W> {
     }
 
     /// The counts so far.
-    pub fn counts(&self) -> Counts {
+    pub fn counts(&self) -> Counts
+        ensures { result ≡ self.now.comparison.counts }
+    {
         self.comparison.counts
     }
 
@@ -281,6 +316,7 @@ impl<A: Respond, W: Write> Expect<A, W> {
             same,
             different,
             uncompared,
+            ..
         } = self.comparison.counts;
         let told = &mut self.comparison.told;
         let text = format!(in told.alloc;
@@ -300,6 +336,7 @@ impl<A: Respond, W: Write> TakeText for Expect<A, W> {
             return Err(Stop::Memory);
         }
         comparison.place = 1;
+        comparison.is_worked = false;
         comparison.told.reserve()
     }
 
@@ -320,7 +357,9 @@ impl<A: Respond, W: Write> TakeText for Expect<A, W> {
         if !self.is_new() {
             self.end_line();
         }
-        self.comparison.end_answer();
-        self.comparison.told.flush()
+        let comparison = &mut self.comparison;
+        comparison.end_answer(&self.answerer);
+        comparison.end_text();
+        comparison.told.flush()
     }
 }
