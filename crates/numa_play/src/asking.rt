@@ -1,5 +1,5 @@
 //! Where pages would go after scripts.
-use crate::findings::Findings;
+use crate::findings::{Ended, Findings};
 use crate::halt::{Halt, halt_of};
 use crate::playing::play;
 use crate::question::{Question, ask, space_of, write};
@@ -75,7 +75,7 @@ pub fn predict<R: Read + Drop, W: Write, T: Write + Drop>(
     free: &[FreePages],
     output: &mut W,
     told: T,
-) -> Result<(), Halt> {
+) -> Result<Ended, Halt> {
     let question = Prediction {
         asked,
         format,
@@ -175,9 +175,10 @@ pub fn diff<R: Read + Drop, W: Write, T: Write + Drop>(
     asked: Touch,
     output: &mut W,
     told: T,
-) -> Result<(), Halt> {
+) -> Result<Ended, Halt> {
     let mut findings = play(alloc, texts, told)?;
     let text = difference(alloc, &mut findings, lines, asked);
+    let ended = findings.ended();
     drop(findings);
-    write(text, output)
+    write(text, ended, output)
 }

@@ -1,4 +1,5 @@
 //! Why a page goes where it goes, after scripts.
+use crate::findings::Ended;
 use crate::halt::Halt;
 use crate::question::{Question, ask};
 use numa_files::Stop;
@@ -59,6 +60,6 @@ pub fn explain<R: Read + Drop, W: Write, T: Write + Drop>(
     page: u64,
     output: &mut W,
     told: T,
-) -> Result<(), Halt> {
+) -> Result<Ended, Halt> {
     ask(alloc, texts, Reasons { asked, page }, output, told)
 }

@@ -1,4 +1,7 @@
 //! What is wrong with the lines of scripts, told as they are played.
+ghost use Rattle.std.specs.Prelude.{◌≡◌};
+ghost use Rattle.numa_play.specs.Faults.{ended_by, has_faults};
+
 use numa_files::{Stop, TakeLine};
 use numa_reasons::{Detail, Finding, judge, lacks_memory, say_line, say_unjudged};
 use numa_run::Script;
@@ -7,6 +10,15 @@ use std::io::Write;
 
 /// How many bytes are gathered before they are written.
 const GATHERED: usize = 4096;
+
+/// By which lines an answer was come to.
+#[derive(Clone, Copy, Debug, PartialEq, Eq)]
+pub enum Ended {
+    /// By all lines.
+    Clean,
+    /// By those that were accepted: others were faulty or refused, or not judged.
+    Faulty,
+}
 
 /// A script that is played, and what is told of its lines: one line of output for each that is
 /// answered by a fault or a refusal.
@@ -41,8 +53,21 @@ impl<W: Write> Findings<W> {
     }
 
     /// Whether something was wrong with a line so far.
-    pub fn has_faults(&self) -> bool {
+    pub fn has_faults(&self) -> bool
+        ensures { result ≡ has_faults self.now.told self.now.unjudged }
+    {
         self.told > 0 || self.unjudged > 0
+    }
+
+    /// By which lines an answer is come to that goes by those so far.
+    pub fn ended(&self) -> Ended
+        ensures { result ≡ ended_by (has_faults self.now.told self.now.unjudged) }
+    {
+        if self.has_faults() {
+            Ended::Faulty
+        } else {
+            Ended::Clean
+        }
     }
 
     /// Writes what is to be written.

@@ -2,11 +2,13 @@
 //!
 //! Lines that are faulty or refused are passed over, and what is wrong with each is told. [`check`]
 //! does no more; [`predict`], [`diff`], [`explain`] and [`replay`] answer by the lines that were
-//! accepted.
+//! accepted, and tell by [`Ended`] whether there were others. [`tells_fault`] knows the answers of
+//! such lines.
 #![tactic(auto)]
 
 mod asking;
 mod explaining;
+mod faults;
 mod findings;
 mod halt;
 mod playing;
@@ -15,7 +17,8 @@ mod replaying;
 
 pub use asking::{diff, predict};
 pub use explaining::explain;
-pub use findings::Findings;
+pub use faults::tells_fault;
+pub use findings::{Ended, Findings};
 pub use halt::Halt;
 pub use numa_reasons::tells_lack;
 pub use playing::{check, play};

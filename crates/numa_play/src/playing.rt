@@ -1,5 +1,5 @@
 //! Scripts that are played to their end.
-use crate::findings::Findings;
+use crate::findings::{Ended, Findings};
 use numa_files::{Lines, Stop, TakeText, read_all};
 use std::alloc::Global;
 use std::io::{Read, Write};
@@ -50,16 +50,16 @@ pub fn play<R: Read + Drop, W: Write + Drop>(
     }
 }
 
-/// Ends what is told. Whether nothing was.
-fn find_nothing<W: Write>(findings: &mut Findings<W>) -> Result<bool, Stop> {
+/// Ends what is told. By which lines that was come to.
+fn end<W: Write>(findings: &mut Findings<W>) -> Result<Ended, Stop> {
     match findings.end() {
-        Ok(()) => Ok(!findings.has_faults()),
+        Ok(()) => Ok(findings.ended()),
         Err(why) => Err(why),
     }
 }
 
-/// Reads the texts in turn, as one script, and tells the writer what is wrong with their lines.
-/// Whether nothing is.
+/// Reads the texts in turn, as one script, and tells the writer what is wrong with their lines:
+/// with none where it ends clean.
 ///
 /// # Errors
 /// Where a read or a write failed, or there was no memory.
@@ -67,12 +67,12 @@ pub fn check<R: Read + Drop, W: Write + Drop>(
     alloc: Global,
     texts: Vec<(String, R)>,
     output: W,
-) -> Result<bool, Stop> {
+) -> Result<Ended, Stop> {
     let mut findings = match play(alloc, texts, output) {
         Ok(findings) => findings,
         Err(why) => return Err(why),
     };
-    let is_fine = find_nothing(&mut findings);
+    let ended = end(&mut findings);
     drop(findings);
-    is_fine
+    ended
 }

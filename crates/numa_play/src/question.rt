@@ -1,5 +1,7 @@
 //! Questions about the state that scripts lead to.
-use crate::findings::Findings;
+ghost use Rattle.std.specs.Prelude.{◌≡◌, IfOk};
+
+use crate::findings::{Ended, Findings};
 use crate::halt::Halt;
 use crate::playing::play;
 use numa_files::Stop;
@@ -30,8 +32,14 @@ fn space_after<T: Write>(findings: &mut Findings<T>) -> Result<&Space, Halt> {
     }
 }
 
-/// Writes an answer, if there is one.
-pub(crate) fn write<W: Write>(text: Result<Vec<u8>, Halt>, output: &mut W) -> Result<(), Halt> {
+/// Writes an answer, if there is one, that is come to by such lines.
+pub(crate) fn write<W: Write>(
+    text: Result<Vec<u8>, Halt>,
+    ended: Ended,
+    output: &mut W,
+) -> Result<Ended, Halt>
+    ensures { IfOk result (λ by. by ≡ ended) }
+{
     let text = match text {
         Ok(text) => text,
         Err(halt) => return Err(halt),
@@ -39,7 +47,7 @@ pub(crate) fn write<W: Write>(text: Result<Vec<u8>, Halt>, output: &mut W) -> Re
     let written = output.write_all(text.as_slice());
     drop(text);
     match written {
-        Ok(()) => Ok(()),
+        Ok(()) => Ok(ended),
         Err(_) => Err(Halt::Stopped(Stop::Write)),
     }
 }
@@ -50,26 +58,27 @@ fn write_answer<Q: Question + Drop, W: Write, T: Write>(
     question: Q,
     findings: &mut Findings<T>,
     output: &mut W,
-) -> Result<(), Halt> {
-    match space_after(findings) {
-        Ok(space) => write(question.answer(alloc, space), output),
+) -> Result<Ended, Halt> {
+    let text = match space_after(findings) {
+        Ok(space) => question.answer(alloc, space),
         Err(halt) => {
             drop(question);
             Err(halt)
         }
-    }
+    };
+    write(text, findings.ended(), output)
 }
 
 /// Plays the texts as one script, and writes the answer to a question about the space that they
-/// lead to. What is wrong with a line is told to `told`, and the line passed over. The answer is
-/// whole before its first byte is written.
+/// lead to. What is wrong with a line is told to `told`, and the line passed over; by which lines
+/// the answer was come to. The answer is whole before its first byte is written.
 pub(crate) fn ask<R: Read + Drop, Q: Question + Drop, W: Write, T: Write + Drop>(
     alloc: Global,
     texts: Vec<(String, R)>,
     question: Q,
     output: &mut W,
     told: T,
-) -> Result<(), Halt> {
+) -> Result<Ended, Halt> {
     let mut findings = match play(alloc, texts, told) {
         Ok(findings) => findings,
         Err(why) => {

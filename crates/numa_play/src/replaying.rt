@@ -1,4 +1,5 @@
 //! Traces that are replayed after scripts.
+use crate::findings::Ended;
 use crate::halt::Halt;
 use crate::question::{Question, ask};
 use numa_compile::compile;
@@ -81,7 +82,7 @@ pub fn replay<R: Read + Drop, S: Read + Drop, W: Write, T: Write + Drop>(
     format: Shape,
     output: &mut W,
     told: T,
-) -> Result<(), Halt> {
+) -> Result<Ended, Halt> {
     let question = Trace {
         texts: trace,
         format,
