@@ -119,7 +119,7 @@ def difference(call, svg_rows, name, space, cpu, told):
         texts = []
         for form in ("text", "json", "csv", "svg"):
             status, text, errors = call(*words, "--format", form, name)
-            if status != 0 or errors != told:
+            if status != (3 if told else 0) or errors != told:
                 return f"{words} {form}: status {status}, told {errors[:200]!r}"
             texts.append(text)
         got = json.loads(texts[1])

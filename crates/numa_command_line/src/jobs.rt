@@ -21,15 +21,26 @@ pub enum Question {
 #[derive(Drop)]
 pub enum Work {
     /// To answer them; each line beside its answer, where `echo` says so.
-    Run { echo: bool },
+    Run {
+        echo: bool,
+    },
     /// To compare worked scripts with what their lines are answered.
     Expect,
     /// To tell what is wrong with them.
     Check,
-    /// To answer a question about the state that they lead to.
-    Ask { asked: Touch, question: Question },
-    /// To replay the trace of the one file that `trace` names after them.
-    Replay { trace: Vec<String>, format: Shape },
+    /// To answer a question about the state that they lead to. Faulty and refused lines are let
+    /// pass, where `lenient` says so.
+    Ask {
+        asked: Touch,
+        question: Question,
+        lenient: bool,
+    },
+    /// To replay the trace of the one file that `trace` names after them, as lenient.
+    Replay {
+        trace: Vec<String>,
+        format: Shape,
+        lenient: bool,
+    },
 }
 
 /// What the program is asked to do.

@@ -5,6 +5,7 @@ pub mod diff;
 pub mod expect;
 pub mod explain;
 pub mod free;
+pub mod lenient;
 pub mod predict;
 pub mod replay;
 pub mod run;

@@ -29,6 +29,10 @@ fn serve(script: &mut Script, alloc: Global, line: &[u8], output: &mut Watched<V
 }
 
 impl Respond for Answering {
+    ghost use Rattle.numa_play.specs.Faults.{tells_fault as says_fault};
+
+    ghost is_fault = { says_fault };
+
     fn begin(&mut self) {
         drop(mem::replace(&mut self.script, Script::new()));
     }
@@ -42,5 +46,9 @@ impl Respond for Answering {
             Ok(()) if !tells_lack(answer.as_slice()) => Ok(()),
             _ => Err(AllocError),
         }
+    }
+
+    fn tells_fault(&self, answer: &[u8]) -> bool {
+        numa_play::tells_fault(answer)
     }
 }

@@ -1,14 +1,15 @@
 //! How the program ends.
 use numa_command_line::JobFault;
 use numa_files::Stop;
-use numa_play::Halt;
+use numa_play::{Ended, Halt};
 use numa_reports::Touch;
 use numa_script::RunFault;
 use std::io;
 use std::io::{ErrorKind, Write};
 use std::process::ExitCode;
 
-/// The status where the scripts make no machine, or a line of the trace can't be replayed.
+/// The status where lines of the scripts are faulty or refused, where they make no machine, or a
+/// line of the trace can't be replayed.
 const NOT_AS_ASKED: u8 = 3;
 
 /// What is told where no machine is ready.
@@ -87,18 +88,36 @@ fn end_trace(rt: &impl Eprint, trace: &str, place: u64, why: &str) -> ExitCode {
     ExitCode::from(NOT_AS_ASKED)
 }
 
+/// The status of an answer that was come to by such lines; faulty ones are let pass, or not.
+pub fn status_of(ended: Ended, lenient: bool) -> ExitCode {
+    match ended {
+        Ended::Faulty if !lenient => ExitCode::from(NOT_AS_ASKED),
+        Ended::Faulty | Ended::Clean => ExitCode::SUCCESS,
+    }
+}
+
 /// Ends with the answer to a question about played scripts, or with why there is none.
-pub fn answered(rt: &impl Eprint, asked: Touch, answer: Result<(), Halt>) -> ExitCode {
+pub fn answered(
+    rt: &impl Eprint,
+    asked: Touch,
+    answer: Result<Ended, Halt>,
+    lenient: bool,
+) -> ExitCode {
     if let Err(Halt::NoNode(nodes)) = answer {
         return lack_node(rt, "--cpu ", asked.cpu, "", nodes);
     }
-    ended(rt, "", answer)
+    ended(rt, "", answer, lenient)
 }
 
 /// Ends with an answer about played scripts and the trace of this name, or with why there is none.
-pub fn ended(rt: &impl Eprint, trace: &str, answer: Result<(), Halt>) -> ExitCode {
+pub fn ended(
+    rt: &impl Eprint,
+    trace: &str,
+    answer: Result<Ended, Halt>,
+    lenient: bool,
+) -> ExitCode {
     match answer {
-        Ok(()) => ExitCode::SUCCESS,
+        Ok(ended) => status_of(ended, lenient),
         Err(Halt::Stopped(why)) => stop(rt, why),
         Err(Halt::NoMachine) => end_with(rt, NOT_AS_ASKED, NO_MACHINE),
         Err(Halt::NoNode(_)) => ExitCode::from(2),

@@ -9,11 +9,12 @@ use std::{fs, io};
 /// What is told on a terminal.
 const AWAITED: &str = "numaplan: a script is awaited, line by line; Ctrl-D ends it";
 
-/// A file, or standard input.
+/// A file, standard input, or nothing.
 #[derive(Drop)]
 pub enum Source<F, I> {
     File(F),
     Standard(I),
+    Nothing,
 }
 
 impl<F: Read, I: Read> Read for Source<F, I> {
@@ -21,6 +22,7 @@ impl<F: Read, I: Read> Read for Source<F, I> {
         match self {
             Source::File(file) => file.read(buffer),
             Source::Standard(input) => input.read(buffer),
+            Source::Nothing => Ok(0),
         }
     }
 }
@@ -38,7 +40,7 @@ where
 }
 
 /// A file that can be read; a folder can't.
-fn open_file<R: Files>(rt: &R, name: &str) -> io::Result<R::File> {
+pub fn open_file<R: Files>(rt: &R, name: &str) -> io::Result<R::File> {
     let file = fs::open(rt, name)?;
     if file.metadata()?.is_dir() {
         return Err(io::Error::from(ErrorKind::IsADirectory));
@@ -47,7 +49,7 @@ fn open_file<R: Files>(rt: &R, name: &str) -> io::Result<R::File> {
 }
 
 /// Why a file of this name can't be opened.
-fn open_fault(alloc: Global, name: &str, error: &io::Error) -> JobFault {
+pub fn open_fault(alloc: Global, name: &str, error: &io::Error) -> JobFault {
     if error.kind() == ErrorKind::OutOfMemory {
         return JobFault::NoMemory;
     }
@@ -73,10 +75,10 @@ where
 }
 
 /// The files that are open, each with its name.
-type Texts<R> = Vec<(String, Source<<R as Files>::File, <R as Input>::Reader>)>;
+pub type Texts<R> = Vec<(String, Source<<R as Files>::File, <R as Input>::Reader>)>;
 
 /// Opens what has this name, behind what is open.
-fn add_file<R>(rt: &R, name: &str, texts: &mut Texts<R>) -> Result<(), JobFault>
+pub fn add_file<R>(rt: &R, name: &str, texts: &mut Texts<R>) -> Result<(), JobFault>
 where
     R: Files + Input + Eprint + AllocGlobal,
     R::Reader: IsTerminal,

@@ -10,6 +10,7 @@ ghost use Rattle.numa_command_line.specs.Jobs.{CanBeDone};
 mod answering;
 mod endings;
 mod files;
+mod folders;
 mod words;
 
 use endings::tell_fault;
@@ -57,8 +58,16 @@ where
         Work::Run { echo } => Ok(run::answer(rt, texts, *echo)),
         Work::Check => Ok(check::check(rt, texts)),
         Work::Expect => Ok(expect::check(rt, texts)),
-        Work::Ask { asked, question } => Ok(asked::answer(rt, texts, *asked, question)),
-        Work::Replay { trace, format } => replay::answer(rt, texts, trace, *format),
+        Work::Ask {
+            asked,
+            question,
+            lenient,
+        } => Ok(asked::answer(rt, texts, *asked, question, *lenient)),
+        Work::Replay {
+            trace,
+            format,
+            lenient,
+        } => replay::answer(rt, texts, trace, *format, *lenient),
     }
 }
 
@@ -68,7 +77,11 @@ where
     R: Files + Input + Print + Eprint + AllocGlobal,
     R::Reader: IsTerminal,
 {
-    match files::open_all(rt, names) {
+    let texts = match work {
+        Work::Expect => folders::open_worked(rt, names),
+        _ => files::open_all(rt, names),
+    };
+    match texts {
         Ok(texts) => work_done(rt, texts, work),
         Err(fault) => Err(fault),
     }

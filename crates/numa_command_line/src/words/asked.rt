@@ -37,7 +37,11 @@ fn asked(alloc: Global, matches: &ArgMatches<'_>) -> Result<Touch, JobFault> {
 /// To ask a question by the options.
 pub fn work(alloc: Global, matches: &ArgMatches<'_>, question: Question) -> Result<Work, JobFault> {
     match asked(alloc, matches) {
-        Ok(asked) => Ok(Work::Ask { asked, question }),
+        Ok(asked) => Ok(Work::Ask {
+            asked,
+            question,
+            lenient: matches.get_flag("lenient"),
+        }),
         Err(fault) => {
             drop(question);
             Err(fault)

@@ -4,6 +4,7 @@ use crate::texts;
 use crate::usage::{Argument, FILES, Takes, Word};
 use crate::words::asked;
 use crate::words::asked::{CPU, TASK};
+use crate::words::lenient::LENIENT;
 use clap::ArgMatches;
 use std::alloc::Global;
 
@@ -24,10 +25,11 @@ static WORD: Word = Word {
 and a task touched each of them on a CPU of one node: for each span of pages of which some do, \
 how many from which node to which, and in all. Pages that are mapped only before or only after \
 are left out. Lines that are faulty or refused are told on standard error as by `check`, and \
-passed over. The status is 3 where no machine is ready after the scripts.",
+passed over. The status is 3 where some are, unless --lenient is given, and where no machine is \
+ready after the scripts.",
     more: "Example, from the top of the repository:\n  ./numaplan diff --task 1 --cpu 0 --then \
-'mems 0' examples/homes.numaplan",
-    arguments: &[TASK, CPU, THEN, FILES],
+'mems 0' examples/interleaved-range.numaplan",
+    arguments: &[TASK, CPU, THEN, LENIENT, FILES],
 };
 
 /// The word.

@@ -5,7 +5,7 @@ use crate::usage::{Argument, Takes, Word};
 const WORKED: Argument = Argument {
     name: "FILE",
     value: "",
-    help: "Worked scripts; - is standard input",
+    help: "Worked scripts, and folders of them; - is standard input",
     is_required: true,
     takes: Takes::Files,
 };
@@ -18,9 +18,11 @@ static WORD: Word = Word {
 them, and tells each answer that is another. Each file is a script of its own. A line holds a \
 script line and its answer, as LINE => ANSWER, or a script line alone, or, behind `=> `, the next \
 line of the answer to the script line above; a script line of which no answer stands there is \
-carried out and not compared. The last line on standard output counts the lines of answers: as \
-wanted, not so, and not compared.",
-    more: "The status is 0 where all are as wanted, and else 3.\n\nExample, from the top of the \
+carried out and not compared, but a fault or a refusal isn't wanted there. The last line on \
+standard output counts the lines of answers: as wanted, not so, and not compared. Of a folder the \
+files *.answers are taken, and those *.numaplan that hold an answer.",
+    more: "The status is 0 where each file holds answers and all are as wanted, and else \
+3.\n\nExample, from the top of the \
 repository:\n  ./numaplan expect examples/*.answers",
     arguments: &[WORKED],
 };

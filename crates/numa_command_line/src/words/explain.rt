@@ -3,6 +3,7 @@ use crate::jobs::{JobFault, Question, Work};
 use crate::usage::{Argument, FILES, Takes, Word};
 use crate::words::asked;
 use crate::words::asked::{CPU, TASK};
+use crate::words::lenient::LENIENT;
 use clap::ArgMatches;
 use numa_script::number::number;
 use std::alloc::Global;
@@ -29,11 +30,11 @@ static WORD: Word = Word {
 now on a CPU of one node: in six lines the nodes in order, the range with the page's index, which \
 policy counts and why the other doesn't, the sets of nodes, the rule that chose the first node \
 with its arithmetic, and the order of the others with their distances. Lines that are faulty or \
-refused are told on standard error as by `check`, and passed over. The status is 3 where no \
-machine is ready after the scripts.",
+refused are told on standard error as by `check`, and passed over. The status is 3 where some \
+are, unless --lenient is given, and where no machine is ready after the scripts.",
     more: "Example, from the top of the repository:\n  ./numaplan explain --task 1 --cpu 3 \
 0x32000 examples/interleaved-range.numaplan",
-    arguments: &[TASK, CPU, ADDRESS, FILES],
+    arguments: &[TASK, CPU, LENIENT, ADDRESS, FILES],
 };
 
 /// The word.

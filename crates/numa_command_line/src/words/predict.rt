@@ -4,6 +4,7 @@ use crate::jobs::{JobFault, Question, Work};
 use crate::usage::{Argument, FILES, Takes, Word};
 use crate::words::asked::{CPU, TASK};
 use crate::words::free::FREE;
+use crate::words::lenient::LENIENT;
 use crate::words::{asked, free};
 use clap::ArgMatches;
 use numa_reports::Format;
@@ -27,11 +28,11 @@ them now on a CPU of one node: the first node of each page's list, range by rang
 With --free the named nodes have so many free pages, and the others never run out: each page, the \
 lowest first, goes to the first node of its list that has one left; the answer tells how many \
 pages find none (exhausted=) and what is left on the named nodes. Lines that are faulty or \
-refused are told on standard error as by `check`, and passed over. The status is 3 where no \
-machine is ready after the scripts.",
+refused are told on standard error as by `check`, and passed over. The status is 3 where some \
+are, unless --lenient is given, and where no machine is ready after the scripts.",
     more: "Example, from the top of the repository:\n  ./numaplan predict --task 1 --cpu 0 \
-examples/homes.numaplan",
-    arguments: &[TASK, CPU, FORMAT, FREE, FILES],
+examples/interleaved-range.numaplan",
+    arguments: &[TASK, CPU, FORMAT, FREE, LENIENT, FILES],
 };
 
 /// The word.

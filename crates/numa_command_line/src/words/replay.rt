@@ -2,6 +2,7 @@
 use crate::jobs::{JobFault, Work};
 use crate::texts;
 use crate::usage::{Argument, FILES, Takes, Word};
+use crate::words::lenient::LENIENT;
 use clap::ArgMatches;
 use numa_traces::Shape;
 use std::alloc::Global;
@@ -35,11 +36,11 @@ accesses went to which node (N0=) and over which distance (D10=), how many fault
 and how many found no frame, and how many accesses those made. A line of the trace is TASK \
 ADDRESS CPU [COUNT], in decimal or 0x; an empty line or one that begins with # says nothing. \
 Script lines that are faulty or refused are told on standard error as by `check`, and passed \
-over. The status is 3 where no machine is ready after the scripts, or a line of the trace can't \
-be replayed.",
+over. The status is 3 where some are, unless --lenient is given, where no machine is ready after \
+the scripts, and where a line of the trace can't be replayed.",
     more: "Example, from the top of the repository:\n  ./numaplan replay --trace \
 examples/replayed.trace examples/interleaved-range.numaplan",
-    arguments: &[TRACE, FORMAT, FILES],
+    arguments: &[TRACE, FORMAT, LENIENT, FILES],
 };
 
 /// The word.
@@ -59,5 +60,9 @@ fn format_of(name: Option<&str>) -> Shape {
 pub fn work(alloc: Global, matches: &ArgMatches<'_>) -> Result<Work, JobFault> {
     let trace = texts::texts_of(alloc, matches, "trace")?;
     let format = format_of(matches.get_str("format"));
-    Ok(Work::Replay { trace, format })
+    Ok(Work::Replay {
+        trace,
+        format,
+        lenient: matches.get_flag("lenient"),
+    })
 }

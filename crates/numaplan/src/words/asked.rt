@@ -1,14 +1,19 @@
 //! Words that ask about pages that a task would touch.
 use crate::endings::{Told, answered};
 use numa_command_line::Question;
-use numa_play::Halt;
+use numa_play::{Ended, Halt};
 use numa_reports::Touch;
 use std::io;
 use std::io::Read;
 use std::process::ExitCode;
 
 /// Asks a question about the state that the texts lead to.
-fn ask<R, S>(rt: &R, texts: Vec<(String, S)>, asked: Touch, question: &Question) -> Result<(), Halt>
+fn ask<R, S>(
+    rt: &R,
+    texts: Vec<(String, S)>,
+    asked: Touch,
+    question: &Question,
+) -> Result<Ended, Halt>
 where
     R: Print + Eprint + AllocGlobal,
     S: Read + Drop,
@@ -28,10 +33,16 @@ where
 }
 
 /// Answers a question about the state that the texts lead to.
-pub fn answer<R, S>(rt: &R, texts: Vec<(String, S)>, asked: Touch, question: &Question) -> ExitCode
+pub fn answer<R, S>(
+    rt: &R,
+    texts: Vec<(String, S)>,
+    asked: Touch,
+    question: &Question,
+    lenient: bool,
+) -> ExitCode
 where
     R: Print + Eprint + AllocGlobal,
     S: Read + Drop,
 {
-    answered(rt, asked, ask(rt, texts, asked, question))
+    answered(rt, asked, ask(rt, texts, asked, question), lenient)
 }

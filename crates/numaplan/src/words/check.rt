@@ -1,11 +1,8 @@
 //! Tells what is wrong with scripts.
-use crate::endings::stop;
+use crate::endings::{status_of, stop};
 use std::io;
 use std::io::Read;
 use std::process::ExitCode;
-
-/// The status where something was told.
-const TOLD: u8 = 3;
 
 /// Checks the scripts.
 pub fn check<R, S>(rt: &R, texts: Vec<(String, S)>) -> ExitCode
@@ -14,8 +11,7 @@ where
     S: Read + Drop,
 {
     match numa_play::check(rt.alloc(), texts, io::writer(rt)) {
-        Ok(true) => ExitCode::SUCCESS,
-        Ok(false) => ExitCode::from(TOLD),
+        Ok(ended) => status_of(ended, false),
         Err(why) => stop(rt, why),
     }
 }

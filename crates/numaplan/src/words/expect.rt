@@ -6,7 +6,7 @@ use std::io;
 use std::io::{Read, Write};
 use std::process::ExitCode;
 
-/// The status where an answer is not as wanted.
+/// The status where an answer is not as wanted, or a worked script wants none.
 const DIFFERENT: u8 = 3;
 
 /// Reads worked scripts, and tells the counts. Whether all answers are as wanted.
@@ -16,7 +16,7 @@ fn compare_by<S: Read + Drop, W: Write>(
 ) -> Result<bool, Stop> {
     read_all(texts, expect)?;
     expect.tell_counts()?;
-    Ok(expect.counts().different == 0)
+    Ok(expect.counts().are_as_wanted())
 }
 
 /// Compares worked scripts. Whether all answers are as wanted.

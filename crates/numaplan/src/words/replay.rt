@@ -15,6 +15,7 @@ fn replay<R, S, T>(
     name: &str,
     traces: Vec<(String, T)>,
     format: Shape,
+    lenient: bool,
 ) -> ExitCode
 where
     R: Print + Eprint + AllocGlobal,
@@ -23,7 +24,7 @@ where
 {
     let mut output = io::writer(rt);
     let answer = numa_play::replay(rt.alloc(), texts, traces, format, &mut output, Told { rt });
-    ended(rt, name, answer)
+    ended(rt, name, answer, lenient)
 }
 
 /// Replays the trace of a file after scripts.
@@ -32,6 +33,7 @@ pub fn answer<R, S>(
     texts: Vec<(String, S)>,
     trace: &[String],
     format: Shape,
+    lenient: bool,
 ) -> Result<ExitCode, JobFault>
 where
     R: Files + Input + Print + Eprint + AllocGlobal,
@@ -43,7 +45,7 @@ where
         None => "",
     };
     match files::open_all(rt, trace) {
-        Ok(traces) => Ok(replay(rt, texts, name, traces, format)),
+        Ok(traces) => Ok(replay(rt, texts, name, traces, format, lenient)),
         Err(fault) => {
             drop(texts);
             Err(fault)

@@ -1,0 +1,11 @@
+//! Whether faulty and refused lines are let pass: `--lenient`.
+use crate::usage::{Argument, Takes};
+
+/// The option `--lenient`.
+pub const LENIENT: Argument = Argument {
+    name: "lenient",
+    value: "",
+    help: "Ends with status 0 where lines were faulty or refused",
+    is_required: false,
+    takes: Takes::Nothing,
+};

@@ -1,0 +1,110 @@
+//! The worked scripts of folders.
+use crate::files::{Source, Texts, add_file, open_fault, open_file};
+use numa_command_line::JobFault;
+use numa_files::{Stop, is_worked};
+use std::alloc::AllocError;
+use std::io::IsTerminal;
+use std::rt::Files;
+use std::{fs, io};
+
+/// Whether a folder has this name.
+fn is_folder<R: Files>(rt: &R, name: &str) -> bool {
+    match fs::metadata(rt, name) {
+        Ok(metadata) => metadata.is_dir(),
+        Err(_) => false,
+    }
+}
+
+/// Whether the script of this path holds an answer. One that can't be read is taken, and told when
+/// it is opened.
+fn holds_answer<R: Files + AllocGlobal>(rt: &R, path: &str) -> Result<bool, AllocError> {
+    let Ok(file) = open_file(rt, path) else {
+        return Ok(true);
+    };
+    match is_worked(rt.alloc(), file) {
+        Ok(holds) => Ok(holds),
+        Err(Stop::Memory) => Err(AllocError),
+        Err(_) => Ok(true),
+    }
+}
+
+/// Whether the file of this name in a folder, and of this path, is a worked script: one that is
+/// named `*.answers`, or `*.numaplan` where it holds an answer. Hidden files are none.
+fn is_taken<R: Files + AllocGlobal>(rt: &R, name: &str, path: &str) -> Result<bool, AllocError> {
+    if name.starts_with('.') {
+        return Ok(false);
+    }
+    if name.ends_with(".numaplan") {
+        return holds_answer(rt, path);
+    }
+    Ok(name.ends_with(".answers"))
+}
+
+/// The paths of a folder's worked scripts, in the order of their names.
+fn worked_in<R: Files + AllocGlobal>(rt: &R, folder: &str) -> io::Result<Vec<String>> {
+    let mut paths = Vec::new(rt.alloc());
+    for entry in fs::read_dir(&rt, folder)? {
+        let entry = entry?;
+        let path = entry.path().as_str();
+        if is_taken(rt, entry.file_name(), path)? {
+            paths.push(String::from_str(rt.alloc(), path)?)?;
+        }
+    }
+    paths.sort()?;
+    Ok(paths)
+}
+
+/// Opens a folder's worked scripts, behind what is open. A folder without one is a script without a
+/// line.
+fn add_folder<R>(rt: &R, folder: &str, texts: &mut Texts<R>) -> Result<(), JobFault>
+where
+    R: Files + Input + Eprint + AllocGlobal,
+    R::Reader: IsTerminal,
+{
+    let paths = match worked_in(rt, folder) {
+        Ok(paths) => paths,
+        Err(error) => return Err(open_fault(rt.alloc(), folder, &error)),
+    };
+    for path in &paths {
+        add_file(rt, path.as_str(), texts)?;
+    }
+    if paths.is_empty() {
+        let named = String::from_str(rt.alloc(), folder)?;
+        if let Err(_) = texts.push((named, Source::Nothing)) {
+            return Err(JobFault::NoMemory);
+        }
+    }
+    Ok(())
+}
+
+/// Opens files and folders in turn.
+fn add_worked<R>(rt: &R, names: &[String], texts: &mut Texts<R>) -> Result<(), JobFault>
+where
+    R: Files + Input + Eprint + AllocGlobal,
+    R::Reader: IsTerminal,
+{
+    for name in names {
+        if is_folder(rt, name.as_str()) {
+            add_folder(rt, name.as_str(), texts)?;
+        } else {
+            add_file(rt, name.as_str(), texts)?;
+        }
+    }
+    Ok(())
+}
+
+/// Opens worked scripts, each with its name: files, standard input, and those of folders.
+///
+/// # Errors
+/// `Usage` where a file or a folder can't be opened, with its name and the cause.
+pub fn open_worked<R>(rt: &R, names: &[String]) -> Result<Texts<R>, JobFault>
+where
+    R: Files + Input + Eprint + AllocGlobal,
+    R::Reader: IsTerminal,
+{
+    let mut texts = Vec::new(rt.alloc());
+    match add_worked(rt, names, &mut texts) {
+        Ok(()) => Ok(texts),
+        Err(fault) => Err(fault),
+    }
+}
