@@ -1,19 +1,34 @@
-# Completions of numaplan's command line for bash: words, then options and files. The words are those that
-# `numaplan --help` names. Not proved.
+# Completions of numaplan's command line for bash. Made by tools/write-completions of docs/help. Not proved.
 _numaplan() {
-    local word=${COMP_WORDS[COMP_CWORD]} words
-    if [ "$COMP_CWORD" = 1 ]; then
-        words=$("${COMP_WORDS[0]}" --help 2>/dev/null | awk '
-            /^Commands:/ { inside = 1; next }
-            /^$/ { inside = 0 }
-            inside { print $1 }')
-        mapfile -t COMPREPLY < <(compgen -W "$words --help --version" -- "$word")
-    elif [[ $word == -* ]]; then
-        words=$("${COMP_WORDS[0]}" "${COMP_WORDS[1]}" --help 2>/dev/null | grep -o -- '^ *\(-., \)*--[a-z-]*' |
-            grep -o -- '--.*')
-        mapfile -t COMPREPLY < <(compgen -W "$words" -- "$word")
-    else
-        mapfile -t COMPREPLY < <(compgen -f -- "$word")
-    fi
+    local at=$COMP_CWORD word=${COMP_WORDS[COMP_CWORD]} words='' files=''
+    # (in --format=json the sign is a word of its own)
+    [ "$word" != = ] || word='' at=$((at + 1))
+    [ "${COMP_WORDS[at - 1]}" != = ] || at=$((at - 1))
+    COMPREPLY=()
+    case ${COMP_WORDS[1]}:${COMP_WORDS[at - 1]} in
+        predict:--task | predict:--cpu | predict:--free | diff:--task | diff:--cpu | diff:--then | explain:--task | explain:--cpu | storm:--workers) : ;;
+        predict:--format) words='text json csv svg' ;;
+        replay:--trace) files=yes ;;
+        replay:--format) words='text json' ;;
+        *)
+            [ "$COMP_CWORD" != 1 ] || words='run check expect predict diff explain replay storm help --help --version'
+            [ "$COMP_CWORD" = 1 ] || case ${COMP_WORDS[1]} in
+                run) words='--echo --help' files=yes ;;
+                check) words='--help' files=yes ;;
+                expect) words='--help' files=yes ;;
+                predict) words='--task --cpu --format --free --help' files=yes ;;
+                diff) words='--task --cpu --then --help' files=yes ;;
+                explain) words='--task --cpu --help' files=yes ;;
+                replay) words='--trace --format --help' files=yes ;;
+                storm) words='--workers --help' ;;
+                help) words='run check expect predict diff explain replay storm help' ;;
+            esac
+            # (files, unless an option is begun)
+            [[ -z $files || $word = -* ]] || words=''
+            [[ $word != -* ]] || files=''
+            ;;
+    esac
+    [ -z "$words" ] || mapfile -t COMPREPLY < <(compgen -W "$words" -- "$word")
+    [ -z "$files" ] || mapfile -t COMPREPLY < <(compgen -f -- "$word")
 }
 complete -o filenames -F _numaplan numaplan

@@ -1,0 +1,44 @@
+# Completions of numaplan's command line for fish. Made by tools/write-completions of docs/help. Not proved.
+function __numaplan_begins
+    test (count (commandline -opc)) -eq 1
+end
+
+function __numaplan_has
+    set -l words (commandline -opc)
+    test (count $words) -ge 2; and test $words[2] = $argv[1]
+end
+
+complete -c numaplan -n __numaplan_begins -f -a run -d 'Answers the scripts of files, or of standard input'
+complete -c numaplan -n __numaplan_begins -f -a check -d 'Tells what is wrong with scripts, and what to do about it'
+complete -c numaplan -n __numaplan_begins -f -a expect -d 'Compares the answers that scripts hold with those that they get'
+complete -c numaplan -n __numaplan_begins -f -a predict -d 'Tells where pages would go after scripts, if a task touched them'
+complete -c numaplan -n __numaplan_begins -f -a diff -d 'Tells which pages would go elsewhere if lines were added to scripts'
+complete -c numaplan -n __numaplan_begins -f -a explain -d 'Tells why a page goes where it goes'
+complete -c numaplan -n __numaplan_begins -f -a replay -d 'Tells what a trace of accesses meets after scripts'
+complete -c numaplan -n __numaplan_begins -f -a storm -d 'Lets workers place pages while policies change, and compares each placement'
+complete -c numaplan -n __numaplan_begins -f -a help -d 'Print this message or the help of the given subcommand(s)'
+complete -c numaplan -n '__numaplan_begins' -s h -l help -d 'Print help'
+complete -c numaplan -n '__numaplan_begins' -s V -l version -d 'Print version'
+complete -c numaplan -n '__numaplan_has run' -l echo -d 'Writes each line of the script, and its answer behind `=> `'
+complete -c numaplan -n '__numaplan_has run' -s h -l help -d 'Print help'
+complete -c numaplan -n '__numaplan_has check' -s h -l help -d 'Print help'
+complete -c numaplan -n '__numaplan_has expect' -s h -l help -d 'Print help'
+complete -c numaplan -n '__numaplan_has predict' -l task -x -d 'The task that touches the pages'
+complete -c numaplan -n '__numaplan_has predict' -l cpu -x -d 'The node of the CPU on which it does'
+complete -c numaplan -n '__numaplan_has predict' -l format -x -a 'text json csv svg' -d 'How the answer is written'
+complete -c numaplan -n '__numaplan_has predict' -l free -x -d 'So many free pages on these nodes'
+complete -c numaplan -n '__numaplan_has predict' -s h -l help -d 'Print help'
+complete -c numaplan -n '__numaplan_has diff' -l task -x -d 'The task that touches the pages'
+complete -c numaplan -n '__numaplan_has diff' -l cpu -x -d 'The node of the CPU on which it does'
+complete -c numaplan -n '__numaplan_has diff' -l then -x -d 'A script line that is added; several in turn'
+complete -c numaplan -n '__numaplan_has diff' -s h -l help -d 'Print help'
+complete -c numaplan -n '__numaplan_has explain' -l task -x -d 'The task that touches the pages'
+complete -c numaplan -n '__numaplan_has explain' -l cpu -x -d 'The node of the CPU on which it does'
+complete -c numaplan -n '__numaplan_has explain' -s h -l help -d 'Print help'
+complete -c numaplan -n '__numaplan_has replay' -l trace -r -F -d 'The file of the trace; - is standard input'
+complete -c numaplan -n '__numaplan_has replay' -l format -x -a 'text json' -d 'How the answer is written'
+complete -c numaplan -n '__numaplan_has replay' -s h -l help -d 'Print help'
+complete -c numaplan -n '__numaplan_has storm' -l workers -x -d 'How many workers there are, from 1 to 16'
+complete -c numaplan -n '__numaplan_has storm' -s h -l help -d 'Print help'
+complete -c numaplan -n '__numaplan_has storm' -f
+complete -c numaplan -n '__numaplan_has help' -f -a 'run check expect predict diff explain replay storm help'

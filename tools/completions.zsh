@@ -1,0 +1,82 @@
+#compdef numaplan
+# Completions of numaplan's command line for zsh. Made by tools/write-completions of docs/help. Not proved.
+_numaplan() {
+    local curcontext=$curcontext state line
+    local -a commands
+    commands=(
+        'run:Answers the scripts of files, or of standard input'
+        'check:Tells what is wrong with scripts, and what to do about it'
+        'expect:Compares the answers that scripts hold with those that they get'
+        'predict:Tells where pages would go after scripts, if a task touched them'
+        'diff:Tells which pages would go elsewhere if lines were added to scripts'
+        'explain:Tells why a page goes where it goes'
+        'replay:Tells what a trace of accesses meets after scripts'
+        'storm:Lets workers place pages while policies change, and compares each placement'
+        'help:Print this message or the help of the given subcommand(s)'
+    )
+    _arguments -C \
+        '(-h --help)-h[Print help]' '(-h --help)--help[Print help]' \
+        '(-V --version)-V[Print version]' '(-V --version)--version[Print version]' \
+        '1:command:->command' '*::argument:->argument'
+    [ "$state" != command ] || _describe command commands
+    [ "$state" = argument ] || return
+    case $words[1] in
+        run)
+            _arguments \
+                '(--echo)--echo[Writes each line of the script, and its answer behind `=> `]' \
+                '(-h --help)-h[Print help]' '(-h --help)--help[Print help]' \
+                '*:file:_files'
+            ;;
+        check)
+            _arguments \
+                '(-h --help)-h[Print help]' '(-h --help)--help[Print help]' \
+                '*:file:_files'
+            ;;
+        expect)
+            _arguments \
+                '(-h --help)-h[Print help]' '(-h --help)--help[Print help]' \
+                '*:file:_files'
+            ;;
+        predict)
+            _arguments \
+                '(--task)--task[The task that touches the pages]:T: ' \
+                '(--cpu)--cpu[The node of the CPU on which it does]:C: ' \
+                '(--format)--format[How the answer is written]:FORMAT:(text json csv svg)' \
+                '(--free)--free[So many free pages on these nodes]:NODE=PAGES,..: ' \
+                '(-h --help)-h[Print help]' '(-h --help)--help[Print help]' \
+                '*:file:_files'
+            ;;
+        diff)
+            _arguments \
+                '(--task)--task[The task that touches the pages]:T: ' \
+                '(--cpu)--cpu[The node of the CPU on which it does]:C: ' \
+                '*--then[A script line that is added; several in turn]:LINE: ' \
+                '(-h --help)-h[Print help]' '(-h --help)--help[Print help]' \
+                '*:file:_files'
+            ;;
+        explain)
+            _arguments \
+                '(--task)--task[The task that touches the pages]:T: ' \
+                '(--cpu)--cpu[The node of the CPU on which it does]:C: ' \
+                '(-h --help)-h[Print help]' '(-h --help)--help[Print help]' \
+                '*:file:_files'
+            ;;
+        replay)
+            _arguments \
+                '(--trace)--trace[The file of the trace; - is standard input]:TRACE:_files' \
+                '(--format)--format[How the answer is written]:FORMAT:(text json)' \
+                '(-h --help)-h[Print help]' '(-h --help)--help[Print help]' \
+                '*:file:_files'
+            ;;
+        storm)
+            _arguments \
+                '(--workers)--workers[How many workers there are, from 1 to 16]:K: ' \
+                '(-h --help)-h[Print help]' '(-h --help)--help[Print help]'
+            ;;
+        help)
+            _arguments \
+                '1:command:(run check expect predict diff explain replay storm help)'
+            ;;
+    esac
+}
+_numaplan "$@"
