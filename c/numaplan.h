@@ -8,7 +8,8 @@
  * Handles. A core, a plan, a seat and a script are kept by handles of 16 bytes that begin as
  * zero bytes, as in `np_core core = {0};`. A handle owns what it keeps until it is closed. It
  * is not to be copied, and its fields are the library's: C neither reads nor writes them.
- * Closing a closed handle does nothing.
+ * Closing a closed handle does nothing. No call takes a `const` handle: a question, too, takes
+ * what is kept out of its handle, and puts it back before it answers.
  *
  * Threads. A handle may go to another thread, ordered by a lock, a start or a join, and is
  * given to one call at a time. A plan never changes: np_plan_share keeps it in a handle for
@@ -19,7 +20,8 @@
  * Pointers are not null, not even where a length is 0, and hold for the call; no two of one
  * call overlap. Texts are bytes with a length, without a zero at the end.
  *
- * Answers. Each function that can fail answers one of the numbers below. NP_OK is 0. A call
+ * Answers. Each function that can fail answers one of the numbers of `enum np_answer`, as a
+ * uint32_t: a later version may answer a number that this header lacks. NP_OK is 0. A call
  * that answers another one changed nothing, but for NP_STILL and NP_EXHAUSTED, which are no
  * failures, NP_NO_ROOM, which tells the length that is needed, and NP_ANSWER_LOST. After
  * NP_NO_MEMORY every handle is as it was.
@@ -38,9 +40,20 @@
 extern "C" {
 #endif
 
+/* ---- the version of this header, and of the library */
+
+#define NP_VERSION_MAJOR 0
+#define NP_VERSION_MINOR 10
+#define NP_VERSION_PATCH 0
+#define NP_VERSION (NP_VERSION_MAJOR * 1000000 + NP_VERSION_MINOR * 1000 + NP_VERSION_PATCH)
+
+/* The version of the library, as one number like NP_VERSION. They differ where a program runs with
+ * another library than it was compiled for. */
+uint32_t np_version(void);
+
 /* ---- answers; a number that was given once is never given to another cause */
 
-enum {
+enum np_answer {
     NP_OK = 0,
     NP_CLOSED = 1,    /* the handle keeps nothing */
     NP_OPEN = 2,      /* the handle that is to be opened keeps something */

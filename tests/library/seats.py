@@ -41,7 +41,7 @@ with Seat([3, 5], DISTANCES) as seat:
     want(len({(frame.node, frame.number) for frame in frames}), 8, "frames apart")
     want(refusal(lambda: seat.take([1, 0])), "AllTaken", "the ninth")
     want(refusal(lambda: seat.give(1, 5)), "NotOwned", "a frame that isn't there")
-    want(refusal(lambda: seat.give(-1, 0)), "NotOwned", "a node that isn't there")
+    want(refusal(lambda: seat.give(2, 0)), "NotOwned", "a node that isn't there")
     seat.give(0, 2)
     want(seat.take([1, 0]), (0, 2, 1), "the frame that was given back")
     with Seat([3, 5], DISTANCES) as other:

@@ -7,3 +7,4 @@ pub mod Scripts
 pub mod Texts
 pub mod Ranges
 pub mod Pools
+pub mod Version

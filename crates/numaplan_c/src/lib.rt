@@ -18,4 +18,5 @@ mod pools;
 mod ranges;
 mod scripts;
 mod texts;
+mod version;
 mod workers;

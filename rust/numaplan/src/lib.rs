@@ -2,12 +2,13 @@
 //! pages are numbered by address / 4096. A refused call has changed nothing. The calls are proved;
 //! this wrapper, and that its declarations are those of numaplan.h, is not.
 
+mod causes;
 mod raw;
 
 use raw::{Counts, Handle, Limits, Nodes, Span};
-use std::fmt;
 use std::sync::Arc;
 
+pub use causes::Refused;
 pub use raw::{Frame, Placement};
 
 /// A range of pages: its address and length in bytes, the index of its first page, and the policy of
@@ -20,37 +21,13 @@ pub struct Range {
     pub policy: Option<String>,
 }
 
-/// Why a call was refused: a number of numaplan.h.
-#[derive(Clone, Copy, Debug, PartialEq, Eq)]
-pub struct Refused(pub u32);
+/// The version of this crate, and of the library that it is made for.
+pub const VERSION: &str = "0.10.0";
 
-impl Refused {
-    /// Out of memory.
-    pub const NO_MEMORY: Refused = Refused(3);
-    /// The answer is longer than the room for it.
-    const NO_ROOM: Refused = Refused(4);
-    /// Every frame of every listed node is taken.
-    pub const EXHAUSTED: Refused = Refused(41);
-    /// Every frame of every listed node was found taken.
-    pub const ALL_TAKEN: Refused = Refused(42);
-    /// The seat doesn't hold the frame.
-    pub const NOT_OWNED: Refused = Refused(34);
-
-    /// The name of the cause, as "Unaligned"; empty where no answer has this number.
-    pub fn name(self) -> String {
-        let (mut name, mut length) = ([0; 32], 0);
-        unsafe { raw::np_answer_name(self.0, name.as_mut_ptr(), name.len(), &mut length) };
-        String::from_utf8_lossy(&name[..length]).into_owned()
-    }
+/// The version of the library as one number, as 10000 for 0.10.0.
+pub fn version() -> u32 {
+    unsafe { raw::np_version() }
 }
-
-impl fmt::Display for Refused {
-    fn fmt(&self, f: &mut fmt::Formatter<'_>) -> fmt::Result {
-        write!(f, "numaplan refused: {}", self.0)
-    }
-}
-
-impl std::error::Error for Refused {}
 
 fn done(code: u32) -> Result<(), Refused> {
     match code {
@@ -87,9 +64,11 @@ fn written(
 }
 
 /// A core: commands, published versions, and workers that look for frames.
+#[derive(Debug)]
 pub struct Core(Handle);
 
 /// A plan, which never changes: the list of nodes of each page.
+#[derive(Debug)]
 pub struct Plan(Handle);
 
 /// A seat at pools of frames, for one thread: it takes frames, and gives back those that it holds.
@@ -112,6 +91,7 @@ unsafe impl Send for Plan {}
 unsafe impl Send for Seat {}
 
 /// A script that is given line by line, in the language of `numaplan run`.
+#[derive(Debug)]
 pub struct Script(Handle);
 
 // SAFETY: as for a core.

@@ -117,5 +117,5 @@ extern "C" {
     pub(crate) fn np_script_close(script: &mut Handle);
     pub(crate) fn np_script_line(script: &mut Handle, line: *const u8, length: usize, needed: &mut usize) -> u32;
     pub(crate) fn np_script_answer(script: &mut Handle, answer: *mut u8, room: usize, length: &mut usize) -> u32;
-    pub(crate) fn np_answer_name(code: u32, name: *mut u8, room: usize, length: &mut usize) -> u32;
+    pub(crate) fn np_version() -> u32;
 }

@@ -1,0 +1,278 @@
+"""Why calls are refused: a class for each number by which the library answers that. Not proved."""
+
+from __future__ import annotations
+
+from ctypes import byref, c_uint32
+from typing import Any, ClassVar
+
+from ._library import LIBRARY
+
+
+class Refused(Exception):
+    """A call that was refused: each cause is a class of its own below this one. As a text it tells
+    the cause and what to do."""
+
+    number: ClassVar[int] = 0
+    words: ClassVar[str] = "the call was refused"
+
+    def __init_subclass__(cls, **rest: Any) -> None:
+        super().__init_subclass__(**rest)
+        cls.__module__, cls.__doc__ = "numaplan", cls.words
+
+    def __str__(self) -> str:
+        return self.words
+
+    @property
+    def errno(self) -> int:
+        """The error number that Linux gives for the cause (errno(3)); 0 where it has none."""
+        number = c_uint32()
+        LIBRARY.np_answer_errno(self.number, byref(number))
+        return number.value
+
+
+Refused.__module__ = "numaplan"
+
+
+# ---- handles, memory, rooms
+
+
+class Closed(Refused):
+    number, words = 1, "this keeps nothing, since it was closed; open a new one"
+
+
+class Open(Refused):
+    number, words = 2, "this keeps something already; close it first"
+
+
+class NoMemory(Refused):
+    number, words = 3, "out of memory; nothing has changed, so free some and call again"
+
+
+class NoRoom(Refused):
+    number, words = 4, "the answer is longer than the room for it; call again with what it needs"
+
+
+class Unknown(Refused):
+    number, words = 5, "no answer has this number; numaplan.h has those that there are"
+
+
+class AnswerLost(Refused):
+    number = 6
+    words = "the line was served, without memory for its answer; free some and ask again"
+
+
+# ---- commands
+
+
+class CommandsSpent(Refused):
+    number = 10
+    words = ("as many commands as the limits allow were accepted; open a core with a higher"
+             " max_commands")
+
+
+class Unaligned(Refused):
+    number = 11
+    words = "the start is no multiple of 4096; round it down, and the length up"
+
+
+class OutOfSpace(Refused):
+    number, words = 12, "the span ends above address 2^47; use lower addresses"
+
+
+class EmptyLength(Refused):
+    number, words = 13, "the length is 0; map at least one byte"
+
+
+class BadOffset(Refused):
+    number, words = 14, "the offset is 2^35 or more; it is in pages, not in bytes"
+
+
+class Overlap(Refused):
+    number, words = 15, "a page of the span is mapped already; unmap it first"
+
+
+class Hole(Refused):
+    number = 16
+    words = "a page of the span isn't mapped; map it first, or bind each mapped part by itself"
+
+
+class NoSuchNode(Refused):
+    number, words = 17, "the machine lacks the node; its nodes are numbered from 0"
+
+
+class BadWeight(Refused):
+    number, words = 18, "the weight is 0 or above 255; choose one from 1 to 255"
+
+
+class NodesNotAllowed(Refused):
+    number = 19
+    words = ("the policy would have no node, or no node of set_mems has memory; name one that is"
+             " allowed and has memory")
+
+
+class NotSupported(Refused):
+    number, words = 20, "a page of the span has a policy that takes no home; leave it out"
+
+
+class TooManyTasks(Refused):
+    number = 21
+    words = ("as many tasks as the limits allow have a policy; set one to default, or open a core"
+             " with a higher max_tasks")
+
+
+class TooManyRanges(Refused):
+    number = 22
+    words = ("there would be more ranges than the limits allow; unmap some, or open a core with a"
+             " higher max_ranges")
+
+
+class NoPolicyThere(Refused):
+    number = 23
+    words = ("by the kernel's rules a home needs a page with a policy of its own in the span; bind one"
+             " first")
+
+
+# ---- events of workers, frames, questions
+
+
+class NoSuchWorker(Refused):
+    number, words = 30, "there are not so many workers; they are numbered from 0"
+
+
+class Busy(Refused):
+    number = 31
+    words = ("the worker looks for a frame; let it win one, or exhaust its list, by look and"
+             " try_frame")
+
+
+class Idle(Refused):
+    number, words = 32, "the worker looks for no frame; begin first"
+
+
+class BadTry(Refused):
+    number = 33
+    words = ("the current node lacks the frame, or the worker has met it; touch finds a frame by"
+             " itself")
+
+
+class NotOwned(Refused):
+    number = 34
+    words = "the frame isn't held here; give it back where it was taken, and once"
+
+
+class BadCpu(Refused):
+    number, words = 35, "the machine lacks the node of the CPU; its nodes are numbered from 0"
+
+
+class Unmapped(Refused):
+    number = 36
+    words = ("the page isn't mapped, or isn't published yet where a worker looks; map it, or look"
+             " at its number, which is address / 4096")
+
+
+class NoRange(Refused):
+    number, words = 37, "there are not so many ranges; they are counted from 0"
+
+
+class PlacedTwice(Refused):
+    number, words = 38, "two of the placements are of one page; hand in one for each page"
+
+
+class Exhausted(Refused):
+    number = 41
+    words = "each frame of each listed node is taken; give one back, and begin anew"
+
+
+class AllTaken(Refused):
+    number, words = 42, "each frame of each listed node is taken; give one back first"
+
+
+# ---- machines, limits, workers
+
+
+class BadNodeCount(Refused):
+    number = 50
+    words = ("no node, more than 256, or not one distance from each node to each; give one number"
+             " of frames and one row of distances for each node")
+
+
+class NoMemoryNode(Refused):
+    number = 51
+    words = "no node has memory, or one that the machine lacks; name some of its nodes"
+
+
+class BadDistance(Refused):
+    number, words = 52, "a node isn't 10 from itself, or is 10 or less from another"
+
+
+class TooManyFrames(Refused):
+    number = 53
+    words = ("a node has more than 4096 frames, or some and no memory, or all have more than 65536;"
+             " use less")
+
+
+class BadLimits(Refused):
+    number, words = 54, "max_ranges is above 65536, or max_tasks above 1024; use less"
+
+
+class BadWorkers(Refused):
+    number, words = 55, "no worker, or more than 16; use 1 to 16"
+
+
+# ---- lists of nodes, policy words
+
+
+class ListEmpty(Refused):
+    number = 60
+    words = "nothing stands where a node should; name one, or leave out the comma"
+
+
+class ListBadDigit(Refused):
+    number = 61
+    words = "an item of the list is neither a nor a-b, in decimal of 1 to 4 digits"
+
+
+class ListBackwards(Refused):
+    number, words = 62, "a range of the list falls; turn it round"
+
+
+class ListTooHigh(Refused):
+    number, words = 63, "a number of the list is above 255; nodes are 0 to 255"
+
+
+class UnknownMode(Refused):
+    number = 70
+    words = "what stands before the colon is no policy with its flag; write as bind=static:0-1"
+
+
+class BothFlags(Refused):
+    number, words = 71, "static and relative exclude each other; choose one"
+
+
+class NodesForbidden(Refused):
+    number, words = 72, "default and local take no list; leave it out"
+
+
+class FlagsForbidden(Refused):
+    number = 73
+    words = ("local takes no flag, nor does prefer without a list; leave it out, or name nodes")
+
+
+class NodesMissing(Refused):
+    number, words = 74, "the policy wants nodes; name them behind a colon"
+
+
+class NoPolicy(Refused):
+    number, words = 75, "default is no policy; name one"
+
+
+class NoNodeAllowed(Refused):
+    number, words = 76, "no node is allowed; name one"
+
+
+CAUSES: dict[int, type[Refused]] = {cause.number: cause for cause in Refused.__subclasses__()}
+
+
+def refusal(number: int) -> Refused:
+    """What is raised where the library answers a number that is no success."""
+    return CAUSES.get(number, Refused)()

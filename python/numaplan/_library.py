@@ -1,0 +1,126 @@
+"""libnumaplan.so by ctypes: where it is found, its structs, and the signatures of its functions.
+Not proved."""
+
+from __future__ import annotations
+
+import ctypes
+import os
+from ctypes import POINTER, c_bool, c_char_p, c_size_t, c_uint8, c_uint16, c_uint32, c_uint64
+from ctypes import c_void_p
+
+NAME = "libnumaplan.so.0"
+
+
+class Handle(ctypes.Structure):
+    """What a core, a plan, a seat or a script is kept by."""
+
+    _fields_ = [("is_open", c_bool), ("at", c_void_p)]
+
+
+class Limits(ctypes.Structure):
+    """np_limits."""
+
+    _fields_ = [(name, c_uint32) for name in ("max_ranges", "max_tasks", "max_commands")]
+
+
+class PlacedPage(ctypes.Structure):
+    """np_placement."""
+
+    _fields_ = [("version", c_uint64), ("page", c_uint64), ("task", c_uint32), ("rank", c_uint32),
+                ("frame", c_uint16), ("node", c_uint8)]
+
+
+class Span(ctypes.Structure):
+    """np_range."""
+
+    _fields_ = [(name, c_uint64) for name in ("start", "length", "offset")]
+
+
+class TakenFrame(ctypes.Structure):
+    """np_frame."""
+
+    _fields_ = [("node", c_uint8), ("number", c_uint16)]
+
+
+class NodeSet(ctypes.Structure):
+    """np_nodes."""
+
+    _fields_ = [("words", c_uint64 * 4)]
+
+
+_HANDLE, _TEXT, _U32, _U64 = POINTER(Handle), c_char_p, c_uint32, c_uint64
+_ROOM = [POINTER(c_uint8), c_size_t, POINTER(c_size_t)]
+_SIGNATURES = {
+    "core_open": [_HANDLE, _TEXT, c_size_t, POINTER(_U32), c_size_t, _TEXT, c_size_t,
+                  POINTER(Limits), _U32],
+    "core_copy": [_HANDLE, _HANDLE],
+    "core_versions": [_HANDLE, POINTER(_U64), POINTER(_U64)],
+    "core_ranges": [_HANDLE, POINTER(c_size_t)],
+    "core_range": [_HANDLE, c_size_t, POINTER(Span), *_ROOM],
+    "core_maps": [_HANDLE, _U32, POINTER(PlacedPage), c_size_t, *_ROOM],
+    "core_map": [_HANDLE, _U64, _U64, _U64],
+    "core_unmap": [_HANDLE, _U64, _U64],
+    "core_mbind": [_HANDLE, _U64, _U64, _TEXT, c_size_t],
+    "core_set_task": [_HANDLE, _U32, _TEXT, c_size_t],
+    "core_set_home": [_HANDLE, _U64, _U64, _U32],
+    "core_set_weight": [_HANDLE, _U32, _U32],
+    "core_set_mems": [_HANDLE, _TEXT, c_size_t],
+    "core_publish": [_HANDLE],
+    "core_touch": [_HANDLE, _U32, _U32, _U64, _U32, POINTER(PlacedPage)],
+    "core_begin": [_HANDLE, _U32, _U32, _U64, _U32],
+    "core_look": [_HANDLE, _U32, _U32],
+    "core_try": [_HANDLE, _U32, c_uint8, c_uint16, POINTER(PlacedPage)],
+    "core_give": [_HANDLE, _U32, c_uint8, c_uint16],
+    "core_compile": [_HANDLE, _HANDLE],
+    "core_plan": [_HANDLE, _HANDLE],
+    "plan_share": [_HANDLE, _HANDLE],
+    "plan_version": [_HANDLE, POINTER(_U64)],
+    "plan_choice": [_HANDLE, _U32, _U64, _U32, *_ROOM],
+    "plan_fill": [_HANDLE, _U32, _U32, _U64, POINTER(c_uint8), c_size_t],
+    "plan_counts": [_HANDLE, _U32, _U32, _U64, _U64, POINTER(_U64 * 256)],
+    "seat_open": [_HANDLE, _TEXT, c_size_t, POINTER(_U32), c_size_t, _TEXT, c_size_t],
+    "seat_split": [_HANDLE, _HANDLE],
+    "seat_take": [_HANDLE, _TEXT, c_size_t, POINTER(TakenFrame), POINTER(c_size_t)],
+    "seat_give": [_HANDLE, c_uint8, c_uint16],
+    "seat_join": [_HANDLE, _HANDLE],
+    "nodes_read": [_TEXT, c_size_t, POINTER(NodeSet)],
+    "nodes_write": [POINTER(NodeSet), *_ROOM],
+    "policy_effective": [_TEXT, c_size_t, _TEXT, c_size_t, POINTER(NodeSet)],
+    "policy_rebind": [_TEXT, c_size_t, _TEXT, c_size_t, _TEXT, c_size_t, POINTER(NodeSet)],
+    "policy_text": [_TEXT, c_size_t, _TEXT, c_size_t, *_ROOM],
+    "script_run": [_TEXT, c_size_t, *_ROOM],
+    "script_open": [_HANDLE],
+    "answer_errno": [_U32, POINTER(_U32)],
+    "version": [],
+}
+
+
+def _find() -> ctypes.CDLL:
+    """The library that NUMAPLAN_LIBRARY names; else that of this module's folder, of the PREFIX
+    that it is installed in, or of the system."""
+    here = os.path.dirname(os.path.abspath(__file__))
+    beside = [os.path.join(here, NAME), os.path.join(here, "..", "..", "..", "lib", NAME)]
+    found = [path for path in beside if os.path.exists(path)]
+    path = os.environ.get("NUMAPLAN_LIBRARY") or (found + [NAME])[0]
+    try:
+        return ctypes.CDLL(path)
+    except OSError as fault:
+        raise ImportError(f"{fault}; './numaplan library PREFIX' makes {NAME} in PREFIX/lib, and "
+                          "NUMAPLAN_LIBRARY names it where it is elsewhere") from fault
+
+
+def _load() -> ctypes.CDLL:
+    """The library, with the signature of each function."""
+    library = _find()
+    for name, types in _SIGNATURES.items():
+        function = getattr(library, "np_" + name, None)
+        if function is None:
+            raise ImportError(f"{library._name} lacks np_{name}: it is of another version")
+        function.argtypes, function.restype = types, c_uint32
+    for name in ("core_close", "plan_close", "script_close", "seat_close"):
+        function = getattr(library, "np_" + name)
+        function.argtypes, function.restype = [_HANDLE], None
+    return library
+
+
+LIBRARY = _load()

@@ -1,0 +1,98 @@
+"""The Python module's version, names and causes: those of the header and of the library. The arguments
+are a file with the header's answers, as `NP_CLOSED 1`, and one with what tests/library/causes.rs
+prints, where there is a Rust compiler. Prints what is wrong; not proved."""
+
+import ast
+import ctypes
+import os
+import pickle
+import sys
+
+import numaplan
+from numaplan import Core, Plan, Refused, Script, Seat
+
+NO_FAILURES = {0, 40}  # NP_OK and NP_STILL
+FAR = [[10, 20], [20, 10]]
+wrong = []
+
+
+def want(got, wanted, what):
+    """Notes what isn't as it is to be."""
+    if got != wanted:
+        wrong.append(f"{what}: {got}, not {wanted}")
+
+
+def name_in_library(number):
+    """The name that np_answer_name gives."""
+    library = ctypes.CDLL(os.path.join(os.path.dirname(numaplan.__file__),
+                                       "../../../lib/libnumaplan.so.0"))
+    room, length = ctypes.create_string_buffer(32), ctypes.c_size_t()
+    code = library.np_answer_name(number, room, ctypes.c_size_t(32), ctypes.byref(length))
+    return room[:length.value].decode() if code == 0 else ""
+
+
+def of_the_header():
+    for line in open(sys.argv[1], encoding="utf-8"):
+        constant, number = line.split()
+        if int(number) not in NO_FAILURES:
+            yield int(number), "".join(part.capitalize() for part in constant.split("_")[1:])
+
+
+def of_rust():
+    for line in open(sys.argv[2], encoding="utf-8"):
+        number, text = line.rstrip("\n").split(" ", 1)
+        yield int(number), text
+
+
+# one class for each answer that is a failure
+causes = {number: cause.__name__ for number, cause in numaplan.CAUSES.items()}
+want(causes, dict(of_the_header()), "the causes")
+want(causes, {number: name_in_library(number) for number in causes}, "names in the library")
+for number, cause in numaplan.CAUSES.items():
+    name, text = cause.__name__, str(cause())
+    want(getattr(numaplan, name, None), cause, f"numaplan.{name}")
+    want((cause.number, cause.__module__, name in numaplan.__all__), (number, "numaplan", True), name)
+    want((repr(cause()), type(pickle.loads(pickle.dumps(cause())))), (f"{name}()", cause), name)
+    # words, and neither the class's name nor the number alone
+    if len(text.split()) < 5 or name in text or text.endswith("."):
+        wrong.append(f"{name} says {text!r}")
+if len(sys.argv) > 2:
+    told = {number: f"{cause.__name__}: {cause()}" for number, cause in numaplan.CAUSES.items()}
+    want(dict(of_rust()), told, "the causes in Rust")
+
+# what mmap(2) and mbind(2) refuse so
+core = Core([8, 8], FAR)
+core.map(0x10000, 0x4000)
+for call, text, number in [
+    (lambda: core.map(0x11000, 0x1000), "a page of the span is mapped already; unmap it first", 17),
+    (lambda: core.unmap(0x10001, 0x1000),
+     "the start is no multiple of 4096; round it down, and the length up", 22),
+    (lambda: core.set_weight(0, 256), "the weight is 0 or above 255; choose one from 1 to 255", 22),
+]:
+    try:
+        call()
+        wrong.append(f"not refused: {text}")
+    except Refused as cause:
+        want((str(cause), cause.errno), (text, number), type(cause).__name__)
+
+# as they are shown
+plan, seat, script = core.compile(), Seat([8, 8], FAR), Script()
+want(repr(core), "<numaplan.Core of version 1, published 0>", "a core")
+want(repr(plan), "<numaplan.Plan of version 1>", "a plan")
+want([repr(seat), repr(script)], ["<numaplan.Seat>", "<numaplan.Script>"], "a seat, a script")
+for one in (core, plan, seat, script):
+    one.close()
+    want(repr(one), f"<numaplan.{type(one).__name__}, closed>", "a closed one")
+want(repr(Plan()), "<numaplan.Plan, closed>", "a plan of nothing")
+
+# what a checker and `import *` see
+names = {}
+exec("from numaplan import *", names)
+want(sorted(name for name in numaplan.__all__ if name not in names), [], "__all__")
+source = ast.parse(open(numaplan.__file__, encoding="utf-8").read())
+made = {one.name for one in source.body if isinstance(one, (ast.ClassDef, ast.FunctionDef))}
+want({name for name in made if name[0] != "_"} - set(numaplan.__all__), set(), "names not in __all__")
+want(os.path.exists(os.path.join(os.path.dirname(numaplan.__file__), "py.typed")), True, "py.typed")
+
+print("\n".join(wrong))
+sys.exit(bool(wrong))

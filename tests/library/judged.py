@@ -1,0 +1,141 @@
+"""What the Python module refuses before the library sees it: each number that has not so many bits as
+the header gives it, and buffers whose items aren't unsigned bytes that can be written. Prints what is
+wrong; not proved."""
+
+import ctypes
+import mmap
+import sys
+from array import array
+
+import numaplan
+from numaplan import Core, Placement, Seat
+
+FAR = [[10, 20], [20, 10]]
+core, seat = Core([8, 8], FAR), Seat([8, 8], FAR)
+core.map(0x10000, 0x4000)
+plan = core.compile()
+word = "bind:0"
+wrong = []
+
+
+def raised(call):
+    """The fault of a call as its class and text; none where it is served or refused."""
+    try:
+        call()
+    except numaplan.Refused:
+        return None
+    except Exception as fault:
+        return type(fault).__name__, str(fault)
+    return None
+
+
+def want(got, wanted, what):
+    """Notes what isn't as it is to be."""
+    if got != wanted:
+        wrong.append(f"{what}: {got}, not {wanted}")
+
+
+def maps_of(**fields):
+    """A listing with a placement that has these fields."""
+    return core.maps(1, [Placement(1, 16, 1, 0, 0, 0)._replace(**fields)])
+
+
+# each call with numbers: these, with as many bits as numaplan.h gives them
+CALLS = [
+    (lambda start=0, length=0, offset=0: core.map(start, length, offset),
+     {"start": 64, "length": 64, "offset": 64}),
+    (lambda start=0: core.map(start, 4096), {"start": 64}),
+    (lambda start=0, length=0: core.unmap(start, length), {"start": 64, "length": 64}),
+    (lambda start=0, length=0: core.mbind(start, length, word), {"start": 64, "length": 64}),
+    (lambda task=0: core.set_task(task, word), {"task": 32}),
+    (lambda start=0, length=0, node=0: core.set_home(start, length, node),
+     {"start": 64, "length": 64, "node": 32}),
+    (lambda node=0, weight=1: core.set_weight(node, weight), {"node": 32, "weight": 32}),
+    (lambda worker=0, task=0, page=0, cpu=0: core.touch(worker, task, page, cpu),
+     {"worker": 32, "task": 32, "page": 64, "cpu": 32}),
+    (lambda worker=0, task=0, page=0, cpu=0: core.begin(worker, task, page, cpu),
+     {"worker": 32, "task": 32, "page": 64, "cpu": 32}),
+    (lambda worker=0, word=0: core.look(worker, word), {"worker": 32, "word": 32}),
+    (lambda worker=0, node=0, frame=0: core.try_frame(worker, node, frame),
+     {"worker": 32, "node": 8, "frame": 16}),
+    (lambda worker=0, node=0, frame=0: core.give(worker, node, frame),
+     {"worker": 32, "node": 8, "frame": 16}),
+    (lambda task=0: core.maps(task), {"task": 32}),
+    (maps_of, {"version": 64, "page": 64, "task": 32, "rank": 32, "frame": 16, "node": 8}),
+    (lambda task=0, page=16, cpu=0: plan.choice(task, page, cpu),
+     {"task": 32, "page": 64, "cpu": 32}),
+    (lambda task=0, cpu=0, first=16: plan.fill(task, cpu, first, bytearray(1)),
+     {"task": 32, "cpu": 32, "first": 64}),
+    (lambda task=0, cpu=0, first=16, pages=1: plan.counts(task, cpu, first, pages),
+     {"task": 32, "cpu": 32, "first": 64, "pages": 64}),
+    (lambda node=0, number=0: seat.give(node, number), {"node": 8, "number": 16}),
+    (lambda **limits: Core([8, 8], FAR, **limits),
+     {"workers": 32, "max_ranges": 32, "max_tasks": 32, "max_commands": 32}),
+]
+# those that come in lists
+LISTS = [
+    (lambda value: core.set_mems([0, value]), "a number of nodes", 8),
+    (lambda value: seat.take([value]), "a number of nodes", 8),
+    (lambda value: numaplan.nodes_text([value]), "a number of numbers", 8),
+    (lambda value: Core([8, value], FAR), "a number of frames", 32),
+    (lambda value: Core([8, 8], [[10, 20], [value, 10]]), "a number of distances", 8),
+    (lambda value: Seat([8, 8], FAR, memory=[value]), "a number of memory", 8),
+]
+
+
+def judge(call, name, bits):
+    """A value too high, one too low, one that is no whole number, and the highest that there is."""
+    for value in (1 << bits, (1 << bits) + 5, -1, -(1 << 70)):
+        want(raised(lambda: call(value)),
+             ("ValueError", f"{name} is {value}; it has to be from 0 to {(1 << bits) - 1}"),
+             f"{name} of {bits} bits")
+    for value in (1.0, "1", None):
+        if not (name in ("offset", "a number of memory") and value is None):
+            want((raised(lambda: call(value)) or "no fault")[0], "TypeError", f"{name} as {value!r}")
+    want(raised(lambda: call((1 << bits) - 1)), None, f"the highest {name}")
+
+
+before = core.versions
+for call, numbers in CALLS:
+    for name, bits in numbers.items():
+        judge(lambda value: call(**{name: value}), name, bits)
+for call, name, bits in LISTS:
+    judge(call, name, bits)
+
+# the highest task is a task of its own, and no other one was bound instead
+core.set_task(2**32 - 1, "bind:1")
+with core.compile() as made:
+    want([made.choice(task, 16, 0)[0] for task in (2**32 - 1, 5)], [1, 0], "the highest task")
+want(raised(lambda: Core([8, 8], [[10, 20, 20], [10]])), None, "rows of other lengths")
+try:
+    Core([8, 8], [[10, 20, 20], [10]])
+    wrong.append("rows of other lengths are taken")
+except numaplan.BadNodeCount:
+    pass
+
+# what is filled: 16 to 19 of task 9 go to node 0 from node 0, and to node 1 from node 1
+for buffer in (bytearray(b"####"), array("B", b"####"), (ctypes.c_uint8 * 4)(7, 7, 7, 7),
+               memoryview(bytearray(b"########"))[2:6]):
+    plan.fill(9, 1, 16, buffer)
+    want(bytes(buffer), b"\1\1\1\1", f"a fill of {type(buffer).__name__}")
+with mmap.mmap(-1, 4096) as room:
+    want(raised(lambda: plan.fill(9, 1, 16, memoryview(room)[:4])), None, "a fill of a mapping")
+    want(room[:5], b"\1\1\1\1\0", "a mapping")
+plan.fill(9, 1, 16, bytearray())
+FAULTY = [
+    (array("q", [7, 7]), "nodes has items of the format 'q'"),
+    (array("b", b"##"), "nodes has items of the format 'b'"),
+    ((ctypes.c_uint32 * 2)(7, 7), "nodes has items of the format '<I'"),
+    (b"##", "nodes is read-only"),
+    (memoryview(bytearray(4)).toreadonly(), "nodes is read-only"),
+    (memoryview(bytearray(4))[::2], "underlying buffer is not C contiguous"),
+    ("##", ""),
+    ([0, 0], ""),
+]
+for buffer, text in FAULTY:
+    kind, said = raised(lambda: plan.fill(9, 1, 16, buffer)) or ("no fault", "")
+    want((kind, said[:len(text)]), ("TypeError", text), f"a fill of {buffer!r}")
+want(list(FAULTY[0][0]), [7, 7], "items that aren't bytes")
+
+print("\n".join(wrong))
+sys.exit(bool(wrong))
