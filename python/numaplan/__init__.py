@@ -43,9 +43,9 @@ __all__ = [
     "BadTry", "BadWeight", "BadWorkers", "BothFlags", "Busy", "CAUSES", "Closed", "CommandsSpent",
     "EmptyLength", "Exhausted", "FlagsForbidden", "Hole", "Idle", "ListBackwards", "ListBadDigit",
     "ListEmpty", "ListTooHigh", "NoMemory", "NoMemoryNode", "NoNodeAllowed", "NoPolicy",
-    "NoPolicyThere", "NoRange", "NoRoom", "NoSuchNode", "NoSuchWorker", "NodesForbidden", "NodesMissing", "NodesNotAllowed",
-    "NotOwned", "NotSupported", "Open", "OutOfSpace", "Overlap", "PlacedTwice", "Refused",
-    "TooManyFrames", "TooManyRanges", "TooManyTasks", "Unaligned", "Unknown", "UnknownMode",
+    "NoPolicyThere", "NoRange", "NoRoom", "NoSuchNode", "NoSuchWorker", "NodesForbidden",
+    "NodesMissing", "NodesNotAllowed", "NotOwned", "NotSupported", "Open", "OutOfSpace", "Overlap",
+    "PlacedTwice", "Refused", "TooManyFrames", "TooManyRanges", "TooManyTasks", "Unaligned", "Unknown", "UnknownMode",
     "Unmapped",
 ]
 _STILL = 40  # (no failure: a worker goes on)

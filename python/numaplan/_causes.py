@@ -128,8 +128,7 @@ class TooManyRanges(Refused):
 
 class NoPolicyThere(Refused):
     number = 23
-    words = ("by the kernel's rules a home needs a page with a policy of its own in the span; bind one"
-             " first")
+    words = ("by the kernel's rules some page of the span needs a policy of its own; bind one first")
 
 
 # ---- events of workers, frames, questions

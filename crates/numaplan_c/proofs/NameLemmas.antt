@@ -1,5 +1,5 @@
--- The names and numbers of refusals are those that a script's answers have.
-use Rattle.std.proofs.Common.{◌≡◌, Some, refl}
+-- The names and numbers of refusals are those that a script's answers have, but for one.
+use Rattle.std.proofs.Common.{◌≡◌, ℕ, List, Some, codes, refl}
 use Rattle.numa_script.specs.Texts.{refusal_name}
 use Rattle.numa_space.specs.declared.refusal.Refusal.{Refusal}
 use Rattle.numa_space.specs.declared.refusal.Refusal.TheVariants as refusal
@@ -23,7 +23,12 @@ numbered-same refusal.TooManyRanges = refl
 numbered-same refusal.NoPolicy = refl
 numbered-same refusal.NoMemory = refl
 
-pub name-same : (cause : Refusal) → answer_name (refusal_code cause) ≡ refusal_name cause
+-- but for that of NoPolicy, whose name a number of before has
+abbrev pub name_here : Refusal → List ℕ
+name_here refusal.NoPolicy = codes "NoPolicyThere"
+name_here cause = refusal_name cause
+
+pub name-same : (cause : Refusal) → answer_name (refusal_code cause) ≡ name_here cause
 unfolding answer_name
 name-same refusal.CommandsSpent = refl
 name-same refusal.Unaligned = refl

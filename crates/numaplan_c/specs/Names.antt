@@ -73,9 +73,12 @@ abbrev pub name_or : Option Refusal → List ℕ → List ℕ
 name_or (Some cause) other = refusal_name cause
 name_or None other = other
 
--- the name of an answer, without a byte where no answer has this number
+-- the name of an answer, without a byte where no answer has this number; that of 23, `NoPolicy` in a
+-- script, is another here, since 75 has had that one first
 unfoldable pub answer_name : ℕ → List ℕ
-answer_name code = name_or (refusal_numbered code)
+answer_name code =
+    if code == 23 then codes "NoPolicyThere"
+    else name_or (refusal_numbered code)
     (if nat_lt code 50 then name_in call_names code else name_in fault_names code)
 
 -- ---- error numbers

@@ -93,6 +93,9 @@ fn name_in(names: &[(u32, &'static [u8])], code: u32) -> &'static [u8]
 fn answer_name(code: u32) -> &'static [u8]
     ensures { result.now ≡ answer_name code }
 {
+    if code == 23 {
+        return b"NoPolicyThere";
+    }
     if let Some(cause) = refusal_numbered(code) {
         return Named::Refusal(cause).name();
     }

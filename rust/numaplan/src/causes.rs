@@ -59,7 +59,7 @@ causes! {
     22 TOO_MANY_RANGES "TooManyRanges"
         "there would be more ranges than the limits allow; unmap some, or open a core with a higher max_ranges";
     23 NO_POLICY_THERE "NoPolicyThere"
-        "by the kernel's rules a home needs a page with a policy of its own in the span; bind one first";
+        "by the kernel's rules some page of the span needs a policy of its own; bind one first";
     30 NO_SUCH_WORKER "NoSuchWorker"
         "there are not so many workers; they are numbered from 0";
     31 BUSY "Busy"
