@@ -1,0 +1,151 @@
+# A part of ./numaplan: proves the program, or the C library, and all crates below it.
+#
+# It is proved by `rt ci`, in a room: a repository of copies of those crates alone, among the
+# temporary files. rt keeps beside the kit what passes, each crate as soon as it is proved, there
+# and where ./test runs `rt ci`: so neither proves again what the other proved, and a proof that was
+# interrupted goes on from there. RT_JOBS is how many proofs run side by side, each with one job:
+# several jobs in one cost the processors more than they gain. Not proved.
+
+declare -A proof_takes=(
+    [proved]='some 30 minutes on four processors, and 3 GB of disk'
+    [library]='some 25 minutes on four processors, or 7 if the program is proved'
+)
+
+# How many proofs run side by side: NUMAPLAN_JOBS, or one a processor, if memory has 3 GB for each.
+count_places() {
+    local processors memory
+    [[ ! ${NUMAPLAN_JOBS:-} =~ ^[1-9][0-9]*$ ]] || { echo "$NUMAPLAN_JOBS" && return; }
+    processors=$(nproc)
+    memory=$(awk '/^MemAvailable:/ { print int($2 / 3000000) }' /proc/meminfo)
+    ((memory >= 1)) || memory=1
+    echo $((processors < memory ? processors : memory))
+}
+
+# Copies the needed crates into the room, with their lines of crates.txt. (rt looks for a .git.)
+fill_room() {
+    local name said crates=()
+    mkdir -p "$room/repository/.git" "$room/temporary" && chmod 711 "$room" "$room/temporary" &&
+        cd "$top" || return
+    for name in "${needed[@]}"; do
+        [ "$name" != numaplan_c ] || continue # (take_library proves it)
+        crates+=("crates/$name/"!(out))
+        echo "${row[$name]}" >>"$room/repository/crates.txt"
+    done
+    said=$(cp -R --parents "${crates[@]}" HANDLES "$room/repository" 2>&1) ||
+        fault=${said##*$'\n'}
+    cd "$here" && [ -z "$fault" ]
+}
+
+# ---- how far it is
+
+# Counts what rt has told: `found` crates kept from earlier runs, `ended` in all, and the latest.
+look() {
+    found=$(grep -c '^rt: [a-z0-9_]* is kept: ' "$room/said")
+    ended=$(grep -c -e '^rt: [a-z0-9_]* is kept: ' -e '^rt: [a-z0-9_]* proved$' "$room/said")
+    latest=$(sed -n 's/^rt: \([a-z0-9_]*\) proved$/\1/p' "$room/said" | tail -n 1)
+}
+
+progress() {
+    printf '%d of %d crates in %d:%02d' "$ended" "$total" $((SECONDS / 60)) $((SECONDS % 60))
+    ((found == 0)) || printf ', %d of them proved before' "$found"
+    printf %s "${latest:+; the latest is $latest}"
+}
+
+# On a terminal: rewrites its one line, cut to its width. Elsewhere: a line where more has ended.
+show() {
+    local columns line
+    look
+    line="numaplan: $(progress)"
+    if [ -t 2 ]; then
+        columns=$(stty size <&2 | cut -d ' ' -f 2)
+        ((columns > 1)) || columns=80
+        printf '\r\e[K%s' "${line:0:columns-1}" >&2
+    elif [ "$ended" != "$shown" ]; then
+        echo "$line" >&2
+    fi
+    shown=$ended
+}
+
+# What rt said, but for the crates that it proved.
+tell_failure() {
+    awk '/^== / { held = "" }
+         !/: proved$/ { held = held $0 "\n" }
+         /^rt: .* proved$/ || /^rt: .* is kept: / { held = "" }
+         / NOT PROVED/ { printf "%s", held; held = "" }
+         END { printf "%s", held }' "$room/said" >&2
+}
+
+# ---- the proof
+
+# Runs `rt ci` in the room, and shows how far it is.
+prove_in_room() {
+    local found=0 ended=0 total latest='' shown='' status
+    total=$(grep -c . "$room/repository/crates.txt")
+    cd "$room/repository" || return
+    SECONDS=0
+    RT_JOBS=$(count_places) TMPDIR=$room/temporary start rt ci
+    cd "$here" || return
+    while kill -0 "$child" 2>/dev/null; do
+        show
+        sleep "$((SECONDS < 3 ? 0 : 1)).2"
+    done
+    await
+    status=$?
+    show
+    [ ! -t 2 ] || echo >&2
+    if [ "$status" = 0 ]; then
+        grep '^rt: note: ' "$room/said" >&2
+        return 0
+    fi
+    tell_failure
+    return "$status"
+}
+
+# Takes the program that `rt ci` left in the room, also to where the parts of ./test look for it.
+take_proved() {
+    local made=$room/repository/crates/numaplan/out/numaplan
+    keep proved "$made" "$(sum_of "$room/repository")" || return
+    install -D -m 755 "$made" "$top/crates/numaplan/out/numaplan"
+    return 0
+}
+
+# Makes the library's archive of what `rt ci` left in the room. Its own crate is proved in that.
+take_library() {
+    say 'the crates below it are proved; building the library, and so proving its own crate'
+    (cd "$top" && cp -R --parents crates/numaplan_c/!(out) tests/library{/archive,-words} \
+        "$room/repository") && echo "${row[numaplan_c]}" >>"$room/repository/crates.txt" || return
+    start "$room/repository/tests/library/archive" "$room/libnumaplan_c.a"
+    await && keep library "$room/libnumaplan_c.a" "$(sum_of "$room/repository")" && return
+    grep -v ': proved$' "$room/said" >&2
+    return 1
+}
+
+# Tells what is to be proved, how long that takes, and what an interrupt costs.
+announce() {
+    local beside=${kit%/*}
+    say "proving ${what[$1]} and the $((${#needed[@]} - 1)) crates below it: ${proof_takes[$1]}"
+    if [ -w "$beside" ] || [ -w "$beside/rattle-kept" ]; then
+        say 'this can be interrupted, and then goes on from there'
+    else
+        say "this is not to be interrupted: rt can't keep what it proved in $beside"
+    fi
+}
+
+# Sees to it that the proved program stands, or the library (KIND), and is as new as its sources.
+make_proved() {
+    local kind=$1
+    hold "$top/crates.txt" 'proves it'
+    if is_current "$kind"; then
+        release
+        return
+    fi
+    begin "$kind"
+    [ -n "$fault" ] || announce "$kind"
+    [ -n "$fault" ] || fill_room || fault=${fault:-"$room can't be written"}
+    [ -n "$fault" ] || prove_in_room || fault="rt ci ended with status $?"
+    [ -n "$fault" ] || "take_$kind" || fault=${fault:-'it was not built'}
+    leave
+    [ -z "$fault" ] && is_current "$kind" && return
+    say "${what[$kind]} isn't proved: ${fault:-its sources have changed meanwhile}"
+    exit 1
+}
