@@ -59,10 +59,12 @@ static int file_in(const char *path, unsigned long pages)
 	return file;
 }
 
+/* The second segment of System V: the identifier of the first is 0. */
 static void shared_memory(void)
 {
 	char *at = (char *)(FIRST + STEP * areas++);
-	int place, id = shmget(IPC_PRIVATE, PAGES * PAGE, IPC_CREAT | 0600);
+	int place, id = shmget(IPC_PRIVATE, PAGE, IPC_CREAT | 0600);
+	id = shmget(IPC_PRIVATE, PAGES * PAGE, IPC_CREAT | 0600);
 	if (shmat(id, at, 0) != at || syscall(SYS_mbind, at, PAGES * PAGE, INTERLEAVE, &nodes, 64, 0))
 		printf("failed: shm\n");
 	for (place = 0; place < TOUCHED; place++)
