@@ -7,6 +7,7 @@
 
 mod command;
 mod jobs;
+mod sizes;
 mod texts;
 mod usage;
 mod words;

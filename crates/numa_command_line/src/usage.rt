@@ -12,6 +12,8 @@ pub enum Takes {
     Texts,
     /// A number behind `--NAME`.
     Number,
+    /// A number behind `--NAME`, or behind this other name.
+    NumberOr(&'static str),
     /// One of these names behind `--NAME`, and `text` where it isn't given.
     OneOf(&'static [&'static str]),
     /// One word.
@@ -67,9 +69,34 @@ fn arg_of<'a>(alloc: Global, said: &'a Argument) -> Arg<'a> {
         Takes::Text => option(bare, said),
         Takes::Texts => option(bare, said).action(ArgAction::Append),
         Takes::Number => option(bare, said).value_parser(value_parser!(u32)),
+        Takes::NumberOr(_) => option(bare, said).value_parser(value_parser!(u32)),
         Takes::OneOf(names) => option(bare, said).value_parser(names).default_value("text"),
         Takes::Bare => bare.action(ArgAction::Set),
         Takes::Files => bare.num_args(0..).action(ArgAction::Append),
+    }
+}
+
+/// An argument, with the other name that it may have.
+fn named_arg<'a>(alloc: Global, said: &'a Argument) -> Result<Arg<'a>, AllocError> {
+    let arg = arg_of(alloc, said);
+    match said.takes {
+        Takes::NumberOr(other) => arg.visible_alias(other),
+        _ => Ok(arg),
+    }
+}
+
+/// The command of a word, with an argument more.
+fn with_argument<'a>(
+    alloc: Global,
+    command: Command<'a>,
+    said: &'a Argument,
+) -> Result<Command<'a>, AllocError> {
+    match named_arg(alloc, said) {
+        Ok(arg) => command.arg(arg),
+        Err(error) => {
+            drop(command);
+            Err(error)
+        }
     }
 }
 
@@ -80,7 +107,7 @@ fn command_of<'a>(alloc: Global, word: &'a Word) -> Result<Command<'a>, AllocErr
         .long_about(word.about)
         .after_help(word.more);
     for said in word.arguments {
-        command = command.arg(arg_of(alloc, said))?;
+        command = with_argument(alloc, command, said)?;
     }
     Ok(command)
 }

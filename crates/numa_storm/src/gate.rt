@@ -5,7 +5,7 @@ use std::sync::atomic::{AtomicU64, Ordering};
 use std::thread;
 
 /// How many turns a worker waits for the first requests of the others.
-const FIRST_TURNS: u64 = 5_000_000;
+const FIRST_TURNS: u64 = 10_000_000;
 
 /// How many turns workers and policies wait for each other.
 const TURNS: u64 = 1_000_000;

@@ -4,6 +4,7 @@ use numa_play::tells_lack;
 use numa_run::Script;
 use numa_script::{Serve, Watched};
 use std::alloc::{AllocError, Global};
+use std::io::Write;
 use std::mem;
 
 /// A script that is being answered.
@@ -23,9 +24,10 @@ impl Answering {
     }
 }
 
-/// Answers a line. (What `serve` promises says nothing here, and would stand in every goal.)
-fn serve(script: &mut Script, alloc: Global, line: &[u8], output: &mut Watched<Vec<u8>>) {
-    script.serve(alloc, line, output);
+/// Answers a line. (What `serve` promises says nothing here, and would stand in every goal; that of
+/// any server says less than a script's.)
+fn serve<S: Serve, W: Write>(server: &mut S, alloc: Global, line: &[u8], output: &mut Watched<W>) {
+    server.serve(alloc, line, output);
 }
 
 impl Respond for Answering {

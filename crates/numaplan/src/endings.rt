@@ -1,4 +1,5 @@
 //! How the program ends.
+use crate::output::Outlet;
 use numa_command_line::JobFault;
 use numa_files::Stop;
 use numa_play::{Ended, Halt};
@@ -50,6 +51,7 @@ pub fn tell_fault<R: Print + Eprint>(rt: &R, fault: JobFault) -> ExitCode {
     match fault {
         JobFault::Help(text) => match print!(rt; "{text}") {
             Ok(()) => ExitCode::SUCCESS,
+            Err(error) if error.kind() == ErrorKind::BrokenPipe => ExitCode::FAILURE,
             Err(_) => fail(rt, RunFault::Write),
         },
         JobFault::Usage(text) => {
@@ -66,6 +68,14 @@ pub fn stop(rt: &impl Eprint, why: Stop) -> ExitCode {
         Stop::Read => fail(rt, RunFault::Read),
         Stop::Write => fail(rt, RunFault::Write),
         Stop::Memory => fail(rt, RunFault::Memory),
+    }
+}
+
+/// Ends where a reading ended early, without a word where nobody reads the answer any more.
+pub fn stop_quietly(rt: &impl Eprint, why: Stop, outlet: &Outlet) -> ExitCode {
+    match why {
+        Stop::Write if outlet.is_shut() => ExitCode::FAILURE,
+        _ => stop(rt, why),
     }
 }
 
@@ -102,11 +112,12 @@ pub fn answered(
     asked: Touch,
     answer: Result<Ended, Halt>,
     lenient: bool,
+    outlet: &Outlet,
 ) -> ExitCode {
     if let Err(Halt::NoNode(nodes)) = answer {
-        return lack_node(rt, "--cpu ", asked.cpu, "", nodes);
+        return lack_node(rt, "--node ", asked.cpu, "", nodes);
     }
-    ended(rt, "", answer, lenient)
+    ended(rt, "", answer, lenient, outlet)
 }
 
 /// Ends with an answer about played scripts and the trace of this name, or with why there is none.
@@ -115,10 +126,11 @@ pub fn ended(
     trace: &str,
     answer: Result<Ended, Halt>,
     lenient: bool,
+    outlet: &Outlet,
 ) -> ExitCode {
     match answer {
         Ok(ended) => status_of(ended, lenient),
-        Err(Halt::Stopped(why)) => stop(rt, why),
+        Err(Halt::Stopped(why)) => stop_quietly(rt, why, outlet),
         Err(Halt::NoMachine) => end_with(rt, NOT_AS_ASKED, NO_MACHINE),
         Err(Halt::NoNode(_)) => ExitCode::from(2),
         Err(Halt::NoFreeNode(node, nodes)) => {

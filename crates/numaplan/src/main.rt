@@ -11,6 +11,8 @@ mod answering;
 mod endings;
 mod files;
 mod folders;
+mod output;
+mod terminal;
 mod words;
 
 use endings::tell_fault;
@@ -71,31 +73,50 @@ where
     }
 }
 
-/// Does work with the scripts of files.
-fn files_done<R>(rt: &R, names: &[String], work: &Work) -> Result<ExitCode, JobFault>
+/// Whether a script is to be answered that is typed.
+fn is_typed<R: Input>(rt: &R, names: &[String], work: &Work) -> bool
+where
+    R::Reader: IsTerminal,
+{
+    match (work, names) {
+        (Work::Run { echo: false }, []) => rt.reader().is_terminal(),
+        _ => false,
+    }
+}
+
+/// Does work with the scripts of files. Where standard output is a terminal, a script that is typed
+/// has a prompt.
+fn files_done<R>(
+    rt: &R,
+    names: &[String],
+    work: &Work,
+    is_terminal: bool,
+) -> Result<ExitCode, JobFault>
 where
     R: Files + Input + Print + Eprint + AllocGlobal,
     R::Reader: IsTerminal,
 {
+    let has_prompt = is_terminal && is_typed(rt, names, work);
     let texts = match work {
         Work::Expect => folders::open_worked(rt, names),
         _ => files::open_all(rt, names),
     };
     match texts {
+        Ok(texts) if has_prompt => Ok(terminal::answer(rt, texts)),
         Ok(texts) => work_done(rt, texts, work),
         Err(fault) => Err(fault),
     }
 }
 
-/// Does a job.
-fn done<R>(rt: &R, job: &Job) -> Result<ExitCode, JobFault>
+/// Does a job, where standard output is a terminal or not.
+fn done<R>(rt: &R, job: &Job, is_terminal: bool) -> Result<ExitCode, JobFault>
 where
     R: Threads + Wait + Sync + Files + Input + Print + Eprint + AllocGlobal,
     R::Reader: IsTerminal,
     requires { CanBeDone job.now }
 {
     match job {
-        Job::Scripts { files, work } => files_done(rt, files, work),
+        Job::Scripts { files, work } => files_done(rt, files, work, is_terminal),
         Job::Storm(workers) => Ok(storm::show(rt, *workers)),
     }
 }
@@ -105,7 +126,7 @@ fn main(rt: HostRuntime) -> ExitCode {
         Ok(job) => job,
         Err(fault) => return tell_fault(&rt, fault),
     };
-    let ended = done(&rt, &job);
+    let ended = done(&rt, &job, rt.stdout().is_terminal());
     drop(job);
     match ended {
         Ok(code) => code,

@@ -1,4 +1,4 @@
-//! Words that ask about pages that a task would touch, by `--task T --cpu C`.
+//! Words that ask about pages that a task would touch, by `--task T --node N`.
 use crate::jobs::{JobFault, Question, Work};
 use crate::usage::{Argument, Takes};
 use clap::ArgMatches;
@@ -6,7 +6,7 @@ use numa_reports::Touch;
 use std::alloc::Global;
 
 /// What is told where a number is missing.
-const MISSING: &str = "error: '--task <T>' and '--cpu <C>' are wanted\n";
+const MISSING: &str = "error: '--task <T>' and '--node <N>' are wanted\n";
 
 /// The option `--task T`.
 pub const TASK: Argument = Argument {
@@ -17,18 +17,18 @@ pub const TASK: Argument = Argument {
     takes: Takes::Number,
 };
 
-/// The option `--cpu C`.
-pub const CPU: Argument = Argument {
-    name: "cpu",
-    value: "C",
+/// The option `--node N`, or `--cpu N`.
+pub const NODE: Argument = Argument {
+    name: "node",
+    value: "N",
     help: "The node of the CPU on which it does",
     is_required: true,
-    takes: Takes::Number,
+    takes: Takes::NumberOr("cpu"),
 };
 
 /// What the options say.
 fn asked(alloc: Global, matches: &ArgMatches<'_>) -> Result<Touch, JobFault> {
-    match (matches.get_one("task"), matches.get_one("cpu")) {
+    match (matches.get_one("task"), matches.get_one("node")) {
         (Some(task), Some(cpu)) => Ok(Touch { task, cpu }),
         _ => Err(JobFault::usage(alloc, MISSING)),
     }

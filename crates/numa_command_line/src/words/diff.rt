@@ -1,9 +1,9 @@
-//! `numaplan diff --task T --cpu C --then LINE [FILE]..`: tells which pages would go elsewhere.
+//! `numaplan diff --task T --node N --then LINE [FILE]..`: tells which pages would go elsewhere.
 use crate::jobs::{JobFault, Question, Work};
 use crate::texts;
 use crate::usage::{Argument, FILES, Takes, Word};
 use crate::words::asked;
-use crate::words::asked::{CPU, TASK};
+use crate::words::asked::{NODE, TASK};
 use crate::words::lenient::LENIENT;
 use clap::ArgMatches;
 use std::alloc::Global;
@@ -27,9 +27,9 @@ how many from which node to which, and in all. Pages that are mapped only before
 are left out. Lines that are faulty or refused are told on standard error as by `check`, and \
 passed over. The status is 3 where some are, unless --lenient is given, and where no machine is \
 ready after the scripts.",
-    more: "Example, from the top of the repository:\n  ./numaplan diff --task 1 --cpu 0 --then \
+    more: "Example, from the top of the repository:\n  ./numaplan diff --task 1 --node 0 --then \
 'mems 0' examples/interleaved-range.numaplan",
-    arguments: &[TASK, CPU, THEN, LENIENT, FILES],
+    arguments: &[TASK, NODE, THEN, LENIENT, FILES],
 };
 
 /// The word.

@@ -1,8 +1,8 @@
-//! `numaplan explain --task T --cpu C ADDRESS [FILE]..`: tells why a page goes where it goes.
+//! `numaplan explain --task T --node N ADDRESS [FILE]..`: tells why a page goes where it goes.
 use crate::jobs::{JobFault, Question, Work};
 use crate::usage::{Argument, FILES, Takes, Word};
 use crate::words::asked;
-use crate::words::asked::{CPU, TASK};
+use crate::words::asked::{NODE, TASK};
 use crate::words::lenient::LENIENT;
 use clap::ArgMatches;
 use numa_script::number::number;
@@ -32,9 +32,9 @@ policy counts and why the other doesn't, the sets of nodes, the rule that chose 
 with its arithmetic, and the order of the others with their distances. Lines that are faulty or \
 refused are told on standard error as by `check`, and passed over. The status is 3 where some \
 are, unless --lenient is given, and where no machine is ready after the scripts.",
-    more: "Example, from the top of the repository:\n  ./numaplan explain --task 1 --cpu 3 \
+    more: "Example, from the top of the repository:\n  ./numaplan explain --task 1 --node 3 \
 0x32000 examples/interleaved-range.numaplan",
-    arguments: &[TASK, CPU, LENIENT, ADDRESS, FILES],
+    arguments: &[TASK, NODE, LENIENT, ADDRESS, FILES],
 };
 
 /// The word.

@@ -1,5 +1,6 @@
 //! How many free pages nodes have: `--free NODE=PAGES,..`.
 use crate::jobs::JobFault;
+use crate::sizes::pages_of;
 use crate::usage::{Argument, Takes};
 use clap::ArgMatches;
 use numa_reports::FreePages;
@@ -8,14 +9,14 @@ use std::alloc::{AllocError, Global};
 
 /// What is told where the value isn't as it should be.
 const BAD: &str =
-    "error: '--free <NODE=PAGES,..>': nodes from 0 to 255, each once, with numbers of pages, as in \
-0=1000,1=0\n";
+    "error: '--free <NODE=PAGES,..>': nodes from 0 to 255, each once, with numbers of pages, or of \
+bytes in K, M, G or T that make whole pages, as in 0=1000,1=4G\n";
 
 /// The option `--free NODE=PAGES,..`.
 pub const FREE: Argument = Argument {
     name: "free",
     value: "NODE=PAGES,..",
-    help: "So many free pages on these nodes",
+    help: "So many free pages on these nodes; with K, M, G or T behind it a number is one of bytes",
     is_required: false,
     takes: Takes::Text,
 };
@@ -31,7 +32,7 @@ fn one(text: &[u8]) -> Option<FreePages> {
     let Ok(node) = u8::try_from(node) else {
         return None;
     };
-    let Some(pages) = number(&text[place + 1..]) else {
+    let Some(pages) = pages_of(&text[place + 1..]) else {
         return None;
     };
     Some(FreePages { node, pages })

@@ -1,8 +1,8 @@
-//! `numaplan predict --task T --cpu C [--free NODE=PAGES,..] [FILE]..`: tells where pages would go
+//! `numaplan predict --task T --node N [--free NODE=PAGES,..] [FILE]..`: tells where pages would go
 //! after scripts.
 use crate::jobs::{JobFault, Question, Work};
 use crate::usage::{Argument, FILES, Takes, Word};
-use crate::words::asked::{CPU, TASK};
+use crate::words::asked::{NODE, TASK};
 use crate::words::free::FREE;
 use crate::words::lenient::LENIENT;
 use crate::words::{asked, free};
@@ -30,9 +30,9 @@ lowest first, goes to the first node of its list that has one left; the answer t
 pages find none (exhausted=) and what is left on the named nodes. Lines that are faulty or \
 refused are told on standard error as by `check`, and passed over. The status is 3 where some \
 are, unless --lenient is given, and where no machine is ready after the scripts.",
-    more: "Example, from the top of the repository:\n  ./numaplan predict --task 1 --cpu 0 \
+    more: "Example, from the top of the repository:\n  ./numaplan predict --task 1 --node 0 \
 examples/interleaved-range.numaplan",
-    arguments: &[TASK, CPU, FORMAT, FREE, LENIENT, FILES],
+    arguments: &[TASK, NODE, FORMAT, FREE, LENIENT, FILES],
 };
 
 /// The word.

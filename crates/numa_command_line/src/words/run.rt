@@ -16,7 +16,8 @@ static WORD: Word = Word {
     line: "Answers the scripts of files, or of standard input",
     about: "Answers a script. The script is read from the files in turn, or from standard input, \
 and its answers are written to standard output: one line for each line of the script, but none \
-for an empty line or a comment, and for `maps` one for each range.",
+for an empty line or a comment, and for `maps` one for each range. At a terminal, where no file is \
+named, there is a prompt, what is wrong with a line is told too, and a line `help` tells the lines.",
     more: "Example, from the top of the repository:\n  ./numaplan run \
 examples/first-run.numaplan\n\nThe language of scripts is told in docs/SCRIPT.md of the \
 repository.",

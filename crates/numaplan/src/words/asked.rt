@@ -1,5 +1,6 @@
 //! Words that ask about pages that a task would touch.
 use crate::endings::{Told, answered};
+use crate::output::Outlet;
 use numa_command_line::Question;
 use numa_play::{Ended, Halt};
 use numa_reports::Touch;
@@ -13,13 +14,14 @@ fn ask<R, S>(
     texts: Vec<(String, S)>,
     asked: Touch,
     question: &Question,
+    outlet: &Outlet,
 ) -> Result<Ended, Halt>
 where
     R: Print + Eprint + AllocGlobal,
     S: Read + Drop,
 {
     let alloc = rt.alloc();
-    let mut output = io::writer(rt);
+    let mut output = outlet.writer(io::writer(rt));
     let told = Told { rt };
     match question {
         Question::Predict { format, free } => {
@@ -44,5 +46,7 @@ where
     R: Print + Eprint + AllocGlobal,
     S: Read + Drop,
 {
-    answered(rt, asked, ask(rt, texts, asked, question), lenient)
+    let outlet = Outlet::new();
+    let answer = ask(rt, texts, asked, question, &outlet);
+    answered(rt, asked, answer, lenient, &outlet)
 }

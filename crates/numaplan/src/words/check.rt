@@ -1,5 +1,6 @@
 //! Tells what is wrong with scripts.
-use crate::endings::{status_of, stop};
+use crate::endings::{status_of, stop_quietly};
+use crate::output::Outlet;
 use std::io;
 use std::io::Read;
 use std::process::ExitCode;
@@ -10,8 +11,9 @@ where
     R: Print + Eprint + AllocGlobal,
     S: Read + Drop,
 {
-    match numa_play::check(rt.alloc(), texts, io::writer(rt)) {
+    let outlet = Outlet::new();
+    match numa_play::check(rt.alloc(), texts, outlet.writer(io::writer(rt))) {
         Ok(ended) => status_of(ended, false),
-        Err(why) => stop(rt, why),
+        Err(why) => stop_quietly(rt, why, &outlet),
     }
 }

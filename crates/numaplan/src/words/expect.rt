@@ -1,6 +1,7 @@
 //! Compares worked scripts with what their lines are answered.
 use crate::answering::Answering;
-use crate::endings::stop;
+use crate::endings::stop_quietly;
+use crate::output::Outlet;
 use numa_files::{Expect, Stop, read_all};
 use std::io;
 use std::io::{Read, Write};
@@ -20,13 +21,13 @@ fn compare_by<S: Read + Drop, W: Write>(
 }
 
 /// Compares worked scripts. Whether all answers are as wanted.
-fn compare<R, S>(rt: &R, texts: Vec<(String, S)>) -> Result<bool, Stop>
+fn compare<R, S>(rt: &R, texts: Vec<(String, S)>, outlet: &Outlet) -> Result<bool, Stop>
 where
     R: Print + AllocGlobal,
     S: Read + Drop,
 {
     let answering = Answering::new(rt.alloc());
-    let mut expect = Expect::new(rt.alloc(), answering, io::writer(rt));
+    let mut expect = Expect::new(rt.alloc(), answering, outlet.writer(io::writer(rt)));
     let is_same = compare_by(texts, &mut expect);
     drop(expect);
     is_same
@@ -38,9 +39,10 @@ where
     R: Print + Eprint + AllocGlobal,
     S: Read + Drop,
 {
-    match compare(rt, texts) {
+    let outlet = Outlet::new();
+    match compare(rt, texts, &outlet) {
         Ok(true) => ExitCode::SUCCESS,
         Ok(false) => ExitCode::from(DIFFERENT),
-        Err(fault) => stop(rt, fault),
+        Err(why) => stop_quietly(rt, why, &outlet),
     }
 }

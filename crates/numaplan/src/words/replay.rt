@@ -1,6 +1,7 @@
 //! Tells what a trace of accesses meets.
 use crate::endings::{Told, ended};
 use crate::files;
+use crate::output::Outlet;
 use numa_command_line::JobFault;
 use numa_traces::Shape;
 use std::io;
@@ -22,9 +23,10 @@ where
     S: Read + Drop,
     T: Read + Drop,
 {
-    let mut output = io::writer(rt);
+    let outlet = Outlet::new();
+    let mut output = outlet.writer(io::writer(rt));
     let answer = numa_play::replay(rt.alloc(), texts, traces, format, &mut output, Told { rt });
-    ended(rt, name, answer, lenient)
+    ended(rt, name, answer, lenient, &outlet)
 }
 
 /// Replays the trace of a file after scripts.

@@ -1,0 +1,156 @@
+//! A script that is typed at a terminal.
+use crate::answering::Answering;
+use crate::endings::{Told, stop};
+use numa_files::{Lines, Respond, Stop, TakeLine, read_all};
+use numa_reasons::{judge, say_line};
+use numa_run::Script;
+use std::alloc::Global;
+use std::io;
+use std::io::{Read, Write};
+use std::process::ExitCode;
+
+/// What stands before each line that is typed.
+const PROMPT: &str = "numaplan> ";
+
+/// What is told of the lines.
+const LINES: &str = "\
+limits R T C                   at most R ranges, T tasks, C commands; before machine
+machine NODES MEM FRAMES DIST  the machine, once, as in machine 2 0-1 8 flat
+map START LENGTH OFFSET        maps pages, as in map 0x10000 0x4000 0x10
+unmap START LENGTH             unmaps pages
+mbind START LENGTH POLICY      gives pages a policy, as in mbind 0x10000 0x1000 bind:1
+home START LENGTH NODE         gives the policies of pages a home node
+task TASK POLICY               gives a task a policy, as in task 1 interleave:0-1
+weight NODE WEIGHT             a node's turns in weighted interleaving, 1 to 255
+mems LIST                      the nodes that are allowed, as in mems 0-1
+place TASK ADDR CPU            asks on which nodes memory for a page is looked for
+span TASK ADDR PAGES CPU       asks to which node each page would go first
+counts TASK ADDR PAGES CPU     asks how many pages would go to which node
+ranges                         asks how many ranges there are
+maps TASK                      lists the ranges, with their policies and placed pages
+publish                        shows the workers all commands so far
+touch W TASK ADDR CPU          worker W, 0 to 3, finds a frame for a page
+release W ADDR                 gives that frame back
+begin W TASK ADDR CPU          a worker begins to look for a frame; its single steps are
+look W WORD                      a look at 64 frames of its current node,
+try W NODE FRAME                 one try at a frame, and
+give W NODE FRAME                to give a frame back
+";
+
+/// What is told of the words of lines.
+const WORDS: &str = "\
+A POLICY is default, local, or a mode and nodes: bind:0-1 prefer:1 many:0,2 interleave:0-3
+weighted:0-1; =static or =relative may follow the mode, as in bind=static:0-1. Numbers are decimal,
+or 0x and hexadecimal; START, LENGTH and ADDR count bytes, OFFSET and PAGES pages of 4096 bytes. CPU
+is the node of a CPU. Words stand between single spaces. A line that begins with # says nothing.
+";
+
+/// A script that is typed, line by line.
+#[derive(Drop)]
+struct Typed<W, T> {
+    alloc: Global,
+    answering: Answering,
+    // The same script, by which it is found what is wrong with a line.
+    judged: Script,
+    // What is to be written, and what is to be told.
+    text: Vec<u8>,
+    output: W,
+    told: T,
+}
+
+/// Writes some bytes.
+fn put<W: Write>(output: &mut W, bytes: &[u8]) -> Result<(), Stop> {
+    match output.write_all(bytes) {
+        Ok(()) => Ok(()),
+        Err(_) => Err(Stop::Write),
+    }
+}
+
+/// Appends what is wrong with a line, if something is.
+fn find(
+    alloc: Global,
+    script: &mut Script,
+    name: &str,
+    place: u64,
+    line: &[u8],
+    text: &mut Vec<u8>,
+) -> Result<(), Stop> {
+    let Some(finding) = judge(alloc, script, line) else {
+        return Ok(());
+    };
+    match say_line(text, name, place, &finding) {
+        Ok(()) => Ok(()),
+        Err(_) => Err(Stop::Memory),
+    }
+}
+
+impl<W: Write, T: Write> Typed<W, T> {
+    /// Writes the answer to a line, and tells what is wrong with it.
+    fn answer(&mut self, name: &str, place: u64, line: &[u8]) -> Result<(), Stop> {
+        self.text.clear();
+        if let Err(_) = self.answering.respond(line, &mut self.text) {
+            return Err(Stop::Memory);
+        }
+        put(&mut self.output, self.text.as_slice())?;
+        self.text.clear();
+        let script = &mut self.judged;
+        find(self.alloc, script, name, place, line, &mut self.text)?;
+        put(&mut self.told, self.text.as_slice())
+    }
+
+    /// Tells the lines, and their words.
+    fn help(&mut self) -> Result<(), Stop> {
+        put(&mut self.output, LINES.as_bytes())?;
+        put(&mut self.output, WORDS.as_bytes())
+    }
+}
+
+impl<W: Write, T: Write> TakeLine for Typed<W, T> {
+    fn take(&mut self, name: &str, place: u64, line: &[u8]) -> Result<(), Stop> {
+        if line == b"help".as_slice() {
+            self.help()?;
+        } else {
+            self.answer(name, place, line)?;
+        }
+        put(&mut self.output, PROMPT.as_bytes())
+    }
+}
+
+/// Answers a script that is typed, with a prompt before each line.
+fn answer_all<R, S>(rt: &R, texts: Vec<(String, S)>) -> Result<(), Stop>
+where
+    R: Print + Eprint + AllocGlobal,
+    S: Read + Drop,
+{
+    let mut output = io::writer(rt);
+    put(&mut output, PROMPT.as_bytes())?;
+    let alloc = rt.alloc();
+    let typed = Typed {
+        alloc,
+        answering: Answering::new(alloc),
+        judged: Script::new(),
+        text: Vec::new(alloc),
+        output,
+        told: Told { rt },
+    };
+    let mut lines = Lines::new(alloc, typed);
+    let read = read_all(texts, &mut lines);
+    drop(lines);
+    read
+}
+
+/// Answers a script that is typed at a terminal: with a prompt before each line, and with what is
+/// wrong with a line, in the words of `check`, on standard error; a line `help` tells the lines.
+pub fn answer<R, S>(rt: &R, texts: Vec<(String, S)>) -> ExitCode
+where
+    R: Print + Eprint + AllocGlobal,
+    S: Read + Drop,
+{
+    match answer_all(rt, texts) {
+        Ok(()) => {
+            let _ = println!(rt; "");
+            ExitCode::SUCCESS
+        }
+        Err(why) => stop(rt, why),
+    }
+}
