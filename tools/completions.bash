@@ -6,7 +6,7 @@ _numaplan() {
     [ "${COMP_WORDS[at - 1]}" != = ] || at=$((at - 1))
     COMPREPLY=()
     case ${COMP_WORDS[1]}:${COMP_WORDS[at - 1]} in
-        predict:--task | predict:--cpu | predict:--free | diff:--task | diff:--cpu | diff:--then | explain:--task | explain:--cpu | storm:--workers) : ;;
+        predict:--task | predict:--node | predict:--free | diff:--task | diff:--node | diff:--then | explain:--task | explain:--node | storm:--workers) : ;;
         predict:--format) words='text json csv svg' ;;
         replay:--trace) files=yes ;;
         replay:--format) words='text json' ;;
@@ -16,10 +16,10 @@ _numaplan() {
                 run) words='--echo --help' files=yes ;;
                 check) words='--help' files=yes ;;
                 expect) words='--help' files=yes ;;
-                predict) words='--task --cpu --format --free --help' files=yes ;;
-                diff) words='--task --cpu --then --help' files=yes ;;
-                explain) words='--task --cpu --help' files=yes ;;
-                replay) words='--trace --format --help' files=yes ;;
+                predict) words='--task --node --format --free --lenient --help' files=yes ;;
+                diff) words='--task --node --then --lenient --help' files=yes ;;
+                explain) words='--task --node --lenient --help' files=yes ;;
+                replay) words='--trace --format --lenient --help' files=yes ;;
                 storm) words='--workers --help' ;;
                 help) words='run check expect predict diff explain replay storm help' ;;
             esac

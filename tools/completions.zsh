@@ -40,24 +40,27 @@ _numaplan() {
         predict)
             _arguments \
                 '(--task)--task[The task that touches the pages]:T: ' \
-                '(--cpu)--cpu[The node of the CPU on which it does]:C: ' \
+                '(--node)--node[The node of the CPU on which it does]:N: ' \
                 '(--format)--format[How the answer is written]:FORMAT:(text json csv svg)' \
-                '(--free)--free[So many free pages on these nodes]:NODE=PAGES,..: ' \
+                '(--free)--free[So many free pages on these nodes; with K, M, G or T behind it a number is one of bytes]:NODE=PAGES,..: ' \
+                '(--lenient)--lenient[Ends with status 0 where lines were faulty or refused]' \
                 '(-h --help)-h[Print help]' '(-h --help)--help[Print help]' \
                 '*:file:_files'
             ;;
         diff)
             _arguments \
                 '(--task)--task[The task that touches the pages]:T: ' \
-                '(--cpu)--cpu[The node of the CPU on which it does]:C: ' \
+                '(--node)--node[The node of the CPU on which it does]:N: ' \
                 '*--then[A script line that is added; several in turn]:LINE: ' \
+                '(--lenient)--lenient[Ends with status 0 where lines were faulty or refused]' \
                 '(-h --help)-h[Print help]' '(-h --help)--help[Print help]' \
                 '*:file:_files'
             ;;
         explain)
             _arguments \
                 '(--task)--task[The task that touches the pages]:T: ' \
-                '(--cpu)--cpu[The node of the CPU on which it does]:C: ' \
+                '(--node)--node[The node of the CPU on which it does]:N: ' \
+                '(--lenient)--lenient[Ends with status 0 where lines were faulty or refused]' \
                 '(-h --help)-h[Print help]' '(-h --help)--help[Print help]' \
                 '*:file:_files'
             ;;
@@ -65,6 +68,7 @@ _numaplan() {
             _arguments \
                 '(--trace)--trace[The file of the trace; - is standard input]:TRACE:_files' \
                 '(--format)--format[How the answer is written]:FORMAT:(text json)' \
+                '(--lenient)--lenient[Ends with status 0 where lines were faulty or refused]' \
                 '(-h --help)-h[Print help]' '(-h --help)--help[Print help]' \
                 '*:file:_files'
             ;;
