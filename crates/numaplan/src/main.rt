@@ -84,6 +84,24 @@ where
     }
 }
 
+/// Answers a script that is typed, where there is a prompt; else does work with scripts.
+fn texts_done<R, S>(
+    rt: &R,
+    texts: Vec<(String, S)>,
+    work: &Work,
+    has_prompt: bool,
+) -> Result<ExitCode, JobFault>
+where
+    R: Files + Input + Print + Eprint + AllocGlobal,
+    R::Reader: IsTerminal,
+    S: Read + Drop,
+{
+    if has_prompt {
+        return Ok(terminal::answer(rt, texts));
+    }
+    work_done(rt, texts, work)
+}
+
 /// Does work with the scripts of files. Where standard output is a terminal, a script that is typed
 /// has a prompt.
 fn files_done<R>(
@@ -102,8 +120,7 @@ where
         _ => files::open_all(rt, names),
     };
     match texts {
-        Ok(texts) if has_prompt => Ok(terminal::answer(rt, texts)),
-        Ok(texts) => work_done(rt, texts, work),
+        Ok(texts) => texts_done(rt, texts, work, has_prompt),
         Err(fault) => Err(fault),
     }
 }
