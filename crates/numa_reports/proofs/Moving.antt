@@ -1,5 +1,5 @@
 -- Pages that move, one by one and block by block.
-use Rattle.std.proofs.Common.{◌≡◌, ℕ, ◌+◌, ◌-◌, ◌*◌, ◌<◌, ◌≤◌, ◌^◌, ◌&&◌, eqb, length, Bool, Some, List, get_or, refl, ap, ◌∙◌, arith, inl, inr, zero-add, add-zero}
+use Rattle.std.proofs.Common.{◌≡◌, ℕ, ◌+◌, ◌-◌, ◌*◌, ◌<◌, ◌≤◌, ◌^◌, ◌&&◌, eqb, length, Bool, Some, List, get_or, refl, sym, ap, ◌∙◌, arith, inl, inr, zero-add, add-zero}
 use Rattle.std.proofs.lemmas.Bool.{cases_Bool}
 use Rattle.std.specs.Option.{option_map}
 use Rattle.std.specs.Prelude.{if◌then◌else◌}
