@@ -1,19 +1,10 @@
 //! The tests, a module a crate.
 mod alike;
-mod compile;
 mod dice;
-mod lanes;
-mod machine;
-mod mask;
 mod mode;
 mod plan;
-mod planned;
-mod played;
 mod pool;
-mod ranges;
 mod recompiling;
-mod refused;
 mod refused_edits;
-mod rows;
+mod refused_rows;
 mod same;
-mod space;

@@ -22,12 +22,12 @@ const DISTANCES: [u8; 16] = [
 ];
 
 /// A machine of these four nodes.
-pub fn rough_machine(alloc: Global) -> Option<Machine> {
+fn rough_machine(alloc: Global) -> Option<Machine> {
     machine_of(alloc, 4, &[0, 1, 2, 3], &DISTANCES)
 }
 
 /// Limits that are seldom met.
-pub fn rough_limits() -> Option<Limits> {
+fn rough_limits() -> Option<Limits> {
     Limits::new(32, 4, COMMANDS)
 }
 

@@ -1,27 +1,29 @@
-//! Edits of plans of which one growth is refused, between two marks as in `refused`: the plan stays
-//! as it was, and the same edit with memory gives what compiling anew does.
-use crate::tests::played::Step::Does;
-use crate::tests::played::{Step, play};
-use crate::tests::recompiling::{Way, follow_one};
+//! Edits of a plan by each of the seven commands, with one growth refused: the plan stays as its
+//! copy, and the same edit with memory gives what compiling anew does.
+//! tests/refused-growths/run-built plays each of these tests once for every growth between its
+//! marks; run by itself, none is refused.
+use crate::tests::recompiling::follow;
 use crate::tests::same::same;
 use numa_compile::compile;
 use numa_examples::ShortCommand::{Home, Map, Mbind, Mems, Task, Unmap, Weight};
-use numa_examples::{ShortCommand, command_of, flat_space};
+use numa_examples::{ShortCommand, command_of, commands_of, flat_space};
 use numa_space::Space;
 use std::alloc::Global;
 use std::process::Abort;
 
-static POLICIES_STEPS: [Step<'static>; 4] = [
-    Does(Map(0x10000, 0x6000, 0)),
-    Does(Mbind(0x10000, 0x6000, 6, &[0, 1, 2])),
-    Does(Mbind(0x12000, 0x2000, 2, &[1])),
-    Does(Task(1, 3, &[2, 3])),
+/// Six pages by weights, two of them on node 1, and a task's policy.
+static POLICIES: [ShortCommand<'static>; 4] = [
+    Map(0x10000, 0x6000, 0),
+    Mbind(0x10000, 0x6000, 6, &[0, 1, 2]),
+    Mbind(0x12000, 0x2000, 2, &[1]),
+    Task(1, 3, &[2, 3]),
 ];
 
-/// A space of four nodes: six pages by weights, two of them on node 1, and a task's policy.
+/// A space of four nodes after those commands.
 fn policies(rt: &impl Abort, alloc: Global) -> Space {
+    let commands = commands_of(alloc, &POLICIES).expect(rt, "commands");
     let mut space = flat_space(alloc, 4).expect(rt, "a space");
-    play(rt, alloc, &mut space, &POLICIES_STEPS);
+    same(rt, &space.apply_all(&commands), &Ok(()));
     space
 }
 
@@ -30,10 +32,10 @@ fn edit_by(rt: &impl Abort, alloc: Global, asked: &ShortCommand) {
     let command = command_of(asked).expect(rt, "a command");
     let mut space = policies(rt, alloc);
     let mut plan = compile(alloc, &space).expect(rt, "a plan");
-    let accepted = follow_one(rt, alloc, Way::Marked, &mut space, &mut plan, &command);
-    same(rt, &accepted, &1);
+    let accepted = follow(rt, alloc, &mut space, &mut plan, &command);
     drop(plan);
     drop(space);
+    assert!(rt; accepted);
 }
 
 #[test]

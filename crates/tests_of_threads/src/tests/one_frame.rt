@@ -8,14 +8,9 @@ use std::alloc::Global;
 use std::process::Abort;
 use std::sync::Wait;
 
-/// A desk for two readers, at version 0.
-pub fn empty_desk(rt: &(impl Wait + Abort), alloc: Global) -> Desk {
-    desk_of(rt, alloc, 1, 2)
-}
-
 /// A desk for two readers, at version 1.
 pub fn desk(rt: &(impl Wait + Abort), alloc: Global) -> Desk {
-    let mut desk = empty_desk(rt, alloc);
+    let mut desk = desk_of(rt, alloc, 1, 2);
     publish_map(rt, &mut desk, 3);
     desk
 }

@@ -146,17 +146,4 @@ impl Pair {
         let worker = FaultWorker::new(reader, seat);
         Placing { pools, worker }
     }
-
-    /// The first worker, without the other.
-    pub fn first(self) -> Placing {
-        let Pair {
-            pools,
-            first,
-            second: _,
-        } = self;
-        Placing {
-            pools,
-            worker: first,
-        }
-    }
 }

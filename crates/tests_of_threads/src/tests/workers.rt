@@ -1,7 +1,7 @@
 //! Workers that place single pages, one call after the other.
-use crate::tests::one_frame::{desk, empty_desk, on, placed};
+use crate::tests::one_frame::{desk, on, placed};
 use crate::tests::placing::{Answered, Pair, Placing, Who};
-use crate::tests::setting::{publish_map, same};
+use crate::tests::setting::same;
 use numa_fault::{FaultRefusal, SpanRefusal};
 use numa_space::Request;
 use std::alloc::Global;
@@ -40,15 +40,6 @@ fn two_take_turns(rt: HostRuntime) {
     desk.end(&rt);
 }
 
-#[test]
-fn a_seat_that_is_not_joined(rt: HostRuntime) {
-    let mut desk = desk(&rt, rt.alloc());
-    let mut pair = Pair::open(&rt, rt.alloc(), &mut desk);
-    pair.serve(&rt, &turns()[..2]);
-    same(&rt, &pair.first().close(), &(1, 1, false));
-    desk.end(&rt);
-}
-
 /// A span of one page, of which nothing is seen any more.
 fn see_nothing(rt: &impl Abort, alloc: Global, placing: &mut Placing) {
     let mut out = Vec::new(alloc);
@@ -66,14 +57,4 @@ fn after_the_end(rt: HostRuntime) {
     placing.serve(&rt, on(17), Err(FaultRefusal::NoView));
     see_nothing(&rt, rt.alloc(), &mut placing);
     same(&rt, &placing.close(), &(1, 0, true));
-}
-
-#[test]
-fn a_version_that_was_published_since(rt: HostRuntime) {
-    let mut desk = empty_desk(&rt, rt.alloc());
-    let mut placing = Placing::open(&rt, rt.alloc(), &mut desk);
-    placing.serve(&rt, on(16), Err(FaultRefusal::Unmapped(0)));
-    publish_map(&rt, &mut desk, 3);
-    placing.serve(&rt, on(16), Ok(placed(16, 0, 0)));
-    desk.end(&rt);
 }

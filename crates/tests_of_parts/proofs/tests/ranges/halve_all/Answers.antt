@@ -1,6 +1,0 @@
--- What the update makes of a value is half of it.
-use Rattle.std.proofs.Common.{◌/◌, rules}
-use Rattle.tests_of_parts.proofs.tests.ranges.halve_all.Goals as goal
-
-pub update_all-requires-clause-function : goal.update_all-requires-clause-function
-update_all-requires-clause-function c = (λ x. x / 2, λ x r h. search rules)
