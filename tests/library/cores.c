@@ -181,6 +181,81 @@ static void steps(void) {
     np_core_close(&core);
 }
 
+/* A core with one mapped page, which is published, and so many frames of each of so many nodes, 20 apart. */
+static void open_large(np_core *core, size_t nodes, uint32_t each, uint32_t workers, const char *memory) {
+    static const np_limits limits = {65536, 1024, UINT32_MAX};
+    uint32_t frames[16];
+    uint8_t distances[256];
+    for (size_t k = 0; k < nodes; k++)
+        frames[k] = each;
+    for (size_t k = 0; k < nodes * nodes; k++)
+        distances[k] = k % (nodes + 1) == 0 ? 10 : 20;
+    WANT(np_core_open(core, TEXT(memory), frames, nodes, distances, nodes * nodes, &limits, workers), NP_OK);
+    WANT(np_core_map(core, 0x10000, 0x1000, 0), NP_OK);
+}
+
+/* A try that wins: the node, the frame and the rank. */
+static void want_won(int line, np_core *core, uint32_t worker, uint8_t node, uint16_t frame, uint32_t rank) {
+    np_placement placed = {0, 0, 0, 0, 0, 0};
+    int before = wrong;
+    WANT(np_core_try(core, worker, node, frame, &placed), NP_OK);
+    WANT(placed.node, node);
+    WANT(placed.frame, frame);
+    WANT(placed.rank, rank);
+    if (wrong > before)
+        printf("line %d: worker %u, node %u, frame %u\n", line, worker, node, frame);
+}
+
+#define WANT_WON(core, worker, node, frame, rank) want_won(__LINE__, core, worker, node, frame, rank)
+
+/* Sixteen workers, as many as there may be, over eight frames of each of two nodes. */
+static void sixteen(void) {
+    np_core core = {0};
+    np_placement placed = {0, 0, 0, 0, 0, 0};
+    open_large(&core, 2, 8, 16, "0-1");
+    WANT(np_core_publish(&core), NP_OK);
+    for (uint32_t k = 0; k < 16; k++)
+        WANT(np_core_begin(&core, k, 1, 16, 0), NP_STILL);
+    /* the first eight win the frames of node 0, and the last one meets each */
+    for (uint16_t k = 0; k < 8; k++) {
+        WANT_WON(&core, k, 0, k, 0);
+        WANT(np_core_look(&core, 15, 0), NP_STILL);
+    }
+    /* the next seven meet them all at once, and go on to node 1 */
+    for (uint16_t k = 0; k < 7; k++) {
+        WANT(np_core_try(&core, k + 8, 1, k, &placed), NP_BAD_TRY);
+        WANT(np_core_look(&core, k + 8, 0), NP_STILL);
+        WANT_WON(&core, k + 8, 1, k, 1);
+    }
+    WANT_WON(&core, 15, 1, 7, 1);
+    WANT(np_core_begin(&core, 0, 1, 16, 0), NP_STILL);
+    WANT(np_core_look(&core, 0, 0), NP_STILL);
+    WANT(np_core_look(&core, 0, 0), NP_EXHAUSTED);
+    WANT(np_core_give(&core, 14, 1, 7), NP_NOT_OWNED);
+    WANT(np_core_give(&core, 15, 1, 7), NP_OK);
+    np_core_close(&core);
+}
+
+/* The last of 65,536 frames: worker 0 wins all of node 15, and worker 1 meets them word by word. */
+static void all_frames(void) {
+    np_core core = {0};
+    open_large(&core, 16, 4096, 2, "0-15");
+    WANT(np_core_set_task(&core, 1, TEXT("bind:15")), NP_OK);
+    WANT(np_core_publish(&core), NP_OK);
+    for (uint16_t k = 0; k < 4096; k++) {
+        WANT(np_core_begin(&core, 0, 1, 16, 0), NP_STILL);
+        WANT_WON(&core, 0, 15, k, 0);
+    }
+    WANT(np_core_begin(&core, 1, 1, 16, 0), NP_STILL);
+    for (uint32_t k = 0; k < 63; k++)
+        WANT(np_core_look(&core, 1, k), NP_STILL);
+    WANT(np_core_look(&core, 1, 63), NP_EXHAUSTED);
+    WANT(np_core_give(&core, 0, 15, 4095), NP_OK);
+    WANT(np_core_begin(&core, 1, 1, 16, 0), NP_STILL);
+    WANT_WON(&core, 1, 15, 4095, 0);
+    np_core_close(&core);
+}
+
 /* The listing: two of the placements are in the second range, one in the fourth, one in none. */
 static void maps(void) {
     static const np_placement four[] = {
@@ -241,6 +316,8 @@ int main(void) {
     ranges();
     copies();
     steps();
+    sixteen();
+    all_frames();
     maps();
     return wrong;
 }

@@ -100,6 +100,35 @@ static void takes(void) {
     WANT(np_seat_take(&seat, nodes, 2, &frame, &rank), NP_CLOSED);
 }
 
+/* As many frames as end before, at and behind a word of 64, and as many as a node may have: one thread
+ * takes them in rising order, and again each that it gives back while no other is free. */
+static void borders(void) {
+    static const uint32_t counts[] = {1, 63, 64, 65, 130, 4096};
+    static const uint16_t numbers[] = {0, 62, 63, 64, 127, 128, 129, 4095};
+    const uint8_t nodes[2] = {0, 1};
+    for (size_t c = 0; c < sizeof counts / sizeof *counts; c++) {
+        np_seat seat = {0};
+        np_frame frame = {9, 9};
+        size_t rank = 9;
+        WANT(open_seat(&seat, counts[c], 1), NP_OK);
+        for (uint32_t k = 0; k < counts[c]; k++) {
+            WANT(np_seat_take(&seat, nodes, 1, &frame, &rank), NP_OK);
+            WANT(frame.node, 0);
+            WANT(frame.number, k);
+        }
+        WANT(np_seat_take(&seat, nodes, 1, &frame, &rank), NP_ALL_TAKEN);
+        WANT(np_seat_take(&seat, nodes, 2, &frame, &rank), NP_OK);
+        WANT(rank, 1);
+        for (size_t k = 0; k < sizeof numbers / sizeof *numbers; k++) {
+            bool is_there = numbers[k] < counts[c];
+            WANT(np_seat_give(&seat, 0, numbers[k]), is_there ? NP_OK : NP_NOT_OWNED);
+            WANT(np_seat_take(&seat, nodes, 2, &frame, &rank), is_there ? NP_OK : NP_ALL_TAKEN);
+            WANT(is_there && frame.number != numbers[k], false);
+        }
+        np_seat_close(&seat);
+    }
+}
+
 /* Two seats at one frame: only the one that took it gives it back, until they are joined; what a closed
  * seat holds stays taken. */
 static void seats(void) {
@@ -184,6 +213,7 @@ int main(void) {
     closed();
     machines();
     takes();
+    borders();
     seats();
     threads();
     return wrong;

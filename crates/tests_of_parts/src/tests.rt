@@ -1,6 +1,7 @@
 //! The tests, a module a crate.
 mod alike;
 mod dice;
+mod lanes;
 mod mode;
 mod plan;
 mod pool;

@@ -58,6 +58,27 @@ fn edit(
     recompile(alloc, plan, space, command, &mut Steps::new()).expect(rt, "memory");
 }
 
+/// Carries out a command, or refuses it, and has the plan follow, which is as its copy. Whether it
+/// was accepted.
+fn follow_beside(
+    rt: &impl Abort,
+    alloc: Global,
+    space: &mut Space,
+    plan: &mut Plan,
+    copy: &Plan,
+    command: &Command,
+) -> bool
+    requires { Follows space.old plan.old }
+    ensures { Follows space.new plan.new }
+{
+    if space.apply(command).is_err() {
+        return false;
+    }
+    edit(rt, alloc, plan, copy, space, command);
+    expect_compiled(rt, alloc, plan, space);
+    true
+}
+
 /// Carries out a command, or refuses it, and has the plan follow. Whether it was accepted.
 pub fn follow(
     rt: &impl Abort,
@@ -69,14 +90,10 @@ pub fn follow(
     requires { Follows space.old plan.old }
     ensures { Follows space.new plan.new }
 {
-    if space.apply(command).is_err() {
-        return false;
-    }
     let copy = plan.copy(alloc).expect(rt, "a copy");
-    edit(rt, alloc, plan, &copy, space, command);
+    let accepted = follow_beside(rt, alloc, space, plan, &copy, command);
     drop(copy);
-    expect_compiled(rt, alloc, plan, space);
-    true
+    accepted
 }
 
 /// Has the plan follow random commands; how many of them were accepted.

@@ -183,26 +183,3 @@ fn answers_in_place(rt: HostRuntime) {
         same(&rt, &(count, found), &(count, (all, all, true)));
     }
 }
-
-/// What a crew of so many workers is refused with for three requests.
-fn refusal<R: Threads + Wait + Abort + Sync>(
-    rt: &R,
-    alloc: Global,
-    count: usize,
-) -> Option<CrewRefusal> {
-    let wanted = requests(rt, alloc, 3);
-    let gate = Counting::new(rt, alloc, 3);
-    run_crew(rt, alloc, 2, 3, count, &wanted, &gate).err()
-}
-
-#[test]
-fn too_few_and_too_many(rt: HostRuntime) {
-    let none = Some(CrewRefusal::NoWorkers);
-    for (count, want) in [(0, none), (17, none), (16, None)] {
-        same(
-            &rt,
-            &(count, refusal(&rt, rt.alloc(), count)),
-            &(count, want),
-        );
-    }
-}
