@@ -9,3 +9,4 @@ mod recompiling;
 mod refused_edits;
 mod refused_rows;
 mod same;
+mod streams;

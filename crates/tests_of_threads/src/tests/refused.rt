@@ -3,9 +3,11 @@
 //! one; run by itself, none is refused.
 ghost use Rattle.std.specs.Prelude.{◌≡◌};
 
-use crate::tests::setting::{Seen, accept_both, desk_for, look, new_reader, prefer, same};
+use crate::tests::setting::{
+    Seen, accept_both, bind_a_hole, desk_for, look, new_reader, prefer, same,
+};
 use numa_publish::{Desk, DeskName, SharedDesk, SubmitRefusal};
-use numa_space::{PlaceRefusal, Refusal};
+use numa_space::{Command, PlaceRefusal, Refusal};
 use std::alloc::Global;
 use std::marker::Brand;
 use std::process::Abort;
@@ -79,27 +81,37 @@ fn publish(rt: HostRuntime) {
     judge(&rt, desk, wanted, 2, (1, 0));
 }
 
-/// Submits `prefer:0` to the desk under a lock: the answer, and the desk.
+/// What a submit is answered: its version, or what refuses it.
+type Submitted = Result<u64, SubmitRefusal>;
+
+/// Submits a command.
+fn version_of<K: DeskName>(rt: &impl Wait, desk: &SharedDesk<K>, command: &Command) -> Submitted {
+    match desk.submit(rt, command) {
+        Ok(receipt) => Ok(receipt.version()),
+        Err(refusal) => Err(refusal),
+    }
+}
+
+/// Submits `prefer:0` between two marks, and then a command for a page that isn't mapped, to the
+/// desk under a lock: both answers, and the desk.
 fn submitted<K: DeskName>(
     rt: &(impl Wait + Abort),
     alloc: Global,
     desk: Desk,
-) -> (Result<u64, SubmitRefusal>, Desk)
+) -> (Submitted, Submitted, Desk)
     requires { desk.desk ≡ K.desk }
 {
     let shared = SharedDesk::<K>::new(desk);
-    let command = prefer(rt, 0);
+    let (hole, command) = (bind_a_hole(rt), prefer(rt, 0));
     mark(rt, alloc);
-    let answer = match shared.submit(rt, &command) {
-        Ok(receipt) => Ok(receipt.version()),
-        Err(refusal) => Err(refusal),
-    };
+    let answer = version_of(rt, &shared, &command);
     mark(rt, alloc);
-    (answer, shared.into_desk())
+    let refused = version_of(rt, &shared, &hole);
+    (answer, refused, shared.into_desk())
 }
 
 /// What the desk shows after this answer, and the version and the list of the last publish.
-fn meant(rt: &impl Abort, answer: Result<u64, SubmitRefusal>) -> (Shown, u64, (u8, u8)) {
+fn meant(rt: &impl Abort, answer: Submitted) -> (Shown, u64, (u8, u8)) {
     match answer {
         Ok(3) => ((3, 0, Some((3, Ok((0, 1))))), 3, (0, 1)),
         Err(SubmitRefusal::Held(3)) => ((0, 3, NOTHING), 3, (0, 1)),
@@ -113,7 +125,8 @@ fn meant(rt: &impl Abort, answer: Result<u64, SubmitRefusal>) -> (Shown, u64, (u
 #[test]
 fn submit(rt: HostRuntime) {
     let desk = desk_with_pending(&rt, rt.alloc());
-    let (answer, desk) = submitted::<Brand>(&rt, rt.alloc(), desk);
+    let (answer, refused, desk) = submitted::<Brand>(&rt, rt.alloc(), desk);
+    same(&rt, &refused, &Err(SubmitRefusal::Refused(Refusal::Hole)));
     let (wanted, all, row) = meant(&rt, answer);
     judge(&rt, desk, wanted, all, row);
 }

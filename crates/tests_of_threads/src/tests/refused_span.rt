@@ -7,6 +7,7 @@ use numa_fault::SpanRefusal;
 use numa_space::Placement;
 use std::alloc::Global;
 use std::process::Abort;
+use std::sync::Wait;
 
 /// A span of three pages, of which two have frames: its answer, and whether both were placed.
 type Asked = (Result<u64, SpanRefusal>, bool, bool);
@@ -56,17 +57,6 @@ fn with_one(rt: &impl Abort, alloc: Global) -> Vec<Placement> {
     out
 }
 
-#[test]
-fn three_pages(rt: HostRuntime) {
-    let mut desk = desk(&rt, rt.alloc());
-    let mut placing = Placing::open(&rt, rt.alloc(), &mut desk);
-    let mut out = with_one(&rt, rt.alloc());
-    ask_till_answered(&rt, rt.alloc(), &mut placing, &mut out);
-    desk.end(&rt);
-    let all = [placed(99, 1, 7), placed(16, 0, 0), placed(17, 1, 1)];
-    same(&rt, &out.as_slice(), &all.as_slice());
-}
-
 /// A span with a page that isn't mapped, and a page that is given up again, with no growth granted.
 fn ask_without_memory(
     rt: &impl Abort,
@@ -83,16 +73,38 @@ fn ask_without_memory(
     same(rt, &page, &Ok(placed(16, 0, 0)));
 }
 
+/// Which of the two is asked for.
+#[derive(Clone, Copy)]
+enum Way {
+    ThreePages,
+    WithoutMemory,
+}
+
+/// What then stands in the list, and whether the worker has the frame of page 16.
+fn asked(rt: &(impl Wait + Abort), alloc: Global, way: Way) -> (Vec<Placement>, bool) {
+    let mut desk = desk(rt, alloc);
+    let mut placing = Placing::open(rt, alloc, &mut desk);
+    let mut out = with_one(rt, alloc);
+    match way {
+        Way::ThreePages => ask_till_answered(rt, alloc, &mut placing, &mut out),
+        Way::WithoutMemory => ask_without_memory(rt, alloc, &mut placing, &mut out),
+    }
+    let owned = placing.owns(&placed(16, 0, 0));
+    desk.end(rt);
+    drop(placing);
+    (out, owned)
+}
+
+#[test]
+fn three_pages(rt: HostRuntime) {
+    let (out, owned) = asked(&rt, rt.alloc(), Way::ThreePages);
+    let all = [placed(99, 1, 7), placed(16, 0, 0), placed(17, 1, 1)];
+    same(&rt, &(out.as_slice(), owned), &(all.as_slice(), true));
+}
+
 #[test]
 fn without_memory(rt: HostRuntime) {
-    let mut desk = desk(&rt, rt.alloc());
-    let mut placing = Placing::open(&rt, rt.alloc(), &mut desk);
-    let mut out = Vec::new(rt.alloc());
-    ask_without_memory(&rt, rt.alloc(), &mut placing, &mut out);
-    desk.end(&rt);
-    same(
-        &rt,
-        &(out.len(), placing.owns(&placed(16, 0, 0))),
-        &(0, false),
-    );
+    let (out, owned) = asked(&rt, rt.alloc(), Way::WithoutMemory);
+    let all = [placed(99, 1, 7)];
+    same(&rt, &(out.as_slice(), owned), &(all.as_slice(), false));
 }

@@ -83,9 +83,11 @@ pub fn accept_both(rt: &impl Abort, desk: &mut Desk)
 }
 
 /// Publishes a map of so many pages, in version 1.
-pub fn publish_map(rt: &(impl Wait + Abort), desk: &mut Desk, pages: u64) {
+pub fn publish_map(rt: &(impl Wait + Abort), desk: &mut Desk, pages: u64) -> Receipt
+    ensures { result.desk ≡ desk.new.desk }
+{
     accept_as(rt, desk, &map_of(pages), 1);
-    publish_as(rt, desk, 1);
+    publish_as(rt, desk, 1)
 }
 
 /// A new reader.
