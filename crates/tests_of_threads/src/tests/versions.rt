@@ -2,7 +2,6 @@
 use crate::tests::setting::{desk_for, prefer, same};
 use numa_publish::Desk;
 use numa_space::Command;
-use std::process::Abort;
 use std::sync::Wait;
 
 /// How often a desk publishes, one command each time.
