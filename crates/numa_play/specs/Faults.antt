@@ -13,5 +13,6 @@ tells_fault answer =
 abbrev pub has_faults : ℕ → ℕ → Bool
 has_faults told unjudged = nat_lt 0 told || nat_lt 0 unjudged
 
+-- an answer goes by all lines, or by the accepted ones alone
 abbrev pub ended_by : Bool → Ended
 ended_by faulty = if faulty then Faulty else Clean

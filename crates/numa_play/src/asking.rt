@@ -62,8 +62,8 @@ impl Question for Prediction<'_> {
 
 /// Plays the texts as one script, and writes where all mapped pages would go, if they were touched
 /// now; where nodes are named in `free`, those have so many free pages, and the text tells what is
-/// left on them. What is wrong with a line is told to `told`, and the line passed over. The answer
-/// is whole before its first byte is written.
+/// left on them. What is wrong with a line is told to `told`, and the line passed over, which the
+/// result says too. The answer is whole before its first byte is written.
 ///
 /// # Errors
 /// Where there is no answer; what was told by then stays.

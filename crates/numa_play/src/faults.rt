@@ -7,7 +7,7 @@ ghost use Rattle.numa_play.specs.Faults.{tells_fault};
 
 /// Whether an answer tells a fault or a refusal: it begins with `bad ` or `refused `, as the text
 /// of no other reply does.
-#[tactic(auto, using(crate::proofs::Faults::fault_of_text))]
+#[tactic(auto, using(crate::proofs::Replies::fault_of_text))]
 pub fn tells_fault(answer: &[u8]) -> bool
     ensures value { result ≡ tells_fault answer.now }
     ensures reply { (said : Reply) → answer.now ≡ text_of said → result ≡ is_fault said }

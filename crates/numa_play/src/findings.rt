@@ -11,12 +11,12 @@ use std::io::Write;
 /// How many bytes are gathered before they are written.
 const GATHERED: usize = 4096;
 
-/// By which lines an answer was come to.
+/// Which lines of the scripts an answer goes by.
 #[derive(Clone, Copy, Debug, PartialEq, Eq)]
 pub enum Ended {
-    /// By all lines.
+    /// All of them.
     Clean,
-    /// By those that were accepted: others were faulty or refused, or not judged.
+    /// Those that were accepted: others were faulty or refused, or not judged.
     Faulty,
 }
 
@@ -59,7 +59,7 @@ impl<W: Write> Findings<W> {
         self.told > 0 || self.unjudged > 0
     }
 
-    /// By which lines an answer is come to that goes by those so far.
+    /// Which lines an answer goes by now.
     pub fn ended(&self) -> Ended
         ensures { result ≡ ended_by (has_faults self.now.told self.now.unjudged) }
     {

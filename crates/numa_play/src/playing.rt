@@ -50,7 +50,7 @@ pub fn play<R: Read + Drop, W: Write + Drop>(
     }
 }
 
-/// Ends what is told. By which lines that was come to.
+/// Ends what is told. Which lines were accepted.
 fn end<W: Write>(findings: &mut Findings<W>) -> Result<Ended, Stop> {
     match findings.end() {
         Ok(()) => Ok(findings.ended()),
@@ -59,7 +59,7 @@ fn end<W: Write>(findings: &mut Findings<W>) -> Result<Ended, Stop> {
 }
 
 /// Reads the texts in turn, as one script, and tells the writer what is wrong with their lines:
-/// with none where it ends clean.
+/// with none, where it ends clean.
 ///
 /// # Errors
 /// Where a read or a write failed, or there was no memory.

@@ -32,7 +32,7 @@ fn space_after<T: Write>(findings: &mut Findings<T>) -> Result<&Space, Halt> {
     }
 }
 
-/// Writes an answer, if there is one, that is come to by such lines.
+/// Writes an answer, if there is one, that goes by such lines.
 pub(crate) fn write<W: Write>(
     text: Result<Vec<u8>, Halt>,
     ended: Ended,
@@ -70,8 +70,8 @@ fn write_answer<Q: Question + Drop, W: Write, T: Write>(
 }
 
 /// Plays the texts as one script, and writes the answer to a question about the space that they
-/// lead to. What is wrong with a line is told to `told`, and the line passed over; by which lines
-/// the answer was come to. The answer is whole before its first byte is written.
+/// lead to. What is wrong with a line is told to `told`, and the line passed over; which lines
+/// the answer goes by. It is whole before its first byte is written.
 pub(crate) fn ask<R: Read + Drop, Q: Question + Drop, W: Write, T: Write + Drop>(
     alloc: Global,
     texts: Vec<(String, R)>,
