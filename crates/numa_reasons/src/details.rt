@@ -3,7 +3,9 @@ use crate::finding::Detail;
 use crate::pages::{first_mapped, first_unmapped, first_without_home, is_mapped};
 use numa_core::{Core, CoreRefusal, Event};
 use numa_mask::ListFault;
+use numa_mask::parts::first_place;
 use numa_run::{Reply, Script};
+use numa_script::parts::{items, words};
 use numa_script::{Line, Question, WordFault, Work, why_malformed};
 use numa_space::{Command, Refusal, Space};
 
@@ -140,41 +142,54 @@ fn ends_with_return(line: &[u8]) -> bool {
     line.last() == Some(&b'\r')
 }
 
-/// Whether a byte stands between the items of a line.
-fn is_between(byte: u8) -> bool {
-    byte == b' ' || byte == b':' || byte == b','
+/// Whether `all` is an item of a list, which stands behind a mode or alone.
+fn has_all(word: &[u8]) -> bool {
+    let list = match first_place(word, b':') {
+        Some(place) => &word[place + 1..],
+        None => word,
+    };
+    for item in items(list) {
+        if item == b"all".as_slice() {
+            return true;
+        }
+    }
+    false
 }
 
 /// Whether `all` stands in a line where nodes should.
 fn names_all(line: &[u8]) -> bool {
-    line.split(|byte| is_between(*byte))
-        .any(|item| item == b"all".as_slice())
-}
-
-/// Whether an item is a number of more than four digits, the first of them 0.
-fn has_zeros(item: &[u8]) -> bool {
-    item.len() > 4 && item.starts_with(b"0") && item.iter().all(|byte| byte.is_ascii_digit())
-}
-
-/// Whether a node of a line is a number of more than four digits, the first of them 0.
-fn has_long_node(line: &[u8]) -> bool {
-    line.split(|byte| is_between(*byte) || *byte == b'-')
-        .any(has_zeros)
+    for word in words(line) {
+        if has_all(word) {
+            return true;
+        }
+    }
+    false
 }
 
 /// Whether the second word of a line begins with 0, and has more digits, but no `0x`.
 fn is_decimal_start(line: &[u8]) -> bool {
-    match line.split(|byte| *byte == b' ').nth(1) {
+    let mut words = words(line);
+    let Some(_) = words.next() else {
+        return false;
+    };
+    match words.next() {
         Some(word) => word.len() > 1 && word.starts_with(b"0") && !word.starts_with(b"0x"),
         None => false,
     }
 }
 
-/// The highest node of the machine that is ready, or that the line describes.
-fn highest_node(script: &Script, said: &Line<'_>) -> Detail {
-    match (script.core(), said) {
-        (Some(core), _) => Detail::AllNodes(core.space().machine().nodes().saturating_sub(1)),
-        (None, Line::Machine(machine)) => Detail::AllNodes(machine.nodes.saturating_sub(1)),
+/// What to write for all nodes, where so many are there.
+fn all_nodes(nodes: u32) -> Detail {
+    Detail::AllNodes(nodes.saturating_sub(1))
+}
+
+/// All nodes of the machine that is ready, or that the line describes.
+fn all_detail(script: &Script, said: &Line<'_>) -> Detail {
+    if let Some(core) = script.core() {
+        return all_nodes(core.space().machine().nodes());
+    }
+    match said {
+        Line::Machine(machine) => all_nodes(machine.nodes),
         _ => Detail::None,
     }
 }
@@ -187,16 +202,10 @@ fn word_detail(script: &Script, line: &[u8], said: &Line<'_>, fault: WordFault) 
     if line.contains(&b'\t') {
         return Detail::Tab;
     }
-    if fault != WordFault::List(ListFault::BadDigit) {
-        return Detail::None;
+    match fault {
+        WordFault::List(ListFault::BadDigit) if names_all(line) => all_detail(script, said),
+        _ => Detail::None,
     }
-    if names_all(line) {
-        return highest_node(script, said);
-    }
-    if has_long_node(line) {
-        return Detail::LeadingZeros;
-    }
-    Detail::None
 }
 
 /// What is known of a fault or a refusal of a line, by the script after it.

@@ -25,8 +25,6 @@ pub enum Detail {
     Tab,
     /// `all` stands where nodes should; the highest node of the machine.
     AllNodes(u32),
-    /// A node's number has more than four digits, the first of them 0.
-    LeadingZeros,
     /// START begins with 0 and has no `0x`, so that it is decimal.
     DecimalStart,
     /// A page, by its number: the first that stands in the way, or that is missing.

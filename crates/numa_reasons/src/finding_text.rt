@@ -239,7 +239,6 @@ fn detail_words(detail: Detail) -> &'static str {
         }
         Detail::CarriageReturn => "; the line ends with ",
         Detail::Tab => "; the line has ",
-        Detail::LeadingZeros => "; leave the first zeros out",
         _ => "",
     }
 }

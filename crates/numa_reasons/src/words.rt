@@ -10,7 +10,9 @@ use numa_space::Refusal;
 pub(crate) fn list_words(fault: ListFault) -> &'static str {
     match fault {
         ListFault::Empty => "nothing stands where a node should; name one, or leave out the comma",
-        ListFault::BadDigit => "an item is neither a nor a-b, in decimal of 1 to 4 digits",
+        ListFault::BadDigit => {
+            "an item is neither a nor a-b, in decimal of 1 to 4 digits, as in 0,2-3"
+        }
         ListFault::BackRange => "a range falls; turn it round",
         ListFault::NodeTooHigh => "a number is above 255",
     }
