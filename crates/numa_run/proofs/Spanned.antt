@@ -8,6 +8,7 @@ use Rattle.numa_ranges.specs.Maps.{any_page}
 use Rattle.numa_ranges.proofs.Pages.{any_page-true, any_page-false}
 use Rattle.numa_space.specs.Pages.{is_mapped}
 use Rattle.numa_space.specs.Lists.{node_list}
+use Rattle.numa_space.specs.Standing.{place_refusal_of}
 use Rattle.numa_space.specs.declared.command.Command.{Command}
 use Rattle.numa_space.specs.declared.refusal.PlaceRefusal.{PlaceRefusal}
 use Rattle.numa_space.specs.declared.refusal.PlaceRefusal.TheVariants.{BadCpu, Unmapped}
@@ -72,7 +73,9 @@ module _ (machine : Hardware) (plan : PlanData) (history : List Command) (stands
   place-ok task page cpu nodes lt is =
       let meant = choice-meant machine plan history stands task page cpu nodes lt is in
       let near : nat_le machine.nodes cpu ≡ false = let within = meant.0 in grind (arith, nat_tests) in
-      rw (near, meant.1) (λ i. nodes_answer (stands.version i) (meant.2 i))
+      let none : place_refusal_of machine history page cpu ≡ None = rw (near, meant.1) refl in
+      let same : nodes_answer plan.version nodes ≡ nodes_answer (length history) (node_list machine history task page cpu) = λ i. nodes_answer (stands.version i) (meant.2 i) in
+      same ∙ sym (ap (λ o. unless_refused o (nodes_answer (length history) (node_list machine history task page cpu))) none)
 
   pub place-err : (task page cpu : ℕ) (refusal : PlaceRefusal) → place_refusal plan page cpu ≡ Some refusal → refused_text (place_name refusal) ≡ place_text machine history task page cpu
   place-err task page cpu refusal is =
