@@ -2,7 +2,7 @@
 -- in order ("NUMA Memory Policy", scope and components of memory policies).
 use Rattle.std.specs.Prelude.{ℕ, ◌%◌, Bool, false, Option, Some, None, List, [], ◌∷◌, ◌++◌, ◌&&◌}
 use Rattle.std.specs.Prelude.{not, filter, slice_index, unwrap_or, if◌then◌else◌}
-use Rattle.numa_mask.specs.NodeSet.{has, members, weight_of}
+use Rattle.numa_mask.specs.NodeSet.{both, has, members, weight_of}
 use Rattle.numa_machine.specs.Machine.{distance_order}
 use Rattle.numa_machine.specs.Weights.{interleave_node, total_weight, weight_below, weighted_node}
 use Rattle.numa_mode.specs.Policy.{PolicyRecord, is_live}
@@ -95,6 +95,7 @@ abbrev pub ordered_by : Setting → ℕ → OrderRule → List ℕ
 ordered_by setting set (Local from) = near setting from
 ordered_by setting set (Preferred node) = near setting node
 ordered_by setting set (Bind from) = within set (distance_order setting.machine from)
-ordered_by setting set (PreferredMany from) = before_others setting set from
+ordered_by setting set (PreferredMany from) =
+    before_others setting (both set setting.allowed) from
 ordered_by setting set (Interleave turn) = near setting turn.node
 ordered_by setting set (WeightedInterleave block) = near setting block.node

@@ -48,8 +48,8 @@ pub enum OrderRule {
     /// The effective nodes alone, the nearest to this node first, which is the home or the faulting
     /// node.
     Bind(u32),
-    /// The effective nodes, the nearest to this node first, and behind them the other allowed ones
-    /// in the same order.
+    /// The effective nodes that are allowed, the nearest to this node first, and behind them the
+    /// other allowed ones in the same order.
     PreferredMany(u32),
     /// The allowed nodes, the nearest to the node whose turn it is first.
     Interleave(Turn),
