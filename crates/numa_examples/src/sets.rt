@@ -30,16 +30,3 @@ pub fn first_nodes(count: u32) -> NodeMask {
     }
     set
 }
-
-/// The set of the nodes whose bits of a number are 1, of nodes 0 to 7.
-pub fn nodes_of(bits: u8) -> NodeMask {
-    let mut set = NodeMask::empty();
-    for number in 0..8u8 {
-        if (bits >> number) & 1 == 1
-            && let Some(node) = NodeId::new(number)
-        {
-            set.insert(node);
-        }
-    }
-    set
-}

@@ -1,7 +1,7 @@
 //! Spaces.
 ghost use Rattle.std.specs.Prelude.{◌≡◌};
 
-use crate::machines::{flat_machine, machine_of};
+use crate::machines::flat_machine;
 use numa_space::{Limits, Space};
 use std::alloc::Global;
 
@@ -19,11 +19,5 @@ pub fn limits() -> Limits
 pub fn flat_space(alloc: Global, nodes: usize) -> Option<Space> {
     let frames = [8; 10];
     let machine = flat_machine(alloc, frames.get(..nodes)?)?;
-    Some(Space::new(alloc, machine, limits()))
-}
-
-/// A space of a machine with these nodes, memory and distances.
-pub fn space_of(alloc: Global, nodes: u32, memory: &[u8], distances: &[u8]) -> Option<Space> {
-    let machine = machine_of(alloc, nodes, memory, distances)?;
     Some(Space::new(alloc, machine, limits()))
 }

@@ -1,0 +1,42 @@
+//! The machine, what its desk has published, and the requests of faults.
+use numa_examples::{flat_machine, spec_of};
+use numa_machine::Machine;
+use numa_publish::Desk;
+use numa_space::{Command, Limits, Request};
+use std::alloc::Global;
+use std::sync::Wait;
+
+/// How many pages are mapped, from the first one on.
+const PAGES: u64 = 65_536;
+
+/// The first of them.
+pub const FIRST: u64 = 65_536;
+
+/// A machine of 16 nodes with 4,096 frames each, 20 apart.
+pub fn machine_of(alloc: Global) -> Option<Machine> {
+    flat_machine(alloc, &[4_096; 16])
+}
+
+/// A desk of that machine, which has published the pages, and that task 1 has four nodes in turn.
+pub fn desk_of<R: Wait>(rt: &R, alloc: Global) -> Option<Desk> {
+    let limits = Limits::new(65_536, 1_024, 4_294_967_295)?;
+    let spec = spec_of(3, &[0, 1, 2, 3])?;
+    let mut desk = Desk::new(rt, alloc, machine_of(alloc)?, limits, 8).ok()?;
+    let _ = desk.accept(&Command::Map {
+        start: FIRST * 4_096,
+        length: PAGES * 4_096,
+        offset: 0,
+    });
+    let _ = desk.accept(&Command::SetTask { task: 1, spec });
+    let _ = desk.publish(rt);
+    Some(desk)
+}
+
+/// The request of a task for the page that stands at this place, round and round.
+pub fn request_of(task: u32, place: u64) -> Request {
+    Request {
+        task,
+        page: FIRST + place % PAGES,
+        cpu: 0,
+    }
+}

@@ -1,0 +1,51 @@
+//! Looks at what is published, and the least that they could be made of.
+use crate::many::{page_of, sum_of_looks};
+use numa_plan::{Plan, Steps};
+use numa_publish::PlanReader;
+use numa_space::Request;
+use std::hint::black_box;
+
+/// Looks so many times, and adds up the versions that are seen.
+pub fn looks(mut reader: PlanReader, count: u64) -> (PlanReader, u64) {
+    let mut sum = 0u64;
+    for _ in 0..count {
+        reader = match reader.enter() {
+            Ok(view) => {
+                sum = sum.wrapping_add(view.version());
+                view.leave()
+            }
+            Err(reader) => reader,
+        };
+    }
+    (reader, sum)
+}
+
+/// Looks so many times and asks for a page's list each time, and adds up how long the lists are.
+pub fn choices(mut reader: PlanReader, count: u64) -> (PlanReader, u64) {
+    let mut sum = 0u64;
+    for i in 0..count {
+        let request = Request {
+            task: 1,
+            page: black_box(page_of(i)),
+            cpu: 3,
+        };
+        reader = match reader.enter() {
+            Ok(view) => {
+                if let Ok(row) = view.choice(request, &mut Steps::new()) {
+                    sum = sum.wrapping_add(row.len() as u64);
+                }
+                view.leave()
+            }
+            Err(reader) => reader,
+        };
+    }
+    (reader, sum)
+}
+
+/// Asks a plan for so many lists.
+pub fn plan_choices(plan: &Plan, count: u64) -> u64 {
+    sum_of_looks(count, |page| {
+        plan.choice(1, page, 3, &mut Steps::new())
+            .map_or(0, |row| row.len() as u64)
+    })
+}

@@ -1,0 +1,212 @@
+//! Commands on a space of many ranges: a policy that splits one of them, and other allowed nodes.
+use crate::figures::{Figure, Subject, measure as measure_figures, with_made};
+use crate::many::{bind, bind_page, eight_nodes, map, mixed, nodes_of, spec_of_bits};
+use numa_mode::PolicySpec;
+use numa_space::{Command, Limits, RangeRecord, Run, Space};
+use std::alloc::{AllocError, Global};
+use std::hint::black_box;
+use std::io;
+use std::mem::size_of;
+use std::rt::Clock;
+
+/// How many ranges stand.
+const RANGES: u64 = 65_000;
+
+/// How many words a range takes.
+const RANGE_WORDS: usize = size_of::<Run<RangeRecord>>() / 8;
+
+/// A row of a plain vector, as large as a range.
+type Row = [u64; RANGE_WORDS];
+
+/// The middle range, of which the middle page is set apart.
+const MIDDLE: u64 = 32_500;
+
+/// The bits of the nodes from 4 up to 7.
+const UPPER: u8 = 240;
+
+/// Two commands, the second of which undoes the first.
+type Turns = [Command; 2];
+
+/// A policy of its own for the middle page, and that of all others.
+fn splits() -> Option<Turns> {
+    Some([
+        bind_page(MIDDLE, spec_of_bits(2, 192)?),
+        bind_page(MIDDLE, spec_of_bits(3, 255)?),
+    ])
+}
+
+/// Four nodes of eight, and all.
+fn allowances() -> Turns {
+    [UPPER, 255].map(|bits| Command::SetMems {
+        mask: nodes_of(bits),
+    })
+}
+
+/// Maps all ranges and gives each the policy.
+fn spread(space: &mut Space, spec: PolicySpec) {
+    for number in 0..RANGES {
+        let _ = space.apply(&map(number));
+        let _ = space.apply(&bind(number, spec));
+    }
+}
+
+/// A space of all ranges on a machine of 8 nodes, each range interleaved over all.
+fn space_of(alloc: Global) -> Option<Space> {
+    let limits = Limits::new(65_536, 8, 1_000_000)?;
+    let spec = spec_of_bits(3, 255)?;
+    let mut space = Space::new(alloc, eight_nodes(alloc)?, limits);
+    spread(&mut space, spec);
+    Some(space)
+}
+
+/// What a range's policy adds to a checksum.
+fn word_of(value: &RangeRecord) -> u64 {
+    match value.policy() {
+        None => 0,
+        Some(policy) => {
+            let nodes = policy.effective();
+            let first = nodes.first().map_or(0, |node| u64::from(node.number()));
+            u64::from(nodes.weight()) * 256 + first
+        }
+    }
+}
+
+/// A number that nearly any other list of ranges would change.
+fn checksum(space: &Space) -> u64 {
+    let mut sum = 0u64;
+    for range in space.range_iter() {
+        sum = mixed(sum, range.first);
+        sum = mixed(sum, range.pages);
+        sum = mixed(sum, range.index);
+        sum = mixed(sum, word_of(&range.value));
+    }
+    sum
+}
+
+fn tell(rt: &impl Print, what: &str, space: &Space) -> io::Result<()> {
+    let version = space.version();
+    let ranges = space.ranges();
+    let sum = checksum(space);
+    println!(rt; "{what}: version {version}, {ranges} ranges, checksum {sum}")
+}
+
+/// Prints what commands leave.
+fn print_checksums(rt: &impl Print, space: &mut Space, splits: &Turns) -> io::Result<()> {
+    tell(rt, "spread", space)?;
+    let allowances = allowances();
+    for (command, what) in [
+        (splits[0], "one page set apart"),
+        (splits[1], "and joined back"),
+        (allowances[0], "four nodes taken away"),
+        (allowances[1], "and given back"),
+    ] {
+        let _ = space.apply(&command);
+        tell(rt, what, space)?;
+    }
+    Ok(())
+}
+
+/// Prints checksums of what commands leave.
+pub fn checksums(rt: &impl Print, alloc: Global) -> io::Result<()> {
+    let Some(splits) = splits() else {
+        return Ok(());
+    };
+    with_made(
+        rt,
+        space_of(alloc),
+        |space| print_checksums(rt, space, &splits),
+    )
+}
+
+/// A space of all ranges, and as many rows as large as ranges.
+#[derive(Drop)]
+struct Large {
+    splits: Turns,
+    rows: Vec<Row>,
+    space: Space,
+}
+
+/// Calls in twos, the second of which undoes the first.
+#[derive(Clone, Copy)]
+enum Call {
+    /// A policy for the middle page, and that of all others.
+    Split,
+    /// Four nodes of eight, and all.
+    Allow,
+    /// A row put into the middle of the vector, and taken out.
+    Move,
+}
+
+impl<R> Subject<R> for Large {
+    type Call = Call;
+
+    fn make(&mut self, _rt: &R, call: Call) -> u64 {
+        match call {
+            Call::Split => accepted(&mut self.space, &self.splits),
+            Call::Allow => accepted(&mut self.space, &allowances()),
+            Call::Move => moved(&mut self.rows),
+        }
+    }
+
+    fn settle(&mut self) {}
+}
+
+/// Carries out both commands; how many were accepted.
+fn accepted(space: &mut Space, turns: &Turns) -> u64 {
+    let mut count = 0u64;
+    for command in turns {
+        if black_box(space.apply(command)).is_ok() {
+            count = count.wrapping_add(1);
+        }
+    }
+    count
+}
+
+/// Moves half of the rows one place up and down again.
+fn moved(rows: &mut Vec<Row>) -> u64 {
+    let middle = rows.len() / 2;
+    if black_box(rows.insert(middle, [0; RANGE_WORDS])).is_ok() {
+        black_box(rows.remove(middle));
+    }
+    middle as u64
+}
+
+const FIGURES: [Figure<Call>; 2] = [
+    Figure {
+        name: "Mbind of a middle page over a move of half the vector",
+        call: (Call::Split, 2),
+        baseline: (Call::Move, 2),
+    },
+    Figure {
+        name: "SetMems over a move of half the vector",
+        call: (Call::Allow, 2),
+        baseline: (Call::Move, 2),
+    },
+];
+
+/// As many rows as there are ranges.
+fn rows_of(alloc: Global) -> Result<Vec<Row>, AllocError> {
+    let mut rows = Vec::new(alloc);
+    for i in 0..RANGES {
+        rows.push([i; RANGE_WORDS])?;
+    }
+    Ok(rows)
+}
+
+fn large_of(alloc: Global) -> Option<Large> {
+    let splits = splits()?;
+    let rows = rows_of(alloc).ok()?;
+    let space = space_of(alloc)?;
+    Some(Large {
+        splits,
+        rows,
+        space,
+    })
+}
+
+/// Prints how long commands take.
+pub fn measure<R: Print + Clock>(rt: &R, alloc: Global) -> io::Result<()> {
+    with_made(rt, large_of(alloc), |large| {
+        measure_figures(rt, large, 40, &FIGURES)
+    })
+}
