@@ -1,5 +1,5 @@
 /* How long calls of the C library take, each beside the least that plain C needs for it in the same
- * run: the loops of crates/bench_high, through handles. A measure and no test; by hand:
+ * run: the loops of crates/benches, through handles. A measure and no test; by hand:
  *
  *     ./numaplan library PREFIX
  *     cc -O2 -I PREFIX/include tests/library/bench.c PREFIX/lib/libnumaplan.a -o bench && ./bench

@@ -1,4 +1,6 @@
 //! A first program: to which nodes do the pages of an interleaved mapping go?
+#![tactic(auto)]
+
 use numa_compile::compile_commands;
 use numa_machine::Machine;
 use numa_mask::read_list;
@@ -30,7 +32,8 @@ fn plan_of_four_pages(alloc: Global) -> Option<Plan> {
     compile_commands(alloc, machine, limits, &commands).ok()
 }
 
-pub fn print(rt: &impl Print, alloc: Global) -> io::Result<()> {
+/// Prints the node of each page.
+pub fn print_nodes(rt: &impl Print, alloc: Global) -> io::Result<()> {
     let Some(plan) = plan_of_four_pages(alloc) else {
         return println!(rt; "out of memory");
     };

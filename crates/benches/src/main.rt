@@ -47,7 +47,7 @@ impl Part {
 /// Prints checksums of what a part's calls answer.
 fn print_checksums<R: Print + Wait>(rt: &R, alloc: Global, part: Part) -> io::Result<()> {
     match part {
-        Part::First => first::print(rt, alloc),
+        Part::First => first::print_nodes(rt, alloc),
         Part::Plan => plan::checksums(rt, alloc),
         Part::Space => space::checksums(rt, alloc),
         Part::Compile => compile::checksums(rt, alloc),
