@@ -2,12 +2,12 @@
 mod spaces;
 
 use crate::compile::spaces::spread;
-use crate::figures::{Figure, Subject, measure as measure_figures, with_made};
+use crate::figures::{Figure, Subject, print as print_figures, put};
 use crate::many::{FlatRow, POLICIES, RANGES, bind_page, choices, policy, rows_of, spec_of_bits};
 use numa_compile::{PlannedSpace, compile};
 use numa_plan::Plan;
 use numa_reports::{Format, prediction_text};
-use numa_space::Command;
+use numa_space::{Command, Space};
 use std::alloc::{AllocError, Global};
 use std::collections::HashMap;
 use std::io;
@@ -49,15 +49,20 @@ fn print_plan(rt: &impl Print, plan: &Plan) -> io::Result<()> {
     Ok(())
 }
 
-/// Prints checksums of the plan of a large space.
-pub fn checksums(rt: &impl Print, alloc: Global) -> io::Result<()> {
-    with_made(rt, spread(alloc, RANGES), |space| {
-        with_made(
-            rt,
-            compile(alloc, space.space()).ok(),
-            |plan| print_plan(rt, plan),
-        )
-    })
+/// Prints the checksums of the plan of a space.
+fn print_compiled(rt: &impl Print, alloc: Global, space: &Space) -> io::Result<()> {
+    let Ok(plan) = compile(alloc, space) else {
+        return println!(rt; "no memory");
+    };
+    let done = print_plan(rt, &plan);
+    drop(plan);
+    done
+}
+
+/// Puts the plan of the space there; how many runs it has.
+pub fn compile_into(alloc: Global, space: &Space, plan: &mut Option<Plan>) -> u64 {
+    put(plan, compile(alloc, space).ok());
+    runs_of(plan)
 }
 
 /// A space that keeps its plan, one more plan, and as many rows as there are ranges.
@@ -67,12 +72,11 @@ struct Planned {
     common: Turns,
     own: Turns,
     rows: Vec<FlatRow>,
-    copies: Option<Vec<FlatRow>>,
+    copies: Vec<FlatRow>,
     plan: Option<Plan>,
     space: PlannedSpace,
 }
 
-#[derive(Clone, Copy)]
 enum Call {
     /// A compile of the space.
     Compile,
@@ -88,29 +92,28 @@ enum Call {
     Predict,
 }
 
-impl<R> Subject<R> for Planned {
+impl<R: Print> Subject<R> for Planned {
     type Call = Call;
 
-    fn make(&mut self, _rt: &R, call: Call) -> u64 {
+    fn checksums(&mut self, rt: &R) -> io::Result<()> {
+        print_compiled(rt, self.alloc, self.space.space())
+    }
+
+    fn make(&mut self, _rt: &R, call: &Call) -> u64 {
+        let alloc = self.alloc;
         match call {
-            Call::Compile => {
-                self.plan = compile(self.alloc, self.space.space()).ok();
-                runs_of(&self.plan)
-            }
-            Call::PlainCopy => {
-                self.copies = copied(self.alloc, &self.rows).ok();
-                0
-            }
-            Call::Bind => edit(self.alloc, &mut self.space, &self.common),
-            Call::BindOwn => edit(self.alloc, &mut self.space, &self.own),
-            Call::Copy => copy_all(self.alloc, &mut self.space, &mut self.plan),
-            Call::Predict => predicted(self.alloc, &self.space),
+            Call::Compile => compile_into(alloc, self.space.space(), &mut self.plan),
+            Call::PlainCopy => copy_into(alloc, &self.rows, &mut self.copies),
+            Call::Bind => edit(alloc, &mut self.space, &self.common),
+            Call::BindOwn => edit(alloc, &mut self.space, &self.own),
+            Call::Copy => copy_all(alloc, &mut self.space, &mut self.plan),
+            Call::Predict => predicted(alloc, &self.space),
         }
     }
 
     fn settle(&mut self) {
         drop(self.plan.take());
-        drop(self.copies.take());
+        put(&mut self.copies, Vec::new(self.alloc));
     }
 }
 
@@ -137,7 +140,7 @@ fn edit(alloc: Global, space: &mut PlannedSpace, turns: &Turns) -> u64 {
 fn copy_all(alloc: Global, space: &mut PlannedSpace, plan: &mut Option<Plan>) -> u64 {
     let mut runs = 0u64;
     for _ in 0..TURNS {
-        *plan = space.plan_copy(alloc).ok();
+        put(plan, space.plan_copy(alloc).ok());
         runs = runs.wrapping_add(runs_of(plan));
     }
     runs
@@ -166,18 +169,18 @@ fn number_of(numbers: &mut HashMap<u64, u64>, policy: u64) -> Result<u64, AllocE
     }
 }
 
-/// Copies the rows, each with the number of its policy in the place of the policy.
-fn copied(alloc: Global, rows: &[FlatRow]) -> Result<Vec<FlatRow>, AllocError> {
+/// Copies the rows, each with the number of its policy in the place of the policy; how many.
+fn copy_into(alloc: Global, rows: &[FlatRow], copies: &mut Vec<FlatRow>) -> u64 {
     let mut numbers: HashMap<u64, u64> = HashMap::new(alloc);
-    let mut copies = Vec::new(alloc);
     for row in rows {
-        let number = number_of(&mut numbers, row[3])?;
-        copies.push([row[0], row[1], row[2], number])?;
+        if let Ok(number) = number_of(&mut numbers, row[3]) {
+            let _ = copies.push([row[0], row[1], row[2], number]);
+        }
     }
-    Ok(copies)
+    copies.len() as u64
 }
 
-const FIGURES: [Figure<Call>; 5] = [
+static FIGURES: [Figure<Call>; 5] = [
     Figure {
         name: "compile over a plain copy with a look-up in a map for each range",
         call: (Call::Compile, 1),
@@ -205,26 +208,26 @@ const FIGURES: [Figure<Call>; 5] = [
     },
 ];
 
-/// A space of so many ranges that two more can come of the middle one. Its plan is made.
-fn planned_of(alloc: Global) -> Option<Planned> {
+/// A space of so many ranges, whose plan is made.
+fn planned_of(alloc: Global, ranges: u64) -> Option<Planned> {
     let (common, own) = (common()?, own()?);
     let rows = rows_of(alloc, POLICIES).ok()?;
-    let mut space = spread(alloc, RANGES - 2)?;
+    let mut space = spread(alloc, ranges)?;
     let _ = space.prepare(alloc);
     Some(Planned {
         alloc,
         common,
         own,
         rows,
-        copies: None,
+        copies: Vec::new(alloc),
         plan: None,
         space,
     })
 }
 
-/// Prints how long all that takes.
-pub fn measure<R: Print + Clock>(rt: &R, alloc: Global) -> io::Result<()> {
-    with_made(rt, planned_of(alloc), |planned| {
-        measure_figures(rt, planned, 20, &FIGURES)
-    })
+/// Prints what the plan answers, or how long its making, its edits and its copy take.
+pub fn print<R: Print + Clock>(rt: &R, alloc: Global, measures: bool) -> io::Result<()> {
+    // (a policy for the middle page makes three ranges of one)
+    let ranges = if measures { RANGES - 2 } else { RANGES };
+    print_figures(rt, planned_of(alloc, ranges), measures, &FIGURES)
 }

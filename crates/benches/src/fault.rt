@@ -1,16 +1,12 @@
 //! Page faults beside what they are made of, and frames taken and given up beside bare steps.
 mod placing;
-mod seated;
 mod setting;
 
-use crate::fault::placing::Placing;
-use crate::fault::seated::Seated;
+use crate::fault::placing::{AtPools, placing_at};
 use crate::fault::setting::{desk_of, request_of};
-use crate::figures::{Figure, Subject, measure as measure_figures, with_made};
-use crate::publish::on_desk;
+use crate::figures::{Figure, Subject, print as print_figures};
 use numa_plan::Steps;
 use numa_publish::{Desk, PlanReader};
-use numa_space::Placement;
 use std::alloc::Global;
 use std::hint::black_box;
 use std::io;
@@ -22,20 +18,17 @@ use std::sync::atomic::{AtomicU64, Ordering};
 const FAULTS: u64 = 20_000;
 
 /// How many pages a span has.
-const PAGES: usize = 4_096;
+const PAGES: u64 = 4_096;
 
-/// A worker, and what a fault is made of: a reader, and a seat at pools.
+/// A worker and a seat at pools, a reader, and a word of no pools.
 #[derive(Drop)]
 struct Faulting {
-    alloc: Global,
     word: AtomicU64,
-    placements: Vec<Placement>,
     reader: Option<PlanReader>,
-    seated: Seated,
-    placing: Placing,
+    placing: AtPools,
 }
 
-#[derive(Clone, Copy)]
+/// What is timed.
 enum Call {
     /// Faults, each frame given up again.
     Fault,
@@ -51,23 +44,45 @@ enum Call {
     Bits,
 }
 
-impl<R> Subject<R> for Faulting {
+static FIGURES: [Figure<Call>; 3] = [
+    Figure {
+        name: "fault and release over enter, choice, leave, take and give",
+        call: (Call::Fault, FAULTS),
+        baseline: (Call::Parts, FAULTS),
+    },
+    Figure {
+        name: "fault_span of 4,096 pages over as many faults, for each page",
+        call: (Call::Span, PAGES),
+        baseline: (Call::Pages, PAGES),
+    },
+    Figure {
+        name: "take and give over a bare fetch_or and fetch_and",
+        call: (Call::Take, FAULTS),
+        baseline: (Call::Bits, FAULTS),
+    },
+];
+
+impl<R: Print> Subject<R> for Faulting {
     type Call = Call;
 
-    fn make(&mut self, _rt: &R, call: Call) -> u64 {
-        let placements = &mut self.placements;
+    fn checksums(&mut self, rt: &R) -> io::Result<()> {
+        let placed = self.placing.faults(10_000);
+        println!(rt; "placed by one worker: {placed}")
+    }
+
+    fn make(&mut self, _rt: &R, call: &Call) -> u64 {
         match call {
-            Call::Fault => self.placing.faults(1, FAULTS),
-            Call::Parts => ask(&mut self.reader).wrapping_add(self.seated.takes(FAULTS)),
-            Call::Span => self.placing.fault_span(self.alloc, PAGES, placements),
-            Call::Pages => self.placing.fault_each(PAGES, placements),
-            Call::Take => self.seated.takes(FAULTS),
+            Call::Fault => self.placing.faults(FAULTS),
+            Call::Parts => ask(&mut self.reader).wrapping_add(self.placing.takes(FAULTS)),
+            Call::Span => self.placing.fault_span(PAGES as usize),
+            Call::Pages => self.placing.fault_each(PAGES),
+            Call::Take => self.placing.takes(FAULTS),
             Call::Bits => bits(&self.word),
         }
     }
 
     fn settle(&mut self) {
-        self.placing.release_each(&mut self.placements);
+        self.placing.release_all();
     }
 }
 
@@ -75,7 +90,7 @@ impl<R> Subject<R> for Faulting {
 fn choices(mut reader: PlanReader) -> (PlanReader, u64) {
     let mut sum = 0u64;
     for place in 0..FAULTS {
-        let request = black_box(request_of(1, place));
+        let request = black_box(request_of(place));
         reader = match reader.enter() {
             Ok(view) => {
                 if let Ok(nodes) = view.choice(request, &mut Steps::new()) {
@@ -110,61 +125,23 @@ fn bits(word: &AtomicU64) -> u64 {
     sum
 }
 
-const FIGURES: [Figure<Call>; 3] = [
-    Figure {
-        name: "fault and release over enter, choice, leave, take and give",
-        call: (Call::Fault, FAULTS),
-        baseline: (Call::Parts, FAULTS),
-    },
-    Figure {
-        name: "fault_span of 4,096 pages over as many faults, for each page",
-        call: (Call::Span, PAGES as u64),
-        baseline: (Call::Pages, PAGES as u64),
-    },
-    Figure {
-        name: "take and give over a bare fetch_or and fetch_and",
-        call: (Call::Take, FAULTS),
-        baseline: (Call::Bits, FAULTS),
-    },
-];
-
+/// What is timed at this desk.
 fn faulting_at(alloc: Global, desk: &mut Desk) -> Option<Faulting> {
-    let placements = Vec::with_capacity(alloc, PAGES).ok()?;
-    let reader = Some(desk.reader().ok()?);
-    let seated = Seated::open(alloc)?;
-    let placing = Placing::open(alloc, desk)?;
+    let placing = placing_at(alloc, desk)?;
     Some(Faulting {
-        alloc,
         word: AtomicU64::new(0),
-        placements,
-        reader,
-        seated,
+        reader: desk.reader().ok(),
         placing,
     })
 }
 
-/// Prints how long faults take.
-pub fn measure<R: Print + Clock + Wait>(rt: &R, alloc: Global) -> io::Result<()> {
-    on_desk(rt, desk_of(rt, alloc), |desk| {
-        with_made(rt, faulting_at(alloc, desk), |faulting| {
-            measure_figures(rt, faulting, 31, &FIGURES)
-        })
-    })
-}
-
-/// Prints how many of so many pages a worker places.
-fn print_placed(rt: &impl Print, placing: &mut Placing) -> io::Result<()> {
-    let placed = placing.faults(1, 10_000);
-    println!(rt; "placed by one worker: {placed}")
-}
-
-/// Prints what a worker places.
-pub fn checksums<R: Print + Wait>(rt: &R, alloc: Global) -> io::Result<()> {
-    on_desk(rt, desk_of(rt, alloc), |desk| {
-        with_made(
-            rt,
-            Placing::open(alloc, desk),
-            |placing| print_placed(rt, placing),
-        )
-    })
+/// Prints what a worker places, or how long faults take.
+pub fn print<R: Print + Clock + Wait>(rt: &R, alloc: Global, measures: bool) -> io::Result<()> {
+    let Some(mut desk) = desk_of(rt, alloc) else {
+        return println!(rt; "no memory");
+    };
+    let made = faulting_at(alloc, &mut desk);
+    let done = print_figures(rt, made, measures, &FIGURES);
+    desk.end(rt);
+    done
 }

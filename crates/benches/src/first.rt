@@ -33,10 +33,7 @@ fn plan_of_four_pages(alloc: Global) -> Option<Plan> {
 }
 
 /// Prints the node of each page.
-pub fn print_nodes(rt: &impl Print, alloc: Global) -> io::Result<()> {
-    let Some(plan) = plan_of_four_pages(alloc) else {
-        return println!(rt; "out of memory");
-    };
+fn print_pages(rt: &impl Print, plan: &Plan) -> io::Result<()> {
     let mut steps = Steps::new();
     for page in 0x10..0x14u64 {
         match plan.choice(1, page, 0, &mut steps) {
@@ -45,4 +42,14 @@ pub fn print_nodes(rt: &impl Print, alloc: Global) -> io::Result<()> {
         }
     }
     Ok(())
+}
+
+/// Prints them by a plan of its own.
+pub fn print_nodes(rt: &impl Print, alloc: Global) -> io::Result<()> {
+    let Some(plan) = plan_of_four_pages(alloc) else {
+        return println!(rt; "out of memory");
+    };
+    let done = print_pages(rt, &plan);
+    drop(plan);
+    done
 }

@@ -44,64 +44,55 @@ impl Part {
     }
 }
 
-/// Prints checksums of what a part's calls answer.
-fn print_checksums<R: Print + Wait>(rt: &R, alloc: Global, part: Part) -> io::Result<()> {
+/// Prints a part's figures, or checksums of what its calls answer. Of the first program nothing is
+/// measured.
+fn print_part<R: Print + Clock + Wait>(
+    rt: &R,
+    alloc: Global,
+    part: Part,
+    measures: bool,
+) -> io::Result<()> {
     match part {
+        Part::First if measures => Ok(()),
         Part::First => first::print_nodes(rt, alloc),
-        Part::Plan => plan::checksums(rt, alloc),
-        Part::Space => space::checksums(rt, alloc),
-        Part::Compile => compile::checksums(rt, alloc),
-        Part::Publish => publish::checksums(rt, alloc),
-        Part::Fault => fault::checksums(rt, alloc),
+        Part::Plan => plan::print(rt, alloc, measures),
+        Part::Space => space::print(rt, alloc, measures),
+        Part::Compile => compile::print(rt, alloc, measures),
+        Part::Publish => publish::print(rt, alloc, measures),
+        Part::Fault => fault::print(rt, alloc, measures),
     }
 }
 
-/// Prints a part's figures.
-fn print_figures<R: Print + Clock + Wait>(rt: &R, alloc: Global, part: Part) -> io::Result<()> {
-    match part {
-        Part::First => Ok(()),
-        Part::Plan => plan::measure(rt, alloc),
-        Part::Space => space::measure(rt, alloc),
-        Part::Compile => compile::measure(rt, alloc),
-        Part::Publish => publish::measure(rt, alloc),
-        Part::Fault => fault::measure(rt, alloc),
-    }
-}
-
-/// All parts.
-const PARTS: [Part; 6] = [
-    Part::First,
-    Part::Plan,
-    Part::Space,
-    Part::Compile,
-    Part::Publish,
-    Part::Fault,
-];
-
-/// Prints the checksums of all parts.
-fn print_all<R: Print + Wait>(rt: &R, alloc: Global) -> io::Result<()> {
-    for part in PARTS {
+/// Prints the figures of the part that is named, of all where the name is empty, or, where none is
+/// wanted, the checksums of each.
+fn print_parts<R: Print + Clock + Wait>(
+    rt: &R,
+    alloc: Global,
+    wanted: Option<&str>,
+) -> io::Result<()> {
+    for part in [
+        Part::First,
+        Part::Plan,
+        Part::Space,
+        Part::Compile,
+        Part::Publish,
+        Part::Fault,
+    ] {
         let name = part.name();
-        println!(rt; "== {name}")?;
-        print_checksums(rt, alloc, part)?;
-    }
-    Ok(())
-}
-
-/// Prints the figures of the part that is named, or of all where the name is empty.
-fn measure_all<R: Print + Clock + Wait>(rt: &R, alloc: Global, wanted: &str) -> io::Result<()> {
-    for part in PARTS {
-        if wanted.is_empty() || wanted == part.name() {
-            print_figures(rt, alloc, part)?;
+        match wanted {
+            None => println!(rt; "== {name}")?,
+            Some(wanted) if wanted.is_empty() || wanted == name => {}
+            Some(_) => continue,
         }
+        print_part(rt, alloc, part, wanted.is_some())?;
     }
     Ok(())
 }
 
 fn main(rt: HostRuntime) -> io::Result<()> {
     match read_wanted(&rt, "benches [measure [plan|space|compile|publish|fault]]")? {
-        Wanted::Checksums => print_all(&rt, rt.alloc()),
-        Wanted::Figures(part) => measure_all(&rt, rt.alloc(), part.as_str()),
+        Wanted::Checksums => print_parts(&rt, rt.alloc(), None),
+        Wanted::Figures(part) => print_parts(&rt, rt.alloc(), Some(part.as_str())),
         Wanted::Nothing => Ok(()),
     }
 }

@@ -102,22 +102,25 @@ pub fn rows_of(alloc: Global, values: u64) -> Result<Vec<FlatRow>, AllocError>
     Ok(rows)
 }
 
-/// The sum of what look-ups of so many pages give.
-pub fn sum_of_looks<F: FnMut(u64) -> u64>(count: u64, mut look: F) -> u64
-    requires { F.IsAlwaysCallable look }
-{
+/// The sum of how long the lists are that so many look-ups of a plan find.
+pub fn lists_of(plan: &Plan, count: u64) -> u64 {
     let mut sum = 0u64;
     for i in 0..count {
-        sum = sum.wrapping_add(look(black_box(page_of(i))));
+        if let Ok(row) = plan.choice(1, black_box(page_of(i)), 3, &mut Steps::new()) {
+            sum = sum.wrapping_add(row.len() as u64);
+        }
     }
     sum
 }
 
 /// The sum of the places that a round of std's partition point finds in such rows.
 pub fn places_in(rows: &[FlatRow]) -> u64 {
-    sum_of_looks(ROUND, |page| {
-        rows.partition_point(|row| row[0] <= page) as u64
-    })
+    let mut sum = 0u64;
+    for i in 0..ROUND {
+        let page = black_box(page_of(i));
+        sum = sum.wrapping_add(rows.partition_point(|row| row[0] <= page) as u64);
+    }
+    sum
 }
 
 /// The sum so far with one number more, which nearly any other list of numbers would change.
@@ -126,14 +129,20 @@ pub fn mixed(sum: u64, number: u64) -> u64 {
         .wrapping_add(number)
 }
 
+/// The sum so far with a list more.
+fn mixed_list(mut sum: u64, list: &[u8]) -> u64 {
+    for node in list {
+        sum = mixed(sum, u64::from(*node));
+    }
+    sum
+}
+
 /// What `choice` answers task 1 for every page of the ranges and holes.
 pub fn choices(plan: &Plan, cpu: u32) -> u64 {
     let mut sum = 0u64;
     for page in 0..262_145u64 {
         sum = match plan.choice(1, page, cpu, &mut Steps::new()) {
-            Ok(row) => row
-                .iter()
-                .fold(mixed(sum, 1), |sum, node| mixed(sum, u64::from(*node))),
+            Ok(row) => mixed_list(mixed(sum, 1), row),
             Err(_) => mixed(sum, 2),
         };
     }

@@ -1,5 +1,5 @@
 //! Commands on a space of many ranges: a policy that splits one of them, and other allowed nodes.
-use crate::figures::{Figure, Subject, measure as measure_figures, with_made};
+use crate::figures::{Figure, Subject, print as print_figures};
 use crate::many::{bind, bind_page, eight_nodes, map, mixed, nodes_of, spec_of_bits};
 use numa_mode::PolicySpec;
 use numa_space::{Command, Limits, RangeRecord, Run, Space};
@@ -35,11 +35,16 @@ fn splits() -> Option<Turns> {
     ])
 }
 
+/// The command that allows the nodes of these bits.
+fn allowing(bits: u8) -> Command {
+    Command::SetMems {
+        mask: nodes_of(bits),
+    }
+}
+
 /// Four nodes of eight, and all.
 fn allowances() -> Turns {
-    [UPPER, 255].map(|bits| Command::SetMems {
-        mask: nodes_of(bits),
-    })
+    [allowing(UPPER), allowing(255)]
 }
 
 /// Maps all ranges and gives each the policy.
@@ -65,7 +70,10 @@ fn word_of(value: &RangeRecord) -> u64 {
         None => 0,
         Some(policy) => {
             let nodes = policy.effective();
-            let first = nodes.first().map_or(0, |node| u64::from(node.number()));
+            let first = match nodes.first() {
+                Some(node) => u64::from(node.number()),
+                None => 0,
+            };
             u64::from(nodes.weight()) * 256 + first
         }
     }
@@ -91,7 +99,7 @@ fn tell(rt: &impl Print, what: &str, space: &Space) -> io::Result<()> {
 }
 
 /// Prints what commands leave.
-fn print_checksums(rt: &impl Print, space: &mut Space, splits: &Turns) -> io::Result<()> {
+fn print_left(rt: &impl Print, space: &mut Space, splits: &Turns) -> io::Result<()> {
     tell(rt, "spread", space)?;
     let allowances = allowances();
     for (command, what) in [
@@ -106,18 +114,6 @@ fn print_checksums(rt: &impl Print, space: &mut Space, splits: &Turns) -> io::Re
     Ok(())
 }
 
-/// Prints checksums of what commands leave.
-pub fn checksums(rt: &impl Print, alloc: Global) -> io::Result<()> {
-    let Some(splits) = splits() else {
-        return Ok(());
-    };
-    with_made(
-        rt,
-        space_of(alloc),
-        |space| print_checksums(rt, space, &splits),
-    )
-}
-
 /// A space of all ranges, and as many rows as large as ranges.
 #[derive(Drop)]
 struct Large {
@@ -127,7 +123,6 @@ struct Large {
 }
 
 /// Calls in twos, the second of which undoes the first.
-#[derive(Clone, Copy)]
 enum Call {
     /// A policy for the middle page, and that of all others.
     Split,
@@ -137,10 +132,14 @@ enum Call {
     Move,
 }
 
-impl<R> Subject<R> for Large {
+impl<R: Print> Subject<R> for Large {
     type Call = Call;
 
-    fn make(&mut self, _rt: &R, call: Call) -> u64 {
+    fn checksums(&mut self, rt: &R) -> io::Result<()> {
+        print_left(rt, &mut self.space, &self.splits)
+    }
+
+    fn make(&mut self, _rt: &R, call: &Call) -> u64 {
         match call {
             Call::Split => accepted(&mut self.space, &self.splits),
             Call::Allow => accepted(&mut self.space, &allowances()),
@@ -171,7 +170,7 @@ fn moved(rows: &mut Vec<Row>) -> u64 {
     middle as u64
 }
 
-const FIGURES: [Figure<Call>; 2] = [
+static FIGURES: [Figure<Call>; 2] = [
     Figure {
         name: "Mbind of a middle page over a move of half the vector",
         call: (Call::Split, 2),
@@ -204,9 +203,7 @@ fn large_of(alloc: Global) -> Option<Large> {
     })
 }
 
-/// Prints how long commands take.
-pub fn measure<R: Print + Clock>(rt: &R, alloc: Global) -> io::Result<()> {
-    with_made(rt, large_of(alloc), |large| {
-        measure_figures(rt, large, 40, &FIGURES)
-    })
+/// Prints what commands leave, or how long they take.
+pub fn print<R: Print + Clock>(rt: &R, alloc: Global, measures: bool) -> io::Result<()> {
+    print_figures(rt, large_of(alloc), measures, &FIGURES)
 }

@@ -1,20 +1,24 @@
-//! Pools with one worker.
-ghost use Rattle.std.specs.Prelude.{◌≡◌};
+//! Pools with a worker and one more seat.
+ghost use Rattle.std.specs.Prelude.{◌≡◌, IfSome};
 
 use crate::fault::setting::{FIRST, machine_of, request_of};
 use numa_fault::FaultWorker;
-use numa_pool::Pools;
+use numa_pool::{PoolSeat, Pools};
 use numa_publish::Desk;
 use numa_space::{Placement, Request};
 use std::alloc::Global;
 use std::hint::black_box;
 
-/// Pools of their own, and a worker at them.
+/// Pools of their own, a worker and a seat at them, and what the worker has placed and keeps.
 #[derive(Drop)]
-pub struct Placing {
+pub struct AtPools {
+    alloc: Global,
+    kept: Vec<Placement>,
     pools: Pools,
+    seat: PoolSeat,
     worker: FaultWorker,
-    ghost same: { worker.seat.table ≡ pools.table },
+    ghost worker_same: { worker.seat.table ≡ pools.table },
+    ghost seat_same: { seat.table ≡ pools.table },
 }
 
 /// Places a page and gives its frame up again: 1 where it was placed.
@@ -29,25 +33,63 @@ fn fault_and_release(worker: &mut FaultWorker, pools: &Pools, request: Request) 
     1
 }
 
-impl Placing {
-    /// Pools in which each frame is free.
-    pub fn open(alloc: Global, desk: &mut Desk) -> Option<Placing> {
-        let machine = machine_of(alloc)?;
-        let (pools, seat) = Pools::open(alloc, &machine).ok()?;
-        let reader = desk.reader().ok()?;
-        let worker = FaultWorker::new(reader, seat);
-        Some(Placing { pools, worker })
-    }
+/// Takes a frame of the node and gives it up again: its number.
+fn take_and_give(pools: &Pools, seat: &mut PoolSeat, node: u8) -> u64
+    requires { seat.old.table ≡ pools.now.table }
+    ensures { seat.new.table ≡ pools.now.table }
+{
+    let Some(frame) = pools.take(seat, node) else {
+        return 0;
+    };
+    pools.give(seat, frame);
+    u64::from(frame.number)
+}
 
-    /// So many faults of a task, each frame given up again. How many were placed.
-    pub fn faults(&mut self, task: u32, count: u64) -> u64 {
+/// Pools in which each frame is free, and two seats at them.
+fn seats(alloc: Global) -> Option<(Pools, PoolSeat, PoolSeat)>
+    ensures { IfSome result (λ made.
+        (made.1.table ≡ made.0.table) × (made.2.table ≡ made.0.table)) }
+{
+    let machine = machine_of(alloc)?;
+    let (pools, mut seat) = Pools::open(alloc, &machine).ok()?;
+    let other = pools.split(alloc, &mut seat).ok()?;
+    Some((pools, seat, other))
+}
+
+/// A worker of this desk and a seat, at pools in which each frame is free.
+pub fn placing_at(alloc: Global, desk: &mut Desk) -> Option<AtPools> {
+    let reader = desk.reader().ok()?;
+    let (pools, seat, other) = seats(alloc)?;
+    let worker = FaultWorker::new(reader, other);
+    Some(AtPools {
+        alloc,
+        kept: Vec::new(alloc),
+        pools,
+        seat,
+        worker,
+    })
+}
+
+impl AtPools {
+    /// So many faults, each frame given up again. How many were placed.
+    pub fn faults(&mut self, count: u64) -> u64 {
         let mut placed = 0u64;
         for place in 0..count {
-            let request = black_box(request_of(task, place));
+            let request = black_box(request_of(place));
             let one = fault_and_release(&mut self.worker, &self.pools, request);
             placed = placed.wrapping_add(one);
         }
         placed
+    }
+
+    /// So many frames of nodes 0 to 3 in turn, taken and given up again.
+    pub fn takes(&mut self, count: u64) -> u64 {
+        let mut sum = 0u64;
+        for place in 0..count {
+            let node = black_box((place % 4) as u8);
+            sum = sum.wrapping_add(take_and_give(&self.pools, &mut self.seat, node));
+        }
+        sum
     }
 
     /// Places a page.
@@ -55,29 +97,21 @@ impl Placing {
         self.worker.fault(&self.pools, request).ok()
     }
 
-    /// Places so many pages of task 1 one by one; how many are placed then.
-    pub fn fault_each(&mut self, pages: usize, placements: &mut Vec<Placement>) -> u64 {
+    /// Places so many pages one by one; how many are kept then.
+    pub fn fault_each(&mut self, pages: u64) -> u64 {
         for place in 0..pages {
-            let request = black_box(request_of(1, place as u64));
-            if let Some(placement) = self.fault(request) {
-                let _ = placements.push(placement);
+            if let Some(placement) = self.fault(black_box(request_of(place))) {
+                let _ = self.kept.push(placement);
             }
         }
-        placements.len() as u64
+        self.kept.len() as u64
     }
 
-    /// Places so many pages of task 1 at once; how many are placed then.
-    pub fn fault_span(
-        &mut self,
-        alloc: Global,
-        pages: usize,
-        placements: &mut Vec<Placement>,
-    ) -> u64 {
+    /// Places so many pages at once; how many are kept then.
+    pub fn fault_span(&mut self, pages: usize) -> u64 {
         let first = black_box(FIRST);
-        let _ = self
-            .worker
-            .fault_span(alloc, &self.pools, 1, 0, first, pages, placements);
-        placements.len() as u64
+        let _ = self.worker.fault_span(self.alloc, &self.pools, 1, 0, first, pages, &mut self.kept);
+        self.kept.len() as u64
     }
 
     /// Gives a frame up again.
@@ -87,10 +121,10 @@ impl Placing {
         }
     }
 
-    /// Gives the frames up again.
-    pub fn release_each(&mut self, placements: &mut Vec<Placement>) {
-        for _ in 0..placements.len() {
-            if let Some(placement) = placements.pop() {
+    /// Gives up all that is kept.
+    pub fn release_all(&mut self) {
+        for _ in 0..self.kept.len() {
+            if let Some(placement) = self.kept.pop() {
                 self.release(placement);
             }
         }

@@ -17,25 +17,31 @@ pub fn machine_of(alloc: Global) -> Option<Machine> {
     flat_machine(alloc, &[4_096; 16])
 }
 
-/// A desk of that machine, which has published the pages, and that task 1 has four nodes in turn.
-pub fn desk_of<R: Wait>(rt: &R, alloc: Global) -> Option<Desk> {
-    let limits = Limits::new(65_536, 1_024, 4_294_967_295)?;
-    let spec = spec_of(3, &[0, 1, 2, 3])?;
-    let mut desk = Desk::new(rt, alloc, machine_of(alloc)?, limits, 8).ok()?;
+/// Accepts the pages, and that task 1 has four nodes in turn.
+fn accept_all(desk: &mut Desk) {
     let _ = desk.accept(&Command::Map {
         start: FIRST * 4_096,
         length: PAGES * 4_096,
         offset: 0,
     });
-    let _ = desk.accept(&Command::SetTask { task: 1, spec });
+    if let Some(spec) = spec_of(3, &[0, 1, 2, 3]) {
+        let _ = desk.accept(&Command::SetTask { task: 1, spec });
+    }
+}
+
+/// A desk of that machine, which has published that.
+pub fn desk_of<R: Wait>(rt: &R, alloc: Global) -> Option<Desk> {
+    let limits = Limits::new(65_536, 1_024, 4_294_967_295)?;
+    let mut desk = Desk::new(rt, alloc, machine_of(alloc)?, limits, 8).ok()?;
+    accept_all(&mut desk);
     let _ = desk.publish(rt);
     Some(desk)
 }
 
-/// The request of a task for the page that stands at this place, round and round.
-pub fn request_of(task: u32, place: u64) -> Request {
+/// The request of task 1 for the page that stands at this place, round and round.
+pub fn request_of(place: u64) -> Request {
     Request {
-        task,
+        task: 1,
         page: FIRST + place % PAGES,
         cpu: 0,
     }

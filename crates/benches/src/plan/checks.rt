@@ -19,9 +19,18 @@ fn fills(plan: &Plan, task: u32, first: u64) -> u64 {
 /// What `counts` answers for a span.
 fn counts(plan: &Plan, task: u32, first: u64, pages: u64) -> u64 {
     match plan.counts(task, 2, first, pages) {
-        Ok(counts) => counts.iter().fold(1, |sum, count| mixed(sum, *count)),
+        Ok(counts) => mixed_counts(&counts),
         Err(_) => 2,
     }
+}
+
+/// A number in which all counts have part.
+fn mixed_counts(counts: &[u64]) -> u64 {
+    let mut sum = 1u64;
+    for count in counts {
+        sum = mixed(sum, *count);
+    }
+    sum
 }
 
 fn print_choices(rt: &impl Print, spread: &Plan) -> io::Result<()> {

@@ -1,6 +1,6 @@
 //! Looks at what is published, and the least that they could be made of.
-use crate::many::{page_of, sum_of_looks};
-use numa_plan::{Plan, Steps};
+use crate::many::page_of;
+use numa_plan::Steps;
 use numa_publish::PlanReader;
 use numa_space::Request;
 use std::hint::black_box;
@@ -40,12 +40,4 @@ pub fn choices(mut reader: PlanReader, count: u64) -> (PlanReader, u64) {
         };
     }
     (reader, sum)
-}
-
-/// Asks a plan for so many lists.
-pub fn plan_choices(plan: &Plan, count: u64) -> u64 {
-    sum_of_looks(count, |page| {
-        plan.choice(1, page, 3, &mut Steps::new())
-            .map_or(0, |row| row.len() as u64)
-    })
 }
