@@ -390,8 +390,8 @@ uint32_t np_policy_effective(const uint8_t *policy, size_t policy_length, const 
 /* The same once the allowed nodes have then changed from `old_allowed` to `new_allowed`, as
  * when cpuset.mems does (cpusets(7)): with =static or =relative the word's nodes are read
  * again, without a flag the nodes that the policy had move to the same places among the new
- * ones. May be empty. First what np_policy_effective answers of the word and the old nodes,
- * then 60 to 63 for the new ones. */
+ * ones. May be empty. This is by the documents' rules (`rules document` of a script). First what
+ * np_policy_effective answers of the word and the old nodes, then 60 to 63 for the new ones. */
 uint32_t np_policy_rebind(const uint8_t *policy, size_t policy_length, const uint8_t *old_allowed,
                           size_t old_length, const uint8_t *new_allowed, size_t new_length,
                           np_nodes *nodes);

@@ -1,5 +1,6 @@
 -- What an exported call about a policy word answers: a record, or the number of what is wrong.
 use Rattle.std.specs.Prelude.{◌≡◌, ℕ, ◌==◌, List, Result, Ok, Err, if◌then◌else◌}
+use Rattle.numa_machine.specs.declared.rules.Rules.TheVariants.{Document}
 use Rattle.numa_mask.specs.Lists.{list_of}
 use Rattle.numa_mask.specs.Words.{number_of}
 use Rattle.numa_mask.specs.declared.list.ListFault.{ListFault}
@@ -34,7 +35,7 @@ rebound (Err code) old new = Err code
 rebound (Ok r) (Err fault) new = Err (list_code fault)
 rebound (Ok r) (Ok old) (Err fault) = Err (list_code fault)
 rebound (Ok r) (Ok old) (Ok new) =
-    if new == 0 then Err 76 else Ok (record_after r old new)
+    if new == 0 then Err 76 else Ok (record_after Document r old new)
 
 -- its nodes are told, or the number of what is wrong, and then the set is as it was
 abbrev pub TellsNodes : Result PolicyRecord ℕ → ℕ → NpNodes → NpNodes → Type 0

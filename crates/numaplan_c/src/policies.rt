@@ -8,6 +8,7 @@ ghost use Rattle.numaplan_c.specs.Texts.{IsWritten};
 use crate::codes::{Code, list_code, refusal_code, word_code};
 use crate::nodes::NpNodes;
 use crate::texts::write;
+use numa_machine::Rules;
 use numa_mask::{NodeMask, read_list};
 use numa_mode::{PolicySpec, Record};
 use numa_script::policy::read_policy;
@@ -43,7 +44,7 @@ fn standing(policy: &[u8], allowed: &[u8]) -> Result<Record, u32>
     }
 }
 
-/// The record once the allowed nodes have changed.
+/// The record once the allowed nodes have changed, by the documents' rules.
 fn rebound(standing: Result<Record, u32>, old: &[u8], new: &[u8]) -> Result<Record, u32>
     ensures { result ≡ rebound standing (list_of old.now) (list_of new.now) }
 {
@@ -62,7 +63,7 @@ fn rebound(standing: Result<Record, u32>, old: &[u8], new: &[u8]) -> Result<Reco
     if new.is_empty() {
         return Err(Code::NoNodeAllowed as u32);
     }
-    Ok(standing.rebind(&old, &new))
+    Ok(standing.rebind(Rules::Document, &old, &new))
 }
 
 /// Tells the nodes of a record, where there is one.
