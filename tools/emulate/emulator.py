@@ -1,0 +1,225 @@
+"""The tasks of a program, and what is done at each stop of one. Not proved."""
+
+import errno
+import os
+import signal
+import traceback
+from collections import Counter
+
+import numaplan
+
+from .calls import ANSWERED
+from .made_up import file_for
+from .mappings import FOLLOWED
+from .space import Space
+from .tracing import CLONE, CONTINUE, EXEC, EXIT, FORK, NAMES, SECCOMP, TO_CALL_END, TOP, VFORK
+from .tracing import Failed, cpu_of, fail, message_of, peek, poke, ptrace, registers_of, set_registers, text_at
+
+SHARES_MEMORY = 0x100  # CLONE_VM
+ANY_CHILD = 0x40000000  # __WALL
+GONE = (ProcessLookupError, FileNotFoundError)
+
+
+class Task:
+    """A thread: its number, its address space, and the word of its policy."""
+
+    def __init__(self, number, space, word):
+        self.number, self.space, self.word, self.at_end, self.is_new = number, space, word, None, False
+        space.users += 1
+        space.leader = space.leader or number
+
+
+class Emulator:
+    """`watches`: everything that is placed is of interest, not only what a policy asks for."""
+
+    def __init__(self, machine, room, first, watches, ended, log):
+        self.machine, self.room, self.first, self.watches = machine, room, first, watches
+        self.ended, self.log = ended, log  # what is told of each address space that ends; a file or None
+        self.early, self.has_begun, self.stops = set(), False, Counter()
+        self.tasks = {first: Task(first, Space(machine), None)}
+
+    def say(self, *words):
+        if self.log:
+            print(*words, file=self.log, flush=True)
+
+    # ---- what calls ask for
+
+    def node_of(self, task):
+        return self.machine.node_of.get(cpu_of(task.number), 0)
+
+    def wake(self, task):
+        """The core of the task's address space, as it is now."""
+        words = {one.number: one.word for one in self.tasks.values() if one.space is task.space}
+        task.space.wake(task.number, words)
+
+    def follows(self, task):
+        """Whether the address space is followed; its areas are then as they are now."""
+        if task.space.core is None and not task.word and not self.watches:
+            return False
+        if not self.has_begun:
+            return False
+        self.wake(task)
+        return True
+
+    def sweep(self, task, start=0, end=TOP):
+        task.space.sweep(task.number, task.word, self.node_of(task), start, end)
+
+    def other(self, task, number):
+        if number in (0, task.number):
+            return task
+        return self.tasks.get(number) or fail(errno.ESRCH)
+
+    def pages_on(self, node):
+        spaces = {id(task.space): task.space for task in self.tasks.values()}
+        return sum(list(space.placed.values()).count(node) for space in spaces.values())
+
+    # ---- a stop before a call
+
+    def answer(self, task, registers):
+        """The result of a call about policies: the kernel never sees it."""
+        name, words = NAMES[registers.orig_rax], registers.arguments()
+        try:
+            result = ANSWERED[name](self, task, *words)
+        except Failed as fault:
+            result = -fault.number
+            task.space.refuse(f"{name} by {task.number}", str(fault))
+        except numaplan.Refused as refusal:
+            result = -(refusal.errno or errno.EINVAL)
+        told = errno.errorcode[-result] if result < 0 else result
+        self.say(task.number, f"{name}({', '.join(map(hex, words))}) = {told}")
+        return result
+
+    def redirect(self, task, registers):
+        """A file that is made up is opened in place of another one: its name is put below the stack."""
+        at = "rdi" if NAMES[registers.orig_rax] == "open" else "rsi"
+        path = getattr(registers, at)
+        try:
+            made = file_for(self, task, text_at(task.number, path))
+        except Failed:
+            return None
+        if made is None:
+            return None
+        below = (registers.rsp - 128 - len(made) - 64) & -16
+        poke(task.number, below, made.encode() + b"\0")
+        setattr(registers, at, below)
+        set_registers(task.number, registers)
+
+        def restore(after):
+            setattr(after, at, path)
+            set_registers(task.number, after)
+            os.unlink(made)
+
+        return restore
+
+    def at_call(self, task):
+        """How the task goes on."""
+        registers = registers_of(task.number)
+        name = NAMES.get(registers.orig_rax)
+        self.stops[name] += 1
+        if name in ANSWERED:
+            registers.rax = self.answer(task, registers) & 2**64 - 1
+            registers.orig_rax = 2**64 - 1
+            set_registers(task.number, registers)
+            return CONTINUE
+        if name in ("open", "openat"):
+            task.at_end = self.redirect(task, registers)
+        elif name in FOLLOWED:
+            task.at_end = FOLLOWED[name](self, task, *registers.arguments())
+        return TO_CALL_END if task.at_end else CONTINUE
+
+    # ---- events
+
+    def at_child(self, task):
+        number, registers = message_of(task.number), registers_of(task.number)
+        flags = {56: registers.rdi, 58: SHARES_MEMORY}.get(registers.orig_rax, 0)
+        if registers.orig_rax == 435:  # clone3
+            flags = int.from_bytes(peek(task.number, registers.rdi, 8), "little")
+        space = task.space
+        if not flags & SHARES_MEMORY:
+            if self.follows(task):
+                self.sweep(task)  # (what was touched by now is the parent's)
+            space = space.copy()
+        child = self.tasks[number] = Task(number, space, task.word)
+        if space.core is not None and child.word:
+            try:
+                space.do("set_task", number, child.word)
+            except numaplan.Refused:  # (too many tasks with a policy: the report says so)
+                child.word = None
+        if number in self.early:
+            self.early.discard(number)
+            ptrace(CONTINUE, number)
+        else:
+            child.is_new = True
+
+    def at_exec(self, number, task):
+        """The program of a process is another one: its memory is new, its policy is kept."""
+        self.has_begun = True
+        old = self.tasks.pop(message_of(number), task)
+        self.leave(old)
+        task = self.tasks[number] = Task(number, Space(self.machine), old.word)
+        with open(f"/proc/{number}/comm", encoding="utf-8", errors="replace") as file:
+            task.space.name = file.read().rstrip("\n")
+
+    def at_exit(self, task):
+        if not self.follows(task):
+            return
+        self.sweep(task)
+        if task.number != task.space.leader and task.word:
+            task.space.do("set_task", task.number, "default")
+            task.word = None
+
+    def leave(self, task):
+        """A task has left its address space."""
+        task.space.users -= 1
+        if task.space.users == 0 and task.space.core is not None:
+            self.ended(self, task)
+            task.space.core.close()
+            task.space.core = None
+
+    def step(self, number, status):
+        """Goes on from a stop."""
+        task = self.tasks.get(number)
+        if task is None:
+            self.early.add(number)
+            return
+        signal_, event, go_on = status >> 8 & 0xFF, status >> 16 & 0xFF, CONTINUE
+        if event == SECCOMP:
+            go_on = self.at_call(task)
+        elif event in (FORK, VFORK, CLONE):
+            self.at_child(task)
+        elif event == EXEC:
+            self.at_exec(number, task)
+        elif event == EXIT:
+            self.at_exit(task)
+        elif signal_ == signal.SIGTRAP | 0x80 and task.at_end:
+            finish, task.at_end = task.at_end, None
+            finish(registers_of(number))
+        is_ours = bool(event) or signal_ in (signal.SIGTRAP, signal.SIGTRAP | 0x80)
+        if task.is_new and signal_ == signal.SIGSTOP:
+            task.is_new, is_ours = False, True  # (a child that is traced begins with it)
+        ptrace(go_on, number, 0, 0 if is_ours else signal_)
+
+    def serve(self):
+        """Until all have ended: the status of the first process as the shell counts it, None where emulate
+        itself was at fault."""
+        code = None
+        while self.tasks:
+            try:
+                number, status = os.waitpid(-1, ANY_CHILD)
+            except ChildProcessError:
+                break
+            try:
+                if os.WIFSTOPPED(status):
+                    self.step(number, status)
+                    continue
+                task = self.tasks.pop(number, None)
+                if task:
+                    self.leave(task)
+            except GONE:
+                continue  # (killed while it was looked at)
+            except Exception:
+                self.say(traceback.format_exc())
+                raise
+            if number == self.first:
+                code = os.waitstatus_to_exitcode(status)
+        return code if code is None or code >= 0 else 128 - code

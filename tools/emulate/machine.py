@@ -1,0 +1,101 @@
+"""The machine that a program is to see: what a numaplan script says of it, and the CPUs of its nodes, which
+are those of this machine, shared out. Not proved."""
+
+import os
+
+import numaplan
+
+DEFAULT = "machine 2 0-1 0 flat"
+KILOBYTES = 4 << 20  # that each node with memory shows
+TAKEN = ("limits", "machine", "weight", "mems")
+
+
+class Unfit(Exception):
+    """What is asked for can't be emulated; the text is for the user."""
+
+
+def list_text(nodes):
+    """Nodes as a list, as 0-2,5."""
+    return numaplan.nodes_text(sorted(nodes)) if nodes else ""
+
+
+def read_lines(path):
+    """The lines of a file, with their numbers."""
+    try:
+        with open(path, encoding="utf-8", errors="replace") as file:
+            return list(enumerate(file.read().splitlines(), 1))
+    except OSError as fault:
+        raise Unfit(f"{path}: {fault.strerror}") from fault
+
+
+def machine_lines(path):
+    """The lines about the machine, each accepted by the library."""
+    lines = read_lines(path) if path else [(1, DEFAULT)]
+    taken = {}
+    with numaplan.Script() as script:
+        for number, line in lines:
+            word = line.split(" ")[0]
+            if line == "rules linux":
+                raise Unfit(f"{path}:{number}: the rules are those of the documents; leave the line out")
+            if word not in TAKEN:
+                continue
+            answer = script.line(line).strip()
+            if answer.startswith(("bad", "refused")):
+                raise Unfit(f"{path}:{number}: {line}: {answer}")
+            taken.setdefault(word, []).append(line.split(" ")[1:])
+    if "machine" not in taken:
+        raise Unfit(f"{path}: no line begins with machine; tools/machine-line writes one")
+    return taken
+
+
+def distance_rows(count, text):
+    if text == "flat":
+        return [[10 if a == b else 20 for b in range(count)] for a in range(count)]
+    return [[int(item) for item in row.split(",")] for row in text.split(";")]
+
+
+class Machine:
+    """Nodes, memory, distances, weights, the nodes that are allowed, and CPUs."""
+
+    def __init__(self, path, allowed):
+        lines = machine_lines(path)
+        count, memory, _, distances = lines["machine"][0]
+        self.count, self.memory = int(count, 0), set(numaplan.nodes(memory))
+        self.distances = distance_rows(self.count, distances)
+        self.weights = {int(node, 0): int(weight, 0) for node, weight in lines.get("weight", [])}
+        self.allowed = self.allowed_nodes(allowed or (lines["mems"][-1][0] if "mems" in lines else None))
+        self.share_out(sorted(os.sched_getaffinity(0)))
+        self.hits = [[0, 0] for _ in range(self.count)]  # pages placed, and interleaved ones among them
+
+    def allowed_nodes(self, text):
+        if text is None:
+            return set(self.memory)
+        try:
+            asked = set(numaplan.nodes(text))
+        except numaplan.Refused as refusal:
+            raise Unfit(f"--mems {text}: {refusal}") from refusal
+        absent = asked - set(range(self.count))
+        if absent:
+            raise Unfit(f"--mems {text}: the machine has no node {min(absent)}")
+        if not asked & self.memory:
+            raise Unfit(f"--mems {text}: none of these nodes has memory")
+        return asked & self.memory
+
+    def share_out(self, cpus):
+        """Gives each node a like part of the CPUs; where these are fewer, some nodes get none."""
+        nodes = [place * self.count // len(cpus) for place in range(len(cpus))]
+        self.node_of = dict(zip(cpus, nodes))
+        self.cpus = {node: [cpu for cpu in cpus if self.node_of[cpu] == node] for node in range(self.count)}
+
+    def core(self):
+        """A new core of the library, and the lines that a script needs for the same."""
+        core = numaplan.Core([0] * self.count, self.distances, memory=sorted(self.memory))
+        rows = ";".join(",".join(map(str, row)) for row in self.distances)
+        lines = [f"machine {self.count} {list_text(self.memory)} 0 {rows}"]
+        for node, weight in self.weights.items():
+            core.set_weight(node, weight)
+            lines.append(f"weight {node} {weight}")
+        if self.allowed != self.memory:
+            core.set_mems(list_text(self.allowed))
+            lines.append(f"mems {list_text(self.allowed)}")
+        return core, lines

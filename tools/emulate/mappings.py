@@ -1,0 +1,95 @@
+"""The calls that change what is mapped: they go on to the kernel, and the core follows. Each function gives
+what is to be done at the end of the call, or None. Not proved."""
+
+import errno
+
+from .areas import areas_of
+from .calls import whole_pages
+from .policies import to_ask
+from .tracing import MAP_FIXED, PAGE, TOP, cpu_of
+
+FAILED = 2**64 - 4096  # results from here on are error numbers
+
+
+def mmap(all_, task, start, length, _protection, flags, *_):
+    if flags & MAP_FIXED:
+        forget(all_, task, start, length)
+
+
+def munmap(all_, task, start, length, *_):
+    forget(all_, task, start, length)
+
+
+def forget(all_, task, start, length):
+    """Pages that go: what was touched of them is placed before."""
+    end = start + whole_pages(length)
+    if start % PAGE or end > TOP or not all_.follows(task):
+        return
+    all_.sweep(task, start, end)
+    task.space.unmap(start, end)
+
+
+def brk(all_, task, end, *_):
+    """(A heap that grows is seen when the areas are looked at.)"""
+    if end and task.space.core is not None:
+        for area in areas_of(task.number):
+            if area.name == "[heap]" and end < area.end:
+                forget(all_, task, max(whole_pages(end), area.start), area.end - max(whole_pages(end), area.start))
+
+
+def shmdt(all_, task, *_):
+    if all_.follows(task):
+        all_.sweep(task)
+
+
+def before_other_cpu(all_, task, *_):
+    """sched_setaffinity: what was touched by now was touched on the CPU of now."""
+    if all_.follows(task):
+        all_.sweep(task)
+
+
+def before_exec(all_, task, *_):
+    """The address space ends, if the call is a success."""
+    if all_.follows(task):
+        all_.sweep(task)
+
+
+def mremap(all_, task, old, old_length, new_length, *_):
+    if old % PAGE or not all_.follows(task):
+        return None
+    space, old_length, new_length = task.space, whole_pages(old_length), whole_pages(new_length)
+    all_.sweep(task, old, old + old_length)
+    pieces = [(max(start, old), min(end, old + old_length), index + (max(start, old) - start) // PAGE, policy)
+              for start, end, index, policy in space.ranges() if start < old + old_length and old < end]
+    kept = {page: space.placed[page] for page in space.placed_between(old, old + old_length)}
+
+    def follow(registers):
+        if registers.rax < FAILED:
+            moved(space, pieces, kept, (old, old_length), (registers.rax, new_length))
+
+    return follow
+
+
+def moved(space, pieces, kept, old, new):
+    """Maps the pieces anew, each with its policy; the last one is as long as the new span."""
+    (from_, old_length), (to, new_length) = old, new
+    space.unmap(from_, from_ + old_length)
+    space.unmap(to, to + new_length)
+    for place, (start, end, index, policy) in enumerate(pieces):
+        if not kept and index == start // PAGE:
+            index += (to - from_) // PAGE  # (anonymous, and never touched: the index moves too)
+        first = to + start - from_
+        after = to + new_length if place == len(pieces) - 1 else min(first + end - start, to + new_length)
+        if first >= after:
+            continue
+        space.do("map", first, after - first, index)
+        space.spans = sorted(space.spans + [(first, after)])
+        if policy:
+            space.do("mbind", first, after - first, to_ask(policy))
+    for page, node in kept.items():
+        if page * PAGE - from_ < new_length:
+            space.placed[page + (to - from_) // PAGE] = node
+
+
+FOLLOWED = {"mmap": mmap, "munmap": munmap, "brk": brk, "shmdt": shmdt, "mremap": mremap,
+            "sched_setaffinity": before_other_cpu, "execve": before_exec, "execveat": before_exec}

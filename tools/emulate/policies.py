@@ -1,0 +1,76 @@
+"""Policies between the two ways to write them: modes and masks of nodes, as calls have them, and the words of
+scripts. Not proved."""
+
+import errno
+import re
+
+import numaplan
+
+from .machine import list_text
+from .tracing import PAGE, fail, peek, poke
+
+MODES = ["default", "prefer", "bind", "interleave", "local", "many", "weighted"]
+SHOWN = {"prefer (many)": "many", "weighted interleave": "weighted"}
+WORD = re.compile(r"(weighted interleave|prefer \(many\)|[a-z]+)(=static|=relative)?(?::(.*))?$")
+STATIC, RELATIVE, BALANCING = 0x8000, 0x4000, 0x2000
+FLAGS = {"=static": STATIC, "=relative": RELATIVE}
+MOST_BITS = 1024  # MAX_NUMNODES of usual kernels
+
+
+def read_mask(task, start, most):
+    """The nodes of a mask, as the kernel's get_nodes takes it; None where there is none."""
+    if not start or most == 1:
+        return None
+    bits = (most - 1) % 2**64
+    if bits > PAGE * 8:
+        fail(errno.EINVAL)
+    mask = int.from_bytes(peek(task, start, (bits + 63) // 64 * 8), "little") & (1 << bits) - 1
+    if mask >> MOST_BITS:
+        fail(errno.EINVAL)
+    return {node for node in range(256) if mask >> node & 1}
+
+
+def write_mask(task, start, most, nodes, count):
+    """Answers with a mask, where the program wants one; it needs a bit for each node of the machine."""
+    if not start:
+        return
+    if most < count:
+        fail(errno.EINVAL)
+    size = max(8, (min(most, PAGE * 8) + 62) // 64 * 8)
+    poke(task, start, sum(1 << node for node in nodes).to_bytes(max(size, 32), "little")[:size])
+
+
+def word_of(mode, nodes):
+    """The word of a mode with its flags, and nodes; the library judges the rest."""
+    flags, mode = mode & 0xE000, mode & ~0xE000
+    if mode >= len(MODES) or flags & STATIC and flags & RELATIVE:
+        fail(errno.EINVAL)
+    if flags & BALANCING and MODES[mode] not in ("bind", "many"):
+        fail(errno.EINVAL)
+    if mode == 0 and nodes:
+        fail(errno.EINVAL)
+    flag = "=static" if flags & STATIC else "=relative" if flags & RELATIVE else ""
+    return MODES[mode] + flag + (":" + list_text(nodes) if nodes else "")
+
+
+def mode_and_nodes(word):
+    """The mode with its flags, and the nodes, of a policy as the library shows it."""
+    if not word:
+        return 0, set()
+    found = WORD.match(word)
+    mode = MODES.index(SHOWN.get(found[1], found[1])) | FLAGS.get(found[2], 0)
+    return mode, set(numaplan.nodes(found[3])) if found[3] else set()
+
+
+def to_ask(shown):
+    """The word of a script for a policy as the library shows it."""
+    return shown.replace("prefer (many)", "many").replace("weighted interleave", "weighted")
+
+
+def is_interleaved(word):
+    return bool(word) and word.startswith(("interleave", "weighted"))
+
+
+def shown_form(word, allowed):
+    """A policy as numa_maps shows it; None where there is none."""
+    return numaplan.policy_text(word, list_text(allowed)) if word else None

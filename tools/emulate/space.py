@@ -1,0 +1,153 @@
+"""An address space: what is mapped in the library's core, which pages are placed and where, and the lines of
+a script that does the same. Not proved."""
+
+import bisect
+import errno
+
+import numaplan
+
+from .areas import areas_of, gaps, merged, shown_name, without
+from .machine import list_text
+from .policies import is_interleaved
+from .touched import Pagemap
+from .tracing import PAGE, TOP
+
+LINES = {
+    "map": "map 0x{:x} 0x{:x} 0x{:x}", "unmap": "unmap 0x{:x} 0x{:x}", "mbind": "mbind 0x{:x} 0x{:x} {}",
+    "set_task": "task {} {}", "set_home": "home 0x{:x} 0x{:x} {}",
+}
+
+
+class Space:
+    """What tasks share that have one address space. It has a core once something asks for it (`wake`)."""
+
+    def __init__(self, machine):
+        self.machine, self.core, self.users = machine, None, 0
+        self.leader, self.name = None, "?"  # the process, and its program
+        self.placed = {}  # by page its node
+        self.spans = []  # what the core has mapped, merged
+        self.areas = []  # as they were when they were last looked at
+        self.lines, self.refused = [], {}
+        self.plan = self.kept = None
+
+    # ---- commands
+
+    def do(self, what, *words):
+        """A command; its line is kept, as a comment where it is refused."""
+        line = LINES[what].format(*words)
+        try:
+            getattr(self.core, what)(*words)
+        except numaplan.Refused as refusal:
+            self.lines.append(f"# {line} => refused {type(refusal).__name__} {errno.errorcode[refusal.errno]}")
+            self.refuse(line, f"{type(refusal).__name__} {errno.errorcode[refusal.errno]}: {refusal}")
+            raise
+        self.plan = self.kept = None
+        self.lines.append(line)
+
+    def refuse(self, what, why):
+        """Notes a refused call for the report."""
+        self.refused[what, why] = self.refused.get((what, why), 0) + 1
+
+    def wake(self, task, policies):
+        """A core of its own where there is none, with the policies of the tasks, and what is mapped."""
+        if self.core is None:
+            self.core, self.lines = self.machine.core()
+            for other, word in policies.items():
+                if word:
+                    self.do("set_task", other, word)
+        self.look_at_areas(task)
+
+    def look_at_areas(self, task):
+        """Maps what is mapped, and not known yet."""
+        self.areas = list(areas_of(task))
+        for area in self.areas:
+            for start, end in list(gaps(self.spans, area.start, area.end)):
+                if area.name:
+                    self.lines.append(f"# name: {shown_name(area.name)}")
+                self.do("map", start, end - start, area.index + (start - area.start) // PAGE)
+        now = merged((area.start, area.end) for area in self.areas)
+        for start, end in [hole for span in self.spans for hole in gaps(now, *span)]:
+            self.unmap(start, end)  # (what went by a call that isn't followed)
+        self.spans = now
+
+    def unmap(self, start, end):
+        if self.core is None or end <= start:
+            return
+        self.do("unmap", start, end - start)
+        for page in self.placed_between(start, end):
+            del self.placed[page]
+        self.spans = without(self.spans, start, end)
+
+    def placed_between(self, start, end):
+        first, after = start // PAGE, -(-end // PAGE)
+        if after - first < len(self.placed):
+            return [page for page in range(first, after) if page in self.placed]
+        return [page for page in self.placed if first <= page < after]
+
+    # ---- questions
+
+    def lists(self):
+        if self.plan is None:
+            self.plan = self.core.compile()
+        return self.plan
+
+    def ranges(self):
+        if self.kept is None:
+            self.kept = [(one.start, one.start + one.length, one.offset, one.policy)
+                         for one in self.core.ranges()]
+        return self.kept
+
+    def policy_at(self, address):
+        """The policy of its own that the page has, as the library shows it."""
+        ranges = self.ranges()
+        place = bisect.bisect_right(ranges, address, key=lambda one: one[0]) - 1
+        return ranges[place][3] if place >= 0 and ranges[place][1] > address else None
+
+    def has(self, address):
+        return any(start <= address < end for start, end in self.spans)
+
+    # ---- first touches
+
+    def sweep(self, task, word, cpu, start=0, end=TOP):
+        """Places each page that is there and isn't placed yet: `task`, whose policy is `word`, touched it
+        on a CPU of the node `cpu`. Pages that are gone are forgotten."""
+        start, end = start & -PAGE, min(-(-end // PAGE) * PAGE, TOP)
+        pagemap, seen = Pagemap(task), set()
+        try:
+            for area in self.areas:
+                if area.is_closed or area.end <= start or end <= area.start:
+                    continue
+                for first, count, is_cache in pagemap.runs(max(start, area.start), min(end, area.end)):
+                    if not (is_cache and area.has_cache):
+                        seen.update(range(first, first + count))
+                        self.place(task, word, cpu, first, count)
+        finally:
+            pagemap.close()
+        for page in self.placed_between(start, end):
+            if page not in seen:
+                del self.placed[page]
+
+    def place(self, task, word, cpu, first, count):
+        """Places the pages of a run that aren't placed yet."""
+        new = [page for page in range(first, first + count) if page not in self.placed]
+        if not new:
+            return
+        nodes = bytearray(count)
+        self.lists().fill(task, cpu, first, nodes)
+        turns = is_interleaved(word) or any(is_interleaved(one[3]) for one in self.ranges())
+        for page in new:
+            node = self.placed[page] = nodes[page - first]
+            self.machine.hits[node][0] += 1
+            if turns and is_interleaved(self.policy_at(page * PAGE) or word):
+                self.machine.hits[node][1] += 1
+
+    def copy(self):
+        """The address space of a child."""
+        other = Space(self.machine)
+        other.placed, other.spans, other.areas = dict(self.placed), list(self.spans), list(self.areas)
+        other.lines, other.name = list(self.lines), self.name
+        other.core = self.core and self.core.copy()
+        return other
+
+    def allowed(self):
+        return list_text(self.machine.allowed)

@@ -1,0 +1,76 @@
+"""Which pages of a process are there: by the ioctl PAGEMAP_SCAN where the kernel has it (6.7 and later), else
+from /proc/PID/pagemap. Only the former tells pages of zeros, which no policy placed. Not proved."""
+
+import fcntl
+import struct
+
+from .tracing import PAGE
+
+SCAN = 0xC0606610  # PAGEMAP_SCAN
+IS_FILE, IS_THERE, IS_SWAPPED, IS_ZERO = 1 << 2, 1 << 3, 1 << 4, 1 << 5
+ROOM = 512  # regions that one call may tell
+CHUNK = 1 << 17  # pages that are looked at in one read
+
+
+def runs_by_scan(file, start, end):
+    """(first page, pages, whether they are of a file's cache) of each run."""
+    regions = bytearray(24 * ROOM)
+    place = (bytearray_address(regions), ROOM)
+    while start < end:
+        request = bytearray(struct.pack("12Q", 96, 0, start, end, 0, *place, 0, 0, 0, IS_THERE | IS_SWAPPED,
+                                        IS_FILE | IS_ZERO))
+        count = fcntl.ioctl(file, SCAN, request)
+        for first, after, kind in struct.iter_unpack("3Q", regions[:24 * count]):
+            if not kind & IS_ZERO:
+                yield first // PAGE, (after - first) // PAGE, bool(kind & IS_FILE)
+        start = struct.unpack("12Q", request)[4]
+
+
+def bytearray_address(data):
+    import ctypes
+
+    return ctypes.addressof(ctypes.c_char.from_buffer(data))
+
+
+def runs_by_reading(file, start, end):
+    """The same, by reading 8 bytes a page."""
+    first, last = start // PAGE, end // PAGE
+    while first < last:
+        file.seek(first * 8)
+        raw = file.read(min(CHUNK, last - first) * 8)
+        if not raw:
+            return
+        kinds = raw[7::8]
+        if any(kinds):
+            yield from runs_of(kinds, first)
+        first += len(kinds)
+
+
+def runs_of(kinds, first):
+    """Runs of like pages, by the highest byte of each."""
+    begin = 0
+    for place in range(1, len(kinds) + 1):
+        if place == len(kinds) or (kinds[place] ^ kinds[begin]) & 0xE0:
+            if kinds[begin] & 0xC0:
+                yield first + begin, place - begin, bool(kinds[begin] & 0x20)
+            begin = place
+
+
+class Pagemap:
+    """Looks at the pages of a task's address space."""
+
+    can_scan = True
+
+    def __init__(self, task):
+        self.file = open(f"/proc/{task}/pagemap", "rb", 0)
+
+    def runs(self, start, end):
+        if Pagemap.can_scan:
+            try:
+                return list(runs_by_scan(self.file, start, end))
+            except OSError:
+                Pagemap.can_scan = False
+        return list(runs_by_reading(self.file, start, end))
+
+    def close(self):
+        self.file.close()

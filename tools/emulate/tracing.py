@@ -1,0 +1,147 @@
+"""Tracing by ptrace(2) and seccomp(2) on x86-64: registers, the memory of a traced program, and the filter
+that stops it at the calls that matter alone. Not proved."""
+
+import ctypes
+import errno
+import os
+import struct
+
+LIBC = ctypes.CDLL(None, use_errno=True)
+LIBC.ptrace.argtypes = [ctypes.c_long, ctypes.c_long, ctypes.c_void_p, ctypes.c_void_p]
+LIBC.ptrace.restype = ctypes.c_long
+PAGE = 4096
+TOP = 1 << 47  # the end of the addresses of programs
+
+# Requests of ptrace(2), its options, and its events.
+TRACEME, CONTINUE, GET_REGISTERS, SET_REGISTERS, TO_CALL_END = 0, 7, 12, 13, 24
+SET_OPTIONS, GET_MESSAGE = 0x4200, 0x4201
+FORK, VFORK, CLONE, EXEC, EXIT, SECCOMP = 1, 2, 3, 4, 6, 7
+OPTIONS = 1 | 1 << FORK | 1 << VFORK | 1 << CLONE | 1 << EXEC | 1 << EXIT | 1 << SECCOMP | 1 << 20
+
+CALLS = {
+    "open": 2, "mmap": 9, "munmap": 11, "brk": 12, "mremap": 25, "execve": 59, "shmdt": 67,
+    "sched_setaffinity": 203, "mbind": 237, "set_mempolicy": 238, "get_mempolicy": 239,
+    "migrate_pages": 256, "openat": 257, "move_pages": 279, "getcpu": 309, "execveat": 322,
+    "set_mempolicy_home_node": 450,
+}
+NAMES = {number: name for name, number in CALLS.items()}
+X86_64 = 0xC000003E  # AUDIT_ARCH_X86_64
+MAP_FIXED = 0x10
+
+
+class Registers(ctypes.Structure):
+    """struct user_regs_struct."""
+
+    _fields_ = [(name, ctypes.c_ulong) for name in (
+        "r15 r14 r13 r12 rbp rbx r11 r10 r9 r8 rax rcx rdx rsi rdi orig_rax rip cs eflags rsp ss"
+        " fs_base gs_base ds es fs gs").split()]
+
+    def arguments(self):
+        return [self.rdi, self.rsi, self.rdx, self.r10, self.r8, self.r9]
+
+
+class Failed(Exception):
+    """A call fails with this error number."""
+
+    def __init__(self, number):
+        super().__init__(errno.errorcode[number])
+        self.number = number
+
+
+def fail(number):
+    raise Failed(number)
+
+
+def ptrace(request, task, address=0, data=0):
+    ctypes.set_errno(0)
+    if LIBC.ptrace(request, task, address, data) == -1 and ctypes.get_errno():
+        number = ctypes.get_errno()
+        raise OSError(number, os.strerror(number))
+
+
+def registers_of(task):
+    registers = Registers()
+    ptrace(GET_REGISTERS, task, 0, ctypes.addressof(registers))
+    return registers
+
+
+def set_registers(task, registers):
+    ptrace(SET_REGISTERS, task, 0, ctypes.addressof(registers))
+
+
+def message_of(task):
+    """What an event tells: the number of a child, or that of the thread that called exec."""
+    message = ctypes.c_ulong()
+    ptrace(GET_MESSAGE, task, 0, ctypes.addressof(message))
+    return message.value
+
+
+# ---- memory of a traced program
+
+
+def peek(task, start, size):
+    """Bytes of the program's memory, or EFAULT."""
+    if size > 1 << 30:
+        fail(errno.EFAULT)
+    try:
+        with open(f"/proc/{task}/mem", "rb", 0) as file:
+            file.seek(start)
+            data = file.read(size)
+    except (OSError, OverflowError, ValueError):
+        fail(errno.EFAULT)
+    if len(data) < size:
+        fail(errno.EFAULT)
+    return data
+
+
+def poke(task, start, data):
+    """Writes to the program's memory, or EFAULT."""
+    try:
+        with open(f"/proc/{task}/mem", "r+b", 0) as file:
+            file.seek(start)
+            file.write(data)
+    except (OSError, OverflowError, ValueError):
+        fail(errno.EFAULT)
+
+
+def text_at(task, start):
+    """The text that ends with a zero byte there, of at most 4,096 bytes."""
+    found = b""
+    while b"\0" not in found and len(found) < 4096:
+        at = start + len(found)
+        found += peek(task, at, min(64, PAGE - at % PAGE))
+    return found.split(b"\0")[0].decode(errors="surrogateescape")
+
+
+def cpu_of(task):
+    """The CPU on which a task runs, or ran last (proc_pid_stat(5), field 39)."""
+    with open(f"/proc/{task}/stat", encoding="utf-8", errors="replace") as file:
+        return int(file.read().rsplit(")", 1)[1].split()[36])
+
+
+# ---- the filter
+
+
+def filter_program():
+    """The instructions of the filter: the calls of CALLS stop the program, mmap only with MAP_FIXED; all
+    others, and those of 32-bit programs, go on at full speed."""
+    load, equal, has_bits, answer = 0x20, 0x15, 0x45, 0x06
+    allow, stop = 0x7FFF0000, 0x7FF00000
+    others = [number for name, number in CALLS.items() if name != "mmap"]
+    code = [(load, 0, 0, 4), (equal, 1, 0, X86_64), (answer, 0, 0, allow), (load, 0, 0, 0),
+            (equal, 0, 3, CALLS["mmap"]), (load, 0, 0, 16 + 8 * 3),
+            (has_bits, len(others) + 2, 0, MAP_FIXED), (answer, 0, 0, allow)]
+    code += [(equal, len(others) - place, 0, number) for place, number in enumerate(others)]
+    code += [(answer, 0, 0, allow), (answer, 0, 0, stop)]
+    return b"".join(struct.pack("HBBI", *one) for one in code), len(code)
+
+
+def install_filter():
+    """Puts the filter before this process, for good."""
+    code, count = filter_program()
+    kept = ctypes.create_string_buffer(code)
+    program = ctypes.create_string_buffer(struct.pack("HxxxxxxQ", count, ctypes.addressof(kept)))
+    LIBC.prctl(38, 1, 0, 0, 0)  # PR_SET_NO_NEW_PRIVS
+    if LIBC.prctl(22, 2, ctypes.c_void_p(ctypes.addressof(program)), 0, 0):
+        number = ctypes.get_errno()
+        raise OSError(number, "seccomp filters aren't allowed here: " + os.strerror(number))
