@@ -1,0 +1,69 @@
+"""What a program sees in /sys and /proc on the machine of four.numaplan where the nodes 1 to 3 are allowed
+(proc_pid_status(5), proc_pid_numa_maps(5), numa(7)); leaves a private mapping of a file, from its second
+page on, interleaved over nodes 1 to 3: its pages have the indices 1 to 4, so they go to 2, 3, 1, 2. The
+first argument is the file. Not proved."""
+
+import ctypes
+import errno
+import glob
+import mmap
+import os
+import subprocess
+import sys
+
+LIBC = ctypes.CDLL(None, use_errno=True)
+MBIND, SET_MEMPOLICY, BIND, INTERLEAVE = 237, 238, 2, 3
+NODES = "/sys/devices/system/node"
+wrong = []
+
+
+def want(got, wanted, what):
+    if got != wanted:
+        wrong.append(f"{what} is {got!r}, not {wanted!r}")
+
+
+def read(path):
+    with open(path, encoding="utf-8") as file:
+        return file.read()
+
+
+def line_of(text, name):
+    return next(line for line in text.splitlines() if line.startswith(name))
+
+
+def call(number, *words):
+    answer = LIBC.syscall(ctypes.c_long(number), *words)
+    return errno.errorcode[ctypes.get_errno()] if answer < 0 else answer
+
+
+for name in ("online", "possible", "has_memory"):
+    want(read(f"{NODES}/{name}"), "0-3\n", name)
+want(sorted(map(os.path.basename, glob.glob(f"{NODES}/node*"))), ["node0", "node1", "node2", "node3"], "the nodes")
+want(read(f"{NODES}/node1/distance"), "20 10 20 12\n", "node1/distance")
+want("MemTotal:" in read(f"{NODES}/node3/meminfo"), True, "MemTotal of node 3")
+weight = "/sys/kernel/mm/mempolicy/weighted_interleave/node0"
+want(read(weight) if os.path.exists(weight) else "2\n", "2\n", "the weight of node 0")
+status = read("/proc/self/status")
+want(line_of(status, "Mems_allowed_list:").split()[1], "1-3", "Mems_allowed_list")
+want(int(line_of(status, "Mems_allowed:").split()[1].replace(",", ""), 16), 0xE, "Mems_allowed")
+child = subprocess.run(["grep", "Mems_allowed_list", "/proc/self/status"], stdout=subprocess.PIPE, text=True)
+want(child.stdout.split()[1:], ["1-3"], "Mems_allowed_list of a child")
+want(len(read(f"/proc/{os.getppid()}/status")) > 0, True, "the status of another process")
+
+mask = ctypes.byref(ctypes.c_ulong(0x1))
+want(call(SET_MEMPOLICY, ctypes.c_long(BIND), mask, ctypes.c_long(65)), "EINVAL", "bind to a node that isn't allowed")
+file = os.open(sys.argv[1], os.O_RDWR)
+area = mmap.mmap(file, 4 * 4096, mmap.MAP_PRIVATE, offset=4096)
+start = ctypes.addressof(ctypes.c_char.from_buffer(area))
+mask = ctypes.byref(ctypes.c_ulong(0xE))
+words = ctypes.c_void_p(start), ctypes.c_long(4 * 4096), ctypes.c_long(INTERLEAVE), mask, ctypes.c_long(65), ctypes.c_long(0)
+want(call(MBIND, *words), 0, "mbind")
+before = int(read(f"{NODES}/node2/numastat").split()[1])
+area[0], area[4096], area[2 * 4096], area[3 * 4096] = 1, 1, 1, 1
+shown = line_of(read("/proc/self/numa_maps"), f"{start:08x} ").split()[1:]
+want(shown[:3], ["interleave:1-3", "anon=4", "dirty=4"], "numa_maps")
+want([word for word in shown if word.startswith("N")], ["N1=1", "N2=2", "N3=1"], "numa_maps's nodes")
+want(int(read(f"{NODES}/node2/numastat").split()[1]) >= before + 2, True, "two pages more on node 2")
+print("\n".join(wrong), end="")
+sys.stdout.flush()
+os._exit(bool(wrong))
