@@ -1,7 +1,8 @@
 """What a program sees in /sys and /proc on the machine of four.numaplan where the nodes 1 to 3 are allowed
 (proc_pid_status(5), proc_pid_numa_maps(5), numa(7)); leaves a private mapping of a file, from its second
-page on, interleaved over nodes 1 to 3: its pages have the indices 1 to 4, so they go to 2, 3, 1, 2. The
-first argument is the file. Not proved."""
+page on, interleaved over nodes 1 to 3: its pages have the indices 1 to 4, so they go to 2, 3, 1, 2. And an
+area with a name (PR_SET_VMA_ANON_NAME), of which two of three pages are touched, on node 3. The first
+argument is the file. Not proved."""
 
 import ctypes
 import errno
@@ -12,7 +13,8 @@ import subprocess
 import sys
 
 LIBC = ctypes.CDLL(None, use_errno=True)
-MBIND, SET_MEMPOLICY, BIND, INTERLEAVE = 237, 238, 2, 3
+MBIND, SET_MEMPOLICY, PREFER, BIND, INTERLEAVE = 237, 238, 1, 2, 3
+PR_SET_VMA = 0x53564D41
 NODES = "/sys/devices/system/node"
 wrong = []
 
@@ -55,9 +57,21 @@ want(call(SET_MEMPOLICY, ctypes.c_long(BIND), mask, ctypes.c_long(65)), "EINVAL"
 file = os.open(sys.argv[1], os.O_RDWR)
 area = mmap.mmap(file, 4 * 4096, mmap.MAP_PRIVATE, offset=4096)
 start = ctypes.addressof(ctypes.c_char.from_buffer(area))
-mask = ctypes.byref(ctypes.c_ulong(0xE))
-words = ctypes.c_void_p(start), ctypes.c_long(4 * 4096), ctypes.c_long(INTERLEAVE), mask, ctypes.c_long(65), ctypes.c_long(0)
-want(call(MBIND, *words), 0, "mbind")
+
+
+def bind(start, pages, mode, mask):
+    mask = ctypes.byref(ctypes.c_ulong(mask))
+    words = (pages * 4096, mode, mask, 65, 0)
+    return call(MBIND, ctypes.c_void_p(start), *(ctypes.c_long(word) if isinstance(word, int) else word for word in words))
+
+
+want(bind(start, 4, INTERLEAVE, 0xE), 0, "mbind")
+table = mmap.mmap(-1, 3 * 4096, mmap.MAP_PRIVATE | mmap.MAP_ANONYMOUS)
+place = ctypes.addressof(ctypes.c_char.from_buffer(table))
+name = ctypes.c_long(PR_SET_VMA), ctypes.c_long(0), ctypes.c_void_p(place), ctypes.c_long(3 * 4096), b"table"
+want(LIBC.prctl(*name), 0, "prctl")
+want(bind(place, 3, PREFER, 0x8), 0, "mbind")
+table[0], table[4096] = 1, 1
 before = int(read(f"{NODES}/node2/numastat").split()[1])
 area[0], area[4096], area[2 * 4096], area[3 * 4096] = 1, 1, 1, 1
 shown = line_of(read("/proc/self/numa_maps"), f"{start:08x} ").split()[1:]

@@ -31,6 +31,25 @@ def areas_of(task):
                        found[3].startswith("---"), name)
 
 
+def with_names(areas, names):
+    """The areas, parted where a program has named some of them: names are (start, end, name)."""
+    for area in areas:
+        inside = [one for one in names if one[0] < area.end and area.start < one[1]]
+        if not inside or area.name and not area.name.startswith("[anon:"):
+            yield area
+            continue
+        ends = {area.start, area.end}.union(*((max(one[0], area.start), min(one[1], area.end)) for one in inside))
+        places = sorted(ends)
+        for start, end in zip(places, places[1:]):
+            name = next((one[2] for one in inside if one[0] <= start < one[1]), "")
+            yield area._replace(start=start, end=end, index=area.index + (start - area.start) // PAGE, name=name)
+
+
+def without_names(names, start, end):
+    """The names, without what lies from start to end."""
+    return [(*span, name) for first, after, name in names for span in without([(first, after)], start, end)]
+
+
 def without(spans, start, end):
     """Spans without what lies from start to end."""
     left = []

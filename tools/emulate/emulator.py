@@ -124,7 +124,10 @@ class Emulator:
         if name in ("open", "openat"):
             task.at_end = self.redirect(task, registers)
         elif name in FOLLOWED:
-            task.at_end = FOLLOWED[name](self, task, *registers.arguments())
+            try:
+                task.at_end = FOLLOWED[name](self, task, *registers.arguments())
+            except Failed:
+                pass  # (a text that isn't there: the kernel says so)
         return TO_CALL_END if task.at_end else CONTINUE
 
     # ---- events
@@ -194,7 +197,7 @@ class Emulator:
         elif signal_ == signal.SIGTRAP | 0x80 and task.at_end:
             finish, task.at_end = task.at_end, None
             finish(registers_of(number))
-        is_ours = bool(event) or signal_ in (signal.SIGTRAP, signal.SIGTRAP | 0x80)
+        is_ours = bool(event) or signal_ == signal.SIGTRAP | 0x80
         if task.is_new and signal_ == signal.SIGSTOP:
             task.is_new, is_ours = False, True  # (a child that is traced begins with it)
         ptrace(go_on, number, 0, 0 if is_ours else signal_)

@@ -3,10 +3,10 @@ what is to be done at the end of the call, or None. Not proved."""
 
 import errno
 
-from .areas import areas_of
+from .areas import areas_of, without_names
 from .calls import whole_pages
 from .policies import to_ask
-from .tracing import MAP_FIXED, PAGE, TOP, cpu_of
+from .tracing import MAP_FIXED, PAGE, TOP, set_registers, text_at
 
 FAILED = 2**64 - 4096  # results from here on are error numbers
 
@@ -91,5 +91,23 @@ def moved(space, pieces, kept, old, new):
             space.placed[page + (to - from_) // PAGE] = node
 
 
+def prctl(_all, task, _option, what, start, length, name, *_):
+    """PR_SET_VMA_ANON_NAME: the name is kept, also where the kernel is built without names."""
+    end = start + whole_pages(length)
+    if what != 0 or start % PAGE or end > TOP:
+        return None
+    text = text_at(task.number, name) if name else ""
+    task.space.names = without_names(task.space.names, start, end)
+    if text:
+        task.space.names.append((start, end, f"[anon:{text}]"))
+
+    def succeed(registers):
+        if registers.rax == 2**64 - errno.EINVAL:
+            registers.rax = 0
+            set_registers(task.number, registers)
+
+    return succeed
+
+
 FOLLOWED = {"mmap": mmap, "munmap": munmap, "brk": brk, "shmdt": shmdt, "mremap": mremap,
-            "sched_setaffinity": before_other_cpu, "execve": before_exec, "execveat": before_exec}
+            "prctl": prctl, "sched_setaffinity": before_other_cpu, "execve": before_exec, "execveat": before_exec}

@@ -6,7 +6,7 @@ import errno
 
 import numaplan
 
-from .areas import areas_of, gaps, merged, shown_name, without
+from .areas import areas_of, gaps, merged, shown_name, with_names, without, without_names
 from .machine import list_text
 from .policies import is_interleaved
 from .touched import Pagemap
@@ -27,6 +27,7 @@ class Space:
         self.placed = {}  # by page its node
         self.spans = []  # what the core has mapped, merged
         self.areas = []  # as they were when they were last looked at
+        self.names = []  # that the program gave: (start, end, name)
         self.lines, self.refused = [], {}
         self.plan = self.kept = None
 
@@ -59,7 +60,7 @@ class Space:
 
     def look_at_areas(self, task):
         """Maps what is mapped, and not known yet."""
-        self.areas = list(areas_of(task))
+        self.areas = list(with_names(areas_of(task), self.names))
         for area in self.areas:
             for start, end in list(gaps(self.spans, area.start, area.end)):
                 if area.name:
@@ -77,6 +78,7 @@ class Space:
         for page in self.placed_between(start, end):
             del self.placed[page]
         self.spans = without(self.spans, start, end)
+        self.names = without_names(self.names, start, end)
 
     def placed_between(self, start, end):
         first, after = start // PAGE, -(-end // PAGE)
@@ -145,7 +147,7 @@ class Space:
         """The address space of a child."""
         other = Space(self.machine)
         other.placed, other.spans, other.areas = dict(self.placed), list(self.spans), list(self.areas)
-        other.lines, other.name = list(self.lines), self.name
+        other.lines, other.name, other.names = list(self.lines), self.name, list(self.names)
         other.core = self.core and self.core.copy()
         return other
 

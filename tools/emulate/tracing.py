@@ -20,13 +20,14 @@ OPTIONS = 1 | 1 << FORK | 1 << VFORK | 1 << CLONE | 1 << EXEC | 1 << EXIT | 1 <<
 
 CALLS = {
     "open": 2, "mmap": 9, "munmap": 11, "brk": 12, "mremap": 25, "execve": 59, "shmdt": 67,
-    "sched_setaffinity": 203, "mbind": 237, "set_mempolicy": 238, "get_mempolicy": 239,
-    "migrate_pages": 256, "openat": 257, "move_pages": 279, "getcpu": 309, "execveat": 322,
-    "set_mempolicy_home_node": 450,
+    "prctl": 157, "sched_setaffinity": 203, "mbind": 237, "set_mempolicy": 238,
+    "get_mempolicy": 239, "migrate_pages": 256, "openat": 257, "move_pages": 279, "getcpu": 309,
+    "execveat": 322, "set_mempolicy_home_node": 450,
 }
 NAMES = {number: name for name, number in CALLS.items()}
 X86_64 = 0xC000003E  # AUDIT_ARCH_X86_64
 MAP_FIXED = 0x10
+SET_AREA = 0x53564D41  # PR_SET_VMA
 
 
 class Registers(ctypes.Structure):
@@ -123,16 +124,17 @@ def cpu_of(task):
 
 
 def filter_program():
-    """The instructions of the filter: the calls of CALLS stop the program, mmap only with MAP_FIXED; all
-    others, and those of 32-bit programs, go on at full speed."""
+    """The instructions of the filter: the calls of CALLS stop the program, mmap only with MAP_FIXED, prctl
+    only with PR_SET_VMA; all others, and those of 32-bit programs, go on at full speed."""
     load, equal, has_bits, answer = 0x20, 0x15, 0x45, 0x06
-    allow, stop = 0x7FFF0000, 0x7FF00000
-    others = [number for name, number in CALLS.items() if name != "mmap"]
-    code = [(load, 0, 0, 4), (equal, 1, 0, X86_64), (answer, 0, 0, allow), (load, 0, 0, 0),
-            (equal, 0, 3, CALLS["mmap"]), (load, 0, 0, 16 + 8 * 3),
-            (has_bits, len(others) + 2, 0, MAP_FIXED), (answer, 0, 0, allow)]
-    code += [(equal, len(others) - place, 0, number) for place, number in enumerate(others)]
-    code += [(answer, 0, 0, allow), (answer, 0, 0, stop)]
+    allow, stop = (answer, 0, 0, 0x7FFF0000), (answer, 0, 0, 0x7FF00000)
+    others = [number for name, number in CALLS.items() if name not in ("mmap", "prctl")]
+    count = len(others)
+    code = [(load, 0, 0, 4), (equal, 1, 0, X86_64), allow, (load, 0, 0, 0),
+            (equal, 0, 3, CALLS["mmap"]), (load, 0, 0, 16 + 8 * 3), (has_bits, count + 6, 0, MAP_FIXED), allow,
+            (equal, 0, 3, CALLS["prctl"]), (load, 0, 0, 16), (equal, count + 2, 0, SET_AREA), allow]
+    code += [(equal, count - place, 0, number) for place, number in enumerate(others)]
+    code += [allow, stop]
     return b"".join(struct.pack("HBBI", *one) for one in code), len(code)
 
 
