@@ -16,6 +16,7 @@ from .report import Records, Report, Wanted
 from .tracing import CONTINUE, LIBC, OPTIONS, SET_OPTIONS, TRACEME, install_filter, ptrace
 
 OWN_FAULT, ELSEWHERE = 125, 3
+ROOM = "numaplan-emulate-"  # and the number of the process: a folder of files that are made up
 NEW_MOUNTS, NEW_USER = 0x20000, 0x10000000  # CLONE_NEWNS, CLONE_NEWUSER
 BIND, RECURSIVE, PRIVATE = 0x1000, 0x4000, 0x40000  # MS_*
 NO_HUGE_PAGES = 41  # PR_SET_THP_DISABLE
@@ -199,13 +200,22 @@ def open_log(path):
         raise Unfit(f"{path}: {fault.strerror}") from fault
 
 
+def sweep_rooms():
+    """Removes the folders of runs that were killed."""
+    for name in os.listdir(tempfile.gettempdir()):
+        number = name.removeprefix(ROOM).partition("-")[0]
+        if name.startswith(ROOM) and number.isdigit() and not os.path.exists(f"/proc/{number}"):
+            shutil.rmtree(os.path.join(tempfile.gettempdir(), name), ignore_errors=True)
+
+
 def main():
     room = None
     try:
         if platform.machine() != "x86_64" or sys.platform != "linux":
             raise Unfit("this runs on Linux on x86-64 alone")
         words = read_words()
-        room = tempfile.mkdtemp(prefix="numaplan-emulate-")
+        sweep_rooms()
+        room = tempfile.mkdtemp(prefix=f"{ROOM}{os.getpid()}-")
         os.chmod(room, 0o755)
         status = emulate(words, room)
     except Unfit as fault:
