@@ -72,12 +72,22 @@ name = ctypes.c_long(PR_SET_VMA), ctypes.c_long(0), ctypes.c_void_p(place), ctyp
 want(LIBC.prctl(*name), 0, "prctl")
 want(bind(place, 3, PREFER, 0x8), 0, "mbind")
 table[0], table[4096] = 1, 1
-before = int(read(f"{NODES}/node2/numastat").split()[1])
+
+
+def counts_of(node):
+    words = read(f"{NODES}/node{node}/numastat").split()
+    return dict(zip(words[::2], map(int, words[1::2])))
+
+
+before = counts_of(2)
 area[0], area[4096], area[2 * 4096], area[3 * 4096] = 1, 1, 1, 1
 shown = line_of(read("/proc/self/numa_maps"), f"{start:08x} ").split()[1:]
 want(shown[:3], ["interleave:1-3", "anon=4", "dirty=4"], "numa_maps")
 want([word for word in shown if word.startswith("N")], ["N1=1", "N2=2", "N3=1"], "numa_maps's nodes")
-want(int(read(f"{NODES}/node2/numastat").split()[1]) >= before + 2, True, "two pages more on node 2")
+after = counts_of(2)
+want(after["numa_hit"] >= before["numa_hit"] + 2, True, "two pages more on node 2")
+want(after["interleave_hit"] >= before["interleave_hit"] + 2, True, "interleaved")
+want(after["local_node"] + after["other_node"], after["numa_hit"], "local_node and other_node")
 print("\n".join(wrong), end="")
 sys.stdout.flush()
 os._exit(bool(wrong))

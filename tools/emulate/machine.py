@@ -65,7 +65,8 @@ class Machine:
         self.weights = {int(node, 0): int(weight, 0) for node, weight in lines.get("weight", [])}
         self.allowed = self.allowed_nodes(allowed or (lines["mems"][-1][0] if "mems" in lines else None))
         self.share_out(sorted(os.sched_getaffinity(0)))
-        self.hits = [[0, 0] for _ in range(self.count)]  # pages placed, and interleaved ones among them
+        # pages placed on each node, and among them those interleaved, and those touched on a CPU of the node
+        self.hits = [[0, 0, 0] for _ in range(self.count)]
 
     def allowed_nodes(self, text):
         if text is None:

@@ -60,9 +60,9 @@ def memory_text(machine, node, used):
 
 
 def hits_text(machine, node):
-    hits, turns = machine.hits[node]
+    hits, turns, near = machine.hits[node]
     return (f"numa_hit {hits}\nnuma_miss 0\nnuma_foreign 0\ninterleave_hit {turns}\n"
-            f"local_node {hits}\nother_node 0")
+            f"local_node {near}\nother_node {hits - near}")
 
 
 def status_text(all_, number):

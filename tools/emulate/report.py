@@ -55,7 +55,7 @@ class Report:
         self.parts.append("\n".join(lines))
 
     def text(self, machine):
-        hits = " ".join(f"N{node}={count}" for node, (count, _) in enumerate(machine.hits) if count)
+        hits = " ".join(f"N{node}={count}" for node, (count, *_) in enumerate(machine.hits) if count)
         return "\n\n".join(self.parts + [f"placed in all, as pages were first touched: {hits or 'none'}"]) + "\n"
 
 

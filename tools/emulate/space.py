@@ -140,6 +140,7 @@ class Space:
         for page in new:
             node = self.placed[page] = nodes[page - first]
             self.machine.hits[node][0] += 1
+            self.machine.hits[node][2] += node == cpu
             if turns and is_interleaved(self.policy_at(page * PAGE) or word):
                 self.machine.hits[node][1] += 1
 
