@@ -436,8 +436,9 @@ uint32_t np_script_answer(np_script *script, uint8_t *answer, size_t room, size_
 uint32_t np_answer_name(uint32_t code, uint8_t *name, size_t room, size_t *length);
 
 /* Writes the error number that Linux gives for the cause of an answer (errno(3)): EINVAL,
- * ENOMEM, EEXIST, EFAULT, ENOSPC or EOPNOTSUPP for what mmap(2), mbind(2) and set_mempolicy(2)
- * refuse, else 0. NP_UNKNOWN where no answer has this number. */
+ * ENOMEM, EEXIST, EFAULT, ENOSPC, EOPNOTSUPP or ENOENT for what mmap(2), mbind(2),
+ * set_mempolicy(2) and set_mempolicy_home_node(2) refuse, else 0. NP_UNKNOWN where no answer has
+ * this number. */
 uint32_t np_answer_errno(uint32_t code, uint32_t *number);
 
 #ifdef __cplusplus
