@@ -7,8 +7,8 @@
 # several jobs in one cost the processors more than they gain. Not proved.
 
 declare -A proof_takes=(
-    [proved]='some 30 minutes on four processors, and 3 GB of disk'
-    [library]='some 25 minutes on four processors, or 7 if the program is proved'
+    [proved]='some 35 minutes on four processors, and 3 GB of disk'
+    [library]='some 30 minutes on four processors, or 7 if the program is proved'
 )
 
 # How many proofs run side by side: NUMAPLAN_JOBS, or one a processor, if memory has 3 GB for each.
