@@ -20,6 +20,9 @@ pub(crate) struct Engine<S> {
 
 impl<S: Serve + Drop> Engine<S> {
     /// Before the first byte.
+    ///
+    /// # Errors
+    /// `AllocError`: out of memory.
     pub fn new(alloc: Global, server: S) -> Result<Engine<S>, AllocError>
         ensures server { IfOk result (λ e. e.server ≡ server) }
         ensures line { IfOk result (λ e. e.line ≡ []) }
@@ -53,6 +56,9 @@ impl<S: Serve + Drop> Engine<S> {
     }
 
     /// Takes some bytes, and hands over the answers of the lines that end in them.
+    ///
+    /// # Errors
+    /// `CallFailed` where this or an earlier write failed.
     pub fn take<W: Write>(
         &mut self,
         alloc: Global,
@@ -70,6 +76,9 @@ impl<S: Serve + Drop> Engine<S> {
     }
 
     /// Answers the last line, which no line feed has ended, and hands the answer over.
+    ///
+    /// # Errors
+    /// `CallFailed` where this or an earlier write failed.
     pub fn finish<W: Write>(
         &mut self,
         alloc: Global,

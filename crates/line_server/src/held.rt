@@ -30,6 +30,9 @@ impl Model for Held {
 
 impl Held {
     /// Room for a line or for texts, and nothing held yet.
+    ///
+    /// # Errors
+    /// `AllocError`: out of memory.
     pub fn new(alloc: Global) -> Result<Held, AllocError>
         ensures { IfOk result (λ h. h ≡ []) }
     {

@@ -72,6 +72,9 @@ impl<S> Watched<S> {
 impl<R: Read> Watched<R> {
     /// Reads some bytes into the buffer, and says how many. At the end of the input, and only there
     /// or where the buffer has no room, that is 0.
+    ///
+    /// # Errors
+    /// `CallFailed` where the reader's call failed.
     pub fn read(&mut self, buffer: &mut [u8]) -> Result<usize, CallFailed>
         ensures bound { ReadsAtMost result buffer.new }
         ensures bytes { ReadConsumes (R.remaining self.old.inner) (R.remaining self.new.inner)
@@ -111,6 +114,9 @@ fn write_all<W: Write>(writer: &mut W, bytes: &[u8]) -> Result<(), CallFailed>
 impl<W: Write> Watched<W> {
     /// Makes room for 4,096 bytes of texts, which go to the writer together. Without it each text
     /// goes to the writer at once.
+    ///
+    /// # Errors
+    /// `AllocError`: out of memory. Texts go to the writer at once, as before.
     pub fn gather(&mut self, alloc: Global) -> Result<(), AllocError>
         ensures inner { self.new.inner ≡ self.old.inner }
         ensures failed { has_failed self.new ≡ has_failed self.old }

@@ -11,6 +11,9 @@ fn add_texts(alloc: Global, said: &[&str], texts: &mut Vec<String>) -> Result<()
 }
 
 /// The values of an argument, as they were given.
+///
+/// # Errors
+/// `AllocError`: out of memory.
 pub fn texts_of(
     alloc: Global,
     matches: &ArgMatches<'_>,
@@ -24,6 +27,9 @@ pub fn texts_of(
 }
 
 /// The files that are named.
+///
+/// # Errors
+/// `AllocError`: out of memory.
 pub fn named(alloc: Global, matches: &ArgMatches<'_>) -> Result<Vec<String>, AllocError> {
     texts_of(alloc, matches, "FILE")
 }

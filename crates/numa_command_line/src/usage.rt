@@ -113,6 +113,9 @@ fn command_of<'a>(alloc: Global, word: &'a Word) -> Result<Command<'a>, AllocErr
 }
 
 /// A program with a word more.
+///
+/// # Errors
+/// `AllocError`: out of memory.
 pub fn with_word<'a>(
     alloc: Global,
     program: Command<'a>,

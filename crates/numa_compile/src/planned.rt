@@ -177,6 +177,9 @@ impl PlannedSpace {
 
     /// Carries out a command, or refuses it, as `Space::apply` does. Lack of memory for the plan
     /// refuses nothing: the plan is put off.
+    ///
+    /// # Errors
+    /// The refusal of `Space::apply`, the first cause that applies; nothing has changed then.
     pub fn apply(&mut self, alloc: Global, command: &Command) -> Result<(), Refusal>
         ensures { IsApplied self.old command.now result self.new }
     {

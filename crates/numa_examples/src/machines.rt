@@ -14,6 +14,9 @@ fn push_row(distances: &mut Vec<u8>, nodes: u32, from: u32) -> Result<(), AllocE
 }
 
 /// The distances of so many nodes that are all 20 apart, row by row.
+///
+/// # Errors
+/// `AllocError`: out of memory.
 pub fn flat_distances(alloc: Global, nodes: u32) -> Result<Vec<u8>, AllocError> {
     let mut distances = Vec::new(alloc);
     for from in 0..nodes {

@@ -311,6 +311,9 @@ impl<A: Respond, W: Write> Expect<A, W> {
     }
 
     /// Tells the counts, in a last line.
+    ///
+    /// # Errors
+    /// `Stop::Write` where writing failed, `Stop::Memory` where there was no memory for the text.
     pub fn tell_counts(&mut self) -> Result<(), Stop> {
         let Counts {
             same,

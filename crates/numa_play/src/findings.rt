@@ -71,6 +71,9 @@ impl<W: Write> Findings<W> {
     }
 
     /// Writes what is to be written.
+    ///
+    /// # Errors
+    /// `Stop::Write` where writing failed.
     pub fn flush(&mut self) -> Result<(), Stop> {
         if self.text.is_empty() {
             return Ok(());
@@ -95,6 +98,9 @@ impl<W: Write> Findings<W> {
     }
 
     /// Tells how many lines weren't judged, where some weren't, and writes what is to be written.
+    ///
+    /// # Errors
+    /// `Stop::Write` where writing failed, `Stop::Memory` where there was no memory for the text.
     pub fn end(&mut self) -> Result<(), Stop> {
         if self.unjudged > 0 {
             if let Err(_) = say_unjudged(&mut self.text, self.unjudged) {

@@ -56,7 +56,10 @@ fn frame_counts(alloc: Global, machine: &Machine) -> Result<Vec<u32>, AllocError
 
 impl Pools {
     /// The pools of the machine, in which each frame is free, and a first seat, which holds
-    /// nothing. `NoMemory` where there was no memory for the words or for the seat.
+    /// nothing.
+    ///
+    /// # Errors
+    /// `NoMemory`: out of memory for the words or for the seat.
     pub fn open(alloc: Global, machine: &Machine) -> Result<(Pools, PoolSeat), NoMemory>
         ensures frames { IfOk result (λ opened. opened.0.frames ≡ machine.now.frames) }
         ensures seat { IfOk result (λ opened. (opened.1.table ≡ opened.0.table)
@@ -79,8 +82,10 @@ impl Pools {
         }
     }
 
-    /// A new seat of these pools, which holds nothing, for another thread. `NoMemory` where there
-    /// was no memory for it.
+    /// A new seat of these pools, which holds nothing, for another thread.
+    ///
+    /// # Errors
+    /// `NoMemory`: out of memory for the seat.
     pub fn split(&self, alloc: Global, seat: &mut PoolSeat) -> Result<PoolSeat, NoMemory>
         requires { seat.old.table ≡ self.now.table }
         ensures same { (seat.new.table ≡ seat.old.table) × (seat.new.held ≡ seat.old.held)

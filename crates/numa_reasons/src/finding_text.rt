@@ -271,6 +271,9 @@ fn put_finding(text: &mut Text, finding: &Finding) {
 
 /// Appends what is wrong with a line: its answer, and why, with what to do, where there is
 /// something.
+///
+/// # Errors
+/// `AllocError`: out of memory. The text may then have a part of it.
 pub fn say_finding(text: &mut Vec<u8>, finding: &Finding) -> Result<(), AllocError> {
     let mut written = Text::of(text);
     put_finding(&mut written, finding);
@@ -289,6 +292,9 @@ fn put_place(text: &mut Text, name: &str, place: u64, detail: Detail) {
 
 /// Appends a line about a line: where it stands, by the name of its text and its place there from
 /// 1, and what is wrong with it.
+///
+/// # Errors
+/// `AllocError`: out of memory. The text may then have a part of it.
 pub fn say_line(
     text: &mut Vec<u8>,
     name: &str,
@@ -303,6 +309,9 @@ pub fn say_line(
 }
 
 /// Appends a line about so many lines that weren't judged.
+///
+/// # Errors
+/// `AllocError`: out of memory. The text may then have a part of it.
 pub fn say_unjudged(text: &mut Vec<u8>, count: u64) -> Result<(), AllocError> {
     let mut written = Text::of(text);
     written.put_number("not judged, since no machine was ready: ", count);

@@ -196,6 +196,9 @@ fn put_others(text: &mut Text, machine: &Machine, said: &Explanation, from: u32)
 /// Appends why memory for a page is looked for on its nodes, in six lines: the question with the
 /// nodes in order, the range, the policy that counts, the sets of nodes, the first node and the
 /// others. The machine is that of the space.
+///
+/// # Errors
+/// `AllocError`: out of memory. The text may then have a part of it.
 pub fn say_explanation(
     text: &mut Vec<u8>,
     machine: &Machine,

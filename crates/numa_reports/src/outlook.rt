@@ -84,6 +84,9 @@ fn add_common(found: &mut Vec<PageSpan>, one: PageSpan, other: PageSpan) -> Resu
 }
 
 /// The spans that two rising lists of spans have in common, each inside one span of either.
+///
+/// # Errors
+/// `AllocError`: out of memory.
 pub fn common_spans(
     alloc: Global,
     ones: &[PageSpan],

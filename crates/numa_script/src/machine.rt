@@ -76,7 +76,9 @@ impl<'a> Frames<'a> {
 
     /// The frames of each of so many nodes: one number is that of each node with memory, where the
     /// others have none, and more than one are those of the nodes in turn, as many as were written.
-    /// `Err` is lack of memory.
+    ///
+    /// # Errors
+    /// `AllocError`: out of memory.
     pub fn for_nodes(
         &self,
         alloc: Global,
@@ -190,6 +192,9 @@ impl<'a> Distances<'a> {
     /// The entries of the distance table of so many nodes, row after row: `flat` makes one for each
     /// two nodes, and a table is as it was written, whatever the number of nodes. `Err` where there
     /// is no memory.
+    ///
+    /// # Errors
+    /// `AllocError`: out of memory.
     pub fn for_nodes(&self, alloc: Global, nodes: u32) -> Result<Vec<u8>, AllocError>
         requires { nodes ≤ 256 }
         ensures { IfOk result (λ v. v.items ≡ distances_for nodes self.now) }

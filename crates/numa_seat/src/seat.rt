@@ -32,8 +32,10 @@ impl Model for Seat {
 }
 
 impl Seat {
-    /// The first seat at new pools of a machine's frames, each of which is free. `NoMemory` where
-    /// there was no memory for the pools or for the seat.
+    /// The first seat at new pools of a machine's frames, each of which is free.
+    ///
+    /// # Errors
+    /// `NoMemory`: out of memory for the pools or for the seat.
     pub fn open(alloc: Global, machine: &Machine) -> Result<Seat, NoMemory>
         ensures { IfOk result (λ opened. opened ≡ at_first machine.now.frames opened.seat.table) }
     {
@@ -44,8 +46,10 @@ impl Seat {
         }
     }
 
-    /// A new seat at the same pools, which holds nothing, for another thread. `NoMemory` where
-    /// there was no memory for it, or as many seats share the pools as can.
+    /// A new seat at the same pools, which holds nothing, for another thread.
+    ///
+    /// # Errors
+    /// `NoMemory`: out of memory for the seat, or as many seats share the pools as can.
     pub fn split(&mut self, alloc: Global) -> Result<Seat, NoMemory>
         ensures other { IfOk result (λ other. other ≡ newcomer self.old) }
         ensures ok { OnOk result (self.new ≡ seat_after_split self.old) }

@@ -107,8 +107,11 @@ impl Space {
         })
     }
 
-    /// Carries out a command, or refuses it by the first cause that applies; lack of memory is the
-    /// last. A refusal leaves the space as it was.
+    /// Carries out a command, or refuses it.
+    ///
+    /// # Errors
+    /// The first cause that applies, as [`Refusal`] lists them; `NoMemory` is the last. A refusal
+    /// leaves the space as it was.
     pub fn apply(&mut self, command: &Command) -> Result<(), Refusal>
         ensures { IsApplied self.old command.now result self.new }
     {
@@ -120,8 +123,10 @@ impl Space {
     }
 
     /// Carries out commands, the first first, and passes over those against which a cause stands.
-    /// Ends at the first for which there is no memory, and then answers how many commands came
-    /// before it.
+    ///
+    /// # Errors
+    /// Out of memory for a command: how many commands came before it. Those were carried out or
+    /// passed over, and this one was not.
     pub fn apply_all(&mut self, commands: &[Command]) -> Result<(), usize>
         ensures ok { (history : List Command) → StandsFor self.old history → OnOk result
             (StandsFor self.new (accepted_of self.old.machine self.old.bounds commands.now

@@ -39,6 +39,9 @@ fn all_frames(alloc: Global, machine: &Machine) -> Result<Vec<u32>, AllocError>
 
 impl Memory {
     /// The memory of a machine on which no page is placed.
+    ///
+    /// # Errors
+    /// `AllocError`: out of memory.
     pub fn new(alloc: Global, machine: &Machine) -> Result<Memory, AllocError>
         ensures pages { IfOk result (λ memory. memory.pages ≡ []) }
         ensures free { IfOk result (λ memory. (node : ℕ) → node < machine.now.nodes
@@ -78,8 +81,10 @@ impl Memory {
     }
 
     /// Places a page that isn't placed yet on the first node of its list that has a frame left.
-    /// None where no node of the list has one, and then nothing has changed, as where there was no
-    /// memory for the page's place.
+    /// None where no node of the list has one; nothing has changed then.
+    ///
+    /// # Errors
+    /// `AllocError`: out of memory. Nothing has changed then.
     pub fn place(&mut self, page: u64, nodes: &[u8]) -> Result<Option<u8>, AllocError>
         requires { node_of self.old.pages page ≡ None }
         ensures node { IfOk result (λ node. node ≡ first_free self.old.free nodes.now) }

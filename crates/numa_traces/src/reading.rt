@@ -25,6 +25,9 @@ pub struct Replaying<'a> {
 
 impl<'a> Replaying<'a> {
     /// Before the first line: no page of the machine is placed. The plan is the machine's.
+    ///
+    /// # Errors
+    /// `AllocError`: out of memory.
     pub fn new(
         alloc: Global,
         machine: &Machine,

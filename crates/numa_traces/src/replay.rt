@@ -42,6 +42,9 @@ fn nodes_for(plan: &Plan, access: Access) -> Result<&[u8], PlaceRefusal>
 
 impl Replay {
     /// Before the first access: no page is placed.
+    ///
+    /// # Errors
+    /// `AllocError`: out of memory.
     pub fn new(alloc: Global, machine: &Machine) -> Result<Replay, AllocError>
         ensures { (plan : PlanData) → IfOk result (IsReplay machine.now plan []) }
     {

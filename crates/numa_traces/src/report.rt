@@ -227,6 +227,9 @@ fn place_of(machine: &Machine, cpu: u32, node: Option<u8>) -> Option<(u8, u8)> {
 /// What a replayed trace met, by task and in all: the accesses by the page's node and by its
 /// distance from the CPU's, the faults that placed a page and those that found no frame, and the
 /// accesses that went nowhere for that. The machine is that of the replay.
+///
+/// # Errors
+/// `AllocError`: out of memory.
 pub fn report_text(
     alloc: Global,
     machine: &Machine,

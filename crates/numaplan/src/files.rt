@@ -133,6 +133,9 @@ where
 }
 
 /// What was opened, without the names.
+///
+/// # Errors
+/// `AllocError`: out of memory.
 pub fn without_names<S: Drop>(
     alloc: Global,
     texts: Vec<(String, S)>,

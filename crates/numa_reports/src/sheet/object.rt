@@ -45,6 +45,9 @@ impl Object {
     }
 
     /// The object, if there was memory for all its members.
+    ///
+    /// # Errors
+    /// `AllocError`: out of memory. It may have happened while the members were put in.
     pub fn made(self) -> Result<Value, AllocError> {
         if self.lacks_memory {
             return Err(AllocError);

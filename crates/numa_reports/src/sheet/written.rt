@@ -101,6 +101,9 @@ impl Written {
     }
 
     /// The whole text, which is empty then.
+    ///
+    /// # Errors
+    /// `AllocError`: out of memory. It may have happened while the text was written.
     pub fn take(&mut self) -> Result<Vec<u8>, AllocError> {
         self.checked()?;
         Ok(replace(&mut self.text, Vec::new(self.alloc)))
