@@ -4,6 +4,8 @@ use Rattle.std.specs.Prelude.{◌==◌, if◌then◌else◌, slice_index, sum, O
 use Rattle.std.specs.List.{range_with_len, list_any}
 use Rattle.numa_mask.specs.NodeSet.{has, members}
 use Rattle.numa_machine.specs.Machine.{Hardware, table_entry}
+use Rattle.numa_machine.specs.declared.fallback.Fallback.{Fallback}
+use Rattle.numa_machine.specs.declared.fallback.Fallback.TheVariants.{Nearest, Kernel}
 use Rattle.numa_machine.specs.declared.fault.MachineFault.{MachineFault}
 use Rattle.numa_machine.specs.declared.fault.MachineFault.TheVariants.{NodeCount, NoMemoryNode}
 use Rattle.numa_machine.specs.declared.fault.MachineFault.TheVariants.{BadDistance, TooManyFrames}
@@ -19,9 +21,13 @@ has_bad_count nodes distances frames =
     nodes == 0 || nat_lt 256 nodes || not (length distances == nodes * nodes)
     || not (length frames == nodes)
 
+-- a node of the set is none of the machine's
+abbrev pub has_other_node : ℕ → ℕ → Bool
+has_other_node nodes set = list_any (λ node. nat_le nodes node) (members set)
+
 -- no node has memory, or one that is said to have some is none of the machine's
 unfoldable pub has_bad_memory : ℕ → ℕ → Bool
-has_bad_memory nodes memory = memory == 0 || list_any (λ node. nat_le nodes node) (members memory)
+has_bad_memory nodes memory = memory == 0 || has_other_node nodes memory
 
 -- a node is at distance 10 from itself and farther from each other node
 abbrev pub is_bad_distance : ℕ → ℕ → ℕ → Bool
@@ -55,3 +61,8 @@ machine_fault nodes memory distances frames =
 abbrev pub hardware_fault : Hardware → Option MachineFault
 hardware_fault hardware =
     machine_fault hardware.nodes hardware.memory hardware.distances hardware.frames
+
+-- what is wrong with a machine's orders: a node that is said to have CPUs is none of the machine's
+abbrev pub fallback_fault : ℕ → Fallback → Option MachineFault
+fallback_fault nodes Nearest = None
+fallback_fault nodes (Kernel cpus) = if has_other_node nodes cpus then Some NodeCount else None

@@ -1,12 +1,12 @@
 //! Whether the description of a machine holds together.
-ghost use Rattle.std.specs.Prelude.{◌≡◌, ◌+◌, ◌*◌, ◌≤◌, ◌<◌, ℕ, length, sum, slice_index, nat_le};
-ghost use Rattle.std.specs.List.{list_any};
-ghost use Rattle.numa_mask.specs.NodeSet.{members};
+ghost use Rattle.std.specs.Prelude.{◌≡◌, ◌+◌, ◌*◌, ◌≤◌, ◌<◌, ℕ, length, sum, slice_index};
 ghost use Rattle.numa_machine.specs.Faults.{some_node, has_bad_count, has_bad_memory};
 ghost use Rattle.numa_machine.specs.Faults.{is_bad_distance, has_bad_distance, are_bad_frames};
-ghost use Rattle.numa_machine.specs.Faults.{has_bad_frames, machine_fault};
+ghost use Rattle.numa_machine.specs.Faults.{has_bad_frames, machine_fault, has_other_node};
+ghost use Rattle.numa_machine.specs.Faults.{fallback_fault};
 ghost use Rattle.numa_machine.specs.Machine.{table_entry};
 
+use crate::fallback::Fallback;
 use crate::fault::MachineFault;
 use crate::orders::entry;
 use numa_mask::NodeMask;
@@ -36,10 +36,10 @@ fn has_bad_count(nodes: u32, distances: &[u8], frames: &[u32]) -> bool
 }
 
 /// Whether a set has a node that is none of the machine's.
-fn has_other_node(nodes: u32, memory: &NodeMask) -> bool
-    ensures { result ≡ list_any (λ node. nat_le nodes node) (members memory.now) }
+fn has_other_node(nodes: u32, set: &NodeMask) -> bool
+    ensures { result ≡ has_other_node nodes set.now }
 {
-    memory.iter().any(|node| nodes <= u32::from(node.number()))
+    set.iter().any(|node| nodes <= u32::from(node.number()))
 }
 
 /// Whether no node has memory, or one that is said to have some is none of the machine's.
@@ -149,5 +149,21 @@ pub(crate) fn fault_of(
         Some(MachineFault::TooManyFrames)
     } else {
         None
+    }
+}
+
+/// What is wrong with the orders that a machine of so many nodes is asked to have.
+pub(crate) fn fault_of_fallback(nodes: u32, fallback: Fallback) -> Option<MachineFault>
+    ensures { result ≡ fallback_fault nodes fallback }
+{
+    match fallback {
+        Fallback::Nearest => None,
+        Fallback::Kernel(cpus) => {
+            if has_other_node(nodes, &cpus) {
+                Some(MachineFault::NodeCount)
+            } else {
+                None
+            }
+        }
     }
 }

@@ -6,7 +6,8 @@ use std::alloc::AllocError;
 #[derive(Clone, Copy, Debug, PartialEq, Eq)]
 pub enum MachineFault {
     /// The number of nodes is 0 or above 256, the distances are not nodes times nodes, or the
-    /// frames are not as many as the nodes.
+    /// frames are not as many as the nodes; or a node that is said to have CPUs is none of the
+    /// machine's.
     NodeCount,
     /// No node has memory, or a node that is said to have memory is none of the machine's.
     NoMemoryNode,

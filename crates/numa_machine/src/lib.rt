@@ -4,8 +4,11 @@
 #![tactic(auto)]
 
 mod description;
+mod distance_orders;
+pub mod fallback;
 pub mod fault;
 pub mod frame;
+mod kernel_orders;
 pub mod laws;
 pub mod machine;
 pub mod no_memory;
@@ -13,6 +16,7 @@ mod orders;
 pub mod rules;
 pub mod weights;
 
+pub use fallback::Fallback;
 pub use fault::{MachineFault, WeightFault};
 pub use frame::Frame;
 pub use machine::Machine;

@@ -2,13 +2,15 @@
 ghost use Rattle.std.specs.Prelude.{◌≡◌, ◌≢◌, ◌<◌, ◌≤◌, ℕ, All, IfErr, IfOk};
 ghost use Rattle.std.specs.Prelude.{MatchOption, None, false, length};
 ghost use Rattle.numa_mask.specs.NodeSet.{has, members};
-ghost use Rattle.numa_machine.specs.Machine.{distance, frames_of, distance_order, IsDistanceOrder};
-ghost use Rattle.numa_machine.specs.Faults.{machine_fault, hardware_fault};
+ghost use Rattle.numa_machine.specs.Machine.{distance, frames_of, IsDistanceOrder};
+ghost use Rattle.numa_machine.specs.Machine.{fallback_order, IsFallbackOrder};
+ghost use Rattle.numa_machine.specs.Faults.{machine_fault, hardware_fault, fallback_fault};
 
-use crate::description::fault_of;
+use crate::description::{fault_of, fault_of_fallback};
+use crate::fallback::{orders_of, Fallback};
 use crate::fault::MachineFault;
 use crate::no_memory::NoMemory;
-use crate::orders::{entry, orders_of};
+use crate::orders::entry;
 use crate::rules::Rules;
 use numa_mask::NodeMask;
 use std::alloc::Global;
@@ -27,6 +29,7 @@ pub struct Machine {
     /// memory.
     orders: Vec<u8>,
     rules: Rules,
+    fallback: Fallback,
 }
 
 impl Model for Machine {
@@ -41,6 +44,7 @@ impl Model for Machine {
       distances = m.distances.items;
       frames = m.frames.items;
       rules = m.rules;
+      fallback = m.fallback;
     } };
 
     ghost invariant = { λ m.
@@ -50,14 +54,15 @@ impl Model for Machine {
           distances = m.distances.items;
           frames = m.frames.items;
           rules = m.rules;
+          fallback = m.fallback;
         }) m.orders.items };
 }
 
 impl Machine {
     /// The machine with this many nodes, these of them with memory, these distances between them
     /// (row by row, the row of a node before that of the next) and this many frames of 4,096 bytes
-    /// for each node. It follows the rules of the documents. Refusals, the first that applies:
-    /// `NodeCount`, `NoMemoryNode`, `BadDistance`, `TooManyFrames`, `NoMemory`.
+    /// for each node. It follows the rules of the documents, and each node falls back to the
+    /// nearest first. Refusals, the first that applies: `NodeCount`, `NoMemoryNode`, `BadDistance`, `TooManyFrames`, `NoMemory`.
     pub fn new(
         alloc: Global,
         nodes: u32,
@@ -73,6 +78,7 @@ impl Machine {
               distances = distances.now;
               frames = frames.now;
               rules = Rules.Document;
+              fallback = Fallback.Nearest;
             })) }
         ensures err { IfErr result (λ fault.
             MatchOption (machine_fault nodes memory distances.now frames.now)
@@ -81,7 +87,7 @@ impl Machine {
         if let Some(fault) = fault_of(nodes, &memory, distances, frames) {
             return Err(fault);
         }
-        let orders = orders_of(alloc, nodes, &memory, distances)?;
+        let orders = orders_of(alloc, nodes, &memory, distances, Fallback::Nearest)?;
         let distances = Vec::from_slice(alloc, distances)?;
         let frames = Vec::from_slice(alloc, frames)?;
         Ok(Machine {
@@ -91,6 +97,7 @@ impl Machine {
             frames,
             orders,
             rules: Rules::Document,
+            fallback: Fallback::Nearest,
         })
     }
 
@@ -105,7 +112,34 @@ impl Machine {
             frames: self.frames,
             orders: self.orders,
             rules,
+            fallback: self.fallback,
         }
+    }
+
+    /// The machine with these orders in the place of those that it has.
+    ///
+    /// # Errors
+    /// `NodeCount` where a node that is said to have CPUs is none of the machine's, else `NoMemory`
+    /// where there is none for the orders.
+    pub fn with_fallback(self, alloc: Global, fallback: Fallback) -> Result<Machine, MachineFault>
+        ensures ok { IfOk result (λ machine. (fallback_fault self.nodes fallback ≡ None)
+            × (machine ≡ record self { fallback = fallback })) }
+        ensures err { IfErr result (λ fault. MatchOption (fallback_fault self.nodes fallback)
+            (fault ≡ MachineFault.NoMemory) (λ first. fault ≡ first)) }
+    {
+        if let Some(fault) = fault_of_fallback(self.nodes, fallback) {
+            return Err(fault);
+        }
+        let orders = orders_of(alloc, self.nodes, &self.memory, &self.distances, fallback)?;
+        Ok(Machine {
+            nodes: self.nodes,
+            memory: self.memory,
+            distances: self.distances,
+            frames: self.frames,
+            orders,
+            rules: self.rules,
+            fallback,
+        })
     }
 
     /// The same machine once more.
@@ -125,6 +159,7 @@ impl Machine {
             frames,
             orders,
             rules: self.rules,
+            fallback: self.fallback,
         })
     }
 
@@ -133,6 +168,14 @@ impl Machine {
         ensures { result ≡ self.now.rules }
     {
         self.rules
+    }
+
+    /// Whose orders the machine has: the nearest first, until `with_fallback` gives others.
+    pub fn fallback(&self) -> Fallback
+        ensures fallback { result ≡ self.now.fallback }
+        ensures no_fault { fallback_fault self.now.nodes result ≡ None }
+    {
+        self.fallback
     }
 
     /// How many nodes the machine has: they are numbered from 0.
@@ -176,13 +219,16 @@ impl Machine {
         self.frames.get(node as usize).copied().unwrap_or(0)
     }
 
-    /// All nodes with memory, the nearest to a node first, equally distant ones by their number. In
-    /// this order an allocation falls back: "NUMA Memory Policy" has the kernel search other nodes
-    /// in order of increasing distance.
+    /// All nodes with memory in the order in which an allocation on a node falls back to them: the
+    /// nearest first, equally distant ones by their number, or as a kernel has them
+    /// (`with_fallback`). "NUMA Memory Policy" has the kernel search other nodes in order of
+    /// increasing distance.
     pub fn order(&self, node: u32) -> &[u8]
         requires { node < self.now.nodes }
-        ensures order { result.now ≡ distance_order self.now node }
-        ensures distance_order { IsDistanceOrder self.now node result.now }
+        ensures order { result.now ≡ fallback_order self.now node }
+        ensures nearest { self.now.fallback ≡ Fallback.Nearest
+            → IsDistanceOrder self.now node result.now }
+        ensures cheapest_first { IsFallbackOrder self.now node result.now }
         ensures some { 0 < length result.now }
         ensures of_the_machine { All (λ near. near < self.now.nodes) result.now }
     {

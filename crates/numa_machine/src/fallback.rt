@@ -1,0 +1,46 @@
+//! Whose fallback orders a machine has.
+ghost use Rattle.std.specs.Prelude.{◌≡◌, ◌≤◌, ◌<◌, [], All, IfOk};
+ghost use Rattle.numa_mask.specs.NodeSet.{members};
+ghost use Rattle.numa_machine.specs.Machine.{all_orders};
+ghost use Rattle.numa_machine.specs.declared.rules.Rules.TheVariants.{Document};
+
+use crate::distance_orders::distance_orders;
+use crate::kernel_orders::kernel_orders;
+use numa_mask::NodeMask;
+use std::alloc::{AllocError, Global};
+
+/// In which order a node falls back to others when it has no room.
+#[derive(Clone, Copy, Debug, PartialEq, Eq)]
+pub enum Fallback {
+    /// The nearest node first, of equally distant ones the lower number.
+    Nearest,
+    /// As Linux 6.1 to 6.12 makes its zone lists, where these nodes have CPUs: the nearest node
+    /// first as well, but a node does not lead the equally distant ones for all others.
+    Kernel(NodeMask),
+}
+
+/// The orders of all nodes, one after the other.
+pub(crate) fn orders_of(
+    alloc: Global,
+    nodes: u32,
+    memory: &NodeMask,
+    table: &[u8],
+    fallback: Fallback,
+) -> Result<Vec<u8>, AllocError>
+    requires nodes { nodes ≤ 256 }
+    requires memory { All (λ node. node < nodes) (members memory.now) }
+    ensures { IfOk result (λ orders. orders.items
+        ≡ all_orders (record {
+          nodes = nodes;
+          memory = memory.now;
+          distances = table.now;
+          frames = [];
+          rules = Document;
+          fallback = fallback;
+        })) }
+{
+    match fallback {
+        Fallback::Nearest => distance_orders(alloc, nodes, memory, table),
+        Fallback::Kernel(cpus) => kernel_orders(alloc, nodes, memory, table, &cpus),
+    }
+}
