@@ -5,4 +5,5 @@ pub mod Nodes
 pub mod Inserted
 pub mod NoFault
 pub mod Stored
+pub mod Loads
 pub mod Turns

@@ -3,7 +3,7 @@ ghost use Rattle.std.specs.Prelude.{◌≡◌, ◌≢◌, ◌<◌, ◌≤◌, �
 ghost use Rattle.std.specs.Prelude.{MatchOption, None, false, length};
 ghost use Rattle.numa_mask.specs.NodeSet.{has, members};
 ghost use Rattle.numa_machine.specs.Machine.{distance, frames_of, IsDistanceOrder};
-ghost use Rattle.numa_machine.specs.Machine.{fallback_order, IsFallbackOrder};
+ghost use Rattle.numa_machine.specs.Machine.{fallback_order, IsFallbackOrder, all_orders};
 ghost use Rattle.numa_machine.specs.Faults.{machine_fault, hardware_fault, fallback_fault};
 
 use crate::description::{fault_of, fault_of_fallback};
@@ -116,6 +116,35 @@ impl Machine {
         }
     }
 
+    /// The orders of its nodes, one after the other, as these are.
+    fn orders_under(&self, alloc: Global, fallback: Fallback) -> Result<Vec<u8>, MachineFault>
+        ensures ok { IfOk result (λ orders. (fallback_fault self.now.nodes fallback ≡ None)
+            × (orders.items ≡ all_orders (record self.now { fallback = fallback }))) }
+        ensures err { IfErr result (λ fault. MatchOption (fallback_fault self.now.nodes fallback)
+            (fault ≡ MachineFault.NoMemory) (λ first. fault ≡ first)) }
+    {
+        if let Some(fault) = fault_of_fallback(self.nodes, fallback) {
+            return Err(fault);
+        }
+        Ok(orders_of(alloc, self.nodes, &self.memory, &self.distances, fallback)?)
+    }
+
+    fn with_orders(self, orders: Vec<u8>, fallback: Fallback) -> Machine
+        requires no_fault { fallback_fault self.nodes fallback ≡ None }
+        requires orders { orders.items ≡ all_orders (record self { fallback = fallback }) }
+        ensures { result ≡ record self { fallback = fallback } }
+    {
+        Machine {
+            nodes: self.nodes,
+            memory: self.memory,
+            distances: self.distances,
+            frames: self.frames,
+            orders,
+            rules: self.rules,
+            fallback,
+        }
+    }
+
     /// The machine with these orders in the place of those that it has.
     ///
     /// # Errors
@@ -127,19 +156,8 @@ impl Machine {
         ensures err { IfErr result (λ fault. MatchOption (fallback_fault self.nodes fallback)
             (fault ≡ MachineFault.NoMemory) (λ first. fault ≡ first)) }
     {
-        if let Some(fault) = fault_of_fallback(self.nodes, fallback) {
-            return Err(fault);
-        }
-        let orders = orders_of(alloc, self.nodes, &self.memory, &self.distances, fallback)?;
-        Ok(Machine {
-            nodes: self.nodes,
-            memory: self.memory,
-            distances: self.distances,
-            frames: self.frames,
-            orders,
-            rules: self.rules,
-            fallback,
-        })
+        let orders = self.orders_under(alloc, fallback)?;
+        Ok(self.with_orders(orders, fallback))
     }
 
     /// The same machine once more.

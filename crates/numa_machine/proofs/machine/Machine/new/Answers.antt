@@ -1,13 +1,17 @@
-use Rattle.std.proofs.Common.{◌≡◌, None, [], sym, ap, ◌∙◌}
+use Rattle.std.proofs.Common.{◌≡◌, None, [], refl, sym, ap, ◌∙◌}
+use Rattle.numa_machine.specs.declared.fallback.Fallback.TheVariants.{Nearest}
 use Rattle.numa_machine.specs.declared.rules.Rules.TheVariants.{Document}
 use Rattle.numa_machine.specs.Machine.{all_orders}
 use Rattle.numa_machine.specs.Faults.{machine_fault}
 use Rattle.numa_machine.proofs.Stored.{all_orders-same}
-use Rattle.numa_machine.proofs.NoFault.{few_nodes}
+use Rattle.numa_machine.proofs.NoFault.{few_nodes, memory_within}
 use Rattle.numa_machine.proofs.machine.Machine.new.Goals as goal
 
-pub orders_of-requires : goal.orders_of-requires
-orders_of-requires c = few_nodes c.args.nodes c.args.memory c.args.distances.now c.args.frames.now (sym c.fault_of.ensures ∙ c.in_default.is)
+pub orders_of-requires-clause-nodes : goal.orders_of-requires-clause-nodes
+orders_of-requires-clause-nodes c = few_nodes c.args.nodes c.args.memory c.args.distances.now c.args.frames.now (sym c.fault_of.ensures ∙ c.in_default.is)
+
+pub orders_of-requires-clause-memory : goal.orders_of-requires-clause-memory
+orders_of-requires-clause-memory c = memory_within c.args.nodes c.args.memory c.args.distances.now c.args.frames.now (sym c.fault_of.ensures ∙ c.in_default.is)
 
 pub invariant_of-result : goal.invariant_of-result
 invariant_of-result c =
@@ -17,8 +21,9 @@ invariant_of-result c =
           ap (λ xs. machine_fault c.args.nodes c.args.memory xs c.in_ok-frames.frames.items) c.in_ok-distances.ensures.items
           ∙ ap (λ xs. machine_fault c.args.nodes c.args.memory c.args.distances.now xs) c.in_ok-frames.ensures.items
           ∙ no_fault;
+      no_fallback_fault = refl;
       orders_of_nodes =
           c.in_ok-orders.ensures
-          ∙ ap (λ xs. all_orders (record { nodes = c.args.nodes; memory = c.args.memory; distances = xs; frames = []; rules = Document })) (sym c.in_ok-distances.ensures.items)
-          ∙ sym (all_orders-same (record { nodes = c.args.nodes; memory = c.args.memory; distances = c.in_ok-distances.distances.items; frames = []; rules = Document }) c.in_ok-frames.frames.items Document);
+          ∙ ap (λ xs. all_orders (record { nodes = c.args.nodes; memory = c.args.memory; distances = xs; frames = []; rules = Document; fallback = Nearest })) (sym c.in_ok-distances.ensures.items)
+          ∙ all_orders-same c.args.nodes c.args.memory c.in_ok-distances.distances.items [] c.in_ok-frames.frames.items Document Document Nearest;
     }
