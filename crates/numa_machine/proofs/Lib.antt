@@ -6,4 +6,6 @@ pub mod Inserted
 pub mod NoFault
 pub mod Stored
 pub mod Loads
+pub mod Begins
+pub mod KernelRows
 pub mod Turns

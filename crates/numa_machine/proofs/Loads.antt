@@ -1,5 +1,5 @@
 -- How often the lists that a kernel makes have a turn at each node.
-use Rattle.std.proofs.Common.{◌≡◌, ℕ, zero, suc, ◌+◌, ◌*◌, ◌<◌, ◌≤◌, Bool, true, false, not, ltb, eqb, cond, List, length, [], ◌∷◌, ◌++◌, fold, count_by, sum_by, replicate, get_or, slice_index, set, All, Contains, refl, sym, ap, ◌∙◌, subst, arith, inl, inr, add-one, zero-add, drop}
+use Rattle.std.proofs.Common.{◌≡◌, ℕ, zero, suc, ◌+◌, ◌*◌, ◌<◌, ◌≤◌, Bool, true, false, eqb, cond, List, length, [], ◌∷◌, fold, count_by, replicate, get_or, slice_index, All, refl, sym, ap, ◌∙◌, subst, arith, inl, inr, add-one, zero-add, drop}
 use Rattle.std.proofs.Math.Seq.{drop-cons}
 use Rattle.std.specs.List.{range_with_len, list_any}
 use Rattle.std.proofs.lemmas.Bool.{cases_Bool, cases_eq, eqb-true, eq-eqb, ne_eqb}
@@ -7,10 +7,9 @@ use Rattle.std.proofs.lemmas.Grind.{get_or-set_at}
 use Rattle.std.proofs.lemmas.List.{length-set, length-replicate, get_or-set_other}
 use Rattle.std.proofs.lemmas.List.Sums.{sum_by-cons}
 use Rattle.std.proofs.lemmas.List.Elements.{All-contains}
-use Rattle.numa_mask.specs.NodeSet.{has, members, weight_of}
+use Rattle.numa_mask.specs.NodeSet.{members}
 use Rattle.numa_mask.proofs.Sets.{members-below, members-few}
 use Rattle.numa_machine.specs.declared.fallback.Fallback.TheVariants.{Kernel}
-use Rattle.numa_machine.specs.declared.rules.Rules.TheVariants.{Document}
 use Rattle.numa_machine.specs.Machine.{Hardware, distance, nearer_by, order_by, one_if, kernel_cost, turns, one_more_at, loads_before, kernel_order, fallback_order}
 use Rattle.numa_machine.proofs.Rising.{IsStrictOrder, ComesFirst, IsRising, IsIn, Contains-from_IsIn, not_in_ComesFirst}
 use Rattle.numa_machine.proofs.Nearest.{IsStrictOrder-nearer_by, IsRising-order_by, order_by-members, order_by-same, fallback_order-kernel}

@@ -1,11 +1,12 @@
 -- What a description without fault tells.
 use Rattle.std.proofs.Common.{◌≡◌, ◌≢◌, ℕ, ◌*◌, ◌<◌, ◌≤◌, Bool, true, false, not, ◌||◌, ◌&&◌, cond, eqb, ltb, leb, List, length, Option, Some, None, All, sum, slice_index, get_or, refl, arith, inl, inr}
 use Rattle.std.specs.List.{list_any}
-use Rattle.std.proofs.lemmas.Bool.{cases_lt, both_ways, or_parts, and_cases, not-false, eqb-true, eqb-false, ltb-false, leb-false}
+use Rattle.std.proofs.lemmas.Bool.{cases_lt, both_ways, or_parts, and_cases, not-false, eqb-true, eqb-false, ne_eqb, ltb-false, leb-false}
 use Rattle.std.proofs.lemmas.List.{get_or_past}
 use Rattle.std.proofs.lemmas.List.Elements.{Contains-get_or}
 use Rattle.numa_mask.specs.NodeSet.{has, members}
-use Rattle.numa_machine.specs.Faults.{some_node, has_bad_count, has_bad_memory, has_bad_distance, are_bad_frames, has_bad_frames, machine_fault}
+use Rattle.numa_machine.specs.Faults.{some_node, has_bad_count, has_bad_memory, has_bad_distance, is_bad_distance, are_bad_frames, has_bad_frames, machine_fault}
+use Rattle.numa_machine.specs.Machine.{table_entry}
 use Rattle.numa_machine.proofs.Rising.{IsIn-from_Contains}
 use Rattle.numa_machine.proofs.Nodes.{none_of_the_nodes, none_of_the_list}
 
@@ -49,6 +50,15 @@ module _ (nodes memory : ℕ) (distances frames : List ℕ) (no_fault : machine_
   pub memory_within : All (λ node. node < nodes) (members memory)
   memory_within = λ k d h.
       leb-false nodes (get_or (members memory) k d) (none_of_the_list (λ node. leb nodes node) (members memory) (get_or (members memory) k d) memory_passed.1 (IsIn-from_Contains (members memory) _ (Contains-get_or (members memory) k d h)))
+
+  pub far_apart : (from to : ℕ) → from < nodes → to < nodes → (from ≡ to → ⊥) → 10 < table_entry nodes distances from to
+  unfolding has_bad_distance
+  far_apart from to h k differ =
+      let row : some_node nodes (λ to. is_bad_distance from to (table_entry nodes distances from to)) ≡ false =
+      none_of_the_nodes nodes (λ from. some_node nodes (λ to. is_bad_distance from to (table_entry nodes distances from to))) from passed.2 h in
+      let good : is_bad_distance from to (table_entry nodes distances from to) ≡ false = none_of_the_nodes nodes (λ to. is_bad_distance from to (table_entry nodes distances from to)) to row k in
+      let other : leb (table_entry nodes distances from to) 10 ≡ false = rw (ne_eqb from to differ) at good in
+      leb-false (table_entry nodes distances from to) 10 other
 
   good_frames : (node : ℕ) → node < nodes → are_bad_frames memory node (slice_index frames node) ≡ false
   unfolding has_bad_frames

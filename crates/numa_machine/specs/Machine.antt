@@ -81,7 +81,8 @@ turns far before (node ∷ nodes) =
 abbrev pub one_more_at : List ℕ → ℕ → List ℕ
 one_more_at loads node = set loads node (slice_index loads node + 1)
 
--- how many of the lists that a kernel made for the nodes below this one have a turn at node 0, 1, ..
+-- how many of the lists that a kernel made for the nodes below this one have a turn at node 0, at
+-- node 1, ..
 unfoldable pub loads_before : Hardware → ℕ → ℕ → List ℕ
 loads_before hardware cpus zero = replicate 256 0
 loads_before hardware cpus (suc from) =

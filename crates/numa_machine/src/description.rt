@@ -153,13 +153,13 @@ pub(crate) fn fault_of(
 }
 
 /// What is wrong with the orders that a machine of so many nodes is asked to have.
-pub(crate) fn fault_of_fallback(nodes: u32, fallback: Fallback) -> Option<MachineFault>
-    ensures { result ≡ fallback_fault nodes fallback }
+pub(crate) fn fault_of_fallback(nodes: u32, fallback: &Fallback) -> Option<MachineFault>
+    ensures { result ≡ fallback_fault nodes fallback.now }
 {
     match fallback {
         Fallback::Nearest => None,
         Fallback::Kernel(cpus) => {
-            if has_other_node(nodes, &cpus) {
+            if has_other_node(nodes, cpus) {
                 Some(MachineFault::NodeCount)
             } else {
                 None

@@ -14,8 +14,10 @@ use std::alloc::{AllocError, Global};
 pub enum Fallback {
     /// The nearest node first, of equally distant ones the lower number.
     Nearest,
-    /// As Linux 6.1 to 6.12 makes its zone lists, where these nodes have CPUs: the nearest node
-    /// first as well, but a node does not lead the equally distant ones for all others.
+    /// As Linux 6.1 to 6.12 makes its zone lists, where these nodes have CPUs: by distance, with one
+    /// more to a lower number and one more to a node with CPUs; of equal ones the node first at
+    /// which fewer of the lists made so far turn to another distance, so that not all nodes fall
+    /// back to the same one.
     Kernel(NodeMask),
 }
 
@@ -25,7 +27,7 @@ pub(crate) fn orders_of(
     nodes: u32,
     memory: &NodeMask,
     table: &[u8],
-    fallback: Fallback,
+    fallback: &Fallback,
 ) -> Result<Vec<u8>, AllocError>
     requires nodes { nodes ≤ 256 }
     requires memory { All (λ node. node < nodes) (members memory.now) }
@@ -36,11 +38,11 @@ pub(crate) fn orders_of(
           distances = table.now;
           frames = [];
           rules = Document;
-          fallback = fallback;
+          fallback = fallback.now;
         })) }
 {
     match fallback {
         Fallback::Nearest => distance_orders(alloc, nodes, memory, table),
-        Fallback::Kernel(cpus) => kernel_orders(alloc, nodes, memory, table, &cpus),
+        Fallback::Kernel(cpus) => kernel_orders(alloc, nodes, memory, table, cpus),
     }
 }

@@ -6,7 +6,7 @@ ghost use Rattle.numa_machine.specs.Machine.{all_orders, one_if, one_more_at, tu
 ghost use Rattle.numa_machine.specs.declared.fallback.Fallback.TheVariants.{Kernel};
 ghost use Rattle.numa_machine.specs.declared.rules.Rules.TheVariants.{Document};
 
-use crate::orders::{append_order, entry, NODES};
+use crate::orders::{NODES, append_order, entry};
 use numa_mask::NodeMask;
 use std::alloc::{AllocError, Global};
 

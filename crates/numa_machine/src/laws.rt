@@ -1,8 +1,14 @@
 //! Laws about the definitions that the contracts of this crate cite. Each function does nothing:
 //! what it ensures is the law.
-ghost use Rattle.std.specs.Prelude.{◌≡◌, ℕ, ◌%◌, ◌<◌, List, length, slice_index};
-ghost use Rattle.numa_mask.specs.NodeSet.{weight_of};
-ghost use Rattle.numa_machine.specs.Machine.{Hardware, IsDistanceOrder, distance_order};
+ghost use Rattle.std.specs.Prelude.{◌≡◌, ◌==◌, ℕ, ◌%◌, ◌<◌, List, Contains, None, count_by, length};
+ghost use Rattle.std.specs.Prelude.{slice_index};
+ghost use Rattle.std.specs.List.{list_any, range_with_len};
+ghost use Rattle.numa_mask.specs.NodeSet.{members, weight_of};
+ghost use Rattle.numa_machine.specs.Faults.{hardware_fault};
+ghost use Rattle.numa_machine.specs.Machine.{Hardware, IsDistanceOrder, distance_order, distance};
+ghost use Rattle.numa_machine.specs.Machine.{IsFallbackOrder, fallback_order, kernel_order, turns};
+ghost use Rattle.numa_machine.specs.Machine.{loads_before};
+ghost use Rattle.numa_machine.specs.declared.fallback.Fallback.TheVariants as Fallback;
 ghost use Rattle.numa_machine.specs.Weights.{interleave_node, IsInterleaveNode, total_weight};
 ghost use Rattle.numa_machine.specs.Weights.{weighted_node, IsWeightedNode, cycle};
 
@@ -13,6 +19,34 @@ pub fn distance_orders()
         IsDistanceOrder hardware from (distance_order hardware from) }
     ensures is_the_only_one { (hardware : Hardware) (from : ℕ) (order : List ℕ)
         → IsDistanceOrder hardware from order → order ≡ distance_order hardware from }
+{}
+
+/// The order in which a node falls back has each node with memory once, of each two the one that
+/// costs less earlier, at one cost the lower number, and it is the only list that does. It is the
+/// distance order, or the list that a kernel makes, as the machine says.
+pub fn fallback_orders()
+    ensures is_one { (hardware : Hardware) (from : ℕ) →
+        IsFallbackOrder hardware from (fallback_order hardware from) }
+    ensures is_the_only_one { (hardware : Hardware) (from : ℕ) (order : List ℕ)
+        → IsFallbackOrder hardware from order → order ≡ fallback_order hardware from }
+    ensures nearest { (hardware : Hardware) (from : ℕ) → hardware.fallback ≡ Fallback.Nearest
+        → fallback_order hardware from ≡ distance_order hardware from }
+    ensures kernel { (hardware : Hardware) (cpus from : ℕ)
+        → hardware.fallback ≡ Fallback.Kernel cpus
+        → fallback_order hardware from ≡ kernel_order hardware cpus from }
+{}
+
+/// The list that a kernel makes for a node with memory begins with it. The load of a node, when the
+/// list of another is made, is how many lists of lower nodes have a turn at it.
+pub fn kernel_orders()
+    ensures itself_first { (hardware : Hardware) (cpus from : ℕ) → hardware_fault hardware ≡ None
+        → from < hardware.nodes → Contains (members hardware.memory) from
+        → slice_index (kernel_order hardware cpus from) 0 ≡ from }
+    ensures loads { (hardware : Hardware) (cpus from node : ℕ)
+        → slice_index (loads_before hardware cpus from) node
+        ≡ count_by (λ lower. list_any (λ turn. turn == node)
+        (turns (distance hardware lower) 10 (kernel_order hardware cpus lower)))
+        (range_with_len 0 from) }
 {}
 
 /// The node that interleave chooses from a set that is not empty is the member with as many smaller

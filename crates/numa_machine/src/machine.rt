@@ -7,7 +7,7 @@ ghost use Rattle.numa_machine.specs.Machine.{fallback_order, IsFallbackOrder, al
 ghost use Rattle.numa_machine.specs.Faults.{machine_fault, hardware_fault, fallback_fault};
 
 use crate::description::{fault_of, fault_of_fallback};
-use crate::fallback::{orders_of, Fallback};
+use crate::fallback::{Fallback, orders_of};
 use crate::fault::MachineFault;
 use crate::no_memory::NoMemory;
 use crate::orders::entry;
@@ -61,8 +61,9 @@ impl Model for Machine {
 impl Machine {
     /// The machine with this many nodes, these of them with memory, these distances between them
     /// (row by row, the row of a node before that of the next) and this many frames of 4,096 bytes
-    /// for each node. It follows the rules of the documents, and each node falls back to the
-    /// nearest first. Refusals, the first that applies: `NodeCount`, `NoMemoryNode`, `BadDistance`, `TooManyFrames`, `NoMemory`.
+    /// for each node. It follows the rules of the documents, and each node falls back to the nearest
+    /// first. Refusals, the first that applies: `NodeCount`, `NoMemoryNode`, `BadDistance`,
+    /// `TooManyFrames`, `NoMemory`.
     pub fn new(
         alloc: Global,
         nodes: u32,
@@ -87,7 +88,7 @@ impl Machine {
         if let Some(fault) = fault_of(nodes, &memory, distances, frames) {
             return Err(fault);
         }
-        let orders = orders_of(alloc, nodes, &memory, distances, Fallback::Nearest)?;
+        let orders = orders_of(alloc, nodes, &memory, distances, &Fallback::Nearest)?;
         let distances = Vec::from_slice(alloc, distances)?;
         let frames = Vec::from_slice(alloc, frames)?;
         Ok(Machine {
@@ -116,35 +117,6 @@ impl Machine {
         }
     }
 
-    /// The orders of its nodes, one after the other, as these are.
-    fn orders_under(&self, alloc: Global, fallback: Fallback) -> Result<Vec<u8>, MachineFault>
-        ensures ok { IfOk result (λ orders. (fallback_fault self.now.nodes fallback ≡ None)
-            × (orders.items ≡ all_orders (record self.now { fallback = fallback }))) }
-        ensures err { IfErr result (λ fault. MatchOption (fallback_fault self.now.nodes fallback)
-            (fault ≡ MachineFault.NoMemory) (λ first. fault ≡ first)) }
-    {
-        if let Some(fault) = fault_of_fallback(self.nodes, fallback) {
-            return Err(fault);
-        }
-        Ok(orders_of(alloc, self.nodes, &self.memory, &self.distances, fallback)?)
-    }
-
-    fn with_orders(self, orders: Vec<u8>, fallback: Fallback) -> Machine
-        requires no_fault { fallback_fault self.nodes fallback ≡ None }
-        requires orders { orders.items ≡ all_orders (record self { fallback = fallback }) }
-        ensures { result ≡ record self { fallback = fallback } }
-    {
-        Machine {
-            nodes: self.nodes,
-            memory: self.memory,
-            distances: self.distances,
-            frames: self.frames,
-            orders,
-            rules: self.rules,
-            fallback,
-        }
-    }
-
     /// The machine with these orders in the place of those that it has.
     ///
     /// # Errors
@@ -156,8 +128,19 @@ impl Machine {
         ensures err { IfErr result (λ fault. MatchOption (fallback_fault self.nodes fallback)
             (fault ≡ MachineFault.NoMemory) (λ first. fault ≡ first)) }
     {
-        let orders = self.orders_under(alloc, fallback)?;
-        Ok(self.with_orders(orders, fallback))
+        if let Some(fault) = fault_of_fallback(self.nodes, &fallback) {
+            return Err(fault);
+        }
+        let orders = orders_of(alloc, self.nodes, &self.memory, &self.distances, &fallback)?;
+        Ok(Machine {
+            nodes: self.nodes,
+            memory: self.memory,
+            distances: self.distances,
+            frames: self.frames,
+            orders,
+            rules: self.rules,
+            fallback,
+        })
     }
 
     /// The same machine once more.

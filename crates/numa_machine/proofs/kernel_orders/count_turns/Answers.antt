@@ -1,6 +1,6 @@
-use Rattle.std.proofs.Common.{◌≡◌, ℕ, ◌+◌, ◌≤◌, List, length, slice_index, get_or, drop, fold, ap, sym, ◌∙◌, arith}
+use Rattle.std.proofs.Common.{ℕ, ◌+◌, ◌≤◌, List, slice_index, get_or, fold, ap, sym, ◌∙◌, arith}
 use Rattle.std.proofs.Math.ListN.{drop_of_length-le}
-use Rattle.std.specs.Prelude.{◌==◌, if◌then◌else◌}
+use Rattle.std.specs.Prelude.{◌==◌}
 use Rattle.numa_machine.specs.Machine.{one_more_at, turns}
 use Rattle.numa_machine.proofs.Loads.{turn-taken, turn-few}
 use Rattle.numa_machine.proofs.kernel_orders.count_turns.Goals as goal

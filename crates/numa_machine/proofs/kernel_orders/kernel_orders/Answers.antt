@@ -1,9 +1,8 @@
-use Rattle.std.proofs.Common.{◌≡◌, ℕ, ◌+◌, ◌*◌, ◌-◌, ◌++◌, ◌<◌, [], List, take, drop, length, slice_index, fold, refl, ap, sym, ◌∙◌, arith, rules, All}
-use Rattle.numa_mask.specs.NodeSet.{members, weight_of}
+use Rattle.std.proofs.Common.{◌≡◌, ℕ, ◌-◌, ◌++◌, [], List, take, drop, length, slice_index, refl, ap, sym, ◌∙◌, arith, rules}
 use Rattle.numa_mask.proofs.Sets.{members-few}
 use Rattle.numa_machine.specs.declared.fallback.Fallback.TheVariants.{Kernel}
 use Rattle.numa_machine.specs.declared.rules.Rules.TheVariants.{Document}
-use Rattle.numa_machine.specs.Machine.{Hardware, distance, order_by, turns, one_more_at, fallback_order, loads_before}
+use Rattle.numa_machine.specs.Machine.{Hardware, order_by, fallback_order, loads_before}
 use Rattle.numa_machine.proofs.Inserted.{part_behind}
 use Rattle.numa_machine.proofs.Loads.{loads-few, list-made, loads-more}
 use Rattle.numa_machine.proofs.Nodes.{flat_map-range_more}
