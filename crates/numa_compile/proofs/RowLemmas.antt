@@ -6,7 +6,7 @@ use Rattle.std.proofs.Math.Nat.{mod-lt}
 use Rattle.std.proofs.lemmas.List.Elements.{All-get_or}
 use Rattle.numa_mask.specs.NodeSet.{has, both, members, weight_of}
 use Rattle.numa_mask.proofs.Images.{weight-some}
-use Rattle.numa_machine.specs.Machine.{distance_order}
+use Rattle.numa_machine.specs.Machine.{fallback_order}
 use Rattle.numa_space.specs.Lists.{Setting, within, near}
 use Rattle.numa_space.specs.Standing.{SpaceState, setting_in}
 use Rattle.numa_space.proofs.ListSizes.{filter-short, split-short, order-short}
@@ -34,9 +34,9 @@ pub row-some : (space : SpaceState) (reach : Reach) (from : ℕ) → IsReady spa
 row-some space reach from ready some inside = omega (arith, row-width space reach from ready inside, width-some space reach ready some inside)
 
 pub row-few : (setting : Setting) (reach : Reach) (from : ℕ) → length (row_from setting reach from) ≤ 256
-row-few setting (Only set) from = omega (arith, filter-short (has set) (distance_order setting.machine from), order-short setting.machine from)
+row-few setting (Only set) from = omega (arith, filter-short (has set) (fallback_order setting.machine from), order-short setting.machine from)
 row-few setting (First set) from =
-    let order : List ℕ = distance_order setting.machine from in
+    let order : List ℕ = fallback_order setting.machine from in
     omega (arith, length-append (within set order) (filter (λ node. has setting.allowed node && not (has set node)) order), split-short (has set) (has setting.allowed) order, order-short setting.machine from)
 
 -- ---- rules

@@ -5,7 +5,7 @@ use Rattle.std.specs.List.{range_with_len}
 use Rattle.numa_mask.specs.NodeSet.{has, both, members, weight_of}
 use Rattle.numa_mask.proofs.Members.{filter_agree_from}
 use Rattle.numa_mask.proofs.Counts.{filter_twice}
-use Rattle.numa_machine.specs.Machine.{Hardware, nearer, insert_by, distance_order}
+use Rattle.numa_machine.specs.Machine.{Hardware, precedes, insert_by, fallback_order}
 use Rattle.numa_mode.specs.Within.{IsWithin}
 use Rattle.numa_space.specs.Lists.{Setting, within, near}
 use Rattle.numa_space.proofs.NodeLists.{within-from_both}
@@ -50,27 +50,27 @@ filter-members set other inside =
 
 -- ---- lists
 
--- the nodes of a set with memory, in the order of their distances
-pub width-within : (machine : Hardware) (set from : ℕ) → IsWithin set machine.memory → length (within set (distance_order machine from)) ≡ weight_of set
-unfolding distance_order
+-- the nodes of a set with memory, in the order in which a node falls back to them
+pub width-within : (machine : Hardware) (set from : ℕ) → IsWithin set machine.memory → length (within set (fallback_order machine from)) ≡ weight_of set
+unfolding fallback_order
 width-within machine set from inside =
     let kept : length (filter (has set) (members machine.memory)) ≡ weight_of set = ap length (filter-members set machine.memory inside) in
-    omega (arith, filter-inserted (has set) (nearer machine from) [] (members machine.memory), kept)
+    omega (arith, filter-inserted (has set) (precedes machine from) [] (members machine.memory), kept)
 
 -- the allowed nodes
 pub width-near : (setting : Setting) (from : ℕ) → both setting.allowed setting.machine.memory ≡ setting.allowed → length (near setting from) ≡ weight_of setting.allowed
 width-near setting from memory = width-within setting.machine setting.allowed from (within-from_both setting.allowed setting.machine.memory memory)
 
 -- the nodes of a set of allowed nodes
-pub width-bind : (setting : Setting) (set from : ℕ) → both setting.allowed setting.machine.memory ≡ setting.allowed → both set setting.allowed ≡ set → length (within set (distance_order setting.machine from)) ≡ weight_of set
+pub width-bind : (setting : Setting) (set from : ℕ) → both setting.allowed setting.machine.memory ≡ setting.allowed → both set setting.allowed ≡ set → length (within set (fallback_order setting.machine from)) ≡ weight_of set
 width-bind setting set from memory inside =
     width-within setting.machine set from (λ node member. within-from_both setting.allowed setting.machine.memory memory node (within-from_both set setting.allowed inside node member))
 
 -- and behind them the other allowed nodes
 pub width-many : (setting : Setting) (set from : ℕ) → both setting.allowed setting.machine.memory ≡ setting.allowed → both set setting.allowed ≡ set
-    → length (within set (distance_order setting.machine from) ++ filter (λ node. has setting.allowed node && not (has set node)) (distance_order setting.machine from)) ≡ weight_of setting.allowed
+    → length (within set (fallback_order setting.machine from) ++ filter (λ node. has setting.allowed node && not (has set node)) (fallback_order setting.machine from)) ≡ weight_of setting.allowed
 width-many setting set from memory inside =
-    let order : List ℕ = distance_order setting.machine from in
+    let order : List ℕ = fallback_order setting.machine from in
     length-append (within set order) (filter (λ node. has setting.allowed node && not (has set node)) order)
     ∙ filter-split (has set) (has setting.allowed) (within-from_both set setting.allowed inside) order
     ∙ width-near setting from memory

@@ -2,7 +2,7 @@
 use Rattle.std.specs.Prelude.{◌≡◌, ◌≢◌, ℕ, ◌+◌, ◌^◌, ◌<◌, ◌≤◌, ◌&&◌, not, Option, List, [], ◌∷◌, ◌++◌}
 use Rattle.std.specs.Prelude.{filter, flat_map, replicate, All}
 use Rattle.numa_mask.specs.NodeSet.{has, members, weight_of}
-use Rattle.numa_machine.specs.Machine.{distance_order}
+use Rattle.numa_machine.specs.Machine.{fallback_order}
 use Rattle.numa_mode.specs.Policy.{PolicyRecord}
 use Rattle.numa_space.specs.Lists.{Setting, list_for, within}
 use Rattle.numa_space.specs.Standing.{SpaceState, IsSound}
@@ -13,11 +13,11 @@ use Rattle.numa_compile.specs.declared.reach.Reach.TheVariants.{Only, First}
 -- the row for a fault on a node: the nodes of a set, the nearest first, alone or with the other
 -- allowed nodes behind them
 abbrev pub row_from : Setting → Reach → ℕ → List ℕ
-row_from setting (Only set) from = within set (distance_order setting.machine from)
+row_from setting (Only set) from = within set (fallback_order setting.machine from)
 row_from setting (First set) from =
-    within set (distance_order setting.machine from)
+    within set (fallback_order setting.machine from)
     ++ filter (λ node. has setting.allowed node && not (has set node))
-    (distance_order setting.machine from)
+    (fallback_order setting.machine from)
 
 -- the rows for faults on these nodes, one behind another
 abbrev pub rows_from : Setting → Reach → List ℕ → List ℕ

@@ -2,7 +2,7 @@
 -- last of them or none is published.
 use Rattle.std.proofs.Common.{◌≡◌, ℕ, Result, Ok, Err, List, [], ◌∷◌, length, refl}
 use Rattle.numa_mask.specs.NodeSet.{members}
-use Rattle.numa_machine.specs.Machine.{Hardware, distance_order}
+use Rattle.numa_machine.specs.Machine.{Hardware, fallback_order}
 use Rattle.numa_mode.specs.declared.modes.Mode.TheVariants.{Preferred, Bind, PreferredMany}
 use Rattle.numa_mode.specs.declared.modes.NodeFlag.TheVariants.{Plain}
 use Rattle.numa_space.specs.declared.command.Command.{Command}
@@ -75,7 +75,7 @@ versions-row : answers (four_on (with_frames (1 ∷ 1 ∷ []))) (accepted versio
     ∷ Ok Still
     ∷ won 2 1 0x10 1 0 0
     ∷ [])
-unfolding members distance_order list_at versions mems_of lacks_mems
+unfolding members fallback_order list_at versions mems_of lacks_mems
 versions-row = refl
 
 -- a worker may take a published version that isn't the newest: version 1 has no policy for the task, and version 2 binds it to node 1
@@ -100,7 +100,7 @@ older-row : answers (four_on (with_frames (1 ∷ 1 ∷ []))) (accepted (Map 0x10
     ∷ Err BadTry
     ∷ won 2 1 0x10 1 0 0
     ∷ [])
-unfolding members distance_order list_at mems_of lacks_mems
+unfolding members fallback_order list_at mems_of lacks_mems
 older-row = refl
 
 -- a page with a policy of its own, a fault on node 1, and a hunt that later commands and publications leave as it is
@@ -131,7 +131,7 @@ pages-row : answers (four_on (with_frames (2 ∷ 2 ∷ []))) (accepted pages) ((
     ∷ won 2 1 0x11 1 1 0
     ∷ won 2 1 0x10 0 1 0
     ∷ [])
-unfolding members distance_order list_at pages mems_of lacks_mems
+unfolding members fallback_order list_at pages mems_of lacks_mems
 pages-row = refl
 
 -- ---- one frame on each node: a list that is exhausted, and one that goes on at its second node
@@ -163,7 +163,7 @@ exhausted-row : answers (four_on (with_frames (1 ∷ 1 ∷ []))) (accepted exhau
     ∷ Ok Still
     ∷ Ok (Exhausted 3)
     ∷ [])
-unfolding members distance_order list_at exhausted mems_of lacks_mems
+unfolding members fallback_order list_at exhausted mems_of lacks_mems
 exhausted-row = refl
 
 -- ---- two workers that look at one frame: one wins it, and the other finds that out by its own try
@@ -196,7 +196,7 @@ two_workers-row : answers (four_on (with_frames (1 ∷ 1 ∷ []))) (accepted (Ma
     ∷ Err Idle
     ∷ Err NoSuchWorker
     ∷ [])
-unfolding members distance_order list_at mems_of lacks_mems
+unfolding members fallback_order list_at mems_of lacks_mems
 two_workers-row = refl
 
 -- ---- 65 frames are two words, 0 and 1
@@ -223,7 +223,7 @@ borders-row : answers (four_on (with_frames (65 ∷ []))) (accepted (Map 0x10000
     ∷ Err Busy
     ∷ won 1 1 0x10 0 63 0
     ∷ [])
-unfolding members distance_order list_at mems_of lacks_mems
+unfolding members fallback_order list_at mems_of lacks_mems
 borders-row = refl
 
 -- a node of 64 frames has word 0 alone, and a worker's own frames count as met by its Look too
@@ -245,7 +245,7 @@ one_word-row : answers (four_on (with_frames (64 ∷ []))) (accepted (Map 0x1000
     ∷ Err BadTry
     ∷ Err Busy
     ∷ [])
-unfolding members distance_order list_at mems_of lacks_mems
+unfolding members fallback_order list_at mems_of lacks_mems
 one_word-row = refl
 
 -- ---- nodes without frames are passed over, and their places in the list count
@@ -266,5 +266,5 @@ no_frames-row : answers (four_on (with_frames (0 ∷ 0 ∷ 1 ∷ []))) (accepted
     ∷ Err (Unmapped 2)
     ∷ Err BadCpu
     ∷ [])
-unfolding members distance_order list_at mems_of lacks_mems
+unfolding members fallback_order list_at mems_of lacks_mems
 no_frames-row = refl

@@ -1,7 +1,7 @@
 -- Worked examples of touches: what workers are answered, one touch after the other. Each begins at a world in which the commands are published.
 use Rattle.std.proofs.Common.{◌≡◌, ℕ, Result, Ok, Err, List, [], ◌∷◌, length, refl}
 use Rattle.numa_mask.specs.NodeSet.{members}
-use Rattle.numa_machine.specs.Machine.{distance_order}
+use Rattle.numa_machine.specs.Machine.{fallback_order}
 use Rattle.numa_machine.specs.Weights.{interleave_node}
 use Rattle.numa_mode.specs.declared.modes.Mode.TheVariants.{Bind, PreferredMany, Interleave}
 use Rattle.numa_mode.specs.declared.modes.NodeFlag.TheVariants.{Plain}
@@ -42,7 +42,7 @@ exhausted-row : answers (four_on (with_frames (1 ∷ 1 ∷ []))) (published exha
     ∷ won 3 2 0x11 1 0 1
     ∷ Ok (Exhausted 3)
     ∷ [])
-unfolding members distance_order list_at result_of_touch exhausted
+unfolding members fallback_order list_at result_of_touch exhausted
 exhausted-row = refl
 
 -- ---- eight frames on each node: each page is placed where its policy says, from the lowest frame up
@@ -61,7 +61,7 @@ maps-row : answers (four_on (with_frames (8 ∷ 8 ∷ 8 ∷ 8 ∷ []))) (publish
     ∷ won 3 1 0x14 2 0 0
     ∷ won 3 1 0x15 2 1 0
     ∷ [])
-unfolding members distance_order interleave_node list_at result_of_touch maps
+unfolding members fallback_order interleave_node list_at result_of_touch maps
 maps-row = refl
 
 -- ---- what is refused, and nodes without frames: they are passed over, and their places in the list count
@@ -77,9 +77,9 @@ refused-row : answers (four_on (with_frames (0 ∷ 0 ∷ 1 ∷ []))) (published 
     ∷ won 1 1 0x10 2 0 2
     ∷ Ok (Exhausted 1)
     ∷ [])
-unfolding members distance_order list_at result_of_touch
+unfolding members fallback_order list_at result_of_touch
 refused-row = refl
 
 no_worker-row : answers (four_on (with_frames (1 ∷ []))) (published (Map 0x10000 0x1000 0 ∷ [])) 4 (fault 1 0x10 ∷ []) ≡ (Err NoSuchWorker ∷ [])
-unfolding members distance_order list_at result_of_touch
+unfolding members fallback_order list_at result_of_touch
 no_worker-row = refl

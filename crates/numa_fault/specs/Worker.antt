@@ -1,5 +1,6 @@
 -- What a fault worker shows.
 use Rattle.std.specs.Prelude.{◌≡◌, ℕ, List, [], Option, Some, None}
+use Rattle.numa_machine.specs.declared.fallback.Fallback.TheVariants.{Nearest}
 use Rattle.numa_machine.specs.declared.rules.Rules.TheVariants.{Document}
 use Rattle.numa_pool.specs.Seats.{SeatView}
 use Rattle.numa_publish.specs.Shown.{ReaderState}
@@ -29,7 +30,14 @@ abbrev pub no_reader : ReaderState
 no_reader = record {
   desk = record {
     book = record { number = 0; log_name = 0; cells_name = 0 };
-    machine = record { nodes = 0; memory = 0; distances = []; frames = []; rules = Document };
+    machine = record {
+      nodes = 0;
+      memory = 0;
+      distances = [];
+      frames = [];
+      rules = Document;
+      fallback = Nearest;
+    };
   };
   history = [];
   versions = [];

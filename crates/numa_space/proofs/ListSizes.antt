@@ -7,10 +7,10 @@ use Rattle.std.specs.List.{range_with_len}
 use Rattle.std.specs.Prelude.{unwrap_or, slice_index}
 use Rattle.numa_mask.specs.NodeSet.{has, both, members, weight_of}
 use Rattle.numa_mask.proofs.Sets.{members-below}
-use Rattle.numa_machine.specs.Machine.{Hardware, distance_order, IsDistanceOrder}
+use Rattle.numa_machine.specs.Machine.{Hardware, fallback_order, IsFallbackOrder}
 use Rattle.numa_machine.specs.Weights.{interleave_node, weighted_node}
-use Rattle.numa_machine.proofs.Nearest.{IsDistanceOrder-distance_order}
-use Rattle.numa_machine.proofs.Stored.{length-distance_order}
+use Rattle.numa_machine.proofs.Nearest.{IsFallbackOrder-fallback_order}
+use Rattle.numa_machine.proofs.Stored.{length-fallback_order}
 use Rattle.numa_mode.specs.Policy.{PolicyRecord}
 use Rattle.numa_mode.specs.declared.modes.Mode.{Mode}
 use Rattle.numa_mode.specs.declared.modes.Mode.TheVariants.{Default, Preferred, Bind, Interleave, Local, PreferredMany, WeightedInterleave}
@@ -37,32 +37,32 @@ pub weight-few : (set : ℕ) → weight_of set ≤ 256
 unfolding members
 weight-few set = omega (arith, filter-short (has set) (range_with_len 0 256), length-range_with_len 0 256)
 
-pub order-short : (machine : Hardware) (from : ℕ) → length (distance_order machine from) ≤ 256
-order-short machine from = omega (arith, length-distance_order machine from, weight-few machine.memory)
+pub order-short : (machine : Hardware) (from : ℕ) → length (fallback_order machine from) ≤ 256
+order-short machine from = omega (arith, length-fallback_order machine from, weight-few machine.memory)
 
-pub order-below : (machine : Hardware) (from : ℕ) → All (λ node. node < 256) (distance_order machine from)
+pub order-below : (machine : Hardware) (from : ℕ) → All (λ node. node < 256) (fallback_order machine from)
 order-below machine from k d l =
-    let order : IsDistanceOrder machine from (distance_order machine from) = IsDistanceOrder-distance_order machine from in
-    All-contains (λ node. node < 256) (members machine.memory) _ (members-below machine.memory) ((order.nodes_with_memory _).0 (Contains-get_or (distance_order machine from) k d l))
+    let order : IsFallbackOrder machine from (fallback_order machine from) = IsFallbackOrder-fallback_order machine from in
+    All-contains (λ node. node < 256) (members machine.memory) _ (members-below machine.memory) ((order.nodes_with_memory _).0 (Contains-get_or (fallback_order machine from) k d l))
 
 mode-short : (setting : Setting) (mode : Mode) (set from index : ℕ) → length (list_by_mode setting mode set from index) ≤ 256
-mode-short setting Default set from index = omega (arith, filter-short (has setting.allowed) (distance_order setting.machine from), order-short setting.machine from)
-mode-short setting Preferred set from index = omega (arith, filter-short (has setting.allowed) (distance_order setting.machine (slice_index (members set) 0)), order-short setting.machine (slice_index (members set) 0))
-mode-short setting Bind set from index = omega (arith, filter-short (has set) (distance_order setting.machine from), order-short setting.machine from)
-mode-short setting Interleave set from index = omega (arith, filter-short (has setting.allowed) (distance_order setting.machine (interleave_node set index)), order-short setting.machine (interleave_node set index))
-mode-short setting Local set from index = omega (arith, filter-short (has setting.allowed) (distance_order setting.machine from), order-short setting.machine from)
+mode-short setting Default set from index = omega (arith, filter-short (has setting.allowed) (fallback_order setting.machine from), order-short setting.machine from)
+mode-short setting Preferred set from index = omega (arith, filter-short (has setting.allowed) (fallback_order setting.machine (slice_index (members set) 0)), order-short setting.machine (slice_index (members set) 0))
+mode-short setting Bind set from index = omega (arith, filter-short (has set) (fallback_order setting.machine from), order-short setting.machine from)
+mode-short setting Interleave set from index = omega (arith, filter-short (has setting.allowed) (fallback_order setting.machine (interleave_node set index)), order-short setting.machine (interleave_node set index))
+mode-short setting Local set from index = omega (arith, filter-short (has setting.allowed) (fallback_order setting.machine from), order-short setting.machine from)
 mode-short setting PreferredMany set from index =
-    let order : List ℕ = distance_order setting.machine from in
+    let order : List ℕ = fallback_order setting.machine from in
     omega (arith, length-append (within (both set setting.allowed) order) (filter (λ node. has setting.allowed node && not (has (both set setting.allowed) node)) order), split-short (has (both set setting.allowed)) (has setting.allowed) order, order-short setting.machine from)
-mode-short setting WeightedInterleave set from index = omega (arith, filter-short (has setting.allowed) (distance_order setting.machine (weighted_node setting.weight set index)), order-short setting.machine (weighted_node setting.weight set index))
+mode-short setting WeightedInterleave set from index = omega (arith, filter-short (has setting.allowed) (fallback_order setting.machine (weighted_node setting.weight set index)), order-short setting.machine (weighted_node setting.weight set index))
 
 -- a list has at most 256 nodes
 pub list-short : (setting : Setting) (policy : Option PolicyRecord) (cpu index : ℕ) → length (list_for setting policy cpu index) ≤ 256
-list-short setting None cpu index = omega (arith, filter-short (has setting.allowed) (distance_order setting.machine cpu), order-short setting.machine cpu)
+list-short setting None cpu index = omega (arith, filter-short (has setting.allowed) (fallback_order setting.machine cpu), order-short setting.machine cpu)
 list-short setting (Some r) cpu index = mode-short setting r.spec.mode r.effective (unwrap_or r.home cpu) index
 
-filtered-below : (p : ℕ → Bool) (machine : Hardware) (from : ℕ) → All (λ node. node < 256) (filter p (distance_order machine from))
-filtered-below p machine from = All-filter p (λ node. node < 256) (distance_order machine from) (order-below machine from)
+filtered-below : (p : ℕ → Bool) (machine : Hardware) (from : ℕ) → All (λ node. node < 256) (filter p (fallback_order machine from))
+filtered-below p machine from = All-filter p (λ node. node < 256) (fallback_order machine from) (order-below machine from)
 
 mode-below : (setting : Setting) (mode : Mode) (set from index : ℕ) → All (λ node. node < 256) (list_by_mode setting mode set from index)
 mode-below setting Default set from index = filtered-below (has setting.allowed) setting.machine from
@@ -71,7 +71,7 @@ mode-below setting Bind set from index = filtered-below (has set) setting.machin
 mode-below setting Interleave set from index = filtered-below (has setting.allowed) setting.machine (interleave_node set index)
 mode-below setting Local set from index = filtered-below (has setting.allowed) setting.machine from
 mode-below setting PreferredMany set from index =
-    All-append (λ node. node < 256) (within (both set setting.allowed) (distance_order setting.machine from)) (filter (λ node. has setting.allowed node && not (has (both set setting.allowed) node)) (distance_order setting.machine from)) (filtered-below (has (both set setting.allowed)) setting.machine from) (filtered-below (λ node. has setting.allowed node && not (has (both set setting.allowed) node)) setting.machine from)
+    All-append (λ node. node < 256) (within (both set setting.allowed) (fallback_order setting.machine from)) (filter (λ node. has setting.allowed node && not (has (both set setting.allowed) node)) (fallback_order setting.machine from)) (filtered-below (has (both set setting.allowed)) setting.machine from) (filtered-below (λ node. has setting.allowed node && not (has (both set setting.allowed) node)) setting.machine from)
 mode-below setting WeightedInterleave set from index = filtered-below (has setting.allowed) setting.machine (weighted_node setting.weight set index)
 
 -- and each is a node

@@ -5,10 +5,10 @@ use Rattle.std.proofs.lemmas.List.Kept.{AllPairs-filter}
 use Rattle.std.specs.Prelude.{slice_index}
 use Rattle.numa_mask.specs.NodeSet.{has, both, members, weight_of}
 use Rattle.numa_mask.proofs.Sets.{members-increasing}
-use Rattle.numa_machine.specs.Machine.{Hardware, distance, distance_order, nearer, IsDistanceOrder}
+use Rattle.numa_machine.specs.Machine.{Hardware, fallback_cost, fallback_order, precedes, IsFallbackOrder}
 use Rattle.numa_machine.specs.Weights.{interleave_node, IsInterleaveNode, total_weight, weighted_node, IsWeightedNode}
 use Rattle.numa_machine.proofs.Blocks.{IsInterleaveNode-interleave_node, interleave_node_is, IsWeightedNode-weighted_node, weighted_node_is}
-use Rattle.numa_machine.proofs.Nearest.{IsStrictOrder-nearer_by, IsDistanceOrder-distance_order}
+use Rattle.numa_machine.proofs.Nearest.{IsStrictOrder-nearer_by, IsFallbackOrder-fallback_order}
 use Rattle.numa_machine.proofs.Rising.{IsIn, Contains-from_IsIn, IsIn-from_Contains, IsRising-from_AllPairs, same_rising}
 use Rattle.numa_machine.proofs.Turns.{weight_of-le-total_weight}
 use Rattle.numa_mode.specs.declared.modes.Mode.{Mode}
@@ -42,25 +42,25 @@ filter-in test (y ∷ ys) x i h =
 
 -- ---- one row
 
-pub row-is : (machine : Hardware) (from : ℕ) (test : ℕ → Bool) → IsRow machine from test (filter test (distance_order machine from))
+pub row-is : (machine : Hardware) (from : ℕ) (test : ℕ → Bool) → IsRow machine from test (filter test (fallback_order machine from))
 row-is machine from test =
-    let order : List ℕ = distance_order machine from in
-    let is_order : IsDistanceOrder machine from (distance_order machine from) = IsDistanceOrder-distance_order machine from in
+    let order : List ℕ = fallback_order machine from in
+    let is_order : IsFallbackOrder machine from (fallback_order machine from) = IsFallbackOrder-fallback_order machine from in
     record {
       nodes = λ node. (
-        λ found. let held = in-filter test (distance_order machine from) node (IsIn-from_Contains _ node found) in ((is_order.nodes_with_memory node).0 (Contains-from_IsIn _ node held.0), held.1),
-        λ held. Contains-from_IsIn _ node (filter-in test (distance_order machine from) node (IsIn-from_Contains _ node ((is_order.nodes_with_memory node).1 held.0)) held.1),
+        λ found. let held = in-filter test (fallback_order machine from) node (IsIn-from_Contains _ node found) in ((is_order.nodes_with_memory node).0 (Contains-from_IsIn _ node held.0), held.1),
+        λ held. Contains-from_IsIn _ node (filter-in test (fallback_order machine from) node (IsIn-from_Contains _ node ((is_order.nodes_with_memory node).1 held.0)) held.1),
       );
-      without_repeats = AllPairs-filter (λ a b. a ≢ b) test (distance_order machine from) is_order.without_repeats;
-      nearest_first = AllPairs-filter (λ a b. nearer machine from a b ≡ true) test (distance_order machine from) is_order.nearest_first;
+      without_repeats = AllPairs-filter (λ a b. a ≢ b) test (fallback_order machine from) is_order.without_repeats;
+      cheapest_first = AllPairs-filter (λ a b. precedes machine from a b ≡ true) test (fallback_order machine from) is_order.cheapest_first;
     }
 
-pub row-only : (machine : Hardware) (from : ℕ) (test : ℕ → Bool) (row : List ℕ) → IsRow machine from test row → row ≡ filter test (distance_order machine from)
+pub row-only : (machine : Hardware) (from : ℕ) (test : ℕ → Bool) (row : List ℕ) → IsRow machine from test row → row ≡ filter test (fallback_order machine from)
 row-only machine from test row is =
-    let other : IsRow machine from test (filter test (distance_order machine from)) = row-is machine from test in
-    same_rising (nearer machine from) (IsStrictOrder-nearer_by (distance machine from)) row (filter test (distance_order machine from))
-    (IsRising-from_AllPairs (nearer machine from) row is.nearest_first)
-    (IsRising-from_AllPairs (nearer machine from) (filter test (distance_order machine from)) other.nearest_first)
+    let other : IsRow machine from test (filter test (fallback_order machine from)) = row-is machine from test in
+    same_rising (precedes machine from) (IsStrictOrder-nearer_by (fallback_cost machine from)) row (filter test (fallback_order machine from))
+    (IsRising-from_AllPairs (precedes machine from) row is.cheapest_first)
+    (IsRising-from_AllPairs (precedes machine from) (filter test (fallback_order machine from)) other.cheapest_first)
     (λ w i. IsIn-from_Contains _ w ((other.nodes w).1 ((is.nodes w).0 (Contains-from_IsIn row w i))))
     (λ w i. IsIn-from_Contains row w ((is.nodes w).1 ((other.nodes w).0 (Contains-from_IsIn _ w i))))
 
@@ -113,8 +113,8 @@ mode-is setting Local set from index some weights = near-is setting from
 mode-is setting Preferred set from index some weights = record { node = slice_index (members set) 0; chosen = lowest-is set some; is_row = near-is setting (slice_index (members set) 0) }
 mode-is setting Bind set from index some weights = row-is setting.machine from (has set)
 mode-is setting PreferredMany set from index some weights = record {
-  first = filter (has (both set setting.allowed)) (distance_order setting.machine from);
-  others = filter (λ node. has setting.allowed node && not (has (both set setting.allowed) node)) (distance_order setting.machine from);
+  first = filter (has (both set setting.allowed)) (fallback_order setting.machine from);
+  others = filter (λ node. has setting.allowed node && not (has (both set setting.allowed) node)) (fallback_order setting.machine from);
   whole = refl;
   is_first = row-is setting.machine from (has (both set setting.allowed));
   is_others = row-is setting.machine from (λ node. has setting.allowed node && not (has (both set setting.allowed) node));

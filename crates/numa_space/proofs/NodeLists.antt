@@ -11,10 +11,10 @@ use Rattle.numa_mask.proofs.Images.{same_set, has-both, below-has, members-some}
 use Rattle.numa_mask.proofs.Sets.{contains-has, members-have}
 use Rattle.numa_machine.specs.declared.rules.Rules.{Rules}
 use Rattle.numa_machine.specs.declared.rules.Rules.TheVariants.{Document, Linux}
-use Rattle.numa_machine.specs.Machine.{Hardware, distance_order, IsDistanceOrder}
+use Rattle.numa_machine.specs.Machine.{Hardware, fallback_order, IsFallbackOrder}
 use Rattle.numa_machine.specs.Weights.{interleave_node, weighted_node}
 use Rattle.numa_machine.proofs.Rising.{IsIn, IsIn-from_Contains}
-use Rattle.numa_machine.proofs.Nearest.{IsDistanceOrder-distance_order}
+use Rattle.numa_machine.proofs.Nearest.{IsFallbackOrder-fallback_order}
 use Rattle.numa_mode.specs.Policy.{PolicyRecord, is_live, is_local, is_local_mode, stays}
 use Rattle.numa_mode.specs.Within.{IsWithin}
 use Rattle.numa_mode.proofs.Subsets.{both-within}
@@ -73,29 +73,29 @@ append-some_behind (x ∷ xs) ys some = λ odd. cc
 
 module _ (machine : Hardware) (allowed : ℕ) (small : machine.memory < 2 ^ 256) (some : allowed ≢ 0) (memory : both allowed machine.memory ≡ allowed) where
   -- the nodes of a set of allowed nodes, in the order of their distances
-  ordered-nodes : (set from : ℕ) → set ≢ 0 → both set allowed ≡ set → IsNodeList allowed (within set (distance_order machine from))
+  ordered-nodes : (set from : ℕ) → set ≢ 0 → both set allowed ≡ set → IsNodeList allowed (within set (fallback_order machine from))
   ordered-nodes set from filled inside =
-      let order : IsDistanceOrder machine from (distance_order machine from) = IsDistanceOrder-distance_order machine from in
+      let order : IsFallbackOrder machine from (fallback_order machine from) = IsFallbackOrder-fallback_order machine from in
       let below : set < 2 ^ 256 = small-inside set allowed inside (small-inside allowed machine.memory memory small) in
       let node : ℕ = get_or (members set) 0 0 in
       let member : has set node ≡ true = members-have set 0 0 (members-some set below filled) in
       let in_memory : has machine.memory node ≡ true = within-from_both allowed machine.memory memory node (within-from_both set allowed inside node member) in
       let found : Contains (members machine.memory) node = contains-has machine.memory node (below-has set node below member) in_memory in
       record {
-        some = filter-some (has set) (distance_order machine from) node (IsIn-from_Contains (distance_order machine from) node ((order.nodes_with_memory node).1 found)) member;
-        each_once = AllPairs-filter (λ a b. a ≢ b) (has set) (distance_order machine from) order.without_repeats;
-        inside = All-weaker (λ n. has set n ≡ true) (λ n. has allowed n ≡ true) (within-from_both set allowed inside) (within set (distance_order machine from)) (filter_passes (has set) (distance_order machine from));
+        some = filter-some (has set) (fallback_order machine from) node (IsIn-from_Contains (fallback_order machine from) node ((order.nodes_with_memory node).1 found)) member;
+        each_once = AllPairs-filter (λ a b. a ≢ b) (has set) (fallback_order machine from) order.without_repeats;
+        inside = All-weaker (λ n. has set n ≡ true) (λ n. has allowed n ≡ true) (within-from_both set allowed inside) (within set (fallback_order machine from)) (filter_passes (has set) (fallback_order machine from));
       }
 
   -- the allowed nodes, the nearest first
-  near-nodes : (from : ℕ) → IsNodeList allowed (within allowed (distance_order machine from))
+  near-nodes : (from : ℕ) → IsNodeList allowed (within allowed (fallback_order machine from))
   near-nodes from = ordered-nodes allowed from some (within-both allowed allowed (λ node member. member))
 
   -- those of a set before the others: each allowed node is among the ones or the others
-  preferred-nodes : (set from : ℕ) → both set allowed ≡ set → IsNodeList allowed (within set (distance_order machine from) ++ filter (λ node. has allowed node && not (has set node)) (distance_order machine from))
+  preferred-nodes : (set from : ℕ) → both set allowed ≡ set → IsNodeList allowed (within set (fallback_order machine from) ++ filter (λ node. has allowed node && not (has set node)) (fallback_order machine from))
   preferred-nodes set from inside =
-      let order : List ℕ = distance_order machine from in
-      let is_order : IsDistanceOrder machine from (distance_order machine from) = IsDistanceOrder-distance_order machine from in
+      let order : List ℕ = fallback_order machine from in
+      let is_order : IsFallbackOrder machine from (fallback_order machine from) = IsFallbackOrder-fallback_order machine from in
       let other : ℕ → Bool = λ node. has allowed node && not (has set node) in
       let passed : All (λ node. other node ≡ true) (filter other order) = filter_passes other order in
       let ours : All (λ node. has set node ≡ true) (within set order) = filter_passes (has set) order in

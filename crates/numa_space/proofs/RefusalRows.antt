@@ -1,7 +1,7 @@
 -- Worked examples: what is refused, and for which cause.
 use Rattle.std.proofs.Common.{◌≡◌, true, false, List, [], ◌∷◌, Some, None, Ok, Err, refl}
 use Rattle.numa_mask.specs.NodeSet.{set_of, members}
-use Rattle.numa_machine.specs.Machine.{Hardware, distance_order}
+use Rattle.numa_machine.specs.Machine.{Hardware, fallback_order}
 use Rattle.numa_machine.specs.declared.rules.Rules.TheVariants.{Linux}
 use Rattle.numa_mode.specs.Policy.{specification_of}
 use Rattle.numa_mode.specs.declared.modes.Mode.TheVariants.{Default, Preferred, Bind, Interleave, Local}
@@ -37,7 +37,7 @@ unfolding any_page bad_map_span lacks_policy two_maps wide mems_of lacks_mems
 default-over_a_hole = refl
 
 mapped-has_a_list : node_list (flat 2) two_maps 1 0x10 0 ≡ 0 ∷ 1 ∷ []
-unfolding members distance_order two_maps mems_of lacks_mems
+unfolding members fallback_order two_maps mems_of lacks_mems
 mapped-has_a_list = refl
 
 hole-has_no_list : place_refusal_of (flat 2) two_maps 0x11 0 ≡ Some Unmapped
@@ -96,7 +96,7 @@ unfolding any_page bad_map_span lacks_policy last_page wide mems_of lacks_mems
 map-over_a_map = refl
 
 part_of_a_page-is_mapped : node_list (flat 2) (Map 0x10000 1 0 ∷ last_page) 1 0x10 0 ≡ 0 ∷ 1 ∷ []
-unfolding members distance_order last_page mems_of lacks_mems
+unfolding members fallback_order last_page mems_of lacks_mems
 part_of_a_page-is_mapped = refl
 
 -- ---- limits
@@ -209,7 +209,7 @@ unfolding one_page wide mems_of lacks_mems
 local-needs_no_nodes = refl
 
 local-begins_at_the_fault : node_list (flat 2) (SetTask 1 (asked Local Plain []) ∷ one_page) 1 0x10 1 ≡ 1 ∷ 0 ∷ []
-unfolding members distance_order one_page mems_of lacks_mems
+unfolding members fallback_order one_page mems_of lacks_mems
 local-begins_at_the_fault = refl
 
 preferred_static-without_nodes : specification_of Preferred true false 0 ≡ Err FlagsForbidden

@@ -3,7 +3,7 @@
 use Rattle.std.specs.Prelude.{ℕ, ◌&&◌, not, Option, Some, None, List, ◌++◌, filter, slice_index}
 use Rattle.std.specs.Prelude.{unwrap_or}
 use Rattle.numa_mask.specs.NodeSet.{has, members, both}
-use Rattle.numa_machine.specs.Machine.{Hardware, distance_order}
+use Rattle.numa_machine.specs.Machine.{Hardware, fallback_order}
 use Rattle.numa_machine.specs.Weights.{interleave_node, weighted_node}
 use Rattle.numa_mode.specs.Policy.{PolicyRecord}
 use Rattle.numa_mode.specs.declared.modes.Mode.{Mode}
@@ -24,16 +24,17 @@ pub record Setting : Type 0 where
 abbrev pub within : ℕ → List ℕ → List ℕ
 within set nodes = filter (has set) nodes
 
--- the allowed nodes, the nearest to a node first
+-- the allowed nodes, in the order in which the machine has a node fall back to them: as a rule the
+-- nearest first
 abbrev pub near : Setting → ℕ → List ℕ
-near setting node = within setting.allowed (distance_order setting.machine node)
+near setting node = within setting.allowed (fallback_order setting.machine node)
 
--- the nodes of a set, the nearest first, and behind them the other allowed nodes
+-- the nodes of a set in that order, and behind them the other allowed nodes
 abbrev pub before_others : Setting → ℕ → ℕ → List ℕ
 before_others setting set from =
-    within set (distance_order setting.machine from)
+    within set (fallback_order setting.machine from)
     ++ filter (λ node. has setting.allowed node && not (has set node))
-    (distance_order setting.machine from)
+    (fallback_order setting.machine from)
 
 -- the list of a policy with this effective set, for a fault on the node `from`, at a page of this
 -- index
@@ -41,7 +42,7 @@ abbrev pub list_by_mode : Setting → Mode → ℕ → ℕ → ℕ → List ℕ
 list_by_mode setting Default set from index = near setting from
 list_by_mode setting Local set from index = near setting from
 list_by_mode setting Preferred set from index = near setting (slice_index (members set) 0)
-list_by_mode setting Bind set from index = within set (distance_order setting.machine from)
+list_by_mode setting Bind set from index = within set (fallback_order setting.machine from)
 list_by_mode setting PreferredMany set from index =
     before_others setting (both set setting.allowed) from
 list_by_mode setting Interleave set from index = near setting (interleave_node set index)

@@ -2,7 +2,7 @@
 use Rattle.std.specs.Prelude.{◌≡◌, ◌≢◌, ◌≤◌, ◌↔◌, ℕ, ◌&&◌, not, Bool, true, IsTrue, List, ◌++◌}
 use Rattle.std.specs.Prelude.{AllPairs, Contains}
 use Rattle.numa_mask.specs.NodeSet.{has, members, both}
-use Rattle.numa_machine.specs.Machine.{Hardware, nearer}
+use Rattle.numa_machine.specs.Machine.{Hardware, precedes}
 use Rattle.numa_machine.specs.Weights.{IsInterleaveNode, IsWeightedNode}
 use Rattle.numa_mode.specs.declared.modes.Mode.{Mode}
 use Rattle.numa_mode.specs.declared.modes.Mode.TheVariants.{Default, Preferred, Bind, Interleave}
@@ -11,12 +11,12 @@ use Rattle.numa_mode.specs.declared.modes.Mode.TheVariants.{WeightedInterleave}
 use Rattle.numa_space.specs.Lists.{Setting}
 
 -- the list has exactly the nodes with memory that pass the test, each once, and of each two the
--- earlier is nearer to `from`, or as near and lower
+-- earlier precedes the other for `from`: as a rule it is nearer, or as near and lower
 pub record IsRow (machine : Hardware) (from : ℕ) (test : ℕ → Bool) (row : List ℕ) : Type 0 where
   pub nodes : (node : ℕ) → Contains row node ↔
       (Contains (members machine.memory) node × (test node ≡ true))
   pub without_repeats : AllPairs (λ earlier later. earlier ≢ later) row
-  pub nearest_first : AllPairs (λ earlier later. IsTrue (nearer machine from earlier later)) row
+  pub cheapest_first : AllPairs (λ earlier later. IsTrue (precedes machine from earlier later)) row
 
 -- the row of the allowed nodes
 abbrev pub IsNearRow : Setting → ℕ → List ℕ → Type 0

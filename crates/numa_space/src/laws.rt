@@ -15,7 +15,7 @@ ghost use Rattle.numa_space.specs.declared.command.Command.{Command};
 
 /// The list of a mode has the words of `IsModeRow`, where its set has a node and no weight is 0,
 /// and it is the only list that has: for BIND the list without repeats whose nodes are those of the
-/// set and in which each earlier node is nearer.
+/// set and in which each earlier node precedes the later ones in the machine's order.
 pub fn mode_rows()
     ensures is_one { (setting : Setting) (mode : Mode) (set from index : ℕ)
         → 0 < weight_of set → ((node : ℕ) → 0 < setting.weight node)

@@ -2,6 +2,7 @@
 use Rattle.std.specs.Prelude.{◌≡◌, ◌≢◌, ◌==◌, ◌&&◌, ◌||◌, ℕ, Bool, true, not, nat_le, nat_lt}
 use Rattle.std.specs.Prelude.{if◌then◌else◌, List, length, is_some, MatchResult}
 use Rattle.std.specs.Prelude.{Option, Some, None, IfSome, Result, Ok, Err}
+use Rattle.numa_machine.specs.declared.fallback.Fallback.TheVariants.{Nearest}
 use Rattle.numa_machine.specs.declared.rules.Rules.TheVariants.{Document}
 use Rattle.numa_mask.specs.declared.list.ListFault.{ListFault}
 use Rattle.numa_space.specs.declared.command.Command.{Command}
@@ -81,6 +82,7 @@ IsMachineOf list frames distances machine = (memory : ℕ) × (list ≡ Ok memor
   distances = distances;
   frames = frames;
   rules = Document;
+  fallback = Nearest;
 })
 
 -- that machine, these limits and so many workers

@@ -2,7 +2,7 @@
 ghost use Rattle.std.specs.Prelude.{◌≡◌, ◌≢◌, ◌<◌, ◌++◌, ◌&&◌, ℕ, true, not, filter, is_some};
 ghost use Rattle.std.specs.Prelude.{Option, Some, None, List, IfOk, IfSome, MatchResult};
 ghost use Rattle.numa_mask.specs.NodeSet.{has};
-ghost use Rattle.numa_machine.specs.Machine.{distance_order};
+ghost use Rattle.numa_machine.specs.Machine.{fallback_order};
 ghost use Rattle.numa_mode.specs.Policy.{PolicyRecord, is_live};
 ghost use Rattle.numa_ranges.specs.Runs.{page_at};
 ghost use Rattle.numa_space.specs.declared.command.Command.{Command};
@@ -160,7 +160,7 @@ impl Space {
     /// The nodes of a set that have memory, the nearest to a node first. Takes no memory.
     pub fn nearest(&self, set: &NodeMask, from: u32) -> ArrayVec<u8, 256>
         requires { from < self.now.machine.nodes }
-        ensures { result.items ≡ within set.now (distance_order self.now.machine from) }
+        ensures { result.items ≡ within set.now (fallback_order self.now.machine from) }
     {
         let mut list = ArrayVec::new();
         push_within(&mut list, self.machine.order(from), set);
@@ -171,9 +171,9 @@ impl Space {
     /// allowed nodes in the same order. Takes no memory.
     pub fn nearest_before_others(&self, set: &NodeMask, from: u32) -> ArrayVec<u8, 256>
         requires { from < self.now.machine.nodes }
-        ensures { result.items ≡ within set.now (distance_order self.now.machine from)
+        ensures { result.items ≡ within set.now (fallback_order self.now.machine from)
             ++ filter (λ node. has self.now.allowed node && not (has set.now node))
-            (distance_order self.now.machine from) }
+            (fallback_order self.now.machine from) }
     {
         let mut list = self.nearest(set, from);
         push_others(&mut list, self.machine.order(from), &self.allowed, set);

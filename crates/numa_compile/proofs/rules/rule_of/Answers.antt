@@ -1,7 +1,7 @@
 use Rattle.std.proofs.Common.{ℕ, ◌<◌, Option, unwrap_or, refl, sym, subst}
 use Rattle.std.proofs.lemmas.Result.{IfOk-weaker}
 use Rattle.std.specs.Option.{ForSome}
-use Rattle.numa_machine.specs.Machine.{distance_order}
+use Rattle.numa_machine.specs.Machine.{fallback_order}
 use Rattle.numa_mode.specs.declared.modes.Mode.TheVariants.{Default, Local, Preferred, Bind, PreferredMany, Interleave, WeightedInterleave}
 use Rattle.numa_space.specs.Lists.{within}
 use Rattle.numa_space.specs.Standing.{setting_in}
@@ -63,14 +63,14 @@ returns-in-Default c =
     IfOk-weaker c.rule_by_home.result _ _
     (λ rule gives.
     gives-policy (setting_in c.args.space.now) rule c.args.policy.now c.spec.result c.mode.result Default c.effective-set.result c.home.result c.spec.ensures.spec c.mode.ensures c.in-Default.is c.effective-set.ensures.effective c.home.ensures.home
-    (subst (λ (n : ℕ). GivesRows c.args.space.now.machine.nodes rule (λ cpu index. within n (distance_order c.args.space.now.machine (unwrap_or c.home.result cpu)))) c.allowed.ensures.allowed gives)) c.rule_by_home.ensures
+    (subst (λ (n : ℕ). GivesRows c.args.space.now.machine.nodes rule (λ cpu index. within n (fallback_order c.args.space.now.machine (unwrap_or c.home.result cpu)))) c.allowed.ensures.allowed gives)) c.rule_by_home.ensures
 
 pub returns-in-Local : goal.returns-in-Local
 returns-in-Local c =
     IfOk-weaker c.rule_by_home-in-Local.result _ _
     (λ rule gives.
     gives-policy (setting_in c.args.space.now) rule c.args.policy.now c.spec.result c.mode.result Local c.effective-set.result c.home-in-Local.result c.spec.ensures.spec c.mode.ensures c.in-Local.is c.effective-set.ensures.effective c.home-in-Local.ensures.home
-    (subst (λ (n : ℕ). GivesRows c.args.space.now.machine.nodes rule (λ cpu index. within n (distance_order c.args.space.now.machine (unwrap_or c.home-in-Local.result cpu)))) c.allowed.ensures.allowed gives)) c.rule_by_home-in-Local.ensures
+    (subst (λ (n : ℕ). GivesRows c.args.space.now.machine.nodes rule (λ cpu index. within n (fallback_order c.args.space.now.machine (unwrap_or c.home-in-Local.result cpu)))) c.allowed.ensures.allowed gives)) c.rule_by_home-in-Local.ensures
 
 pub returns-in-Bind : goal.returns-in-Bind
 returns-in-Bind c =
