@@ -11,8 +11,8 @@ use Rattle.numa_space.specs.declared.event.Event.TheVariants as event
 use Rattle.numa_space.specs.declared.command.Command.{Command}
 use Rattle.numa_space.specs.declared.command.Command.TheVariants as command
 use Rattle.numa_script.specs.Causes.{parameters_of, form_of, misfit_of, misfit_else, number_misfit, unless_readable, fault_behind, first_misfit, keyword_fault, words_fault, width_of, empty_word, empty_else, is_stray, stray_else, fault_of, is_malformed}
-use Rattle.numa_script.specs.Lines.{keyword_of, line_after, limits_line, rules_line, machine_line, map_line, unmap_line, mbind_line, home_line, task_line, weight_line, mems_line, place_line, span_line, counts_line, ranges_line, maps_line, words_line, with_policy, with_nodes, is_silent, has_empty_word, line_of}
-use Rattle.numa_script.specs.Machines.{frames_of, distances_of, rules_of}
+use Rattle.numa_script.specs.Lines.{keyword_of, line_after, limits_line, rules_line, cpus_line, machine_line, map_line, unmap_line, mbind_line, home_line, task_line, weight_line, mems_line, place_line, span_line, counts_line, ranges_line, maps_line, words_line, with_policy, with_nodes, is_silent, has_empty_word, line_of}
+use Rattle.numa_script.specs.Machines.{frames_of, distances_of, rules_of, has_kernel_orders}
 use Rattle.numa_script.specs.Numbers.{below, few_of, number_of, small_of, page_of, node_of, frame_number_of, span_pages_of}
 use Rattle.numa_script.specs.Parts.{words_of}
 use Rattle.numa_script.specs.Policies.{policy_of}
@@ -264,6 +264,11 @@ says_rules c (a ∷ []) =
     (readable (rules_of a))
 says_rules c (a ∷ b ∷ words) = too_many keyword.Rules c (a ∷ b ∷ words) (omega arith)
 
+says_cpus : (c : ℕ) (words : List (List ℕ)) → is_some (fault_behind keyword.Cpus c words) ≡ said (cpus_line words)
+says_cpus c [] = too_few keyword.Cpus c [] (omega arith)
+says_cpus c (a ∷ []) = enough keyword.Cpus c (a ∷ []) refl
+says_cpus c (a ∷ b ∷ words) = too_many keyword.Cpus c (a ∷ b ∷ words) (omega arith)
+
 says_machine : (c : ℕ) (words : List (List ℕ)) → is_some (fault_behind keyword.Machine c words) ≡ said (machine_line words)
 says_machine c [] = too_few keyword.Machine c [] (omega arith)
 says_machine c (a ∷ []) = too_few keyword.Machine c (a ∷ []) (omega arith)
@@ -271,7 +276,7 @@ says_machine c (a ∷ b ∷ []) = too_few keyword.Machine c (a ∷ b ∷ []) (om
 says_machine c (a ∷ b ∷ d ∷ []) = too_few keyword.Machine c (a ∷ b ∷ d ∷ []) (omega arith)
 says_machine c (a ∷ b ∷ d ∷ e ∷ []) =
     enough keyword.Machine c (a ∷ b ∷ d ∷ e ∷ []) refl
-    ∙ three (λ n f m. line.Machine (record { nodes = n; memory = list_of b; frames = f; distances = m })) _ _ _ (small_of a) (frames_of d) (distances_of e) (λ x y z. refl)
+    ∙ three (λ n f m. line.Machine (record { nodes = n; memory = list_of b; frames = f; kernel_orders = has_kernel_orders e; distances = m })) _ _ _ (small_of a) (frames_of d) (distances_of e) (λ x y z. refl)
     (small a) (readable (frames_of d)) (readable (distances_of e))
 says_machine c (a ∷ b ∷ d ∷ e ∷ f ∷ words) = too_many keyword.Machine c (a ∷ b ∷ d ∷ e ∷ f ∷ words) (omega arith)
 
@@ -455,6 +460,7 @@ says_release c (a ∷ b ∷ d ∷ words) = too_many keyword.Release c (a ∷ b �
 says : (k : Keyword) (c : ℕ) (words : List (List ℕ)) → is_some (fault_behind k c words) ≡ said (line_after k words)
 says keyword.Limits c words = says_limits c words
 says keyword.Rules c words = says_rules c words
+says keyword.Cpus c words = says_cpus c words
 says keyword.Machine c words = says_machine c words
 says keyword.Map c words = says_map c words
 says keyword.Unmap c words = says_unmap c words

@@ -1,12 +1,16 @@
 -- Lines of scripts, and what they say.
-use Rattle.std.specs.Prelude.{◌≡◌, codes, Ok, refl}
+use Rattle.std.specs.Prelude.{◌≡◌, true, false, [], ◌∷◌, codes, Ok, Err, refl}
+use Rattle.numa_mask.specs.Lists.{item_of, ends_of, digit_of, numeral_of as node_numeral_of}
+use Rattle.numa_mask.specs.declared.list.ListFault.TheVariants.{BackRange}
 use Rattle.numa_machine.specs.declared.rules.Rules.TheVariants.{Document, Linux}
 use Rattle.numa_space.specs.declared.event.Event.TheVariants as event
 use Rattle.numa_space.specs.declared.command.Command.TheVariants as command
 use Rattle.numa_script.specs.Lines.{line_of, keyword_of}
+use Rattle.numa_script.specs.Machines.{distances_of}
 use Rattle.numa_script.specs.Numbers.{number_of, numeral_of, in_64_bits}
 use Rattle.numa_script.specs.declared.line.Line.TheVariants as line
 use Rattle.numa_script.specs.declared.line.Question.TheVariants as question
+use Rattle.numa_script.specs.declared.machine.Distances.TheVariants.{Flat, Table}
 use Rattle.numa_script.specs.declared.work.Work.TheVariants as work
 
 -- ---- questions
@@ -84,6 +88,27 @@ the_documents_rules = refl
 nobodys_rules : line_of (codes "rules posix") ≡ line.Malformed
 unfolding line_of keyword_of
 nobodys_rules = refl
+
+nodes_with_cpus : line_of (codes "cpus 0,2-3") ≡ line.Cpus (Ok 13)
+unfolding line_of keyword_of item_of ends_of node_numeral_of digit_of
+nodes_with_cpus = refl
+
+-- the list is faulty, and not the line
+falling_nodes_with_cpus : line_of (codes "cpus 1-0") ≡ line.Cpus (Err BackRange)
+unfolding line_of keyword_of item_of ends_of node_numeral_of digit_of
+falling_nodes_with_cpus = refl
+
+nearest_first : line_of (codes "machine 2 0 8 flat") ≡ line.Machine (record { nodes = 2; memory = Ok 1; frames = 8 ∷ []; kernel_orders = false; distances = Flat })
+unfolding line_of keyword_of number_of numeral_of in_64_bits distances_of item_of ends_of node_numeral_of digit_of
+nearest_first = refl
+
+orders_of_a_kernel : line_of (codes "machine 2 0 8 kernel:flat") ≡ line.Machine (record { nodes = 2; memory = Ok 1; frames = 8 ∷ []; kernel_orders = true; distances = Flat })
+unfolding line_of keyword_of number_of numeral_of in_64_bits distances_of item_of ends_of node_numeral_of digit_of
+orders_of_a_kernel = refl
+
+orders_of_a_kernel-by_a_table : line_of (codes "machine 1 0 8 kernel:10") ≡ line.Machine (record { nodes = 1; memory = Ok 1; frames = 8 ∷ []; kernel_orders = true; distances = Table (10 ∷ []) })
+unfolding line_of keyword_of number_of numeral_of in_64_bits distances_of item_of ends_of node_numeral_of digit_of
+orders_of_a_kernel-by_a_table = refl
 
 -- ---- commands
 

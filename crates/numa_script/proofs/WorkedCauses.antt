@@ -62,6 +62,20 @@ no_distances : fault_of (codes "machine 1 0 1 256") ≡ Some (record { cause = c
 unfolding fault_of keyword_of number_of numeral_of in_64_bits distances_of
 no_distances = refl
 
+-- nothing stands behind `kernel:`
+no_distances-of_a_kernel : fault_of (codes "machine 1 0 1 kernel:") ≡ Some (record { cause = cause.BadWord keyword.Machine parameter.Distances Unreadable; column = 15 })
+unfolding fault_of keyword_of number_of numeral_of in_64_bits distances_of
+no_distances-of_a_kernel = refl
+
+-- `kernel:` stands there once
+kernel_of_a_kernel : fault_of (codes "machine 1 0 1 kernel:kernel:flat") ≡ Some (record { cause = cause.BadWord keyword.Machine parameter.Distances Unreadable; column = 15 })
+unfolding fault_of keyword_of number_of numeral_of in_64_bits distances_of
+kernel_of_a_kernel = refl
+
+no_nodes_with_cpus : fault_of (codes "cpus") ≡ Some (record { cause = cause.TooFewWords keyword.Cpus; column = 6 })
+unfolding fault_of keyword_of
+no_nodes_with_cpus = refl
+
 -- ---- lines that aren't malformed
 
 empty : fault_of [] ≡ None

@@ -27,6 +27,7 @@ use Rattle.numa_script.specs.declared.parameter.Parameter.TheVariants as paramet
 abbrev pub parameters_of : Keyword → List Parameter
 parameters_of keyword.Limits = parameter.Ranges ∷ parameter.Tasks ∷ parameter.Commands ∷ []
 parameters_of keyword.Rules = parameter.Rules ∷ []
+parameters_of keyword.Cpus = parameter.List ∷ []
 parameters_of keyword.Machine =
     parameter.Nodes ∷ parameter.Memory ∷ parameter.Frames ∷ parameter.Distances ∷ []
 parameters_of keyword.Map = parameter.Start ∷ parameter.Length ∷ parameter.Offset ∷ []
@@ -185,6 +186,7 @@ is_malformed line.Silent = false
 is_malformed line.Malformed = true
 is_malformed (line.Limits ranges tasks commands) = false
 is_malformed (line.Rules rules) = false
+is_malformed (line.Cpus said) = false
 is_malformed (line.Machine said) = false
 is_malformed (line.Command said) = false
 is_malformed (line.Question said) = false

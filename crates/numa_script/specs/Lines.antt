@@ -14,7 +14,7 @@ use Rattle.numa_script.specs.Parts.{words_of}
 use Rattle.numa_script.specs.Present.{with_two, with_three, two_of, three_of}
 use Rattle.numa_script.specs.Present.{four_of, two_words, three_words, four_words}
 use Rattle.numa_script.specs.Numbers.{number_of, small_of, few_of}
-use Rattle.numa_script.specs.Machines.{frames_of, distances_of, rules_of}
+use Rattle.numa_script.specs.Machines.{frames_of, distances_of, rules_of, has_kernel_orders}
 use Rattle.numa_script.specs.Policies.{policy_of}
 use Rattle.numa_script.specs.Workers.{publish_work, begin_work, look_work, try_work, give_work}
 use Rattle.numa_script.specs.Workers.{touch_work, release_work}
@@ -32,6 +32,7 @@ use Rattle.numa_script.specs.declared.line.Question.TheVariants as question
 abbrev pub first_word_of : Keyword → List ℕ
 first_word_of keyword.Limits = codes "limits"
 first_word_of keyword.Rules = codes "rules"
+first_word_of keyword.Cpus = codes "cpus"
 first_word_of keyword.Machine = codes "machine"
 first_word_of keyword.Map = codes "map"
 first_word_of keyword.Unmap = codes "unmap"
@@ -59,7 +60,7 @@ keywords_of letters =
     if letters == 3 then keyword.Try ∷ keyword.Map ∷ []
     else if letters == 4 then
     keyword.Span ∷ keyword.Look ∷ keyword.Give ∷ keyword.Maps ∷ keyword.Home ∷ keyword.Task
-    ∷ keyword.Mems ∷ []
+    ∷ keyword.Mems ∷ keyword.Cpus ∷ []
     else if letters == 5 then
     keyword.Place ∷ keyword.Begin ∷ keyword.Touch ∷ keyword.Mbind ∷ keyword.Unmap
     ∷ keyword.Rules ∷ []
@@ -99,6 +100,11 @@ abbrev pub rules_line : List (List ℕ) → Option Line
 rules_line (word ∷ []) = option_map line.Rules (rules_of word)
 rules_line _ = None
 
+-- cpus LIST
+abbrev pub cpus_line : List (List ℕ) → Option Line
+cpus_line (nodes ∷ []) = Some (line.Cpus (list_of nodes))
+cpus_line _ = None
+
 -- machine NODES MEM FRAMES DIST
 abbrev pub machine_line : List (List ℕ) → Option Line
 machine_line words =
@@ -106,6 +112,7 @@ machine_line words =
       nodes = n;
       memory = list_of v.1;
       frames = f;
+      kernel_orders = has_kernel_orders v.3;
       distances = d;
     })) (small_of v.0) (frames_of v.2) (distances_of v.3)) (four_words words)
 
@@ -179,6 +186,7 @@ maps_line _ = None
 abbrev pub line_after : Keyword → List (List ℕ) → Option Line
 line_after keyword.Limits words = limits_line words
 line_after keyword.Rules words = rules_line words
+line_after keyword.Cpus words = cpus_line words
 line_after keyword.Machine words = machine_line words
 line_after keyword.Map words = map_line words
 line_after keyword.Unmap words = unmap_line words

@@ -1,7 +1,7 @@
 -- The words before a machine is ready: whose rules count, and those of a machine line that are lists
--- of numbers, its frames and its distances.
+-- of numbers, its frames and its distances, with what the distances may stand behind.
 use Rattle.std.specs.Prelude.{ℕ, ◌==◌, List, [], ◌∷◌, map, codes, Option, Some, None}
-use Rattle.std.specs.Prelude.{if◌then◌else◌}
+use Rattle.std.specs.Prelude.{Bool, take, drop, if◌then◌else◌}
 use Rattle.std.specs.List.{range_with_len, flat_map}
 use Rattle.std.specs.Str.{bytes_eq}
 use Rattle.std.specs.Option.{option_map}
@@ -37,10 +37,21 @@ frames_of word = each_of item_of (items_of word)
 abbrev pub table_of : List ℕ → Option (List ℕ)
 table_of word = each_of distance_of (entries_of word)
 
+-- the distances as they are written
+abbrev pub written_distances : List ℕ → Option Distances
+written_distances word =
+    if bytes_eq word (codes "flat") then Some Flat else option_map Table (table_of word)
+
+-- a DIST word begins with `kernel:`: the orders are those that a kernel makes of the distances
+abbrev pub has_kernel_orders : List ℕ → Bool
+has_kernel_orders word = bytes_eq (take 7 word) (codes "kernel:")
+
+abbrev pub behind_kernel : List ℕ → List ℕ
+behind_kernel word = if has_kernel_orders word then drop 7 word else word
+
 -- the distances of a DIST word
 unfoldable pub distances_of : List ℕ → Option Distances
-distances_of word =
-    if bytes_eq word (codes "flat") then Some Flat else option_map Table (table_of word)
+distances_of word = written_distances (behind_kernel word)
 
 -- the frames of a node, where each node with memory has so many
 abbrev pub frames_at : ℕ → ℕ → ℕ → ℕ

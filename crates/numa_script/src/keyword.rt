@@ -11,6 +11,8 @@ pub enum Keyword {
     Limits,
     /// `rules`
     Rules,
+    /// `cpus`
+    Cpus,
     /// `machine`
     Machine,
     /// `map`
@@ -54,10 +56,10 @@ pub enum Keyword {
 }
 
 /// The first words of lines, in the order of the keywords.
-static NAMES: [&str; 22] = [
-    "limits", "rules", "machine", "map", "unmap", "mbind", "home", "task", "weight", "mems",
-    "place", "span", "counts", "ranges", "maps", "publish", "begin", "look", "try", "give",
-    "touch", "release",
+static NAMES: [&str; 23] = [
+    "limits", "rules", "cpus", "machine", "map", "unmap", "mbind", "home", "task", "weight",
+    "mems", "place", "span", "counts", "ranges", "maps", "publish", "begin", "look", "try",
+    "give", "touch", "release",
 ];
 
 impl Keyword {
@@ -77,7 +79,7 @@ fn keywords(letters: usize) -> &'static [Keyword]
 {
     match letters {
         3 => &[Try, Map],
-        4 => &[Span, Look, Give, Maps, Home, Task, Mems],
+        4 => &[Span, Look, Give, Maps, Home, Task, Mems, Cpus],
         5 => &[Place, Begin, Touch, Mbind, Unmap, Rules],
         6 => &[Counts, Ranges, Weight, Limits],
         7 => &[Publish, Release, Machine],

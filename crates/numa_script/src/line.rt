@@ -4,11 +4,11 @@ ghost use Rattle.std.specs.Option.{option_map};
 ghost use Rattle.numa_script.specs.Lines.{limits_line, machine_line, mbind_line, task_line};
 ghost use Rattle.numa_script.specs.Lines.{mems_line, place_line, span_line, counts_line};
 ghost use Rattle.numa_script.specs.Lines.{ranges_line, maps_line, line_after, words_line};
-ghost use Rattle.numa_script.specs.Lines.{rules_line};
+ghost use Rattle.numa_script.specs.Lines.{rules_line, cpus_line};
 ghost use Rattle.numa_script.specs.Lines.{is_silent, has_empty_word, line_of};
 
 use crate::keyword::{Keyword, read_keyword};
-use crate::machine::{Distances, Frames};
+use crate::machine::{Distances, Frames, has_kernel_orders};
 use crate::number::{few_pages, number, small};
 use crate::parts::{Parts, words};
 use crate::policy::{WordFault, read_policy};
@@ -32,6 +32,9 @@ pub struct MachineLine<'a> {
     pub memory: Result<NodeMask, ListFault>,
     /// The frames of the nodes.
     pub frames: Frames<'a>,
+    /// Whether the orders in which allocations fall back are those that a kernel makes; else they
+    /// are by distance alone.
+    pub kernel_orders: bool,
     /// The distances between them.
     pub distances: Distances<'a>,
 }
@@ -84,6 +87,8 @@ pub enum Line<'a> {
     },
     /// Whose rules count on the machine to come.
     Rules(Rules),
+    /// The nodes with CPUs of the machine to come, or the fault of the list that names them.
+    Cpus(Result<NodeMask, ListFault>),
     /// A machine.
     Machine(MachineLine<'a>),
     /// A command, or the fault of its list or policy, which counts once a machine is ready.
@@ -125,6 +130,13 @@ fn rules(words: Parts) -> Option<Line>
     Some(Line::Rules(read_rules(words.only()?)?))
 }
 
+/// `cpus LIST`
+fn cpus(words: Parts) -> Option<Line>
+    ensures { result ≡ cpus_line words.entry }
+{
+    Some(Line::Cpus(read_list(words.only()?)))
+}
+
 /// `machine NODES MEM FRAMES DIST`
 fn machine<'a>(words: Parts<'a>) -> Option<Line<'a>>
     ensures { result ≡ machine_line words.entry }
@@ -134,6 +146,7 @@ fn machine<'a>(words: Parts<'a>) -> Option<Line<'a>>
         nodes: small(nodes)?,
         memory: read_list(memory),
         frames: Frames::read(frames)?,
+        kernel_orders: has_kernel_orders(distances),
         distances: Distances::read(distances)?,
     }))
 }
@@ -250,6 +263,7 @@ fn line_after(keyword: Keyword, words: Parts) -> Option<Line>
     match keyword {
         Keyword::Limits => limits(words),
         Keyword::Rules => rules(words),
+        Keyword::Cpus => cpus(words),
         Keyword::Machine => machine(words),
         Keyword::Map => command_line(three(words).map(|(start, length, offset)| Map {
             start,

@@ -6,7 +6,8 @@ ghost use Rattle.numa_script.specs.Numbers.{item_of};
 ghost use Rattle.numa_script.specs.Parts.{items_of, rows_of};
 ghost use Rattle.numa_script.specs.Machines.{entries_of, distance_of, frames_of, table_of};
 ghost use Rattle.numa_script.specs.Machines.{distances_of, frames_at, flat_distance, flat_row};
-ghost use Rattle.numa_script.specs.Machines.{frames_for, distances_for};
+ghost use Rattle.numa_script.specs.Machines.{frames_for, distances_for, has_kernel_orders};
+ghost use Rattle.numa_script.specs.Machines.{behind_kernel, written_distances};
 
 use crate::number::{distance, small_item};
 use crate::parts::{items, rows};
@@ -177,11 +178,40 @@ impl<'a> Entries<'a> {
     }
 }
 
+/// What a word of distances begins with where the orders are those that a kernel makes.
+const KERNEL: &[u8] = b"kernel:";
+
+/// Whether a word of distances begins with `kernel:`, so that the orders in which allocations fall
+/// back are those that a kernel makes.
+pub(crate) fn has_kernel_orders(word: &[u8]) -> bool
+    ensures { result ≡ has_kernel_orders word.now }
+{
+    word.starts_with(KERNEL)
+}
+
+/// A word of distances without the `kernel:` that it may begin with.
+fn behind_kernel(word: &[u8]) -> &[u8]
+    ensures { result.now ≡ behind_kernel word.now }
+{
+    match word.strip_prefix(KERNEL) {
+        Some(written) => written,
+        None => word,
+    }
+}
+
 impl<'a> Distances<'a> {
-    /// The distances that the word writes: `flat`, or a table whose every item is a distance.
+    /// The distances that the word writes, behind the `kernel:` that it may begin with: `flat`, or a
+    /// table whose every item is a distance.
     #[tactic(auto, unfolding(crate::specs::Machines::distances_of))]
     pub fn read(word: &'a [u8]) -> Option<Distances<'a>>
         ensures { result ≡ distances_of word.now }
+    {
+        Distances::written(behind_kernel(word))
+    }
+
+    /// The distances that the word writes: `flat`, or a table whose every item is a distance.
+    fn written(word: &'a [u8]) -> Option<Distances<'a>>
+        ensures { result ≡ written_distances word.now }
     {
         if word == b"flat".as_slice() {
             return Some(Distances::Flat);

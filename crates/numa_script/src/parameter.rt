@@ -25,7 +25,7 @@ pub enum Parameter {
     Memory,
     /// FRAMES, the frames of the nodes.
     Frames,
-    /// DIST, the distances between the nodes.
+    /// DIST, the distances between the nodes, and whose orders are made of them.
     Distances,
     /// START, the address at which a span begins, in bytes.
     Start,
@@ -39,7 +39,7 @@ pub enum Parameter {
     Node,
     /// WEIGHT, the weight of a node.
     Weight,
-    /// LIST, the nodes that are allowed.
+    /// LIST, the nodes that are allowed, or those with CPUs.
     List,
     /// TASK, the number of a task.
     Task,
@@ -70,7 +70,8 @@ pub enum Form {
     Rules,
     /// Decimal numbers below 2^32, with commas between them.
     Frames,
-    /// `flat`, or decimal numbers of at most 255, with commas and semicolons between them.
+    /// `flat`, or decimal numbers of at most 255, with commas and semicolons between them; either
+    /// may stand behind `kernel:`.
     Distances,
     /// Anything: a node list or a policy, whose faults have names of their own.
     Any,
@@ -176,6 +177,7 @@ pub fn parameters(keyword: Keyword) -> &'static [Parameter]
     match keyword {
         Keyword::Limits => &[Ranges, Tasks, Commands],
         Keyword::Rules => &[Parameter::Rules],
+        Keyword::Cpus => &[List],
         Keyword::Machine => &[Nodes, Memory, Frames, Distances],
         Keyword::Map => &[Start, Length, Offset],
         Keyword::Unmap => &[Start, Length],

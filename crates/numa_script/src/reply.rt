@@ -45,6 +45,8 @@ pub enum Reply {
     BadLimits,
     /// The rules are taken.
     RulesOk,
+    /// The nodes with CPUs are taken.
+    CpusOk,
     /// The machine is ready.
     Ready,
     /// The machine is refused.

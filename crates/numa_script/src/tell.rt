@@ -201,6 +201,7 @@ pub fn say_reply<W: Write>(output: &mut Watched<W>, reply: &Reply)
         Reply::LimitsOk => output.say(b"limits ok\n"),
         Reply::BadLimits => output.say(b"bad limits\n"),
         Reply::RulesOk => output.say(b"rules ok\n"),
+        Reply::CpusOk => output.say(b"cpus ok\n"),
         Reply::Ready => output.say(b"ready\n"),
         Reply::BadMachine(fault) => {
             say_line(output, b"bad machine ", Named::Machine(*fault).name())
