@@ -37,7 +37,7 @@ Touches old w request answer new =
 
 -- a running machine with another core and placed pages
 pub moved : (old new : Running) (state : State) (world : World) (kept : Kept) → RunsAs old state → setup_of new.core ≡ setup_of old.core → CoreStandsFor new.core world → new.resident ≡ kept
-    → RunsAs new (record { bounds = state.bounds; rules = state.rules; machine = state.machine; world = world; resident = kept })
+    → RunsAs new (record { bounds = state.bounds; rules = state.rules; cpus = state.cpus; machine = state.machine; world = world; resident = kept })
 moved old new state world kept stands same reached resident = record {
   core = record {
     bounds = stands.core.bounds ∙ sym (ap (λ s. s.bounds) same);
@@ -68,7 +68,7 @@ does-event old new event answer steps same resident =
     let there : after ≡ event_world right.0 s state.world event = ap (world_after s state.world (newest_published state.world) event) right.1 in (
       right.0,
       ap reply_to right.1,
-      subst (λ (w : World). RunsAs new (record { bounds = state.bounds; rules = state.rules; machine = state.machine; world = w; resident = state.resident })) there
+      subst (λ (w : World). RunsAs new (record { bounds = state.bounds; rules = state.rules; cpus = state.cpus; machine = state.machine; world = w; resident = state.resident })) there
           (moved old new state after state.resident stands same step.1 (resident ∙ stands.resident)),
     )
 
@@ -76,14 +76,14 @@ does-event old new event answer steps same resident =
 
 given : (old new : Running) (refused : Bool) (w : ℕ) (frame : Frame) (answer : Result CoreReply CoreRefusal) (kept : Kept) → Steps old.core (Give w frame) answer new.core → setup_of new.core ≡ setup_of old.core
     → new.resident ≡ kept → (state : State) → RunsAs old state
-    → RunsAs new (record { bounds = state.bounds; rules = state.rules; machine = state.machine; world = event_world refused (setup_of old.core) state.world (Give w frame); resident = kept })
+    → RunsAs new (record { bounds = state.bounds; rules = state.rules; cpus = state.cpus; machine = state.machine; world = event_world refused (setup_of old.core) state.world (Give w frame); resident = kept })
 given old new refused w frame answer kept steps same resident state stands =
     let s = setup_of old.core in
     let step = steps state.world stands.core.world in
     let after : World = world_after s state.world (newest_published state.world) (Give w frame) answer in
     let there : after ≡ event_world refused s state.world (Give w frame) =
     ap (world_after s state.world (newest_published state.world) (Give w frame)) (give-told refused s state.world w frame answer step.0) in
-    subst (λ (world : World). RunsAs new (record { bounds = state.bounds; rules = state.rules; machine = state.machine; world = world; resident = kept })) there
+    subst (λ (world : World). RunsAs new (record { bounds = state.bounds; rules = state.rules; cpus = state.cpus; machine = state.machine; world = world; resident = kept })) there
     (moved old new state after kept stands same step.1 resident)
 
 -- ---- a placement that was won
@@ -140,7 +140,7 @@ none_won done.Given none = refl
 
 -- the machine after the core's touch
 touched-there : (old mid : Running) (w : ℕ) (request : Request) (answer : Result CoreReply CoreRefusal) → Touches old.core w request answer mid.core → setup_of mid.core ≡ setup_of old.core → mid.resident ≡ old.resident
-    → (state : State) → RunsAs old state → RunsAs mid (record { bounds = state.bounds; rules = state.rules; machine = state.machine; world = (result_of_touch (setup_of old.core) state.world w request).world; resident = state.resident })
+    → (state : State) → RunsAs old state → RunsAs mid (record { bounds = state.bounds; rules = state.rules; cpus = state.cpus; machine = state.machine; world = (result_of_touch (setup_of old.core) state.world w request).world; resident = state.resident })
 touched-there old mid w request answer touches same resident state stands =
     let s = setup_of old.core in
     let touch = touches state.world stands.core.world in
@@ -170,7 +170,7 @@ touches-won old mid new w request answer placement said touches same resident wo
     let t = result_of_touch s state.world w request in
     let touch = touches state.world stands.core.world in
     let some : won_by t.answer ≡ Some placement = ap won_by (sym touch.0) ∙ won in
-    let kept = keep (record { bounds = state.bounds; rules = state.rules; machine = state.machine; world = t.world; resident = state.resident }) (touched-there old mid w request answer touches same resident state stands) in
+    let kept = keep (record { bounds = state.bounds; rules = state.rules; cpus = state.cpus; machine = state.machine; world = t.world; resident = state.resident }) (touched-there old mid w request answer touches same resident state stands) in
     let out : kept_outcome kept.0 (setup_of mid.core) t.world state.resident w placement ≡ touch_outcome kept.0 s state.world state.resident w request =
     ap (λ r. kept_outcome kept.0 r t.world state.resident w placement) same ∙ ap (λ o. touch_by kept.0 s o t.answer t.world state.resident w) (sym some) in (
       kept.0,

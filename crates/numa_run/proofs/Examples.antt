@@ -2,6 +2,7 @@
 use Rattle.std.proofs.Common.{◌≡◌, true, false, [], ◌∷◌, None, Some, codes, refl}
 use Rattle.std.specs.Prelude.{◌==◌, ◌&&◌, if◌then◌else◌}
 use Rattle.std.specs.Fmt.{digits}
+use Rattle.numa_machine.specs.declared.fallback.Fallback.TheVariants.{Nearest, Kernel}
 use Rattle.numa_machine.specs.declared.rules.Rules.TheVariants.{Document, Linux}
 use Rattle.numa_mask.specs.Lists.{item_of, ends_of, digit_of, numeral_of as node_numeral_of}
 use Rattle.numa_mask.specs.NodeSet.{members}
@@ -20,7 +21,7 @@ use Rattle.numa_script.specs.Lines.{line_of, keyword_of}
 use Rattle.numa_script.specs.Machines.{distances_of}
 use Rattle.numa_script.specs.Numbers.{number_of, numeral_of, in_64_bits}
 use Rattle.numa_script.specs.Policies.{policy_of, mode_of, form_of_two, form_of_three}
-use Rattle.numa_run.specs.Answers.{State, start, answer_of, after}
+use Rattle.numa_run.specs.Answers.{State, start, start_by, answer_of, after}
 use Rattle.numa_run.specs.Replies.{outcome_of}
 use Rattle.numa_run.specs.States.{usual_bounds}
 use Rattle.numa_script.specs.Texts.{text_of}
@@ -63,17 +64,56 @@ rules-are_taken : answer_of false start (line_of (codes "rules linux")) ≡ code
 unfolding line_of keyword_of outcome_of text_of
 rules-are_taken = refl
 
+cpus-are_taken : answer_of false start (line_of (codes "cpus 0")) ≡ codes "cpus ok\n"
+unfolding line_of keyword_of item_of ends_of node_numeral_of digit_of outcome_of text_of
+cpus-are_taken = refl
+
+-- the last line counts
+cpus-of_two_lines : (after false (after false start (line_of (codes "cpus 0"))) (line_of (codes "cpus 0-1"))).cpus ≡ Some 3
+unfolding line_of keyword_of item_of ends_of node_numeral_of digit_of outcome_of
+cpus-of_two_lines = refl
+
+cpus-of_a_bad_list : answer_of false start (line_of (codes "cpus 1-0")) ≡ codes "bad list BackRange\n"
+unfolding line_of keyword_of item_of ends_of node_numeral_of digit_of outcome_of text_of
+cpus-of_a_bad_list = refl
+
+-- a node with CPUs that the machine lacks, whatever its orders and whether there is memory
+with_cpus_elsewhere : State
+with_cpus_elsewhere = after false start (line_of (codes "cpus 2"))
+
+cpus-elsewhere : answer_of true with_cpus_elsewhere (line_of (codes "machine 2 0-1 8 flat")) ≡ codes "bad machine NodeCount\n"
+unfolding with_cpus_elsewhere line_of keyword_of number_of numeral_of in_64_bits distances_of members item_of ends_of node_numeral_of digit_of outcome_of text_of
+cpus-elsewhere = refl
+
+-- the orders of a kernel, where node 0 alone has CPUs
+with_cpus : State
+with_cpus = after false start (line_of (codes "cpus 0"))
+
+cpus-of_a_kernels_machine : (after false with_cpus (line_of (codes "machine 2 0-1 8 kernel:flat"))).machine
+    ≡ Some (record { nodes = 2; memory = 3; distances = 10 ∷ 20 ∷ 20 ∷ 10 ∷ []; frames = 8 ∷ 8 ∷ []; rules = Document; fallback = Kernel 1 })
+unfolding with_cpus line_of keyword_of number_of numeral_of in_64_bits distances_of machine_fault has_bad_memory has_bad_distance has_bad_frames members item_of ends_of node_numeral_of digit_of outcome_of
+cpus-of_a_kernels_machine = refl
+
+-- all nodes have CPUs where no line names any
+kernels_machine : (after false start (line_of (codes "machine 2 0-1 8 kernel:flat"))).machine
+    ≡ Some (record { nodes = 2; memory = 3; distances = 10 ∷ 20 ∷ 20 ∷ 10 ∷ []; frames = 8 ∷ 8 ∷ []; rules = Document; fallback = Kernel 3 })
+unfolding line_of keyword_of number_of numeral_of in_64_bits distances_of machine_fault has_bad_memory has_bad_distance has_bad_frames members item_of ends_of node_numeral_of digit_of outcome_of
+kernels_machine = refl
+
+start-by_the_kernels_rules : (start_by Linux).rules ≡ Linux
+start-by_the_kernels_rules = refl
+
 -- ---- with a machine of two nodes, two mapped pages, and a policy of the first
 
 abbrev pub two_nodes : Hardware
-two_nodes = record { nodes = 2; memory = 3; distances = 10 ∷ 20 ∷ 20 ∷ 10 ∷ []; frames = 8 ∷ 8 ∷ []; rules = Document }
+two_nodes = record { nodes = 2; memory = 3; distances = 10 ∷ 20 ∷ 20 ∷ 10 ∷ []; frames = 8 ∷ 8 ∷ []; rules = Document; fallback = Nearest }
 
 -- the commands so far, none of them published
 world : World
 world = record { history = Mbind 0x10000 0x1000 (record { mode = Bind; flag = Plain; mask = 2 }) ∷ Map 0x10000 0x2000 0 ∷ []; published = opening.published; worker = opening.worker; owner = opening.owner }
 
 bound : State
-bound = record { bounds = usual_bounds; rules = Document; machine = Some two_nodes; world = world; resident = [] }
+bound = record { bounds = usual_bounds; rules = Document; cpus = None; machine = Some two_nodes; world = world; resident = [] }
 
 bound-page : answer_of false bound (line_of (codes "place 1 0x10fff 0")) ≡ codes "v2: 1\n"
 unfolding line_of keyword_of number_of numeral_of in_64_bits members distance_order digits bound world outcome_of text_of
@@ -153,7 +193,7 @@ counts-past_the_mapped_pages = refl
 
 -- with both commands published
 published : State
-published = record { bounds = usual_bounds; rules = Document; machine = Some two_nodes; world = record { history = world.history; published = 2 ∷ 0 ∷ []; worker = world.worker; owner = world.owner }; resident = [] }
+published = record { bounds = usual_bounds; rules = Document; cpus = None; machine = Some two_nodes; world = record { history = world.history; published = 2 ∷ 0 ∷ []; worker = world.worker; owner = world.owner }; resident = [] }
 
 -- the first frame of node 1 is worker 0's, and kept for page 16
 placed : Placement
@@ -163,6 +203,7 @@ resident : State
 resident = record {
   bounds = usual_bounds;
   rules = Document;
+  cpus = None;
   machine = Some two_nodes;
   world = record { history = world.history; published = 2 ∷ 0 ∷ []; worker = world.worker; owner = λ n k. if (n == 1) && (k == 0) then Some 0 else None };
   resident = (16, placed) ∷ [];

@@ -1,4 +1,5 @@
 mod Examples
+pub mod Cpus
 pub mod Doing
 pub mod Histories
 pub mod JudgeLemmas

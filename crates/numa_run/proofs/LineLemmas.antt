@@ -1,5 +1,5 @@
 -- What serving a line of each kind comes to.
-use Rattle.std.specs.Prelude.{◌≡◌, ℕ, ◌==◌, ◌||◌, nat_lt, if◌then◌else◌, Bool, true, false, Option, Some, None, List, [], refl, Ok, Err}
+use Rattle.std.specs.Prelude.{◌≡◌, ℕ, ◌==◌, ◌||◌, nat_lt, if◌then◌else◌, Bool, true, false, Option, Some, None, List, [], refl, Result, Ok, Err}
 use Rattle.std.proofs.Common.{sym, ◌∙◌, ap, subst}
 use Rattle.numa_mask.specs.declared.list.ListFault.{ListFault}
 use Rattle.numa_machine.specs.Machine.{Hardware}
@@ -15,10 +15,10 @@ use Rattle.numa_script.specs.declared.line.Question.{Question}
 use Rattle.numa_script.specs.declared.line.Line.{Line}
 use Rattle.numa_script.specs.declared.line.Line.TheVariants as line
 use Rattle.numa_run.specs.Answers.{State, answer_of, reply_of, after}
-use Rattle.numa_run.specs.Machines.{limits_fit, hardware_of, first_fault}
+use Rattle.numa_run.specs.Machines.{limits_fit, nodes_with_cpus, hardware_of, has_bad_nodes, first_fault}
 use Rattle.numa_run.specs.Questions.{question_text}
 use Rattle.numa_run.specs.Ranges.{listing_of}
-use Rattle.numa_run.specs.Replies.{Answer, Replied, Shown, bytes_of, reply_in, Served, with_text, with_reply, machine_unless, machine_outcome, served_first, served_later, with_outcome, served_by, outcome_of}
+use Rattle.numa_run.specs.Replies.{Answer, Replied, Shown, bytes_of, reply_in, Served, with_text, with_reply, cpus_outcome, machine_unless, machine_outcome, served_first, served_later, with_outcome, served_by, outcome_of}
 use Rattle.numa_run.specs.Standing.{RunsAs, Stands, Replies, Takes, Does}
 use Rattle.numa_run.specs.States.{setup_with}
 use Rattle.numa_script.specs.Texts.{text_of}
@@ -33,7 +33,7 @@ use Rattle.numa_script.specs.declared.reply.Reply.TheVariants as reply
 
 first_is : (settings : Settings) (said : Line) (refused : Bool) (state : State) → Stands settings None state → outcome_of refused state said ≡ served_first refused state said
 unfolding outcome_of
-first_is settings said refused state stands = ap (λ m. served_by m refused state said) stands.2
+first_is settings said refused state stands = ap (λ m. served_by m refused state said) stands.3
 
 -- a line that changes nothing
 pub first_same : (settings : Settings) (said : Line) (answer : Reply) (refused : Bool) → ((state : State) → served_first refused state said ≡ with_reply answer state) → Replies settings None said (Some answer) settings None
@@ -44,42 +44,68 @@ first_same settings said answer refused right =
 
 -- limits that are taken
 pub first_limits : (settings : Settings) (ranges tasks commands : ℕ) → limits_fit ranges tasks ≡ true →
-    Replies settings None (line.Limits ranges tasks commands) (Some reply.LimitsOk) (record { limits = record { max_ranges = ranges; max_tasks = tasks; max_commands = commands }; rules = settings.rules }) None
+    Replies settings None (line.Limits ranges tasks commands) (Some reply.LimitsOk) (record { limits = record { max_ranges = ranges; max_tasks = tasks; max_commands = commands }; rules = settings.rules; cpus = settings.cpus }) None
 first_limits settings ranges tasks commands fits =
     λ state stands.
-    let taken : State = record { bounds = record { max_ranges = ranges; max_tasks = tasks; max_commands = commands }; rules = state.rules; machine = state.machine; world = state.world; resident = state.resident } in
+    let taken : State = record { bounds = record { max_ranges = ranges; max_tasks = tasks; max_commands = commands }; rules = state.rules; cpus = state.cpus; machine = state.machine; world = state.world; resident = state.resident } in
     let is : outcome_of false state (line.Limits ranges tasks commands) ≡ with_reply reply.LimitsOk taken =
     first_is settings (line.Limits ranges tasks commands) false state stands ∙ ap (λ b. if b then with_reply reply.LimitsOk taken else with_reply reply.BadLimits state) fits in
-    let after_it : Settings = record { limits = record { max_ranges = ranges; max_tasks = tasks; max_commands = commands }; rules = settings.rules } in
-    (false, sym (ap (λ r. reply_in r.answer) is), subst (λ (r : Served). Stands after_it None r.state) (sym is) (refl, stands.1, stands.2))
+    let after_it : Settings = record { limits = record { max_ranges = ranges; max_tasks = tasks; max_commands = commands }; rules = settings.rules; cpus = settings.cpus } in
+    (false, sym (ap (λ r. reply_in r.answer) is), subst (λ (r : Served). Stands after_it None r.state) (sym is) (refl, stands.1, stands.2, stands.3))
 
 -- rules that are taken
 pub first_rules : (settings : Settings) (rules : Rules) →
-    Replies settings None (line.Rules rules) (Some reply.RulesOk) (record { limits = settings.limits; rules = rules }) None
+    Replies settings None (line.Rules rules) (Some reply.RulesOk) (record { limits = settings.limits; rules = rules; cpus = settings.cpus }) None
 first_rules settings rules =
     λ state stands.
-    let taken : State = record { bounds = state.bounds; rules = rules; machine = state.machine; world = state.world; resident = state.resident } in
+    let taken : State = record { bounds = state.bounds; rules = rules; cpus = state.cpus; machine = state.machine; world = state.world; resident = state.resident } in
     let is : outcome_of false state (line.Rules rules) ≡ with_reply reply.RulesOk taken = first_is settings (line.Rules rules) false state stands in
-    let after_it : Settings = record { limits = settings.limits; rules = rules } in
-    (false, sym (ap (λ r. reply_in r.answer) is), subst (λ (r : Served). Stands after_it None r.state) (sym is) (stands.0, refl, stands.2))
+    let after_it : Settings = record { limits = settings.limits; rules = rules; cpus = settings.cpus } in
+    (false, sym (ap (λ r. reply_in r.answer) is), subst (λ (r : Served). Stands after_it None r.state) (sym is) (stands.0, refl, stands.2, stands.3))
 
 pub first_no_limits : (settings : Settings) (ranges tasks commands : ℕ) → limits_fit ranges tasks ≡ false → Replies settings None (line.Limits ranges tasks commands) (Some reply.BadLimits) settings None
 first_no_limits settings ranges tasks commands none = first_same settings (line.Limits ranges tasks commands) reply.BadLimits false (λ state. rw none refl)
 
+-- nodes with CPUs that are taken
+pub first_cpus : (settings : Settings) (said : Result ℕ ListFault) (cpus : ℕ) → said ≡ Ok cpus →
+    Replies settings None (line.Cpus said) (Some reply.CpusOk) (record { limits = settings.limits; rules = settings.rules; cpus = Some cpus }) None
+first_cpus settings said cpus named =
+    λ state stands.
+    let taken : State = record { bounds = state.bounds; rules = state.rules; cpus = Some cpus; machine = state.machine; world = state.world; resident = state.resident } in
+    let is : outcome_of false state (line.Cpus said) ≡ with_reply reply.CpusOk taken = first_is settings (line.Cpus said) false state stands ∙ ap (λ m. cpus_outcome m state) named in
+    let after_it : Settings = record { limits = settings.limits; rules = settings.rules; cpus = Some cpus } in
+    (false, sym (ap (λ r. reply_in r.answer) is), subst (λ (r : Served). Stands after_it None r.state) (sym is) (stands.0, stands.1, refl, stands.3))
+
+pub first_no_cpus : (settings : Settings) (said : Result ℕ ListFault) (fault : ListFault) → said ≡ Err fault → Replies settings None (line.Cpus said) (Some (reply.BadWord (word_fault.List fault))) settings None
+first_no_cpus settings said fault named = first_same settings (line.Cpus said) (reply.BadWord (word_fault.List fault)) false (λ state. ap (λ m. cpus_outcome m state) named)
+
+-- the machine that a line describes, by what was chosen before it, and its first fault
+abbrev pub described : MachineLine → ℕ → Rules → Option ℕ → Hardware
+described said memory rules cpus = hardware_of said memory rules (nodes_with_cpus said.nodes cpus)
+
+abbrev pub described_fault : Bool → MachineLine → ℕ → Rules → Option ℕ → Option MachineFault
+described_fault refused said memory rules cpus = first_fault refused (nodes_with_cpus said.nodes cpus) (described said memory rules cpus)
+
+-- the state and the script have chosen the same
+same_fault : (settings : Settings) (state : State) (refused : Bool) (said : MachineLine) (memory : ℕ) → Stands settings None state →
+    described_fault refused said memory state.rules state.cpus ≡ described_fault refused said memory settings.rules settings.cpus
+same_fault settings state refused said memory stands = λ i. described_fault refused said memory (stands.1 i) (stands.2 i)
+
 -- a machine that is ready
-pub first_ready : (settings : Settings) (said : MachineLine) (memory : ℕ) (running : Running) → said.memory ≡ Ok memory → first_fault false (hardware_of said memory settings.rules) ≡ None
-    → setup_of running.core ≡ setup_with (hardware_of said memory settings.rules) settings.limits → LeadsTo [] running.core → running.resident ≡ []
+pub first_ready : (settings : Settings) (said : MachineLine) (memory : ℕ) (running : Running) → said.memory ≡ Ok memory → described_fault false said memory settings.rules settings.cpus ≡ None
+    → setup_of running.core ≡ setup_with (described said memory settings.rules settings.cpus) settings.limits → LeadsTo [] running.core → running.resident ≡ []
     → Replies settings None (line.Machine said) (Some reply.Ready) settings (Some running)
 first_ready settings said memory running named sound setup leads resident =
     λ state stands.
-    let ready : State = record { bounds = state.bounds; rules = state.rules; machine = Some (hardware_of said memory state.rules); world = opening; resident = [] } in
-    let sound_there : first_fault false (hardware_of said memory state.rules) ≡ None = subst (λ (r : Rules). first_fault false (hardware_of said memory r) ≡ None) (sym stands.1) sound in
+    let hardware : Hardware = described said memory state.rules state.cpus in
+    let ready : State = record { bounds = state.bounds; rules = state.rules; cpus = state.cpus; machine = Some hardware; world = opening; resident = [] } in
     let is : outcome_of false state (line.Machine said) ≡ with_reply reply.Ready ready =
-    first_is settings (line.Machine said) false state stands ∙ ap (λ m. machine_outcome false said m state) named ∙ ap (λ f. machine_unless f (hardware_of said memory state.rules) state) sound_there in
+    first_is settings (line.Machine said) false state stands ∙ ap (λ m. machine_outcome false said m state) named ∙ ap (λ f. machine_unless f hardware state) (same_fault settings state false said memory stands ∙ sound) in
+    let same : hardware ≡ described said memory settings.rules settings.cpus = λ i. described said memory (stands.1 i) (stands.2 i) in
     let reached : RunsAs running ready = record {
       core = record {
         bounds = stands.0 ∙ sym (ap (λ s. s.bounds) setup);
-        machine = ap (λ r. Some (hardware_of said memory r)) stands.1 ∙ ap Some (sym (ap (λ s. s.machine) setup));
+        machine = ap Some (same ∙ sym (ap (λ s. s.machine) setup));
         workers = ap (λ s. s.workers) setup;
         world = leads.stands;
       };
@@ -87,32 +113,26 @@ first_ready settings said memory running named sound setup leads resident =
     } in
     (false, sym (ap (λ r. reply_in r.answer) is), subst (λ (r : Served). RunsAs running r.state) (sym is) reached)
 
--- a line that changes nothing, by the rules that were chosen before it
-first_same-by_rules : (settings : Settings) (said : Line) (answer : Reply) (refused : Bool) → ((state : State) → state.rules ≡ settings.rules → served_first refused state said ≡ with_reply answer state) → Replies settings None said (Some answer) settings None
-first_same-by_rules settings said answer refused right =
-    λ state stands.
-    let is : outcome_of refused state said ≡ with_reply answer state = first_is settings said refused state stands ∙ right state stands.1 in
-    (refused, sym (ap (λ r. reply_in r.answer) is), subst (λ (r : Served). Stands settings None r.state) (sym is) stands)
-
 -- a machine that is refused
-pub first_bad : (settings : Settings) (said : MachineLine) (memory : ℕ) (refused : Bool) (fault : MachineFault) → said.memory ≡ Ok memory → first_fault refused (hardware_of said memory settings.rules) ≡ Some fault
+pub first_bad : (settings : Settings) (said : MachineLine) (memory : ℕ) (refused : Bool) (fault : MachineFault) → said.memory ≡ Ok memory → described_fault refused said memory settings.rules settings.cpus ≡ Some fault
     → Replies settings None (line.Machine said) (Some (reply.BadMachine fault)) settings None
 first_bad settings said memory refused fault named why =
-    first_same-by_rules settings (line.Machine said) (reply.BadMachine fault) refused
-    (λ state same.
-    let why_there : first_fault refused (hardware_of said memory state.rules) ≡ Some fault = subst (λ (r : Rules). first_fault refused (hardware_of said memory r) ≡ Some fault) (sym same) why in
-    ap (λ m. machine_outcome refused said m state) named ∙ ap (λ f. machine_unless f (hardware_of said memory state.rules) state) why_there)
+    λ state stands.
+    let hardware : Hardware = described said memory state.rules state.cpus in
+    let is : outcome_of refused state (line.Machine said) ≡ with_reply (reply.BadMachine fault) state =
+    first_is settings (line.Machine said) refused state stands ∙ ap (λ m. machine_outcome refused said m state) named ∙ ap (λ f. machine_unless f hardware state) (same_fault settings state refused said memory stands ∙ why) in
+    (refused, sym (ap (λ r. reply_in r.answer) is), subst (λ (r : Served). Stands settings None r.state) (sym is) stands)
 
 pub first_bad_list : (settings : Settings) (said : MachineLine) (fault : ListFault) → said.memory ≡ Err fault → Replies settings None (line.Machine said) (Some (reply.BadWord (word_fault.List fault))) settings None
 first_bad_list settings said fault named = first_same settings (line.Machine said) (reply.BadWord (word_fault.List fault)) false (λ state. ap (λ m. machine_outcome false said m state) named)
 
 -- where a machine has no fault, its core may find no memory
-pub core-starved : (hardware : Hardware) → first_fault false hardware ≡ None → first_fault true hardware ≡ Some machine_fault.NoMemory
-core-starved hardware sound = by_count (hardware.nodes == 0 || nat_lt 256 hardware.nodes) sound
+pub core-starved : (cpus : ℕ) (hardware : Hardware) → first_fault false cpus hardware ≡ None → first_fault true cpus hardware ≡ Some machine_fault.NoMemory
+core-starved cpus hardware sound = by_nodes (has_bad_nodes hardware.nodes cpus) sound
   where
-    by_count : (b : Bool) → (if b then Some machine_fault.NodeCount else hardware_fault hardware) ≡ None → (if b then Some machine_fault.NodeCount else Some machine_fault.NoMemory) ≡ Some machine_fault.NoMemory
-    by_count true is = cc
-    by_count false is = refl
+    by_nodes : (b : Bool) → (if b then Some machine_fault.NodeCount else hardware_fault hardware) ≡ None → (if b then Some machine_fault.NodeCount else Some machine_fault.NoMemory) ≡ Some machine_fault.NoMemory
+    by_nodes true is = cc
+    by_nodes false is = refl
 
 -- ---- with a machine
 

@@ -4,7 +4,7 @@ use Rattle.numa_script.specs.Lines.{line_of}
 use Rattle.numa_script.specs.declared.line.Line.{Line}
 use Rattle.numa_run.specs.Replies.{bytes_of, reply_in, outcome_of}
 use Rattle.numa_script.specs.declared.reply.Reply.{Reply}
-pub use Rattle.numa_run.specs.States.{State, start}
+pub use Rattle.numa_run.specs.States.{State, start, start_by}
 
 abbrev pub answer_of : Bool → State → Line → List ℕ
 answer_of refused state said = bytes_of (outcome_of refused state said).answer

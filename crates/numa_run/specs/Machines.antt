@@ -1,9 +1,13 @@
 -- What the lines before a machine is ready are answered.
-use Rattle.std.specs.Prelude.{ℕ, ◌==◌, ◌&&◌, ◌||◌, nat_le, nat_lt, Bool, Option, Some, List}
-use Rattle.std.specs.Prelude.{if◌then◌else◌}
+use Rattle.std.specs.Prelude.{ℕ, ◌==◌, ◌&&◌, ◌||◌, nat_le, nat_lt, Bool, true, false, Option}
+use Rattle.std.specs.Prelude.{Some, None, List, if◌then◌else◌}
+use Rattle.std.specs.List.{range_with_len}
+use Rattle.numa_mask.specs.NodeSet.{set_of}
 use Rattle.numa_machine.specs.Machine.{Hardware}
+use Rattle.numa_machine.specs.declared.fallback.Fallback.{Fallback}
+use Rattle.numa_machine.specs.declared.fallback.Fallback.TheVariants.{Nearest, Kernel}
 use Rattle.numa_machine.specs.declared.rules.Rules.{Rules}
-use Rattle.numa_machine.specs.Faults.{hardware_fault}
+use Rattle.numa_machine.specs.Faults.{hardware_fault, has_other_node}
 use Rattle.numa_machine.specs.declared.fault.MachineFault.{MachineFault}
 use Rattle.numa_machine.specs.declared.fault.MachineFault.TheVariants as machine_fault
 use Rattle.numa_script.specs.Machines.{frames_for, distances_for}
@@ -14,26 +18,37 @@ use Rattle.numa_script.specs.declared.line.MachineLine.{MachineLine}
 abbrev pub limits_fit : ℕ → ℕ → Bool
 limits_fit ranges tasks = nat_le ranges 65536 && nat_le tasks 1024
 
--- the machine of a number of nodes, these of them with memory, with frames and distances as a line
--- has them, and these rules
-abbrev pub hardware_from : ℕ → ℕ → List ℕ → Distances → Rules → Hardware
-hardware_from nodes memory frames distances rules = record {
-  nodes = nodes;
+-- cpus LIST: the nodes with CPUs, of so many nodes; all of them where no line names any
+abbrev pub nodes_with_cpus : ℕ → Option ℕ → ℕ
+nodes_with_cpus nodes None = set_of (range_with_len 0 nodes)
+nodes_with_cpus nodes (Some cpus) = cpus
+
+-- the orders in which allocations fall back: a kernel's, where these nodes have CPUs, or by distance
+-- alone
+abbrev pub fallback_by : Bool → ℕ → Fallback
+fallback_by true cpus = Kernel cpus
+fallback_by false cpus = Nearest
+
+-- the machine that a line describes, these of its nodes with memory, by rules that were chosen
+-- before; and these of its nodes with CPUs
+abbrev pub hardware_of : MachineLine → ℕ → Rules → ℕ → Hardware
+hardware_of said memory rules cpus = record {
+  nodes = said.nodes;
   memory = memory;
-  distances = distances_for nodes distances;
-  frames = frames_for nodes memory frames;
+  distances = distances_for said.nodes said.distances;
+  frames = frames_for said.nodes memory said.frames;
   rules = rules;
+  fallback = fallback_by said.kernel_orders cpus;
 }
 
--- the machine that a line describes, once its list of nodes with memory is read, by rules that were
--- chosen before
-abbrev pub hardware_of : MachineLine → ℕ → Rules → Hardware
-hardware_of said memory rules = hardware_from said.nodes memory said.frames said.distances rules
+-- the machine has too many nodes, or none, or lacks one that is said to have CPUs
+abbrev pub has_bad_nodes : ℕ → ℕ → Bool
+has_bad_nodes nodes cpus = nodes == 0 || nat_lt 256 nodes || has_other_node nodes cpus
 
--- the first fault: the number of nodes is judged before the tables, the machine and its core are
--- made, and they are made before all else is judged
-abbrev pub first_fault : Bool → Hardware → Option MachineFault
-first_fault refused hardware =
-    if hardware.nodes == 0 || nat_lt 256 hardware.nodes then Some machine_fault.NodeCount
+-- the first fault, where these nodes have CPUs: the nodes are judged before the tables, the machine
+-- and its core are made, and they are made before all else is judged
+abbrev pub first_fault : Bool → ℕ → Hardware → Option MachineFault
+first_fault refused cpus hardware =
+    if has_bad_nodes hardware.nodes cpus then Some machine_fault.NodeCount
     else if refused then Some machine_fault.NoMemory
     else hardware_fault hardware

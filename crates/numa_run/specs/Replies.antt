@@ -12,7 +12,7 @@ use Rattle.numa_script.specs.declared.policy.WordFault.TheVariants as word_fault
 use Rattle.numa_script.specs.declared.line.MachineLine.{MachineLine}
 use Rattle.numa_script.specs.declared.line.Line.{Line}
 use Rattle.numa_script.specs.declared.line.Line.TheVariants as line
-use Rattle.numa_run.specs.Machines.{limits_fit, hardware_of, first_fault}
+use Rattle.numa_run.specs.Machines.{limits_fit, nodes_with_cpus, hardware_of, first_fault}
 use Rattle.numa_run.specs.Questions.{question_text}
 use Rattle.numa_run.specs.Ranges.{listing_of}
 use Rattle.numa_run.specs.States.{State, setup_with}
@@ -58,12 +58,18 @@ limits_outcome ranges tasks commands state =
     })
     else with_reply reply.BadLimits state
 
+-- cpus LIST: the last list without a fault before the machine counts
+abbrev pub cpus_outcome : Result ℕ ListFault → State → Served
+cpus_outcome (Err fault) state = with_reply (reply.BadWord (word_fault.List fault)) state
+cpus_outcome (Ok cpus) state = with_reply reply.CpusOk (record state { cpus = Some cpus })
+
 -- a machine, where it has no fault: nothing is accepted yet, and no page is placed
 abbrev pub machine_unless : Option MachineFault → Hardware → State → Served
 machine_unless None hardware state =
     with_reply reply.Ready (record {
       bounds = state.bounds;
       rules = state.rules;
+      cpus = state.cpus;
       machine = Some hardware;
       world = opening;
       resident = [];
@@ -76,8 +82,9 @@ abbrev pub machine_outcome : Bool → MachineLine → Result ℕ ListFault → S
 machine_outcome refused said (Err fault) state =
     with_reply (reply.BadWord (word_fault.List fault)) state
 machine_outcome refused said (Ok memory) state =
-    let hardware = hardware_of said memory state.rules in
-    machine_unless (first_fault refused hardware) hardware state
+    let cpus = nodes_with_cpus said.nodes state.cpus in
+    let hardware = hardware_of said memory state.rules cpus in
+    machine_unless (first_fault refused cpus hardware) hardware state
 
 abbrev pub served_first : Bool → State → Line → Served
 served_first refused state line.Silent = with_reply reply.Silent state
@@ -86,6 +93,7 @@ served_first refused state (line.Limits ranges tasks commands) =
     limits_outcome ranges tasks commands state
 served_first refused state (line.Rules rules) =
     with_reply reply.RulesOk (record state { rules = rules })
+served_first refused state (line.Cpus said) = cpus_outcome said state
 served_first refused state (line.Machine said) = machine_outcome refused said said.memory state
 served_first refused state (line.Command said) = with_reply reply.BadState state
 served_first refused state (line.Question said) = with_reply reply.BadState state
@@ -112,6 +120,7 @@ served_later refused machine state line.Malformed = with_reply reply.BadWords st
 served_later refused machine state (line.Limits ranges tasks commands) =
     with_reply reply.BadState state
 served_later refused machine state (line.Rules rules) = with_reply reply.BadState state
+served_later refused machine state (line.Cpus said) = with_reply reply.BadState state
 served_later refused machine state (line.Machine said) = with_reply reply.BadState state
 served_later refused machine state (line.Command said) = command_outcome refused machine state said
 served_later refused machine state (line.Question said) =

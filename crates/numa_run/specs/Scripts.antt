@@ -11,7 +11,7 @@ use Rattle.numa_script.specs.declared.reply.Reply.{Reply}
 use Rattle.numa_run.specs.declared.script.Script.{Script}
 
 -- the script stands for the state that its lines so far have led to: its machine is ready where the
--- state's is, and stands for it; else its limits and rules are the state's
+-- state's is, and stands for it; else its limits, its rules and its nodes with CPUs are the state's
 abbrev pub ScriptStandsFor : Script → State → Type 0
 ScriptStandsFor script state = Stands script.settings script.running state
 

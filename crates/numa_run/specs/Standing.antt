@@ -25,10 +25,12 @@ pub record RunsAs (running : Running) (state : State) : Type 0 where
   pub core : IsCoreIn running.core state
   pub resident : running.resident ≡ state.resident
 
--- without a running machine the limits and rules are those of the machine to come
+-- without a running machine the limits, the rules and the nodes with CPUs are those of the machine to
+-- come
 abbrev pub Stands : Settings → Option Running → State → Type 0
 Stands settings None state =
-    (state.bounds ≡ settings.limits) × (state.rules ≡ settings.rules) × (state.machine ≡ None)
+    (state.bounds ≡ settings.limits) × (state.rules ≡ settings.rules)
+    × (state.cpus ≡ settings.cpus) × (state.machine ≡ None)
 Stands settings (Some running) state = RunsAs running state
 
 -- the state, with what the line made of its world and placed pages

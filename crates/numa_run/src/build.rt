@@ -1,37 +1,109 @@
 //! The machine that a line describes.
-ghost use Rattle.std.specs.Prelude.{◌≡◌, Bool, None, Some, IfOk, IfErr, false};
-ghost use Rattle.numa_run.specs.Machines.{first_fault, hardware_from};
+ghost use Rattle.std.specs.Prelude.{◌≡◌, ◌≤◌, Bool, None, Some, IfOk, IfErr, MatchOption, true};
+ghost use Rattle.std.specs.Prelude.{false};
+ghost use Rattle.std.specs.List.{range_with_len};
+ghost use Rattle.numa_machine.specs.Faults.{has_other_node};
+ghost use Rattle.numa_mask.specs.NodeSet.{set_of, with_node};
+ghost use Rattle.numa_run.specs.Machines.{fallback_by, first_fault, hardware_of, has_bad_nodes};
+ghost use Rattle.numa_run.specs.Machines.{nodes_with_cpus};
 
-use numa_machine::{Machine, MachineFault, Rules};
-use numa_mask::NodeMask;
-use numa_script::machine::{Distances, Frames};
+use numa_machine::{Fallback, Machine, MachineFault, Rules};
+use numa_mask::{NodeId, NodeMask};
+use numa_script::MachineLine;
 use std::alloc::Global;
 
 /// The most nodes that a machine has.
 const MOST_NODES: u32 = 256;
 
-/// The machine of so many nodes, these of them with memory, with these frames, distances and rules.
-/// The number of nodes is judged first; then the tables are made, for which there may be no memory;
-/// then all is judged.
-pub(crate) fn build(
-    alloc: Global,
-    nodes: u32,
-    memory: NodeMask,
-    frames: &Frames<'_>,
-    distances: &Distances<'_>,
-    rules: Rules,
-) -> Result<Machine, MachineFault>
-    ensures ok { IfOk result (λ machine.
-        (machine ≡ hardware_from nodes memory frames.now distances.now rules)
-        × (first_fault false machine ≡ None)) }
-    ensures err { IfErr result (λ fault. (refused : Bool) × (first_fault refused
-        (hardware_from nodes memory frames.now distances.now rules) ≡ Some fault)) }
+/// Adds a node to a set.
+fn add_node(set: &mut NodeMask, number: u8)
+    ensures { set.new ≡ with_node set.old number }
+{
+    if let Some(node) = NodeId::new(number) {
+        set.insert(node);
+    }
+}
+
+/// The set of all nodes of so many.
+#[tactic(auto, using(crate::proofs::Cpus::all_nodes_more))]
+fn all_nodes(nodes: u32) -> NodeMask
+    requires { nodes ≤ 256 }
+    ensures { result ≡ set_of (range_with_len 0 nodes) }
+{
+    let mut set = NodeMask::empty();
+    for number in 0..nodes {
+        add_node(&mut set, number as u8);
+    }
+    set
+}
+
+/// Whether a set has a node that is none of so many.
+fn has_other_node(nodes: u32, set: &NodeMask) -> bool
+    ensures { result ≡ has_other_node nodes set.now }
+{
+    set.iter().any(|node| nodes <= u32::from(node.number()))
+}
+
+/// The nodes with CPUs, where the machine has so many nodes: those that were named, or else all.
+/// None where there are too many nodes, or none, or one of those that were named is none of them.
+fn cpus_among(nodes: u32, named: Option<NodeMask>) -> Option<NodeMask>
+    ensures { MatchOption result (has_bad_nodes nodes (nodes_with_cpus nodes named) ≡ true)
+        (λ cpus. (cpus ≡ nodes_with_cpus nodes named) × (has_bad_nodes nodes cpus ≡ false)) }
 {
     if nodes == 0 || nodes > MOST_NODES {
-        return Err(MachineFault::NodeCount);
+        return None;
     }
-    let frames = frames.for_nodes(alloc, nodes, &memory)?;
-    let distances = distances.for_nodes(alloc, nodes)?;
-    let machine = Machine::new(alloc, nodes, memory, &distances, &frames)?;
-    Ok(machine.with_rules(rules))
+    let cpus = match named {
+        Some(cpus) => cpus,
+        None => all_nodes(nodes),
+    };
+    if has_other_node(nodes, &cpus) {
+        return None;
+    }
+    Some(cpus)
+}
+
+/// The orders in which allocations fall back: a kernel's, or by distance alone.
+fn fallback_by(kernel_orders: bool, cpus: NodeMask) -> Fallback
+    ensures { result ≡ fallback_by kernel_orders cpus }
+{
+    if kernel_orders {
+        Fallback::Kernel(cpus)
+    } else {
+        Fallback::Nearest
+    }
+}
+
+/// The machine that a line describes, these of its nodes with memory, by these rules; and these of
+/// its nodes with CPUs, or else all. The nodes are judged first; then the tables are made, for which
+/// there may be no memory; then all is judged.
+pub(crate) fn build(
+    alloc: Global,
+    said: &MachineLine<'_>,
+    memory: NodeMask,
+    rules: Rules,
+    cpus: Option<NodeMask>,
+) -> Result<Machine, MachineFault>
+    ensures ok { IfOk result (λ machine.
+        (machine ≡ hardware_of said.now memory rules (nodes_with_cpus said.now.nodes cpus))
+        × (first_fault false (nodes_with_cpus said.now.nodes cpus) machine ≡ None)) }
+    ensures err { IfErr result (λ fault. (refused : Bool)
+        × (first_fault refused (nodes_with_cpus said.now.nodes cpus)
+        (hardware_of said.now memory rules (nodes_with_cpus said.now.nodes cpus)) ≡ Some fault)) }
+{
+    let MachineLine {
+        nodes,
+        memory: _,
+        frames,
+        kernel_orders,
+        distances,
+    } = said;
+    let Some(cpus) = cpus_among(*nodes, cpus) else {
+        return Err(MachineFault::NodeCount);
+    };
+    let frames = frames.for_nodes(alloc, *nodes, &memory)?;
+    let distances = distances.for_nodes(alloc, *nodes)?;
+    let machine = Machine::new(alloc, *nodes, memory, &distances, &frames)?;
+    let fallback = fallback_by(*kernel_orders, cpus);
+    machine.with_rules(rules).with_fallback(alloc, fallback)
 }

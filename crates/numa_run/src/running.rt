@@ -181,6 +181,7 @@ impl Running {
             Line::Malformed => Taken::Reply(Reply::BadWords),
             Line::Limits { .. } => Taken::Reply(Reply::BadState),
             Line::Rules(_) => Taken::Reply(Reply::BadState),
+            Line::Cpus(_) => Taken::Reply(Reply::BadState),
             Line::Machine(_) => Taken::Reply(Reply::BadState),
             Line::Command(said) => match said {
                 Ok(command) => Taken::Reply(self.step(Event::Accept(*command))),

@@ -2,7 +2,7 @@
 ghost use Rattle.std.specs.Prelude.{◌≡◌, ℕ, ◌+◌, Bool, List, Option, None, Some, Ok, MatchOption};
 ghost use Rattle.std.specs.Prelude.{length};
 ghost use Rattle.line_server.specs.Written.{Said};
-ghost use Rattle.numa_run.specs.Answers.{State, after, answer_of, start};
+ghost use Rattle.numa_run.specs.Answers.{State, after, answer_of, start, start_by};
 ghost use Rattle.numa_run.specs.Scripts.{IsCoreIn, IsResidentIn, ScriptJudges, ScriptReplies};
 ghost use Rattle.numa_run.specs.Scripts.{ScriptStandsFor};
 ghost use Rattle.numa_run.specs.Standing.{Replies, Stands};
@@ -15,6 +15,7 @@ use line_server::{Serve, Watched};
 use numa_core::Core;
 use numa_machine::{MachineFault, Rules};
 use numa_maps::Resident;
+use numa_mask::{ListFault, NodeMask};
 use numa_script::line::parse;
 use numa_script::tell::say_reply;
 use numa_script::{Line, MachineLine, Reply, WordFault};
@@ -25,8 +26,8 @@ use std::io::Write;
 /// How many workers a machine has.
 const WORKERS: u32 = 4;
 
-/// A script that is being answered: the limits and the rules of the machine to come, and the machine
-/// that is ready.
+/// A script that is being answered: the limits, the rules and the nodes with CPUs of the machine to
+/// come, and the machine that is ready.
 #[derive(Drop)]
 pub struct Script {
     pub(crate) settings: Settings,
@@ -34,15 +35,23 @@ pub struct Script {
 }
 
 impl Script {
-    /// Before the first line: no machine, and the limits and rules that hold where no line gives
-    /// others. Takes no memory.
+    /// Before the first line: no machine, and the limits that hold where no line gives others, with
+    /// the rules of the documents. Takes no memory.
     pub fn new() -> Script
         ensures { ScriptStandsFor result start }
+    {
+        Script::by(Rules::Document)
+    }
+
+    /// The same, with these rules where no line gives others. Takes no memory.
+    pub fn by(rules: Rules) -> Script
+        ensures { ScriptStandsFor result (start_by rules) }
     {
         Script {
             settings: Settings {
                 limits: Limits::new(65_536, 1_024, u32::MAX).unwrap(),
-                rules: Rules::Document,
+                rules,
+                cpus: None,
             },
             running: None,
         }
@@ -107,30 +116,34 @@ impl Script {
         Reply::RulesOk
     }
 
+    /// Takes which nodes have CPUs, where no machine is ready.
+    fn equip(&mut self, said: &Result<NodeMask, ListFault>) -> Reply
+        requires { self.old.running ≡ None }
+        ensures { Replies self.old.settings None (Line.Cpus said.now)
+            (Some result) self.new.settings self.new.running }
+    {
+        match said {
+            Ok(cpus) => {
+                self.settings.cpus = Some(*cpus);
+                Reply::CpusOk
+            }
+            Err(fault) => Reply::BadWord(WordFault::List(*fault)),
+        }
+    }
+
     /// Makes the machine that a line describes, where none is ready.
     fn describe(&mut self, alloc: Global, said: &MachineLine<'_>) -> Reply
         requires { self.old.running ≡ None }
         ensures { Replies self.old.settings None (Line.Machine said.now)
             (Some result) self.new.settings self.new.running }
     {
-        let MachineLine {
-            nodes,
-            memory,
-            frames,
-            distances,
-        } = said;
+        let MachineLine { memory, .. } = said;
         let memory = match memory {
             Ok(memory) => *memory,
             Err(fault) => return Reply::BadWord(WordFault::List(*fault)),
         };
-        let machine = match build(
-            alloc,
-            *nodes,
-            memory,
-            frames,
-            distances,
-            self.settings.rules,
-        ) {
+        let Settings { rules, cpus, .. } = self.settings;
+        let machine = match build(alloc, said, memory, rules, cpus) {
             Ok(machine) => machine,
             Err(fault) => return Reply::BadMachine(fault),
         };
@@ -172,6 +185,7 @@ impl Script {
                 commands,
             } => self.limit(*ranges, *tasks, *commands),
             Line::Rules(rules) => self.choose(*rules),
+            Line::Cpus(said) => self.equip(said),
             Line::Machine(said) => self.describe(alloc, said),
             Line::Command(_) => Reply::BadState,
             Line::Question(_) => Reply::BadState,

@@ -1,10 +1,13 @@
 //! What holds for the machine to come.
 use numa_machine::Rules;
+use numa_mask::NodeMask;
 use numa_space::Limits;
 
-/// What the lines before a machine have set for it: its limits, and whose rules count on it.
+/// What the lines before a machine have set for it: its limits, whose rules count on it, and which of
+/// its nodes have CPUs, where a line named them.
 #[derive(Clone, Copy)]
 pub struct Settings {
     pub limits: Limits,
     pub rules: Rules,
+    pub cpus: Option<NodeMask>,
 }

@@ -19,6 +19,9 @@ returns-in-Limits c = rw c.in-Limits.is (later_same c.args.self.now _ reply.BadS
 pub returns-in-Rules : goal.returns-in-Rules
 returns-in-Rules c = rw c.in-Rules.is (later_same c.args.self.now _ reply.BadState (λ machine state. refl))
 
+pub returns-in-Cpus : goal.returns-in-Cpus
+returns-in-Cpus c = rw c.in-Cpus.is (later_same c.args.self.now _ reply.BadState (λ machine state. refl))
+
 pub returns-in-Machine : goal.returns-in-Machine
 returns-in-Machine c = rw c.in-Machine.is (later_same c.args.self.now _ reply.BadState (λ machine state. refl))
 

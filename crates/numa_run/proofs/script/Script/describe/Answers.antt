@@ -1,8 +1,8 @@
 use Rattle.std.proofs.Common.{◌∙◌, ap, sym, subst, [], true, false}
-use Rattle.numa_run.proofs.LineLemmas.{first_ready, first_bad, first_bad_list, core-starved}
+use Rattle.numa_run.proofs.LineLemmas.{described, first_ready, first_bad, first_bad_list, core-starved}
 use Rattle.numa_core.specs.Standing.{LeadsTo, setup_of}
 use Rattle.numa_run.specs.States.{setup_with}
-use Rattle.numa_run.specs.Machines.{first_fault, hardware_of}
+use Rattle.numa_run.specs.Machines.{first_fault, nodes_with_cpus}
 use Rattle.numa_machine.specs.declared.fault.MachineFault.TheVariants as machine_fault
 use Rattle.numa_run.proofs.script.Script.describe.Goals as goal
 
@@ -17,12 +17,18 @@ returns-in-Err-build c =
 pub returns-in-Err-new : goal.returns-in-Err-new
 returns-in-Err-new c =
     let made = c.in-Ok-build.ensures.ok in
-    rw c.requires (first_bad c.args.self.now.settings c.args.said.now c.in-Ok.memory true machine_fault.NoMemory c.in-Ok.is (core-starved (hardware_of c.args.said.now c.in-Ok.memory c.args.self.now.settings.rules) (ap (first_fault false) (sym made.0) ∙ made.1)))
+    let settings = c.args.self.now.settings in
+    let cpus = nodes_with_cpus c.args.said.now.nodes settings.cpus in
+    let sound = ap (first_fault false cpus) (sym made.0) ∙ made.1 in
+    rw c.requires (first_bad settings c.args.said.now c.in-Ok.memory true machine_fault.NoMemory c.in-Ok.is
+    (core-starved cpus (described c.args.said.now c.in-Ok.memory settings.rules settings.cpus) sound))
 
 pub returns-in-Ok-new : goal.returns-in-Ok-new
 returns-in-Ok-new c =
     let made = c.in-Ok-build.ensures.ok in
+    let settings = c.args.self.now.settings in
+    let cpus = nodes_with_cpus c.args.said.now.nodes settings.cpus in
     let core = c.new-in-Ok-new.ensures.core in
-    let setup = ap setup_of core ∙ c.in-Ok-new.ensures.setup ∙ ap (λ machine. setup_with machine c.args.self.now.settings.limits) made.0 in
-    (first_ready c.args.self.now.settings c.args.said.now c.in-Ok.memory c.new-in-Ok-new.result c.in-Ok.is (ap (first_fault false) (sym made.0) ∙ made.1) setup
+    let setup = ap setup_of core ∙ c.in-Ok-new.ensures.setup ∙ ap (λ machine. setup_with machine settings.limits) made.0 in
+    (first_ready settings c.args.said.now c.in-Ok.memory c.new-in-Ok-new.result c.in-Ok.is (ap (first_fault false cpus) (sym made.0) ∙ made.1) setup
     (subst (LeadsTo []) (sym core) c.in-Ok-new.ensures.opens) c.new-in-Ok-new.ensures.resident)

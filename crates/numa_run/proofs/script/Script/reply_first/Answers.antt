@@ -27,5 +27,8 @@ returns-in-Limits c = rw c.in-Limits.is c.limit.ensures
 pub returns-in-Rules : goal.returns-in-Rules
 returns-in-Rules c = rw c.in-Rules.is c.choose.ensures
 
+pub returns-in-Cpus : goal.returns-in-Cpus
+returns-in-Cpus c = rw c.in-Cpus.is c.equip.ensures
+
 pub returns-in-Machine : goal.returns-in-Machine
 returns-in-Machine c = rw c.in-Machine.is c.describe.ensures
