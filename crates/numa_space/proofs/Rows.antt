@@ -2,9 +2,9 @@
 use Rattle.std.proofs.Common.{◌≡◌, ℕ, ◌^◌, ◌-◌, Some, None, ◌*◌, ◌/◌, ◌%◌, eqb, cond, List, [], ◌∷◌, map, take, replicate, refl}
 use Rattle.std.specs.List.{flat_map, range_with_len}
 use Rattle.numa_mask.specs.NodeSet.{set_of, members}
-use Rattle.numa_machine.specs.declared.fallback.Fallback.TheVariants.{Nearest}
+use Rattle.numa_machine.specs.declared.fallback.Fallback.TheVariants.{Nearest, Kernel}
 use Rattle.numa_machine.specs.declared.rules.Rules.TheVariants.{Document, Linux}
-use Rattle.numa_machine.specs.Machine.{Hardware, fallback_order}
+use Rattle.numa_machine.specs.Machine.{Hardware, fallback_order, loads_before}
 use Rattle.numa_machine.specs.Weights.{interleave_node, weighted_node, total_weight}
 use Rattle.numa_mode.specs.Policy.{Specification}
 use Rattle.numa_mode.specs.declared.modes.Mode.{Mode}
@@ -317,3 +317,16 @@ static-has_all = refl
 weight-put_back : firsts linux (SetWeight 0 0 ∷ weighted_run) 1 0x10 3 ≡ 0 ∷ 1 ∷ 1 ∷ []
 unfolding members fallback_order weighted_node total_weight firsts weighted_run linux mems_of
 weight-put_back = refl
+
+-- ---- by the orders of a kernel, where all nodes have CPUs
+
+turning : Hardware
+turning = record (flat 4) { fallback = Kernel 15 }
+
+turning-preferred : node_list turning (SetTask 1 (asked Preferred Plain (2 ∷ [])) ∷ Map 0x10000 0x1000 0 ∷ []) 1 0x10 0 ≡ 2 ∷ 3 ∷ 0 ∷ 1 ∷ []
+unfolding members fallback_order loads_before turning mems_of
+turning-preferred = refl
+
+turning-bound : node_list turning (Mbind 0x10000 0x1000 (asked Bind Plain (0 ∷ 1 ∷ 3 ∷ [])) ∷ Map 0x10000 0x1000 0 ∷ []) 1 0x10 1 ≡ 1 ∷ 3 ∷ 0 ∷ []
+unfolding members fallback_order loads_before turning mems_of
+turning-bound = refl
