@@ -30,6 +30,13 @@ pub record FindsQuickly (old new : Counted) (runs : ℕ) : Type 0 where
   pub writes_no_run : new.runs ≡ old.runs
   pub writes_no_rule : new.rules ≡ old.rules
 
+-- at most one comparison more, and nothing else
+pub record LooksOnce (old new : Counted) : Type 0 where
+  pub compares : old.comparisons ≤ new.comparisons
+  pub few : new.comparisons ≤ old.comparisons + 1
+  pub writes_no_run : new.runs ≡ old.runs
+  pub writes_no_rule : new.rules ≡ old.rules
+
 -- at most as many comparisons more as two such searches make, and nothing else
 pub record FindsTwice (old new : Counted) (runs : ℕ) : Type 0 where
   pub compares : old.comparisons ≤ new.comparisons

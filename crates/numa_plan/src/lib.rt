@@ -13,7 +13,6 @@
 //! `specs/Rows.antt`, and what the building calls make of the data in `specs/Building.antt`.
 #![tactic(auto)]
 
-mod chunks;
 mod guess;
 mod looks;
 mod numbers;
@@ -21,6 +20,7 @@ mod plan;
 mod rows;
 mod rule;
 mod runs;
+mod search;
 mod shared_rule;
 mod slots;
 mod steps;

@@ -1,4 +1,5 @@
-//! What is asked of one run. Nothing else reads a run's first page in a search.
+//! A run in its place among the runs of a plan. Its first page is private here, and each call that
+//! reads it counts a comparison.
 ghost use Rattle.std.specs.Prelude.{◌≡◌, ◌+◌, ◌<◌, ◌≤◌, ◌^◌, MatchOption, true, false};
 ghost use Rattle.numa_ranges.specs.Runs.{end_of};
 ghost use Rattle.numa_plan.specs.Counted.{one_comparison};
@@ -7,65 +8,119 @@ ghost use Rattle.numa_plan.specs.Found.{IsPartOf};
 use crate::runs::Found;
 use crate::steps::Steps;
 use numa_ranges::Run;
+use std::marker::Model;
 
-/// How far a page lies behind the first page of a run; none where it lies before it.
-#[inline]
-pub(crate) fn behind_first(run: &Run<Option<u32>>, page: u64) -> Option<u64>
-    ensures { MatchOption result (page < run.now.first) (λ far. run.now.first + far ≡ page) }
-{
-    if page < run.first {
-        None
-    } else {
-        Some(page - run.first)
+/// A run in its place, of which one asks by calls alone. Whoever is handed one can't read its first
+/// page but by a call that counts.
+#[derive(Drop)]
+pub(crate) struct RunInPlace<'a> {
+    run: &'a Run<Option<u32>>,
+}
+
+impl<'a> Model for RunInPlace<'a> {
+    ghost use Rattle.std.specs.Prelude.{ℕ, Option};
+    ghost use Rattle.numa_ranges.specs.declared.run.Run.{Run};
+
+    ghost Value = { Run (Option ℕ) };
+
+    ghost view = { λ a. a.run.now };
+}
+
+impl<'a> RunInPlace<'a> {
+    /// This run, which stands somewhere.
+    #[inline(always)]
+    pub(crate) fn of(run: &'a Run<Option<u32>>) -> RunInPlace<'a>
+        ensures { result ≡ run.now }
+    {
+        RunInPlace { run }
     }
-}
 
-/// The same, by a search that counts its comparisons.
-#[inline]
-pub(crate) fn compared(run: &Run<Option<u32>>, page: u64, steps: &mut Steps) -> Option<u64>
-    ensures counted { steps.new ≡ one_comparison steps.old }
-    ensures far { MatchOption result (page < run.now.first) (λ far. run.now.first + far ≡ page) }
-{
-    steps.compared();
-    behind_first(run, page)
-}
-
-/// What a run says of the page that lies so far behind its first page; none where the run is
-/// shorter.
-#[inline]
-pub(crate) fn found_in(run: &Run<Option<u32>>, far: u64) -> Option<Found>
-    requires { run.now.index + run.now.pages ≤ 2 ^ 36 }
-    ensures { MatchOption result (run.now.pages ≤ far) (λ found. IsPartOf run.now far found) }
-{
-    if far < run.pages {
-        Some(Found {
-            index: run.index + far,
-            rule: run.value,
-            left: run.pages - far,
-        })
-    } else {
-        None
+    /// The first page of the run. Nothing else reads it.
+    #[inline(always)]
+    fn first(&self, steps: &mut Steps) -> u64
+        ensures counted { steps.new ≡ one_comparison steps.old }
+        ensures first { result ≡ self.now.first }
+    {
+        steps.compared();
+        self.run.first
     }
-}
 
-/// Whether a run begins behind a page.
-#[inline]
-pub(crate) fn begins_behind(run: &Run<Option<u32>>, page: u64) -> bool
-    ensures behind { result ≡ true → page < run.now.first }
-    ensures begun { result ≡ false → run.now.first ≤ page }
-{
-    behind_first(run, page).is_none()
-}
+    /// How far a page lies behind the first page of the run; none where it lies before it.
+    #[inline(always)]
+    pub(crate) fn far_behind(&self, page: u64, steps: &mut Steps) -> Option<u64>
+        ensures counted { steps.new ≡ one_comparison steps.old }
+        ensures far { MatchOption result (page < self.now.first)
+            (λ far. self.now.first + far ≡ page) }
+    {
+        let first = self.first(steps);
+        if page < first {
+            None
+        } else {
+            Some(page - first)
+        }
+    }
 
-/// The place behind a run that ends before a page; for another the place from before.
-#[inline]
-pub(crate) fn behind_ended(run: &Run<Option<u32>>, page: u64, from: usize, place: usize) -> usize
-    requires { end_of run.now ≤ 2 ^ 35 }
-    ensures ended { end_of run.now < page → result ≡ place }
-    ensures reaches { page ≤ end_of run.now → result ≡ from }
-{
-    match behind_first(run, page) {
-        Some(far) if run.pages < far => place,
-        _ => from,
+    /// The run, to be handed out whole, which counts as a comparison.
+    #[inline(always)]
+    pub(crate) fn whole(&self, steps: &mut Steps) -> Run<Option<u32>>
+        ensures counted { steps.new ≡ one_comparison steps.old }
+        ensures run { result ≡ self.now }
+    {
+        let first = self.first(steps);
+        Run {
+            first,
+            pages: self.run.pages,
+            index: self.run.index,
+            value: self.run.value,
+        }
+    }
+
+    /// What the run says of the page that lies so far behind its first page; none where the run is
+    /// shorter.
+    #[inline(always)]
+    pub(crate) fn found(&self, far: u64) -> Option<Found>
+        requires { self.now.index + self.now.pages ≤ 2 ^ 36 }
+        ensures { MatchOption result (self.now.pages ≤ far)
+            (λ found. IsPartOf self.now far found) }
+    {
+        if far < self.run.pages {
+            Some(Found {
+                index: self.run.index + far,
+                rule: self.run.value,
+                left: self.run.pages - far,
+            })
+        } else {
+            None
+        }
+    }
+
+    /// Whether the run begins behind a page.
+    #[inline]
+    pub(crate) fn begins_behind(&self, page: u64, steps: &mut Steps) -> bool
+        ensures counted { steps.new ≡ one_comparison steps.old }
+        ensures behind { result ≡ true → page < self.now.first }
+        ensures begun { result ≡ false → self.now.first ≤ page }
+    {
+        self.far_behind(page, steps).is_none()
+    }
+
+    /// The place behind the run where it ends before a page; for another run the place from before.
+    #[inline]
+    pub(crate) fn behind_ended(
+        &self,
+        page: u64,
+        from: usize,
+        place: usize,
+        steps: &mut Steps,
+    ) -> usize
+        requires { end_of self.now ≤ 2 ^ 35 }
+        ensures counted { steps.new ≡ one_comparison steps.old }
+        ensures ended { end_of self.now < page → result ≡ place }
+        ensures reaches { page ≤ end_of self.now → result ≡ from }
+    {
+        match self.far_behind(page, steps) {
+            Some(far) if self.run.pages < far => place,
+            _ => from,
+        }
     }
 }

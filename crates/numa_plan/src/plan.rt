@@ -12,8 +12,10 @@ ghost use Rattle.numa_plan.specs.Meaning.{number_for, planned_first, CountsFirst
 mod build;
 mod edit;
 mod read;
+mod uncounted;
 
 use crate::numbers::Numbers;
+use crate::plan::uncounted::{covers, found_next, walk_from};
 use crate::rule::Rule;
 use crate::runs::Runs;
 use crate::slots::{Slot, copies};
@@ -190,14 +192,14 @@ impl Plan {
         if cpu >= self.nodes {
             return Err(PlaceRefusal::BadCpu);
         }
-        let mut seen = self.runs.walk_from(first);
-        if !self.runs.covers(first, out.len() as u64, seen) {
+        let mut seen = walk_from(&self.runs, first);
+        if !covers(&self.runs, first, out.len() as u64, seen) {
             return Err(PlaceRefusal::Unmapped);
         }
         let mut page = first;
         let mut done = 0usize;
         while done < out.len() {
-            let Some(found) = self.runs.find_next(page, &mut seen) else {
+            let Some(found) = found_next(&self.runs, page, &mut seen) else {
                 unreachable!()
             };
             let count = found.left.min((out.len() - done) as u64);
@@ -231,7 +233,7 @@ impl Plan {
         let mut page = first;
         let mut todo = pages;
         while todo > 0 {
-            let Some(found) = self.runs.find_next(page, &mut seen) else {
+            let Some(found) = found_next(&self.runs, page, &mut seen) else {
                 return Err(PlaceRefusal::Unmapped);
             };
             let part = found.left.min(todo);

@@ -14,6 +14,7 @@ ghost use Rattle.numa_plan.specs.Building.{with_rule};
 ghost use Rattle.numa_plan.specs.Editing.{with_runs, with_written, without_rule};
 
 use crate::plan::Plan;
+use crate::plan::uncounted::spliced;
 use crate::runs::Beside;
 use crate::shared_rule::SharedRule;
 use crate::slots::{free_slot, leave_all, policy_at, use_all, write_other};
@@ -89,7 +90,7 @@ impl Plan {
             return Err(NoMemory);
         }
         let window = Beside { from, to, near };
-        let gone = self.runs.splice(self.alloc, window, runs, steps)?;
+        let gone = spliced(&mut self.runs, self.alloc, window, runs, steps)?;
         use_all(&mut self.slots, runs);
         leave_all(&mut self.slots, &gone);
         Ok(gone)

@@ -10,6 +10,7 @@ ghost use Rattle.numa_plan.specs.Meaning.{number_of};
 ghost use Rattle.numa_plan.specs.Slots.{policy_in, rule_of_slot, uses_in};
 
 use crate::plan::Plan;
+use crate::plan::uncounted::{found_near, run_at, window_near};
 use crate::slots::{policy_at, taken_count, uses_at};
 use crate::steps::Steps;
 use numa_mode::Record;
@@ -59,7 +60,7 @@ impl Plan {
     pub fn run_at(&self, place: usize) -> Option<Run<Option<u32>>>
         ensures { result ≡ slice_get self.now.runs place }
     {
-        self.runs.at(place)
+        run_at(&self.runs, place)
     }
 
     /// The number of the rule of the run that has a page; none where no run has it. The page is
@@ -93,7 +94,7 @@ impl Plan {
     pub fn window_near(&self, first: u64, end: u64, guess: usize) -> (usize, usize, usize)
         ensures { first ≤ end → IsWindow self.now.runs first end result.0 result.1 }
     {
-        let found = self.runs.window_near(first, end, guess);
+        let found = window_near(&self.runs, first, end, guess);
         (found.from, found.to, found.near)
     }
 
@@ -103,7 +104,7 @@ impl Plan {
     pub fn number_near(&self, page: u64, place: usize, near: usize) -> Option<Option<u32>>
         ensures { result ≡ option_map (λ at. at.1) (page_at self.now.runs page) }
     {
-        match self.runs.find_near(page, place, near) {
+        match found_near(&self.runs, page, place, near) {
             Some(found) => Some(found.rule),
             None => None,
         }

@@ -27,14 +27,14 @@ returns-clause-kept c k =
     ∙ kept_in-spliced c.self.inside.slots.items c.args.runs.now c.deref.result.now k
     ∙ ap (λ (p : PlanData). kept_in p.slots k) c.self.view_is
 
-pub splice-requires-clause-rises : goal.splice-requires-clause-rises
-splice-requires-clause-rises c = c.requires.rises
+pub spliced-requires-clause-rises : goal.spliced-requires-clause-rises
+spliced-requires-clause-rises c = c.requires.rises
 
-pub splice-requires-clause-within : goal.splice-requires-clause-within
-splice-requires-clause-within c = omega (arith, c.requires.within, ap (λ (p : PlanData). length p.runs) c.self.view_is)
+pub spliced-requires-clause-within : goal.spliced-requires-clause-within
+spliced-requires-clause-within c = omega (arith, c.requires.within, ap (λ (p : PlanData). length p.runs) c.self.view_is)
 
-pub splice-requires-clause-apart : goal.splice-requires-clause-apart
-splice-requires-clause-apart c =
+pub spliced-requires-clause-apart : goal.spliced-requires-clause-apart
+spliced-requires-clause-apart c =
     subst (λ (runs : List (Run (Option ℕ))). AreApart 0 (splice runs c.args.from c.args.to c.args.runs.now)) (sym (ap (λ (p : PlanData). p.runs) c.self.view_is)) c.requires.apart
 
 pub use_all-requires-clause-there : goal.use_all-requires-clause-there

@@ -1,5 +1,5 @@
 use Rattle.std.proofs.Common.{ℕ, Option, List, length, ap, sym, subst, ◌∙◌, arith}
-use Rattle.std.specs.List.{slice_range, splice}
+use Rattle.std.specs.List.{splice}
 use Rattle.numa_ranges.specs.Runs.{AreApart}
 use Rattle.numa_ranges.specs.declared.run.Run.{Run}
 use Rattle.numa_plan.proofs.runs.Runs.splice.Goals as goal
@@ -8,7 +8,7 @@ pub gathered-requires-clause-rises : goal.gathered-requires-clause-rises
 gathered-requires-clause-rises c = c.requires.rises
 
 pub gathered-requires-clause-within : goal.gathered-requires-clause-within
-gathered-requires-clause-within c = omega (arith, c.requires.within, ap (λ (runs : List (Run (Option ℕ))). length runs) c.self.view_is)
+gathered-requires-clause-within c = c.requires.within
 
 pub splice_near-requires-clause-rises : goal.splice_near-requires-clause-rises
 splice_near-requires-clause-rises c = c.requires.rises
@@ -21,7 +21,7 @@ invariant_of-self-2 c = subst (λ (runs : List (Run (Option ℕ))). AreApart 0 r
 
 pub returns-clause-ok : goal.returns-clause-ok
 returns-clause-ok c = (
-  c.in_ok-gone.ensures ∙ ap (λ (runs : List (Run (Option ℕ))). slice_range runs c.args.window.from c.args.window.to) c.self.view_is,
+  c.in_ok-gone.ensures,
   c.in_ok-splice_near.ensures.ok ∙ ap (λ (runs : List (Run (Option ℕ))). splice runs c.args.window.from c.args.window.to c.args.runs.now) c.self.view_is,
   c.runs_written.ensures,
 )

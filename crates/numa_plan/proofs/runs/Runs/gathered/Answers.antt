@@ -1,13 +1,13 @@
 use Rattle.std.proofs.Common.{◌++◌, ◌∷◌, [], sym, ap, ◌∙◌, arith}
 use Rattle.numa_plan.proofs.NearWindows.{gathered-next}
-use Rattle.numa_plan.proofs.chunks.gathered.Goals as goal
+use Rattle.numa_plan.proofs.runs.Runs.gathered.Goals as goal
 
 pub loop-place-preserved : goal.loop-place-preserved
 loop-place-preserved c =
-    let run = c.run_near.result.now in
+    let run = c.whole.result in
     c.in_ok-push.ensures.items
     ∙ (ap (λ l. l ++ run ∷ []) c.loop-place.invariant
-    ∙ sym (gathered-next c.args.items.now c.args.from c.loop-place.place run (omega arith) (omega (arith, c.requires.within)) (c.run_near.ensures run)))
+    ∙ sym (gathered-next c.args.self.now c.args.window.from c.loop-place.place run (omega arith) (omega (arith, c.requires.within)) (c.whole.ensures.run ∙ c.run_near.ensures run)))
 
 pub overflow_sub-to : goal.overflow_sub-to
 overflow_sub-to c = c.requires.rises

@@ -1,0 +1,78 @@
+//! Looks at runs whose comparisons nobody asks for. Each is counted here, on a counter that is let
+//! go. Of a plan's calls none that promises a bound makes one of them: `choice`, `number_at` and
+//! `window` search with the counter of their caller.
+ghost use Rattle.std.specs.Prelude.{◌≡◌, ◌≤◌, ◌∷◌, ◌++◌, length, slice_get, IfOk, OnErr};
+ghost use Rattle.std.specs.Bool.{OnTrue, OnFalse};
+ghost use Rattle.std.specs.List.{slice_range, splice};
+ghost use Rattle.numa_ranges.specs.Runs.{AreApart};
+ghost use Rattle.numa_ranges.specs.Windows.{IsWindow};
+ghost use Rattle.numa_plan.specs.Counted.{more_runs};
+ghost use Rattle.numa_plan.specs.Found.{IsFound, IsMapped, HasHole};
+
+use crate::runs::{Beside, Found, Runs};
+use crate::search::Seen;
+use crate::steps::Steps;
+use numa_machine::NoMemory;
+use numa_ranges::Run;
+use std::alloc::Global;
+
+/// `Runs::walk_from`.
+pub(super) fn walk_from(runs: &Runs, page: u64) -> Seen {
+    runs.walk_from(page, &mut Steps::new())
+}
+
+/// `Runs::covers`.
+pub(super) fn covers(runs: &Runs, first: u64, pages: u64, start: Seen) -> bool
+    ensures all { OnTrue result (IsMapped runs.now first pages) }
+    ensures hole { OnFalse result (HasHole runs.now first pages) }
+{
+    runs.covers(first, pages, start, &mut Steps::new())
+}
+
+/// `Runs::find_next`.
+#[inline(always)]
+pub(super) fn found_next(runs: &Runs, page: u64, seen: &mut Seen) -> Option<Found>
+    ensures found { IsFound runs.now page result }
+{
+    runs.find_next(page, seen, &mut Steps::new())
+}
+
+/// `Runs::find_near`.
+pub(super) fn found_near(runs: &Runs, page: u64, place: usize, near: usize) -> Option<Found>
+    ensures found { IsFound runs.now page result }
+{
+    runs.find_near(page, place, near, &mut Steps::new())
+}
+
+/// `Runs::window_near`.
+pub(super) fn window_near(runs: &Runs, first: u64, end: u64, guess: usize) -> Beside
+    ensures { first ≤ end → IsWindow runs.now first end result.from result.to }
+{
+    runs.window_near(first, end, guess, &mut Steps::new())
+}
+
+/// `Runs::at`.
+pub(super) fn run_at(runs: &Runs, place: usize) -> Option<Run<Option<u32>>>
+    ensures { result ≡ slice_get runs.now place }
+{
+    runs.at(place, &mut Steps::new())
+}
+
+/// `Runs::splice`; `steps` counts the runs that are written.
+pub(super) fn spliced(
+    runs: &mut Runs,
+    alloc: Global,
+    window: Beside,
+    written: &[Run<Option<u32>>],
+    steps: &mut Steps,
+) -> Result<Vec<Run<Option<u32>>>, NoMemory>
+    requires rises { window.from ≤ window.to }
+    requires within { window.to ≤ length runs.old }
+    requires apart { AreApart 0 (splice runs.old window.from window.to written.now) }
+    ensures ok { IfOk result (λ gone. (gone.items ≡ slice_range runs.old window.from window.to)
+        × (runs.new ≡ splice runs.old window.from window.to written.now)
+        × (steps.new ≡ more_runs (length written.now) steps.old)) }
+    ensures err { OnErr result ((runs.new ≡ runs.old) × (steps.new ≡ steps.old)) }
+{
+    runs.splice(alloc, window, written, steps, &mut Steps::new())
+}

@@ -1,0 +1,313 @@
+//! Searches among the runs of a plan, and looks that spare one. Each counts its comparisons on the
+//! counter that it is given.
+ghost use Rattle.std.specs.Prelude.{◌≡◌, ℕ, ◌+◌, ◌-◌, ◌/◌, ◌<◌, ◌≤◌, length, slice_index_or};
+ghost use Rattle.std.specs.Prelude.{MatchOption, Option, IfSome};
+ghost use Rattle.std.specs.Bool.{OnTrue, OnFalse};
+ghost use Rattle.std.specs.List.{AllWithin};
+ghost use Rattle.numa_ranges.specs.Runs.{AreApart, end_of};
+ghost use Rattle.numa_ranges.specs.Windows.{IsWindow};
+ghost use Rattle.numa_ranges.specs.declared.run.Run.{Run};
+ghost use Rattle.numa_rows.specs.Searches.{IsChunkOf};
+ghost use Rattle.numa_plan.specs.Counted.{FindsQuickly, FindsTwice, LooksOnce};
+ghost use Rattle.numa_plan.specs.Found.{IsAt, IsFound, IsPartOf, IsMapped, IsSplit, HasHole};
+
+use crate::guess::{LOOKED_AT, chunk_of, start_before};
+use crate::runs::{Beside, Found, Runs};
+use crate::steps::Steps;
+use numa_ranges::Run;
+use numa_rows::Part;
+
+/// How far a walk along the pages has come: the place of the next run, and the chunk of the last.
+/// Nothing depends on it but time.
+#[derive(Clone, Copy, Debug)]
+pub(crate) struct Seen {
+    place: usize,
+    chunk: usize,
+}
+
+/// The middle of the places where a search goes on: half of them at most stand on each side.
+#[inline(always)]
+fn middle_of(low: usize, high: usize) -> usize
+    requires { low < high }
+    ensures low { low ≤ result }
+    ensures high { result < high }
+    ensures left { result - low ≤ (high - low) / 2 }
+    ensures right { high - (result + 1) ≤ (high - low) / 2 }
+{
+    low + (high - low) / 2
+}
+
+/// A window that was looked for from a place on, where a run before it was seen or is none.
+#[inline]
+fn seen_window(start: usize, from: usize, to: usize, near: usize) -> Option<Beside>
+    ensures from { IfSome result (λ found. found.from ≡ from) }
+    ensures to { IfSome result (λ found. found.to ≡ to) }
+    ensures seen { IfSome result (λ found. from ≡ start → start ≡ 0) }
+{
+    if from == start && start > 0 {
+        return None;
+    }
+    Some(Beside { from, to, near })
+}
+
+impl Runs {
+    /// The place behind the last run that begins at a page or before it, how far the page lies
+    /// behind the first page of that run, and the runs among which the search ended.
+    #[inline]
+    fn split(&self, page: u64, steps: &mut Steps) -> (usize, u64, Part<'_, Run<Option<u32>>>)
+        ensures split { IsSplit self.now page result.0 result.1 }
+        ensures part { IsChunkOf self.now result.2 }
+        ensures apart { AreApart 0 self.now }
+        ensures quick { FindsQuickly steps.old steps.new (length self.now) }
+    {
+        let (runs, chunks) = self.sizes();
+        let mut part = self.no_part();
+        let mut low = 0usize;
+        let mut high = runs;
+        let mut far = 0u64;
+        let mut below = 0usize;
+        let mut above = chunks;
+        while low < high {
+            let middle = middle_of(low, high);
+            part = self.part_with(part, middle, below.wrapping_add(above) / 2);
+            let run = self.run_in(&part, middle);
+            let chunk = part.chunk();
+            match run.far_behind(page, steps) {
+                Some(distance) => {
+                    far = distance;
+                    low = middle + 1;
+                    below = chunk;
+                }
+                None => {
+                    high = middle;
+                    above = chunk;
+                }
+            }
+        }
+        (low, far, part)
+    }
+
+    /// What the run at a place, which is sought from a part of the runs on, says of the page that
+    /// lies so far behind its first page.
+    #[inline]
+    fn found_at<'a>(
+        &'a self,
+        place: usize,
+        far: u64,
+        part: Part<'a, Run<Option<u32>>>,
+    ) -> Option<Found>
+        requires place { place < length self.now }
+        requires part { IsChunkOf self.now part }
+        ensures { (d : Run (Option ℕ)) →
+            MatchOption result ((slice_index_or self.now place d).pages ≤ far)
+            (λ found. IsPartOf (slice_index_or self.now place d) far found) }
+    {
+        // Tells the proof that the runs are apart, so that an index fits its number.
+        let _ = self.len();
+        self.run_beside(part, place).found(far)
+    }
+
+    /// What the runs say of a page.
+    pub(crate) fn find(&self, page: u64, steps: &mut Steps) -> Option<Found>
+        ensures found { IsFound self.now page result }
+        ensures quick { FindsQuickly steps.old steps.new (length self.now) }
+    {
+        self.find_first(page, &mut Runs::seen(), steps)
+    }
+
+    /// Where a walk along the pages begins.
+    pub(crate) fn seen() -> Seen {
+        Seen {
+            place: usize::MAX,
+            chunk: 0,
+        }
+    }
+
+    /// Where a walk begins that finds the run of this page, if there is one, without a search.
+    pub(crate) fn walk_from(&self, page: u64, steps: &mut Steps) -> Seen {
+        let at = self.split(page, steps);
+        Seen {
+            place: at.0.saturating_sub(1),
+            chunk: at.2.chunk(),
+        }
+    }
+
+    /// What the runs say of a page, where `seen` tells how far a walk along the pages has come. It
+    /// looks at the next run first, and searches where that doesn't have the page.
+    #[inline(always)]
+    pub(crate) fn find_next(&self, page: u64, seen: &mut Seen, steps: &mut Steps) -> Option<Found>
+        ensures found { IsFound self.now page result }
+    {
+        if let Some(found) = self.found_beside(page, seen, steps) {
+            return Some(found);
+        }
+        // The search works on a copy, so that a walk that needs none keeps its own in registers.
+        let mut sought = *seen;
+        let found = self.find_first(page, &mut sought, steps);
+        *seen = sought;
+        found
+    }
+
+    /// What the next run says of a page; none where it doesn't have the page.
+    #[inline(always)]
+    fn found_beside(&self, page: u64, seen: &mut Seen, steps: &mut Steps) -> Option<Found>
+        ensures found { IfSome result (λ found. IsAt self.now page found) }
+        ensures few { LooksOnce steps.old steps.new }
+    {
+        let place = seen.place;
+        if place >= self.len() {
+            return None;
+        }
+        let run = self.run_near(place, &mut seen.chunk);
+        let far = run.far_behind(page, steps)?;
+        let found = run.found(far)?;
+        seen.place = place + 1;
+        Some(found)
+    }
+
+    /// What the runs say of a page, by a search; `seen` is where it ended.
+    fn find_first(&self, page: u64, seen: &mut Seen, steps: &mut Steps) -> Option<Found>
+        ensures found { IsFound self.now page result }
+        ensures quick { FindsQuickly steps.old steps.new (length self.now) }
+    {
+        let at = self.split(page, steps);
+        seen.place = at.0;
+        seen.chunk = at.2.chunk();
+        if at.0 == 0 {
+            return None;
+        }
+        self.found_at(at.0 - 1, at.1, at.2)
+    }
+
+    /// How many runs begin at a page or before it.
+    fn count_begun(&self, page: u64, steps: &mut Steps) -> usize
+        ensures within { result ≤ length self.now }
+        ensures begun { AllWithin (λ run. run.first ≤ page) self.now 0 result }
+        ensures behind { AllWithin (λ run. page < run.first) self.now result (length self.now) }
+        ensures quick { FindsQuickly steps.old steps.new (length self.now) }
+    {
+        self.split(page, steps).0
+    }
+
+    /// How many runs end before a page.
+    fn count_ended(&self, page: u64, steps: &mut Steps) -> usize
+        ensures within { result ≤ length self.now }
+        ensures ended { AllWithin (λ run. end_of run < page) self.now 0 result }
+        ensures reach { AllWithin (λ run. page ≤ end_of run) self.now result (length self.now) }
+        ensures quick { FindsQuickly steps.old steps.new (length self.now) }
+    {
+        if page == 0 {
+            return 0;
+        }
+        let at = self.split(page - 1, steps);
+        if at.0 == 0 {
+            return 0;
+        }
+        match self.found_at(at.0 - 1, at.1, at.2) {
+            Some(_) => at.0 - 1,
+            None => at.0,
+        }
+    }
+
+    /// The places of the runs that end at `first` or behind it and begin at `end` or before it: the
+    /// first place, and the one behind the last.
+    pub(crate) fn window(&self, first: u64, end: u64, steps: &mut Steps) -> (usize, usize)
+        ensures window { first ≤ end → IsWindow self.now first end result.0 result.1 }
+        ensures quick { FindsTwice steps.old steps.new (length self.now) }
+    {
+        let from = self.count_ended(first, steps);
+        let to = self.count_begun(end, steps);
+        (from, to)
+    }
+
+    /// The same places, looked for beside a guess at the first of them before they are sought.
+    pub(crate) fn window_near(
+        &self,
+        first: u64,
+        end: u64,
+        guess: usize,
+        steps: &mut Steps,
+    ) -> Beside
+        ensures { first ≤ end → IsWindow self.now first end result.from result.to }
+    {
+        let (runs, chunks) = self.sizes();
+        let start = start_before(guess, runs);
+        let chunk = chunk_of(start, chunks, runs);
+        if let Some(found) = self.window_from(first, end, start, chunk, steps) {
+            return found;
+        }
+        let (from, to) = self.window(first, end, steps);
+        Beside {
+            from,
+            to,
+            near: chunk,
+        }
+    }
+
+    /// The window of a span, looked for from a place on, which stands in a chunk or near it; none
+    /// where it begins before that place, or ends many runs behind it.
+    fn window_from(
+        &self,
+        first: u64,
+        end: u64,
+        start: usize,
+        guess: usize,
+        steps: &mut Steps,
+    ) -> Option<Beside>
+        requires { start ≤ length self.now }
+        ensures { first ≤ end → IfSome result (λ found. IsWindow self.now first end found.from
+            found.to) }
+    {
+        let mut chunk = guess;
+        let mut from = start;
+        let mut to = start;
+        while to < self.len() {
+            let run = self.run_near(to, &mut chunk);
+            if run.begins_behind(end, steps) {
+                return seen_window(start, from, to, chunk);
+            }
+            to += 1;
+            if to - start > LOOKED_AT {
+                return None;
+            }
+            from = run.behind_ended(first, from, to, steps);
+        }
+        seen_window(start, from, to, chunk)
+    }
+
+    /// What the runs say of a page, which the run at a place, that stands in a chunk or near it, is
+    /// looked at for before it is sought.
+    pub(crate) fn find_near(
+        &self,
+        page: u64,
+        place: usize,
+        near: usize,
+        steps: &mut Steps,
+    ) -> Option<Found>
+        ensures found { IsFound self.now page result }
+    {
+        let mut seen = Seen { place, chunk: near };
+        self.find_next(page, &mut seen, steps)
+    }
+
+    /// Whether each page of the span is mapped, by a walk that begins at `start`.
+    pub(crate) fn covers(&self, first: u64, pages: u64, start: Seen, steps: &mut Steps) -> bool
+        ensures all { OnTrue result (IsMapped self.now first pages) }
+        ensures hole { OnFalse result (HasHole self.now first pages) }
+    {
+        let mut seen = start;
+        let mut page = first;
+        let mut todo = pages;
+        while todo > 0 {
+            let Some(found) = self.find_next(page, &mut seen, steps) else {
+                return false;
+            };
+            if todo <= found.left {
+                return true;
+            }
+            page += found.left;
+            todo -= found.left;
+        }
+        true
+    }
+}
