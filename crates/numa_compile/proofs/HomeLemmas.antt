@@ -48,7 +48,12 @@ pub begun-writes : (old next new : Counted) (first end k : ℕ) (ranges : List (
 begun-writes old next new first end k ranges range lt there one two =
     let more : starts_in first end (take (k + 1) ranges) ≡ starts_in first end (take k ranges) + cond {A = ℕ} (begins_in first end (get_or ranges k range)) 1 0 = begun-more first end k ranges range lt in
     let same : cond {A = ℕ} (begins_in first end (get_or ranges k range)) 1 0 ≡ cond {A = ℕ} (begins_in first end range) 1 0 = ap (λ (run : Run (Option PolicyRecord)). cond {A = ℕ} (begins_in first end run) 1 0) there in
-    record { runs = two.runs ∙ one.runs; rules = omega (arith, one.rules, two.rules, more, same) }
+    record {
+      compares = omega (arith, one.compares, two.compares);
+      runs = two.runs ∙ one.runs;
+      rules = omega (arith, one.rules, two.rules, more, same);
+      rules_rise = omega (arith, one.rules_rise, two.rules_rise);
+    }
 
 -- copies stay where what the slots keep is kept
 pub copies-grown : (old new : List Slot) (ranges : List (Run (Option PolicyRecord))) (runs : List (Run (Option ℕ))) → ((number : ℕ) (kept : Kept) → kept_in old number ≡ Some kept → kept_in new number ≡ Some kept)
@@ -67,7 +72,18 @@ open-begun space plan window command behind edits rising maximal some first end 
     omega (arith, same, begun-few behind.before space command behind.step edits rising maximal some, copies-met (policy_in plan.slots) (span_first command) (span_end command) behind.before.ranges plan.runs behind.follows.copies)
 
 pub writes-both : (old next new : Counted) (runs rules few_runs few_rules : ℕ) → WritesRules 0 old next → WritesBoth runs rules next new → runs ≤ few_runs → rules ≤ few_rules → WritesBoth few_runs few_rules old new
-writes-both old next new runs rules few_runs few_rules one two le le' = record { runs = omega (arith, one.runs, two.runs); rules = omega (arith, one.rules, two.rules) }
+writes-both old next new runs rules few_runs few_rules one two le le' = record {
+  compares = omega (arith, one.compares, two.compares);
+  runs = omega (arith, one.runs, two.runs);
+  runs_rise = omega (arith, one.runs, two.runs_rise);
+  rules = omega (arith, one.rules, two.rules);
+  rules_rise = omega (arith, one.rules_rise, two.rules_rise);
+}
 
 pub writes-less : (old new : Counted) (rules few : ℕ) → WritesRules rules old new → rules ≤ few → WritesRules few old new
-writes-less old new rules few writes le = record { runs = writes.runs; rules = omega (arith, writes.rules, le) }
+writes-less old new rules few writes le = record {
+  compares = writes.compares;
+  runs = writes.runs;
+  rules = omega (arith, writes.rules, le);
+  rules_rise = writes.rules_rise;
+}

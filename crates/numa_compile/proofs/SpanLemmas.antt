@@ -1,5 +1,5 @@
 -- A plan behind its space by a command of a span: what stays, and what is written anew.
-use Rattle.std.proofs.Common.{◌≡◌, ℕ, zero, suc, ◌+◌, ◌-◌, ◌<◌, ◌≤◌, Bool, cond, Option, Some, None, List, [], ◌∷◌, length, length-drop, drop, take, get_or, get_or-drop, ◌++◌, refl, sym, ap, subst, ◌∙◌, arith}
+use Rattle.std.proofs.Common.{◌≡◌, ℕ, zero, suc, ◌+◌, ◌-◌, ◌<◌, ◌≤◌, Bool, cond, Option, Some, None, List, [], ◌∷◌, length, length-drop, drop, take, get_or, get_or-drop, ◌++◌, refl, sym, ap, subst, ◌∙◌, arith, ne_eqb}
 use Rattle.std.proofs.lemmas.Option.{same_Some}
 use Rattle.std.specs.List.{slice_range, splice}
 use Rattle.std.specs.Option.{option_map}
@@ -23,7 +23,7 @@ use Rattle.numa_plan.specs.Meaning.{PlanData, number_of}
 use Rattle.numa_plan.specs.Slots.{policy_in}
 use Rattle.numa_compile.specs.Copies.{IsNumber, IsCopy, AreCopies}
 use Rattle.numa_compile.specs.Follows.{Follows, IsBehind}
-use Rattle.numa_compile.specs.Recompiling.{WritesRules, WritesBoth}
+use Rattle.numa_compile.specs.Recompiling.{met_from, WritesRules, WritesBoth}
 use Rattle.numa_compile.specs.Windows.{IsOfSpan, IsOpen, KeepsOutside}
 use Rattle.numa_compile.specs.declared.recompiler.window.Window.{Window}
 use Rattle.numa_compile.proofs.CopyLemmas.{copies-length, copies-next, copies-related}
@@ -195,8 +195,18 @@ open-few space plan window command behind edits rising maximal some first end pl
     let few = changed-few behind.before space command behind.step edits rising maximal some window.from window.to (copies-window at behind.before.ranges plan.runs (span_first command) (span_end command) window.from window.to behind.follows.copies own) in
     omega (arith, few, place, copies-length at behind.before.ranges plan.runs behind.follows.copies, copies-met at (span_first command) (span_end command) behind.before.ranges plan.runs behind.follows.copies)
 
+-- a span with a page
+pub met_from-some : (first pages : ℕ) (runs : List (Run (Option ℕ))) → 0 < pages → met first (first + pages) runs ≡ met_from first pages runs
+met_from-some first pages runs some = sym (ap (λ (none : Bool). cond {A = ℕ} none 0 (met first (first + pages) runs)) (ne_eqb pages 0 (λ zero. absurd (omega (arith, zero)))))
+
 pub writes-none : (steps : Counted) → WritesRules 0 steps steps
-writes-none steps = record { runs = refl; rules = omega arith }
+writes-none steps = record { compares = omega arith; runs = refl; rules = omega arith; rules_rise = omega arith }
 
 pub writes-few : (old next new : Counted) (rules runs few : ℕ) → WritesRules rules old next → WritesBoth runs 0 next new → runs ≤ few → WritesBoth few rules old new
-writes-few old next new rules runs few one two le = record { runs = omega (arith, one.runs, two.runs); rules = omega (arith, one.rules, two.rules) }
+writes-few old next new rules runs few one two le = record {
+  compares = omega (arith, one.compares, two.compares);
+  runs = omega (arith, one.runs, two.runs);
+  runs_rise = omega (arith, one.runs, two.runs_rise);
+  rules = omega (arith, one.rules, two.rules);
+  rules_rise = omega (arith, one.rules_rise, two.rules_rise);
+}

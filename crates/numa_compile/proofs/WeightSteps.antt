@@ -98,6 +98,8 @@ pub record IsRewriting (space : SpaceState) (old : PlanData) (before : Counted) 
   pub done : (number : ℕ) → length rules ≤ number → IsRewritten space (kept_in old.slots number) (kept_in new.slots number)
   pub few : now.rules + some_rules rules ≤ before.rules + count_by holds_weighted old.slots
   pub no_run : now.runs ≡ before.runs
+  pub compares : before.comparisons ≤ now.comparisons
+  pub rules_rise : before.rules ≤ now.rules
 
 -- before the first is written
 pub rewriting-start : (space : SpaceState) (old : PlanData) (before : Counted) (rules : List (Option Kept)) → length rules ≡ length old.slots → length rules ≤ 2 ^ 32 → AreRenewed space old.slots rules → IsRewriting space old before rules old before
@@ -109,6 +111,8 @@ rewriting-start space old before rules all left renewed = record {
   done = λ number le. subst (λ (o : Option Kept). IsRewritten space o o) (sym (past number (omega (arith, all, le)))) refl;
   few = omega (arith, renewed-few space old.slots rules renewed);
   no_run = refl;
+  compares = omega arith;
+  rules_rise = omega arith;
 }
   where
     behind : (slots : List Slot) (number : ℕ) → length slots ≤ number → kept_in slots number ≡ None
@@ -183,4 +187,6 @@ module _ (space : SpaceState) (old : PlanData) (before : Counted) (rules : List 
       done = done;
       few = omega (arith, at.few, few.rules, some-append rules rule);
       no_run = few.runs ∙ at.no_run;
+      compares = omega (arith, at.compares, few.compares);
+      rules_rise = omega (arith, at.rules_rise, few.rules_rise);
     }

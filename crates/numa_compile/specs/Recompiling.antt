@@ -1,11 +1,12 @@
 -- What recompiling for a command writes into a plan, and what it leaves there as it was.
 use Rattle.std.specs.Prelude.{◌≡◌, ◌≢◌, ℕ, ◌+◌, ◌≤◌, ◌⊎◌, Bool, true, false, Option, Some, None}
-use Rattle.std.specs.Prelude.{List, count_by, slice_get}
+use Rattle.std.specs.Prelude.{◌==◌, List, count_by, slice_get, if◌then◌else◌}
 use Rattle.std.specs.Option.{ForSome}
 use Rattle.numa_mode.specs.Policy.{PolicyRecord}
 use Rattle.numa_mode.specs.declared.modes.Mode.{Mode}
 use Rattle.numa_mode.specs.declared.modes.Mode.TheVariants.{WeightedInterleave}
 use Rattle.numa_ranges.specs.Windows.{met}
+use Rattle.numa_ranges.specs.declared.run.Run.{Run}
 use Rattle.numa_space.specs.declared.command.Command.{Command}
 use Rattle.numa_space.specs.declared.command.Command.TheVariants.{Map, Unmap, Mbind, SetTask}
 use Rattle.numa_space.specs.declared.command.Command.TheVariants.{SetHome, SetWeight, SetMems}
@@ -37,19 +38,28 @@ holds_weighted (Taken uses kept) = is_weighted kept.policy
 
 -- ---- what is written
 
+-- how many runs have one of so many pages from the first on
+abbrev pub met_from : ℕ → ℕ → List (Run (Option ℕ)) → ℕ
+met_from first pages runs = if pages == 0 then 0 else met first (first + pages) runs
+
 -- how many runs of a plan have a page of the span
 abbrev pub met_by : ℕ → ℕ → PlanData → ℕ
-met_by start bytes plan = met (page_of start) (page_of start + page_count bytes) plan.runs
+met_by start bytes plan = met_from (page_of start) (page_count bytes) plan.runs
 
--- at most so many rules, and no run
+-- at most so many rules, and no run; no count falls
 pub record WritesRules (few_rules : ℕ) (old new : Counted) : Type 0 where
+  pub compares : old.comparisons ≤ new.comparisons
   pub runs : new.runs ≡ old.runs
   pub rules : new.rules ≤ old.rules + few_rules
+  pub rules_rise : old.rules ≤ new.rules
 
--- at most so many runs, and so many rules
+-- at most so many runs, and so many rules; no count falls
 pub record WritesBoth (few_runs few_rules : ℕ) (old new : Counted) : Type 0 where
+  pub compares : old.comparisons ≤ new.comparisons
   pub runs : new.runs ≤ old.runs + few_runs
+  pub runs_rise : old.runs ≤ new.runs
   pub rules : new.rules ≤ old.rules + few_rules
+  pub rules_rise : old.rules ≤ new.rules
 
 -- how much a command has written at most: a command of a span a run for each that it meets, and two
 -- for the runs beside it; mbind one rule, and a home one for each run that it meets; a task one

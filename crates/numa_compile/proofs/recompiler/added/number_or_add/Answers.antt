@@ -19,13 +19,13 @@ pub add_rule_of-requires-clause-live : goal.add_rule_of-requires-clause-live
 add_rule_of-requires-clause-live c = sym c.has_rule.ensures ∙ c.if-not-has_rule.false
 
 pub returns-in_default-clause-few : goal.returns-in_default-clause-few
-returns-in_default-clause-few c = record { runs = refl; rules = omega arith }
+returns-in_default-clause-few c = record { compares = omega arith; runs = refl; rules = omega arith; rules_rise = omega arith }
 
 pub returns-then-not-has_rule-clause-few : goal.returns-then-not-has_rule-clause-few
-returns-then-not-has_rule-clause-few c = record { runs = refl; rules = omega arith }
+returns-then-not-has_rule-clause-few c = record { compares = omega arith; runs = refl; rules = omega arith; rules_rise = omega arith }
 
 pub returns-in-Some-number_for_policy-clause-few : goal.returns-in-Some-number_for_policy-clause-few
-returns-in-Some-number_for_policy-clause-few c = record { runs = refl; rules = omega arith }
+returns-in-Some-number_for_policy-clause-few c = record { compares = omega arith; runs = refl; rules = omega arith; rules_rise = omega arith }
 
 pub returns-in-Some-number_for_policy-clause-added : goal.returns-in-Some-number_for_policy-clause-added
 returns-in-Some-number_for_policy-clause-added c = c.number_for_policy.ensures.same

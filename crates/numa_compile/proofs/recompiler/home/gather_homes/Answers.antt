@@ -83,7 +83,7 @@ loop-k-init c =
     record {
       copies = subst (λ (runs : List (Run (Option ℕ))). AreCopies at (slice_range ranges from from) runs) (sym c.requires.no_run) (subst (λ (rs : List (Run (Option PolicyRecord))). AreCopies at rs []) (sym none) tt);
       added = subst (λ (numbers : List (Option ℕ)). WereAdded c.args.space.now c.args.plan.now numbers c.args.plan.now) (sym c.requires.none_added) refl;
-      writes = record { runs = refl; rules = omega arith };
+      writes = record { compares = omega arith; runs = refl; rules = omega arith; rules_rise = omega arith };
     }
 
 pub returns-in_err-value-clause-added : goal.returns-in_err-value-clause-added

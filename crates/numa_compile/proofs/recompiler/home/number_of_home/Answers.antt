@@ -42,7 +42,7 @@ pub returns-then-not-begins_inside-clause-added : goal.returns-then-not-begins_i
 returns-then-not-begins_inside-clause-added c = λ start were. were
 
 pub returns-then-not-begins_inside-clause-few : goal.returns-then-not-begins_inside-clause-few
-returns-then-not-begins_inside-clause-few c = record { runs = refl; rules = omega arith }
+returns-then-not-begins_inside-clause-few c = record { compares = omega arith; runs = refl; rules = omega arith; rules_rise = omega arith }
 
 pub number_or_add-requires-clause-ready : goal.number_or_add-requires-clause-ready
 number_or_add-requires-clause-ready c = c.requires.ready

@@ -33,8 +33,11 @@ returns-clause-few c =
     omega (arith, many, length-take (window.to_now - window.from) (drop window.from ranges), length-drop window.from ranges, within.0, within.1) in
     let written = c.in_ok-gone.ensures.ok.1 in
     record {
+      compares = omega (arith, ap (λ (s : Counted). s.comparisons) written);
       runs = omega (arith, size, ap (λ (s : Counted). s.runs) written);
+      runs_rise = omega (arith, ap (λ (s : Counted). s.runs) written);
       rules = omega (arith, ap (λ (s : Counted). s.rules) written);
+      rules_rise = omega (arith, ap (λ (s : Counted). s.rules) written);
     }
 
 pub replace_runs-requires-clause-rises : goal.replace_runs-requires-clause-rises

@@ -1,11 +1,12 @@
 use Rattle.std.proofs.Common.{◌≡◌, ◌<◌, ◌+◌, sym, ap, subst, ◌∙◌, arith}
 use Rattle.numa_ranges.specs.Windows.{met}
+use Rattle.numa_space.specs.History.{page_of, page_count}
 use Rattle.numa_space.specs.Spans.{span_first, span_pages, span_end}
 use Rattle.numa_plan.specs.Meaning.{PlanData}
 use Rattle.numa_compile.specs.Follows.{Follows}
 use Rattle.numa_compile.specs.Recompiling.{met_by}
 use Rattle.numa_compile.proofs.HomeLemmas.{open-begun}
-use Rattle.numa_compile.proofs.SpanLemmas.{edits-of_span, none-follows, open-few, open-found}
+use Rattle.numa_compile.proofs.SpanLemmas.{edits-of_span, met_from-some, none-follows, open-few, open-found}
 use Rattle.numa_compile.proofs.recompiler.window.open_window.Goals as goal
 
 pub returns-then-window-clause-follows : goal.returns-then-window-clause-follows
@@ -28,7 +29,8 @@ returns-clause-few c =
     let b = c.requires.behind in
     let plan = c.args.plan.now in
     let found = c.find_window-window in
-    let same : met (span_first b.command) (span_end b.command) plan.runs ≡ met_by c.args.start c.args.bytes plan = λ i. met (b.begins i) (b.begins i + b.pages i) plan.runs in
+    let same : met (span_first b.command) (span_end b.command) plan.runs ≡ met_by c.args.start c.args.bytes plan =
+    (λ i. met (b.begins i) (b.begins i + b.pages i) plan.runs) ∙ met_from-some (page_of c.args.start) (page_count c.args.bytes) plan.runs (omega (arith, found.ensures.first, found.ensures.end, c.if-window.false)) in
     let some : 0 < span_pages b.command = omega (arith, found.ensures.first, found.ensures.end, c.if-window.false, b.pages) in
     omega (
       arith,
@@ -42,7 +44,8 @@ returns-clause-begun c =
     let b = c.requires.behind in
     let plan = c.args.plan.now in
     let found = c.find_window-window in
-    let same : met (span_first b.command) (span_end b.command) plan.runs ≡ met_by c.args.start c.args.bytes plan = λ i. met (b.begins i) (b.begins i + b.pages i) plan.runs in
+    let same : met (span_first b.command) (span_end b.command) plan.runs ≡ met_by c.args.start c.args.bytes plan =
+    (λ i. met (b.begins i) (b.begins i + b.pages i) plan.runs) ∙ met_from-some (page_of c.args.start) (page_count c.args.bytes) plan.runs (omega (arith, found.ensures.first, found.ensures.end, c.if-window.false)) in
     let some : 0 < span_pages b.command = omega (arith, found.ensures.first, found.ensures.end, c.if-window.false, b.pages) in
     omega (
       arith,
