@@ -58,8 +58,8 @@ pub enum Keyword {
 /// The first words of lines, in the order of the keywords.
 static NAMES: [&str; 23] = [
     "limits", "rules", "cpus", "machine", "map", "unmap", "mbind", "home", "task", "weight",
-    "mems", "place", "span", "counts", "ranges", "maps", "publish", "begin", "look", "try",
-    "give", "touch", "release",
+    "mems", "place", "span", "counts", "ranges", "maps", "publish", "begin", "look", "try", "give",
+    "touch", "release",
 ];
 
 impl Keyword {
