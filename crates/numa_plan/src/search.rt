@@ -96,14 +96,13 @@ impl Runs {
         far: u64,
         part: Part<'a, Run<Option<u32>>>,
     ) -> Option<Found>
+        requires apart { AreApart 0 self.now }
         requires place { place < length self.now }
         requires part { IsChunkOf self.now part }
         ensures { (d : Run (Option ℕ)) →
             MatchOption result ((slice_index_or self.now place d).pages ≤ far)
             (λ found. IsPartOf (slice_index_or self.now place d) far found) }
     {
-        // Tells the proof that the runs are apart, so that an index fits its number.
-        let _ = self.len();
         self.run_beside(part, place).found(far)
     }
 
