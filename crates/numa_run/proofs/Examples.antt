@@ -6,7 +6,7 @@ use Rattle.numa_machine.specs.declared.fallback.Fallback.TheVariants.{Nearest, K
 use Rattle.numa_machine.specs.declared.rules.Rules.TheVariants.{Document, Linux}
 use Rattle.numa_mask.specs.Lists.{item_of, ends_of, digit_of, numeral_of as node_numeral_of}
 use Rattle.numa_mask.specs.NodeSet.{members}
-use Rattle.numa_machine.specs.Machine.{Hardware, distance_order}
+use Rattle.numa_machine.specs.Machine.{Hardware, fallback_order}
 use Rattle.numa_machine.specs.Faults.{machine_fault, has_bad_memory, has_bad_distance, has_bad_frames}
 use Rattle.numa_mode.specs.declared.modes.Mode.TheVariants.{Bind}
 use Rattle.numa_mode.specs.declared.modes.NodeFlag.TheVariants.{Plain}
@@ -116,15 +116,15 @@ bound : State
 bound = record { bounds = usual_bounds; rules = Document; cpus = None; machine = Some two_nodes; world = world; resident = [] }
 
 bound-page : answer_of false bound (line_of (codes "place 1 0x10fff 0")) ≡ codes "v2: 1\n"
-unfolding line_of keyword_of number_of numeral_of in_64_bits members distance_order digits bound world outcome_of text_of
+unfolding line_of keyword_of number_of numeral_of in_64_bits members fallback_order digits bound world outcome_of text_of
 bound-page = refl
 
 page-without_policy : answer_of false bound (line_of (codes "place 1 0x11000 0")) ≡ codes "v2: 0 1\n"
-unfolding line_of keyword_of number_of numeral_of in_64_bits members distance_order digits bound world outcome_of text_of
+unfolding line_of keyword_of number_of numeral_of in_64_bits members fallback_order digits bound world outcome_of text_of
 page-without_policy = refl
 
 page-that_is_not_mapped : answer_of false bound (line_of (codes "place 1 0x12000 0")) ≡ codes "refused Unmapped\n"
-unfolding line_of keyword_of number_of numeral_of in_64_bits members distance_order digits bound world outcome_of text_of
+unfolding line_of keyword_of number_of numeral_of in_64_bits members fallback_order digits bound world outcome_of text_of
 page-that_is_not_mapped = refl
 
 weight-too_large : answer_of true bound (line_of (codes "weight 0 256")) ≡ codes "refused BadWeight EINVAL\n"
@@ -158,35 +158,35 @@ machine-after_a_machine = refl
 -- ---- spans
 
 span-of_two_pages : answer_of false bound (line_of (codes "span 1 0x10000 2 0")) ≡ codes "v2: 1 0\n"
-unfolding line_of keyword_of number_of numeral_of in_64_bits members distance_order digits list_at result_of_touch outcome_of text_of bound world count_pages any_page counts_text
+unfolding line_of keyword_of number_of numeral_of in_64_bits members fallback_order digits list_at result_of_touch outcome_of text_of bound world count_pages any_page counts_text
 span-of_two_pages = refl
 
 span-of_no_pages : answer_of false bound (line_of (codes "span 1 0x20000 0 0")) ≡ codes "v2:\n"
-unfolding line_of keyword_of number_of numeral_of in_64_bits members distance_order digits list_at result_of_touch outcome_of text_of bound world count_pages any_page counts_text
+unfolding line_of keyword_of number_of numeral_of in_64_bits members fallback_order digits list_at result_of_touch outcome_of text_of bound world count_pages any_page counts_text
 span-of_no_pages = refl
 
 span-past_the_mapped_pages : answer_of false bound (line_of (codes "span 1 0x10000 3 0")) ≡ codes "refused Unmapped\n"
-unfolding line_of keyword_of number_of numeral_of in_64_bits members distance_order digits list_at result_of_touch outcome_of text_of bound world count_pages any_page counts_text
+unfolding line_of keyword_of number_of numeral_of in_64_bits members fallback_order digits list_at result_of_touch outcome_of text_of bound world count_pages any_page counts_text
 span-past_the_mapped_pages = refl
 
 span-of_no_node : answer_of false bound (line_of (codes "span 1 0x10000 3 2")) ≡ codes "refused BadCpu\n"
-unfolding line_of keyword_of number_of numeral_of in_64_bits members distance_order digits list_at result_of_touch outcome_of text_of bound world count_pages any_page counts_text
+unfolding line_of keyword_of number_of numeral_of in_64_bits members fallback_order digits list_at result_of_touch outcome_of text_of bound world count_pages any_page counts_text
 span-of_no_node = refl
 
 span-without_memory : answer_of true bound (line_of (codes "span 1 0x10000 3 2")) ≡ codes "refused NoMemory\n"
-unfolding line_of keyword_of number_of numeral_of in_64_bits members distance_order digits list_at result_of_touch outcome_of text_of bound world count_pages any_page counts_text
+unfolding line_of keyword_of number_of numeral_of in_64_bits members fallback_order digits list_at result_of_touch outcome_of text_of bound world count_pages any_page counts_text
 span-without_memory = refl
 
 counts-of_two_pages : answer_of false bound (line_of (codes "counts 1 0x10000 2 0")) ≡ codes "v2: N0=1 N1=1\n"
-unfolding line_of keyword_of number_of numeral_of in_64_bits members distance_order digits list_at result_of_touch outcome_of text_of bound world count_pages any_page counts_text
+unfolding line_of keyword_of number_of numeral_of in_64_bits members fallback_order digits list_at result_of_touch outcome_of text_of bound world count_pages any_page counts_text
 counts-of_two_pages = refl
 
 counts-of_one_page : answer_of false bound (line_of (codes "counts 1 0x10000 1 0")) ≡ codes "v2: N1=1\n"
-unfolding line_of keyword_of number_of numeral_of in_64_bits members distance_order digits list_at result_of_touch outcome_of text_of bound world count_pages any_page counts_text
+unfolding line_of keyword_of number_of numeral_of in_64_bits members fallback_order digits list_at result_of_touch outcome_of text_of bound world count_pages any_page counts_text
 counts-of_one_page = refl
 
 counts-past_the_mapped_pages : answer_of false bound (line_of (codes "counts 1 0x11000 2 1")) ≡ codes "refused Unmapped\n"
-unfolding line_of keyword_of number_of numeral_of in_64_bits members distance_order digits list_at result_of_touch outcome_of text_of bound world count_pages any_page counts_text
+unfolding line_of keyword_of number_of numeral_of in_64_bits members fallback_order digits list_at result_of_touch outcome_of text_of bound world count_pages any_page counts_text
 counts-past_the_mapped_pages = refl
 
 -- ---- workers
@@ -210,81 +210,81 @@ resident = record {
 }
 
 publish-both : answer_of false bound (line_of (codes "publish")) ≡ codes "published 2\n"
-unfolding line_of keyword_of number_of numeral_of in_64_bits members distance_order digits list_at result_of_touch outcome_of text_of bound world
+unfolding line_of keyword_of number_of numeral_of in_64_bits members fallback_order digits list_at result_of_touch outcome_of text_of bound world
 publish-both = refl
 
 publish-without_memory : answer_of true bound (line_of (codes "publish")) ≡ codes "refused NoMemory\n"
-unfolding line_of keyword_of number_of numeral_of in_64_bits members distance_order digits list_at result_of_touch outcome_of text_of bound world
+unfolding line_of keyword_of number_of numeral_of in_64_bits members fallback_order digits list_at result_of_touch outcome_of text_of bound world
 publish-without_memory = refl
 
 begin-before_a_publication : answer_of false bound (line_of (codes "begin 0 1 0x10000 0")) ≡ codes "refused Unmapped\n"
-unfolding line_of keyword_of number_of numeral_of in_64_bits members distance_order digits list_at result_of_touch outcome_of text_of bound world
+unfolding line_of keyword_of number_of numeral_of in_64_bits members fallback_order digits list_at result_of_touch outcome_of text_of bound world
 begin-before_a_publication = refl
 
 begin-a_hunt : answer_of false published (line_of (codes "begin 0 1 0x10000 0")) ≡ codes "still\n"
-unfolding line_of keyword_of number_of numeral_of in_64_bits members distance_order digits list_at result_of_touch outcome_of text_of published world
+unfolding line_of keyword_of number_of numeral_of in_64_bits members fallback_order digits list_at result_of_touch outcome_of text_of published world
 begin-a_hunt = refl
 
 begin-of_a_worker_too_many : answer_of false published (line_of (codes "begin 4 1 0x10000 0")) ≡ codes "refused NoSuchWorker\n"
-unfolding line_of keyword_of number_of numeral_of in_64_bits members distance_order digits list_at result_of_touch outcome_of text_of published world
+unfolding line_of keyword_of number_of numeral_of in_64_bits members fallback_order digits list_at result_of_touch outcome_of text_of published world
 begin-of_a_worker_too_many = refl
 
 try-of_an_idle_worker : answer_of false published (line_of (codes "try 0 1 0")) ≡ codes "refused Idle\n"
-unfolding line_of keyword_of number_of numeral_of in_64_bits members distance_order digits list_at result_of_touch outcome_of text_of published world
+unfolding line_of keyword_of number_of numeral_of in_64_bits members fallback_order digits list_at result_of_touch outcome_of text_of published world
 try-of_an_idle_worker = refl
 
 touch-wins : answer_of false published (line_of (codes "touch 0 1 0x10fff 0")) ≡ codes "won v2 node 1 frame 0 rank 0\n"
-unfolding line_of keyword_of number_of numeral_of in_64_bits members distance_order digits list_at result_of_touch outcome_of text_of published world
+unfolding line_of keyword_of number_of numeral_of in_64_bits members fallback_order digits list_at result_of_touch outcome_of text_of published world
 touch-wins = refl
 
 touch-without_memory : answer_of true published (line_of (codes "touch 0 1 0x10fff 0")) ≡ codes "refused NoMemory\n"
-unfolding line_of keyword_of number_of numeral_of in_64_bits members distance_order digits list_at result_of_touch outcome_of text_of published world
+unfolding line_of keyword_of number_of numeral_of in_64_bits members fallback_order digits list_at result_of_touch outcome_of text_of published world
 touch-without_memory = refl
 
 touch-passes_an_owned_frame : answer_of false resident (line_of (codes "touch 1 1 0x11000 1")) ≡ codes "won v2 node 1 frame 1 rank 0\n"
-unfolding line_of keyword_of number_of numeral_of in_64_bits members distance_order digits list_at result_of_touch outcome_of text_of resident world placed
+unfolding line_of keyword_of number_of numeral_of in_64_bits members fallback_order digits list_at result_of_touch outcome_of text_of resident world placed
 touch-passes_an_owned_frame = refl
 
 touch-of_a_placed_page : answer_of false resident (line_of (codes "touch 1 1 0x10000 0")) ≡ codes "back node 1 frame 1\n"
-unfolding line_of keyword_of number_of numeral_of in_64_bits members distance_order digits list_at result_of_touch outcome_of text_of resident world placed
+unfolding line_of keyword_of number_of numeral_of in_64_bits members fallback_order digits list_at result_of_touch outcome_of text_of resident world placed
 touch-of_a_placed_page = refl
 
 release-of_no_placement : answer_of false resident (line_of (codes "release 0 0x11000")) ≡ codes "refused NotOwned\n"
-unfolding line_of keyword_of number_of numeral_of in_64_bits members distance_order digits list_at result_of_touch outcome_of text_of resident world placed
+unfolding line_of keyword_of number_of numeral_of in_64_bits members fallback_order digits list_at result_of_touch outcome_of text_of resident world placed
 release-of_no_placement = refl
 
 release-by_another : answer_of false resident (line_of (codes "release 1 0x10000")) ≡ codes "refused NotOwned\n"
-unfolding line_of keyword_of number_of numeral_of in_64_bits members distance_order digits list_at result_of_touch outcome_of text_of resident world placed
+unfolding line_of keyword_of number_of numeral_of in_64_bits members fallback_order digits list_at result_of_touch outcome_of text_of resident world placed
 release-by_another = refl
 
 release-by_its_owner : answer_of false resident (line_of (codes "release 0 0x10fff")) ≡ codes "given\n"
-unfolding line_of keyword_of number_of numeral_of in_64_bits members distance_order digits list_at result_of_touch outcome_of text_of resident world placed
+unfolding line_of keyword_of number_of numeral_of in_64_bits members fallback_order digits list_at result_of_touch outcome_of text_of resident world placed
 release-by_its_owner = refl
 
 touch-is_kept : (after false published (line_of (codes "touch 0 1 0x10fff 0"))).resident ≡ (16, placed) ∷ []
-unfolding line_of keyword_of number_of numeral_of in_64_bits members distance_order digits list_at result_of_touch outcome_of text_of published world placed
+unfolding line_of keyword_of number_of numeral_of in_64_bits members fallback_order digits list_at result_of_touch outcome_of text_of published world placed
 touch-is_kept = refl
 
 touch-that_went_back : (after false resident (line_of (codes "touch 1 1 0x10000 0"))).resident ≡ (16, placed) ∷ []
-unfolding line_of keyword_of number_of numeral_of in_64_bits members distance_order digits list_at result_of_touch outcome_of text_of resident world placed
+unfolding line_of keyword_of number_of numeral_of in_64_bits members fallback_order digits list_at result_of_touch outcome_of text_of resident world placed
 touch-that_went_back = refl
 
 touch-that_went_back_is_free : (after false resident (line_of (codes "touch 1 1 0x10000 0"))).world.owner 1 1 ≡ None
-unfolding line_of keyword_of number_of numeral_of in_64_bits members distance_order digits list_at result_of_touch outcome_of text_of resident world placed
+unfolding line_of keyword_of number_of numeral_of in_64_bits members fallback_order digits list_at result_of_touch outcome_of text_of resident world placed
 touch-that_went_back_is_free = refl
 
 release-takes_the_record_away : (after false resident (line_of (codes "release 0 0x10fff"))).resident ≡ []
-unfolding line_of keyword_of number_of numeral_of in_64_bits members distance_order digits list_at result_of_touch outcome_of text_of resident world placed
+unfolding line_of keyword_of number_of numeral_of in_64_bits members fallback_order digits list_at result_of_touch outcome_of text_of resident world placed
 release-takes_the_record_away = refl
 
 release-that_is_refused_does_not : (after false resident (line_of (codes "release 1 0x10000"))).resident ≡ (16, placed) ∷ []
-unfolding line_of keyword_of number_of numeral_of in_64_bits members distance_order digits list_at result_of_touch outcome_of text_of resident world placed
+unfolding line_of keyword_of number_of numeral_of in_64_bits members fallback_order digits list_at result_of_touch outcome_of text_of resident world placed
 release-that_is_refused_does_not = refl
 
 release-frees_the_frame : (after false resident (line_of (codes "release 0 0x10000"))).world.owner 1 0 ≡ None
-unfolding line_of keyword_of number_of numeral_of in_64_bits members distance_order digits list_at result_of_touch outcome_of text_of resident world placed
+unfolding line_of keyword_of number_of numeral_of in_64_bits members fallback_order digits list_at result_of_touch outcome_of text_of resident world placed
 release-frees_the_frame = refl
 
 try-is_not_kept : (after false resident (line_of (codes "try 0 1 1"))).resident ≡ (16, placed) ∷ []
-unfolding line_of keyword_of number_of numeral_of in_64_bits members distance_order digits list_at result_of_touch outcome_of text_of resident world placed
+unfolding line_of keyword_of number_of numeral_of in_64_bits members fallback_order digits list_at result_of_touch outcome_of text_of resident world placed
 try-is_not_kept = refl
