@@ -1,5 +1,5 @@
-//! Whether two plans answer alike: each task's lists round the runs, the counts of each run, and
-//! how many runs and rules there are.
+//! Whether two plans answer alike: each task's lists on every page of each run and beside it, the
+//! counts of each run, and how many runs and rules there are.
 use crate::tests::same::same;
 use numa_plan::{Plan, Steps};
 use numa_space::PlaceRefusal;
@@ -54,19 +54,12 @@ fn expect_counts(rt: &impl Abort, found: &Plan, wanted: &Plan, first: u64, pages
     }
 }
 
-/// What a run has is alike: its first page, one in the middle and the last, the pages beside it,
-/// and how many pages each node has.
+/// What a run has is alike: each of its pages and the pages beside it, and how many pages each node
+/// has.
 fn expect_run(rt: &impl Abort, found: &Plan, wanted: &Plan, first: u64, pages: u64) {
-    let behind = first.saturating_add(pages);
-    let middle = first.saturating_add(pages / 2);
-    for page in [
-        first.saturating_sub(1),
-        first,
-        middle,
-        behind.saturating_sub(1),
-        behind,
-    ] {
-        expect_page(rt, found, wanted, page);
+    let before = first.saturating_sub(1);
+    for far in 0..pages.saturating_add(2) {
+        expect_page(rt, found, wanted, before.saturating_add(far));
     }
     expect_counts(rt, found, wanted, first, pages);
 }

@@ -1,5 +1,5 @@
-//! Plans that are edited after each command that a space accepts, beside a copy and beside plans
-//! that are compiled anew. With memory at hand no edit is refused.
+//! Plans that are edited after each command that a space accepts, and copies of them that are
+//! edited alike, beside plans that are compiled anew. With memory at hand no edit is refused.
 ghost use Rattle.std.specs.Prelude.{◌≡◌};
 ghost use Rattle.std.specs.Bool.{OnFalse, OnTrue};
 ghost use Rattle.numa_compile.specs.Follows.{Follows, IsBehind};
@@ -58,17 +58,27 @@ fn edit(
     recompile(alloc, plan, space, command, &mut Steps::new()).expect(rt, "memory");
 }
 
-/// Carries out a command, or refuses it, and has the plan follow, which is as its copy. Whether it
-/// was accepted.
+/// Edits a copy of a plan by the last command of its space, as the plan was: then it answers as one
+/// that is compiled anew.
+fn edit_copy(rt: &impl Abort, alloc: Global, copy: &mut Plan, space: &Space, command: &Command)
+    requires { IsBehind space.now command.now copy.old }
+{
+    recompile(alloc, copy, space, command, &mut Steps::new()).expect(rt, "memory");
+    expect_compiled(rt, alloc, copy, space);
+}
+
+/// Carries out a command, or refuses it, and has the plan follow, which is as its copy, and then
+/// the copy. Whether it was accepted.
 fn follow_beside(
     rt: &impl Abort,
     alloc: Global,
     space: &mut Space,
     plan: &mut Plan,
-    copy: &Plan,
+    copy: &mut Plan,
     command: &Command,
 ) -> bool
-    requires { Follows space.old plan.old }
+    requires follows { Follows space.old plan.old }
+    requires same { copy.old ≡ plan.old }
     ensures { Follows space.new plan.new }
 {
     if space.apply(command).is_err() {
@@ -76,6 +86,7 @@ fn follow_beside(
     }
     edit(rt, alloc, plan, copy, space, command);
     expect_compiled(rt, alloc, plan, space);
+    edit_copy(rt, alloc, copy, space, command);
     true
 }
 
@@ -90,8 +101,8 @@ pub fn follow(
     requires { Follows space.old plan.old }
     ensures { Follows space.new plan.new }
 {
-    let copy = plan.copy(alloc).expect(rt, "a copy");
-    let accepted = follow_beside(rt, alloc, space, plan, &copy, command);
+    let mut copy = plan.copy(alloc).expect(rt, "a copy");
+    let accepted = follow_beside(rt, alloc, space, plan, &mut copy, command);
     drop(copy);
     accepted
 }
