@@ -4,6 +4,7 @@ pub mod Digits
 pub mod Eaches
 pub mod EmptyWords
 pub mod Malformations
+pub mod Misfits
 pub mod Numerals
 pub mod Seeing
 pub mod Worked

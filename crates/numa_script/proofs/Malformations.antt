@@ -1,5 +1,5 @@
 -- A line has a cause of its fault exactly where it is malformed.
-use Rattle.std.specs.Prelude.{suc, ◌≡◌, ℕ, ◌+◌, ◌==◌, ◌<◌, ◌^◌, ◌/◌, ◌||◌, Bool, true, false, not, List, [], ◌∷◌, length, position, nat_lt, is_some, is_none, unwrap_or, cond, Option, Some, None, Result, Ok, Err, option_and_then, refl}
+use Rattle.std.specs.Prelude.{suc, ◌≡◌, ℕ, ◌+◌, ◌==◌, ◌<◌, ◌/◌, ◌||◌, Bool, true, false, List, [], ◌∷◌, length, position, nat_lt, is_some, is_none, unwrap_or, cond, Option, Some, None, Result, Ok, Err, option_and_then, refl}
 use Rattle.std.specs.List.{list_any}
 use Rattle.std.specs.Option.{option_map}
 use Rattle.std.proofs.Common.{sym, ◌∙◌, ap, arith}
@@ -10,10 +10,10 @@ use Rattle.numa_mode.specs.Policy.{Specification}
 use Rattle.numa_space.specs.declared.event.Event.TheVariants as event
 use Rattle.numa_space.specs.declared.command.Command.{Command}
 use Rattle.numa_space.specs.declared.command.Command.TheVariants as command
-use Rattle.numa_script.specs.Causes.{parameters_of, form_of, misfit_of, misfit_else, number_misfit, unless_readable, fault_behind, first_misfit, keyword_fault, words_fault, width_of, empty_word, empty_else, is_stray, stray_else, fault_of, is_malformed}
+use Rattle.numa_script.specs.Causes.{parameters_of, form_of, misfit_of, misfit_else, fault_behind, first_misfit, keyword_fault, words_fault, width_of, empty_word, empty_else, is_stray, stray_else, fault_of, is_malformed}
 use Rattle.numa_script.specs.Lines.{keyword_of, line_after, limits_line, rules_line, cpus_line, machine_line, map_line, unmap_line, mbind_line, home_line, task_line, weight_line, mems_line, place_line, span_line, counts_line, ranges_line, maps_line, words_line, with_policy, with_nodes, is_silent, has_empty_word, line_of}
 use Rattle.numa_script.specs.Machines.{frames_of, distances_of, rules_of, has_kernel_orders}
-use Rattle.numa_script.specs.Numbers.{below, few_of, number_of, small_of, page_of, node_of, frame_number_of, span_pages_of}
+use Rattle.numa_script.specs.Numbers.{below, few_of, number_of, small_of, page_of, node_of, frame_number_of}
 use Rattle.numa_script.specs.Parts.{words_of}
 use Rattle.numa_script.specs.Policies.{policy_of}
 use Rattle.numa_script.specs.Present.{with_two, with_three, with_four}
@@ -25,12 +25,11 @@ use Rattle.numa_script.specs.declared.line.Line.TheVariants as line
 use Rattle.numa_script.specs.declared.line.Question.TheVariants as question
 use Rattle.numa_script.specs.declared.malformed.Malformed.{Malformed}
 use Rattle.numa_script.specs.declared.parameter.Misfit.{Misfit}
-use Rattle.numa_script.specs.declared.parameter.Misfit.TheVariants.{TooGreat}
 use Rattle.numa_script.specs.declared.parameter.Parameter.{Parameter}
 use Rattle.numa_script.specs.declared.policy.WordFault.{WordFault}
 use Rattle.numa_script.specs.declared.work.Work.TheVariants as work
 use Rattle.numa_script.proofs.Columns.{width_of_words}
-use Rattle.numa_script.proofs.Numerals.{number_found}
+use Rattle.numa_script.proofs.Misfits.{small, span_pages, node_number, frame_number, any_number, page, readable}
 
 -- what a line without a cause says is malformed
 abbrev said : Option Line → Bool
@@ -119,52 +118,6 @@ spanned g m n o p (Some x) None z w well h i j k = rw (h, i) refl
 spanned g m n o p (Some x) (Some y) None w well h i j k = rw (h, i, j) refl
 spanned g m n o p (Some x) (Some y) (Some z) None well h i j k = rw (h, i, k) (or_true o)
 spanned g m n o p (Some x) (Some y) (Some z) (Some w) well h i j k = rw (h, i, k) (few g o x y z w (well x y z w) j)
-
--- ---- words against their forms
-
-either : (b : Bool) (n : ℕ) → is_some (cond b (Some TooGreat) None) ≡ is_none (cond (not b) (Some n) None)
-either true n = refl
-either false n = refl
-
-below_number : (greatest : ℕ) (o : Option ℕ) → is_some (number_misfit greatest o) ≡ is_none (below (greatest + 1) o)
-below_number greatest None = refl
-below_number greatest (Some n) =
-    let opposite : nat_lt n (greatest + 1) ≡ not (nat_lt greatest n) = grind (arith, nat_tests) in
-    rw opposite (either (nat_lt greatest n) n)
-
-small : (word : List ℕ) → is_some (number_misfit 4294967295 (number_of word)) ≡ is_none (small_of word)
-small word = below_number 4294967295 (number_of word)
-
--- a number is below 2^64
-known_number : (o : Option ℕ) → ((n : ℕ) → o ≡ Some n → n < 2 ^ 64) → is_some (number_misfit 18446744073709551615 o) ≡ is_none o
-known_number None fits = refl
-known_number (Some n) fits =
-    let few : n < 2 ^ 64 = fits n refl in
-    let no : nat_lt 18446744073709551615 n ≡ false = grind (arith, nat_tests) in
-    rw no refl
-
-span_pages : (word : List ℕ) → is_some (number_misfit 65536 (number_of word)) ≡ is_none (span_pages_of word)
-span_pages word = below_number 65536 (number_of word)
-
-node_number : (word : List ℕ) → is_some (number_misfit 255 (number_of word)) ≡ is_none (node_of word)
-node_number word = below_number 255 (number_of word)
-
-frame_number : (word : List ℕ) → is_some (number_misfit 65535 (number_of word)) ≡ is_none (frame_number_of word)
-frame_number word = below_number 65535 (number_of word)
-
-any_number : (word : List ℕ) → is_some (number_misfit 18446744073709551615 (number_of word)) ≡ is_none (number_of word)
-any_number word = known_number (number_of word) (λ n h. (number_found word n h).0)
-
-none_mapped : {A B : Type 0} (f : A → B) (o : Option A) → is_none (option_map f o) ≡ is_none o
-none_mapped f None = refl
-none_mapped f (Some x) = refl
-
-page : (word : List ℕ) → is_some (number_misfit 18446744073709551615 (number_of word)) ≡ is_none (page_of word)
-page word = any_number word ∙ sym (none_mapped (λ address. address / 4096) (number_of word))
-
-readable : {A : Type 0} (o : Option A) → is_some (unless_readable (is_some o)) ≡ is_none o
-readable None = refl
-readable (Some x) = refl
 
 -- ---- values of values
 
