@@ -1,9 +1,72 @@
--- What jobs there are.
-use Rattle.std.specs.Prelude.{⊤, ◌<◌, ◌≤◌}
+-- What jobs there are, and what each does, wherever its texts lie.
+use Rattle.std.specs.Prelude.{⊤, ◌<◌, ◌≤◌, ◌≡◌, ℕ, List, Bool, Option, Some, None, Result, map}
+use Rattle.std.specs.Prelude.{Ok, Err}
+use Rattle.std.specs.String.{string_bytes}
+use Rattle.numa_machine.specs.declared.rules.Rules.{Rules}
+use Rattle.numa_reports.specs.declared.filling.FreePages.{FreePages}
+use Rattle.numa_reports.specs.declared.sheet.Format.{Format}
+use Rattle.numa_reports.specs.declared.touch.Touch.{Touch}
+use Rattle.numa_traces.specs.declared.report.Shape.{Shape}
 use Rattle.numa_command_line.specs.declared.jobs.Job.{Job}
-use Rattle.numa_command_line.specs.declared.jobs.Job.TheVariants.{Storm}
+use Rattle.numa_command_line.specs.declared.jobs.Job.TheVariants.{Scripts, Storm}
+use Rattle.numa_command_line.specs.declared.jobs.JobFault.{JobFault}
+use Rattle.numa_command_line.specs.declared.jobs.JobFault.TheVariants.{Help, Usage, NoMemory}
+use Rattle.numa_command_line.specs.declared.jobs.Question.{Question}
+use Rattle.numa_command_line.specs.declared.jobs.Question.TheVariants.{Predict, Diff, Explain}
+use Rattle.numa_command_line.specs.declared.jobs.Work.{Work}
+use Rattle.numa_command_line.specs.declared.jobs.Work.TheVariants.{Run, Check, Expect, Ask, Replay}
 
 -- a storm is of as many workers as a crew may have
 abbrev pub CanBeDone : Job → Type 0
 CanBeDone (Storm workers) = (0 < workers) × (workers ≤ 16)
 CanBeDone job = ⊤
+
+-- ---- what is asked for
+
+abbrev pub Text : Type 0
+Text = List ℕ
+
+pub data Asking : Type 0 where
+  predict : Format → List FreePages → Asking
+  diff : List Text → Asking
+  explain : ℕ → Asking
+
+-- with the rules that count where the scripts say nothing of them
+pub data Doing : Type 0 where
+  run : Bool → Doing
+  check : Doing
+  expect : Doing
+  ask : Touch → Asking → Bool → Doing
+  replay : List Text → Shape → Bool → Doing
+
+pub data Doings : Type 0 where
+  scripts : List Text → Rules → Doing → Doings
+  storm : ℕ → Doings
+
+abbrev pub question_of : Question → Asking
+question_of (Predict format free) = predict format free.items
+question_of (Diff lines) = diff (map string_bytes lines.items)
+question_of (Explain page) = explain page
+
+abbrev pub work_of : Work → Doing
+work_of (Run echo) = run echo
+work_of Check = check
+work_of Expect = expect
+work_of (Ask asked question lenient) = ask asked (question_of question) lenient
+work_of (Replay trace format lenient) = replay (map string_bytes trace.items) format lenient
+
+abbrev pub doings_of : Job → Doings
+doings_of (Scripts files rules work) = scripts (map string_bytes files.items) rules (work_of work)
+doings_of (Storm workers) = storm workers
+
+-- what is wanted is made, or is told to be faulty where nothing is wanted, or memory lacks
+abbrev pub IsMade : {X Y : Type 0} → (X → Y) → Option Y → Result X JobFault → Type 0
+IsMade seen wanted (Ok made) = wanted ≡ Some (seen made)
+IsMade seen wanted (Err (Usage text)) = wanted ≡ None
+IsMade seen wanted (Err (Help text)) = ⊥
+IsMade seen wanted (Err NoMemory) = ⊤
+
+-- the words are told to be faulty, or memory lacks
+abbrev pub IsRefusal : JobFault → Type 0
+IsRefusal (Help text) = ⊥
+IsRefusal fault = ⊤

@@ -1,37 +1,26 @@
-//! The command line.
-ghost use Rattle.std.specs.Prelude.{IfOk};
-ghost use Rattle.numa_command_line.specs.Jobs.{CanBeDone};
+//! The job that a command line asks for.
+ghost use Rattle.std.specs.Prelude.{◌≡◌, IfOk, Some, map, slice_get, true};
+ghost use Rattle.std.specs.String.{string_bytes};
+ghost use Rattle.clap.specs.Words.{app_of, found_of, is_simple_and_free, rows_of};
+ghost use Rattle.clap.specs.Words.{subcommand_rows_of};
+ghost use Rattle.numa_command_line.specs.Asked.{Answers, IsJobOf, IsTold, doings_found, job_named};
+ghost use Rattle.numa_command_line.specs.Asked.{name_of, scripts_asked, word_named, work_asked};
+ghost use Rattle.numa_command_line.specs.Jobs.{CanBeDone, IsMade, doings_of, work_of};
 
+use crate::found::{is_on, texts_at};
 use crate::jobs::{Job, JobFault, Work};
-use crate::texts;
-use crate::usage::with_word;
-use crate::words::{WORD_COUNT, diff, explain, predict, replay, storm, word_at};
+use crate::program::program;
+use crate::words::{diff, explain, predict, replay, rules, storm};
 use clap::error::ErrorKind;
 use clap::{ArgMatches, Command, Error};
-use std::alloc::{AllocError, Global};
-
-/// The version, which the file VERSION has too, and the kit that it is proved with.
-const VERSION: &str = "0.10.0 (proved with rattle-kit-13f)";
-
-/// What the help of the program says.
-const PROGRAM: &str =
-    "Says where Linux would place memory under NUMA memory policies: which nodes a page may come \
-from, in which order, and which frame each fault gets. It reads scripts and writes the answer to \
-each line to standard output; or it shows that this holds while threads place pages and change \
-policies.";
-
-/// What stands at the end of the help of the program.
-const MORE: &str =
-    "Example, from the top of the repository:\n  ./numaplan run examples/first-run.numaplan\n\nThe \
-language of scripts is told in docs/SCRIPT.md of the repository, the commands in \
-docs/COMMANDS.md.";
+use std::alloc::Global;
 
 /// What is told where there is no command.
 const NO_COMMAND: &str = "error: a command is missing\n\nFor more information, try '--help'.\n";
 
 /// A word that does something with scripts.
 #[derive(Clone, Copy)]
-enum Word {
+pub(crate) enum Word {
     Run,
     Check,
     Expect,
@@ -42,7 +31,9 @@ enum Word {
 }
 
 /// The word of this name.
-fn word_of(name: &str) -> Option<Word> {
+fn word_of(name: &str) -> Option<Word>
+    ensures { result ≡ word_named name.now }
+{
     match name {
         "run" => Some(Word::Run),
         "check" => Some(Word::Check),
@@ -55,27 +46,10 @@ fn word_of(name: &str) -> Option<Word> {
     }
 }
 
-/// The program before its first word.
-fn bare_program<'a>(alloc: Global) -> Command<'a> {
-    Command::new(alloc, "numaplan")
-        .about(PROGRAM)
-        .after_help(MORE)
-        .version(VERSION)
-        .subcommand_required(true)
-        .arg_required_else_help(true)
-}
-
-/// The commands that the program knows.
-fn command<'a>(alloc: Global) -> Result<Command<'a>, AllocError> {
-    let mut program = bare_program(alloc);
-    for place in 0..WORD_COUNT {
-        program = with_word(alloc, program, word_at(place))?;
-    }
-    Ok(program)
-}
-
 /// What an error of the command line is.
-fn fault(alloc: Global, error: &Error) -> JobFault {
+fn fault(alloc: Global, error: &Error) -> JobFault
+    ensures { IsTold error.now result }
+{
     if error.kind() == ErrorKind::OutOfMemory {
         return JobFault::NoMemory;
     }
@@ -88,10 +62,12 @@ fn fault(alloc: Global, error: &Error) -> JobFault {
 }
 
 /// What a word asks to be done with scripts.
-fn work_of(alloc: Global, word: Word, matches: &ArgMatches<'_>) -> Result<Work, JobFault> {
+fn work_of(alloc: Global, word: Word, matches: &ArgMatches<'_>) -> Result<Work, JobFault>
+    ensures { IsMade work_of (work_asked word (rows_of (found_of matches.now))) result }
+{
     match word {
         Word::Run => Ok(Work::Run {
-            echo: matches.get_flag("echo"),
+            echo: is_on(matches, "echo"),
         }),
         Word::Check => Ok(Work::Check),
         Word::Expect => Ok(Work::Expect),
@@ -103,15 +79,21 @@ fn work_of(alloc: Global, word: Word, matches: &ArgMatches<'_>) -> Result<Work, 
 }
 
 /// The job of a word that does something with scripts.
-fn word_job(alloc: Global, word: Word, matches: &ArgMatches<'_>) -> Result<Job, JobFault>
-    ensures { IfOk result CanBeDone }
+fn scripts_job(alloc: Global, word: Word, matches: &ArgMatches<'_>) -> Result<Job, JobFault>
+    ensures can { IfOk result CanBeDone }
+    ensures asked { IsMade doings_of
+        (scripts_asked (rows_of (found_of matches.now)) word) result }
 {
     let work = match work_of(alloc, word, matches) {
         Ok(work) => work,
         Err(fault) => return Err(fault),
     };
-    match texts::named(alloc, matches) {
-        Ok(names) => Ok(Job::Scripts { files: names, work }),
+    match texts_at(alloc, matches, "FILE") {
+        Ok(files) => Ok(Job::Scripts {
+            files,
+            rules: rules::rules_in(matches),
+            work,
+        }),
         Err(_) => {
             drop(work);
             Err(JobFault::NoMemory)
@@ -119,36 +101,67 @@ fn word_job(alloc: Global, word: Word, matches: &ArgMatches<'_>) -> Result<Job, 
     }
 }
 
-/// The job of a command line that the program knows.
-fn known_job(alloc: Global, matches: &ArgMatches<'_>) -> Result<Job, JobFault>
-    ensures { IfOk result CanBeDone }
+/// The job of the word of a name.
+fn named_job(alloc: Global, name: &str, matches: &ArgMatches<'_>) -> Result<Job, JobFault>
+    ensures can { IfOk result CanBeDone }
+    ensures asked { IsMade doings_of
+        (job_named name.now (rows_of (found_of matches.now))) result }
 {
-    if let Some((name, words)) = matches.subcommand() {
-        if name == "storm" {
-            return storm::job(alloc, words);
-        }
-        if let Some(word) = word_of(name) {
-            return word_job(alloc, word, words);
-        }
+    if name == "storm" {
+        return storm::job(alloc, matches);
     }
-    Err(JobFault::usage(alloc, NO_COMMAND))
+    match word_of(name) {
+        Some(word) => scripts_job(alloc, word, matches),
+        None => Err(JobFault::usage(alloc, NO_COMMAND)),
+    }
 }
 
-/// The job that the words of a command line ask for; the first word is the program's name. `Help`
-/// where they ask for help or the version, `Usage` where they are faulty, as where there are none
-/// beside the name.
-pub fn job(alloc: Global, words: &[String]) -> Result<Job, JobFault>
-    ensures { IfOk result CanBeDone }
+/// The job of a command line that the parse takes.
+fn known_job(alloc: Global, words: &[String], matches: &ArgMatches<'_>) -> Result<Job, JobFault>
+    ensures can { IfOk result CanBeDone }
+    ensures asked { IsMade doings_of (doings_found (map string_bytes words.now)
+        (subcommand_rows_of matches.now)) result }
 {
-    let Ok(command) = command(alloc) else {
-        return Err(JobFault::NoMemory);
+    let Some(name) = words.get(1) else {
+        return Err(JobFault::usage(alloc, NO_COMMAND));
     };
+    let name = name.as_str();
+    match matches.subcommand_matches(name) {
+        Some(matches) => named_job(alloc, name, matches),
+        None => Err(JobFault::usage(alloc, NO_COMMAND)),
+    }
+}
+
+/// The job of a command line, by this command.
+fn job_by<'a>(alloc: Global, command: Command<'a>, words: &'a [String]) -> Result<Job, JobFault>
+    requires { is_simple_and_free (app_of command) ≡ true }
+    ensures can { IfOk result CanBeDone }
+    ensures asked { IsJobOf (app_of command.entry) (map string_bytes words.now) result }
+{
     match command.try_get_matches_from(words) {
         Ok(matches) => {
-            let job = known_job(alloc, &matches);
+            let job = known_job(alloc, words, &matches);
             drop(matches);
             job
         }
         Err(error) => Err(fault(alloc, &error)),
     }
+}
+
+/// The job that the words of a command line ask for; the first word is the program's name, and the
+/// second says which job it is.
+///
+/// # Errors
+/// `Help` where they ask for help or the version, `Usage` where they are faulty, as where there are
+/// none beside the name; `NoMemory`.
+pub fn job(alloc: Global, words: &[String]) -> Result<Job, JobFault>
+    ensures can { IfOk result CanBeDone }
+    ensures asked { Answers (map string_bytes words.now) result }
+    ensures word { IfOk result (λ job.
+        slice_get (map string_bytes words.now) 1 ≡ Some (name_of (doings_of job))) }
+{
+    let Ok(command) = program(alloc) else {
+        return Err(JobFault::NoMemory);
+    };
+    job_by(alloc, command, words)
 }

@@ -1,4 +1,7 @@
 //! What the program is asked to do.
+ghost use Rattle.numa_command_line.specs.Jobs.{IsRefusal};
+
+use numa_machine::Rules;
 use numa_reports::{Format, FreePages, Touch};
 use numa_traces::Shape;
 use std::alloc::{AllocError, Global};
@@ -47,8 +50,12 @@ pub enum Work {
 #[derive(Drop)]
 pub enum Job {
     /// To do this with the scripts of these files, `-` being standard input, which is read where
-    /// none is named.
-    Scripts { files: Vec<String>, work: Work },
+    /// none is named. These rules count where no line of a script gives others.
+    Scripts {
+        files: Vec<String>,
+        rules: Rules,
+        work: Work,
+    },
     /// To let so many workers place pages while policies change.
     Storm(u32),
 }
@@ -66,7 +73,9 @@ pub enum JobFault {
 
 impl JobFault {
     /// A faulty command line, and what to tell.
-    pub fn usage(alloc: Global, words: &str) -> JobFault {
+    pub fn usage(alloc: Global, words: &str) -> JobFault
+        ensures { IsRefusal result }
+    {
         match String::from_str(alloc, words) {
             Ok(text) => JobFault::Usage(text),
             Err(_) => JobFault::NoMemory,
@@ -75,6 +84,11 @@ impl JobFault {
 }
 
 impl From<AllocError> for JobFault {
+    ghost use Rattle.std.specs.Prelude.{◌≡◌};
+    ghost use Rattle.numa_command_line.specs.declared.jobs.JobFault.TheVariants.{NoMemory};
+
+    ghost from_gives = { λ _ fault. fault ≡ NoMemory };
+
     fn from(_error: AllocError) -> JobFault {
         JobFault::NoMemory
     }

@@ -6,9 +6,10 @@
 #![tactic(auto)]
 
 mod command;
+mod found;
 mod jobs;
+mod program;
 mod sizes;
-mod texts;
 mod usage;
 mod words;
 

@@ -1,9 +1,14 @@
 //! Numbers of pages, as options have them.
+ghost use Rattle.std.specs.Prelude.{◌≡◌, ◌*◌};
+ghost use Rattle.numa_command_line.specs.Values.{pages_in, unit_of, whole_pages};
+
 use numa_script::number::number;
 use numa_space::PAGE_BYTES;
 
 /// How many bytes the unit of this letter has: a power of 1,024.
-fn unit_of(letter: u8) -> Option<u64> {
+fn unit_of(letter: u8) -> Option<u64>
+    ensures { result ≡ unit_of letter }
+{
     match letter {
         b'K' | b'k' => Some(1 << 10),
         b'M' | b'm' => Some(1 << 20),
@@ -14,7 +19,9 @@ fn unit_of(letter: u8) -> Option<u64> {
 }
 
 /// The pages of so many units of bytes, where they are whole pages.
-fn pages_in(count: u64, unit: u64) -> Option<u64> {
+fn units_as_pages(count: u64, unit: u64) -> Option<u64>
+    ensures { result ≡ whole_pages (count * unit) }
+{
     match count.checked_mul(unit) {
         Some(bytes) if bytes.is_multiple_of(PAGE_BYTES) => Some(bytes / PAGE_BYTES),
         _ => None,
@@ -23,13 +30,14 @@ fn pages_in(count: u64, unit: u64) -> Option<u64> {
 
 /// The pages that a text says: a number of pages, or, with K, M, G or T behind it, of so many times
 /// 1,024, 1,024^2, 1,024^3 or 1,024^4 bytes, which must be whole pages of 4,096 bytes.
-pub(crate) fn pages_of(text: &[u8]) -> Option<u64> {
-    let Some((last, digits)) = text.split_last() else {
+pub(crate) fn pages_of(text: &[u8]) -> Option<u64>
+    ensures { result ≡ pages_in text.now }
+{
+    let Some(last) = text.last() else {
         return None;
     };
-    match (unit_of(*last), number(digits)) {
-        (None, _) => number(text),
-        (Some(unit), Some(count)) => pages_in(count, unit),
-        _ => None,
+    match unit_of(*last) {
+        None => number(text),
+        Some(unit) => units_as_pages(number(&text[..text.len() - 1])?, unit),
     }
 }

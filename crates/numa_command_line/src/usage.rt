@@ -1,4 +1,11 @@
 //! How words are used: their names, their arguments, and what their help says.
+ghost use Rattle.std.specs.Prelude.{◌≡◌, [], IfOk, false, map, take};
+ghost use Rattle.clap.specs.declared.builder.action.ArgAction.TheVariants.{Set};
+ghost use Rattle.clap.specs.declared.builder.texts.Texts.TheVariants.{One};
+ghost use Rattle.clap.specs.Words.{app_of, new_app, rule_of, with_rule};
+ghost use Rattle.clap.specs.Words.{with_subcommand};
+ghost use Rattle.numa_command_line.specs.Usage.{IsLocal, app_said, own_app, rule_said, shape_said};
+
 use clap::{Arg, ArgAction, Command, value_parser};
 use std::alloc::{AllocError, Global};
 
@@ -14,8 +21,8 @@ pub enum Takes {
     Number,
     /// A number behind `--NAME`, or behind this other name.
     NumberOr(&'static str),
-    /// One of these names behind `--NAME`, and `text` where it isn't given.
-    OneOf(&'static [&'static str]),
+    /// One of these names behind `--NAME`, and this one where it isn't given.
+    OneOf(&'static str, &'static [&'static str]),
     /// One word.
     Bare,
     /// Any number of words.
@@ -39,6 +46,8 @@ pub struct Word {
     pub line: &'static str,
     pub about: &'static str,
     pub more: &'static str,
+    /// Whether it reads lines of scripts, so that it takes `--rules` too.
+    pub reads_lines: bool,
     pub arguments: &'static [Argument],
 }
 
@@ -52,7 +61,13 @@ pub const FILES: Argument = Argument {
 };
 
 /// An option with a value.
-fn option<'a>(argument: Arg<'a>, said: &'a Argument) -> Arg<'a> {
+fn option<'a>(argument: Arg<'a>, said: &'a Argument) -> Arg<'a>
+    ensures { result ≡ record argument.entry {
+      long = Some said.entry.now.name;
+      val_names = One said.entry.now.value;
+      action = Some Set;
+    } }
+{
     argument
         .long(said.name)
         .value_name(said.value)
@@ -60,28 +75,30 @@ fn option<'a>(argument: Arg<'a>, said: &'a Argument) -> Arg<'a> {
 }
 
 /// An argument, by what is said of it.
-fn arg_of<'a>(alloc: Global, said: &'a Argument) -> Arg<'a> {
+fn arg_of<'a>(alloc: Global, said: &'a Argument) -> Result<Arg<'a>, AllocError>
+    ensures rule { IfOk result (λ arg. rule_of arg ≡ rule_said said.entry.now) }
+    ensures local { IfOk result (λ arg. arg.global ≡ false) }
+{
     let bare = Arg::new(alloc, said.name)
         .help(said.help)
         .required(said.is_required);
     match said.takes {
-        Takes::Nothing => bare.long(said.name).action(ArgAction::SetTrue),
-        Takes::Text => option(bare, said),
-        Takes::Texts => option(bare, said).action(ArgAction::Append),
-        Takes::Number => option(bare, said).value_parser(value_parser!(u32)),
-        Takes::NumberOr(_) => option(bare, said).value_parser(value_parser!(u32)),
-        Takes::OneOf(names) => option(bare, said).value_parser(names).default_value("text"),
-        Takes::Bare => bare.action(ArgAction::Set),
-        Takes::Files => bare.num_args(0..).action(ArgAction::Append),
-    }
-}
-
-/// An argument, with the other name that it may have.
-fn named_arg<'a>(alloc: Global, said: &'a Argument) -> Result<Arg<'a>, AllocError> {
-    let arg = arg_of(alloc, said);
-    match said.takes {
-        Takes::NumberOr(other) => arg.visible_alias(other),
-        _ => Ok(arg),
+        Takes::Nothing => Ok(bare.long(said.name).action(ArgAction::SetTrue)),
+        Takes::Text => Ok(option(bare, said)),
+        Takes::Texts => Ok(option(bare, said).action(ArgAction::Append)),
+        Takes::Number => Ok(option(bare, said).value_parser(value_parser!(u32))),
+        Takes::NumberOr(other) => option(bare, said)
+            .value_parser(value_parser!(u32))
+            .visible_alias(other),
+        Takes::OneOf(default, names) => {
+            Ok(
+                option(bare, said)
+                    .value_parser(names)
+                    .default_value(default),
+            )
+        }
+        Takes::Bare => Ok(bare.action(ArgAction::Set)),
+        Takes::Files => Ok(bare.num_args(0..).action(ArgAction::Append)),
     }
 }
 
@@ -90,8 +107,13 @@ fn with_argument<'a>(
     alloc: Global,
     command: Command<'a>,
     said: &'a Argument,
-) -> Result<Command<'a>, AllocError> {
-    match named_arg(alloc, said) {
+) -> Result<Command<'a>, AllocError>
+    requires { IsLocal command }
+    ensures app { IfOk result (λ more.
+        app_of more ≡ with_rule (app_of command.entry) (rule_said said.entry.now)) }
+    ensures local { IfOk result IsLocal }
+{
+    match arg_of(alloc, said) {
         Ok(arg) => command.arg(arg),
         Err(error) => {
             drop(command);
@@ -100,19 +122,47 @@ fn with_argument<'a>(
     }
 }
 
-/// The command of a word.
-fn command_of<'a>(alloc: Global, word: &'a Word) -> Result<Command<'a>, AllocError> {
-    let mut command = Command::new(alloc, word.name)
+/// The command of a word, before its arguments.
+fn bare_command<'a>(alloc: Global, word: &'a Word) -> Command<'a>
+    ensures app { app_of result ≡ new_app word.entry.now.name.now }
+    ensures local { IsLocal result }
+{
+    Command::new(alloc, word.name)
         .about(word.line)
         .long_about(word.about)
-        .after_help(word.more);
+        .after_help(word.more)
+}
+
+/// The command of a word, with its own arguments.
+fn own_command<'a>(alloc: Global, word: &'a Word) -> Result<Command<'a>, AllocError>
+    ensures app { IfOk result (λ command. app_of command ≡ own_app word.entry.now) }
+    ensures local { IfOk result IsLocal }
+{
+    let mut command = bare_command(alloc, word);
     for said in word.arguments {
         command = with_argument(alloc, command, said)?;
     }
     Ok(command)
 }
 
-/// A program with a word more.
+/// The command of a word; `rules` is the argument `--rules`.
+fn command_of<'a>(
+    alloc: Global,
+    word: &'a Word,
+    rules: &'a Argument,
+) -> Result<Command<'a>, AllocError>
+    ensures app { IfOk result (λ command.
+        app_of command ≡ app_said word.entry.now rules.entry.now) }
+    ensures local { IfOk result IsLocal }
+{
+    let command = own_command(alloc, word)?;
+    if word.reads_lines {
+        return with_argument(alloc, command, rules);
+    }
+    Ok(command)
+}
+
+/// A program with a word more; `rules` is the argument `--rules`.
 ///
 /// # Errors
 /// `AllocError`: out of memory.
@@ -120,8 +170,14 @@ pub fn with_word<'a>(
     alloc: Global,
     program: Command<'a>,
     word: &'a Word,
-) -> Result<Command<'a>, AllocError> {
-    match command_of(alloc, word) {
+    rules: &'a Argument,
+) -> Result<Command<'a>, AllocError>
+    requires { IsLocal program }
+    ensures app { IfOk result (λ more. app_of more
+        ≡ with_subcommand (app_of program.entry) (shape_said word.entry.now rules.entry.now)) }
+    ensures local { IfOk result IsLocal }
+{
+    match command_of(alloc, word, rules) {
         Ok(command) => program.subcommand(command),
         Err(error) => {
             drop(program);

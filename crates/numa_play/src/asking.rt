@@ -1,7 +1,7 @@
 //! Where pages would go after scripts.
 use crate::findings::{Ended, Findings};
 use crate::halt::{Halt, halt_of};
-use crate::playing::play;
+use crate::playing::{Scripts, play};
 use crate::question::{Question, ask, space_of, write};
 use numa_compile::compile;
 use numa_files::{Stop, TakeLine};
@@ -60,7 +60,7 @@ impl Question for Prediction<'_> {
     }
 }
 
-/// Plays the texts as one script, and writes where all mapped pages would go, if they were touched
+/// Plays the scripts, and writes where all mapped pages would go, if they were touched
 /// now; where nodes are named in `free`, those have so many free pages, and the text tells what is
 /// left on them. What is wrong with a line is told to `told`, and the line passed over, which the
 /// result says too. The answer is whole before its first byte is written.
@@ -69,7 +69,7 @@ impl Question for Prediction<'_> {
 /// Where there is no answer; what was told by then stays.
 pub fn predict<R: Read + Drop, W: Write, T: Write + Drop>(
     alloc: Global,
-    texts: Vec<(String, R)>,
+    scripts: Scripts<R>,
     asked: Touch,
     format: Format,
     free: &[FreePages],
@@ -81,7 +81,7 @@ pub fn predict<R: Read + Drop, W: Write, T: Write + Drop>(
         format,
         free,
     };
-    ask(alloc, texts, question, output, told)
+    ask(alloc, scripts, question, output, told)
 }
 
 /// Plays the added lines, and ends what is told.
@@ -161,7 +161,7 @@ fn difference<T: Write>(
     text
 }
 
-/// Plays the texts as one script, and then the lines, and writes which pages would go to another
+/// Plays the scripts, and then the lines, and writes which pages would go to another
 /// node after the lines than before, if they were touched. What is wrong with a line is told to
 /// `told`, and the line passed over; the added lines have the name `--then` and are numbered from
 /// 1. The answer is whole before its first byte is written.
@@ -170,13 +170,13 @@ fn difference<T: Write>(
 /// Where there is no answer; what was told by then stays.
 pub fn diff<R: Read + Drop, W: Write, T: Write + Drop>(
     alloc: Global,
-    texts: Vec<(String, R)>,
+    scripts: Scripts<R>,
     lines: &[String],
     asked: Touch,
     output: &mut W,
     told: T,
 ) -> Result<Ended, Halt> {
-    let mut findings = play(alloc, texts, told)?;
+    let mut findings = play(alloc, scripts, told)?;
     let text = difference(alloc, &mut findings, lines, asked);
     let ended = findings.ended();
     drop(findings);

@@ -1,6 +1,7 @@
 //! Why a page goes where it goes, after scripts.
 use crate::findings::Ended;
 use crate::halt::Halt;
+use crate::playing::Scripts;
 use crate::question::{Question, ask};
 use numa_files::Stop;
 use numa_machine::Machine;
@@ -47,7 +48,7 @@ impl Question for Reasons {
     }
 }
 
-/// Plays the texts as one script, and writes why a page would go where it goes, if it were touched
+/// Plays the scripts, and writes why a page would go where it goes, if it were touched
 /// now. What is wrong with a line is told to `told`, and the line passed over. The answer is whole
 /// before its first byte is written.
 ///
@@ -55,11 +56,11 @@ impl Question for Reasons {
 /// Where there is no answer; what was told by then stays.
 pub fn explain<R: Read + Drop, W: Write, T: Write + Drop>(
     alloc: Global,
-    texts: Vec<(String, R)>,
+    scripts: Scripts<R>,
     asked: Touch,
     page: u64,
     output: &mut W,
     told: T,
 ) -> Result<Ended, Halt> {
-    ask(alloc, texts, Reasons { asked, page }, output, told)
+    ask(alloc, scripts, Reasons { asked, page }, output, told)
 }

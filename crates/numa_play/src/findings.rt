@@ -3,6 +3,7 @@ ghost use Rattle.std.specs.Prelude.{◌≡◌};
 ghost use Rattle.numa_play.specs.Faults.{ended_by, has_faults};
 
 use numa_files::{Stop, TakeLine};
+use numa_machine::Rules;
 use numa_reasons::{Detail, Finding, judge, lacks_memory, say_line, say_unjudged};
 use numa_run::Script;
 use std::alloc::Global;
@@ -35,11 +36,12 @@ pub struct Findings<W> {
 }
 
 impl<W: Write> Findings<W> {
-    /// Before the first line; what is found is told to the writer.
-    pub fn new(alloc: Global, output: W) -> Findings<W> {
+    /// Before the first line; what is found is told to the writer. These rules count where no line
+    /// gives others.
+    pub fn new(alloc: Global, rules: Rules, output: W) -> Findings<W> {
         Findings {
             alloc,
-            script: Script::new(),
+            script: Script::by(rules),
             output,
             text: Vec::new(alloc),
             told: 0,

@@ -1,8 +1,17 @@
 //! Scripts that are played to their end.
 use crate::findings::{Ended, Findings};
 use numa_files::{Lines, Stop, TakeText, read_all};
+use numa_machine::Rules;
 use std::alloc::Global;
 use std::io::{Read, Write};
+
+/// Scripts that are read in turn, as one: texts with their names, and the rules that count where no
+/// line of them gives others.
+#[derive(Drop)]
+pub struct Scripts<R> {
+    pub texts: Vec<(String, R)>,
+    pub rules: Rules,
+}
 
 /// The lines of scripts; what is found is written before the next read.
 #[derive(Drop)]
@@ -27,19 +36,20 @@ impl<W: Write> TakeText for Checking<W> {
     }
 }
 
-/// Reads the texts in turn, as one script, plays their lines, and tells the writer what is wrong
-/// with them: the text's name, the line, for bad words the column, the answer, and its cause. How
+/// Reads the scripts, plays their lines, and tells the writer what is wrong with them: the text's
+/// name, the line, for bad words the column, the answer, and its cause. How
 /// many lines weren't judged is left to be told by `end`.
 ///
 /// # Errors
 /// Where a read or a write failed, or there was no memory.
 pub fn play<R: Read + Drop, W: Write + Drop>(
     alloc: Global,
-    texts: Vec<(String, R)>,
+    scripts: Scripts<R>,
     output: W,
 ) -> Result<Findings<W>, Stop> {
+    let Scripts { texts, rules } = scripts;
     let mut checking = Checking {
-        lines: Lines::new(alloc, Findings::new(alloc, output)),
+        lines: Lines::new(alloc, Findings::new(alloc, rules, output)),
     };
     match read_all(texts, &mut checking) {
         Ok(()) => Ok(checking.lines.taker),
@@ -58,17 +68,17 @@ fn end<W: Write>(findings: &mut Findings<W>) -> Result<Ended, Stop> {
     }
 }
 
-/// Reads the texts in turn, as one script, and tells the writer what is wrong with their lines:
-/// with none, where it ends clean.
+/// Reads the scripts, and tells the writer what is wrong with their lines: with none, where it ends
+/// clean.
 ///
 /// # Errors
 /// Where a read or a write failed, or there was no memory.
 pub fn check<R: Read + Drop, W: Write + Drop>(
     alloc: Global,
-    texts: Vec<(String, R)>,
+    scripts: Scripts<R>,
     output: W,
 ) -> Result<Ended, Stop> {
-    let mut findings = match play(alloc, texts, output) {
+    let mut findings = match play(alloc, scripts, output) {
         Ok(findings) => findings,
         Err(why) => return Err(why),
     };

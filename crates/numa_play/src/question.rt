@@ -3,7 +3,7 @@ ghost use Rattle.std.specs.Prelude.{◌≡◌, IfOk};
 
 use crate::findings::{Ended, Findings};
 use crate::halt::Halt;
-use crate::playing::play;
+use crate::playing::{Scripts, play};
 use numa_files::Stop;
 use numa_run::Script;
 use numa_space::Space;
@@ -69,17 +69,16 @@ fn write_answer<Q: Question + Drop, W: Write, T: Write>(
     write(text, findings.ended(), output)
 }
 
-/// Plays the texts as one script, and writes the answer to a question about the space that they
-/// lead to. What is wrong with a line is told to `told`, and the line passed over; which lines
+/// Plays the scripts, and writes the answer to a question about the space that they lead to. What is wrong with a line is told to `told`, and the line passed over; which lines
 /// the answer goes by. It is whole before its first byte is written.
 pub(crate) fn ask<R: Read + Drop, Q: Question + Drop, W: Write, T: Write + Drop>(
     alloc: Global,
-    texts: Vec<(String, R)>,
+    scripts: Scripts<R>,
     question: Q,
     output: &mut W,
     told: T,
 ) -> Result<Ended, Halt> {
-    let mut findings = match play(alloc, texts, told) {
+    let mut findings = match play(alloc, scripts, told) {
         Ok(findings) => findings,
         Err(why) => {
             drop(question);

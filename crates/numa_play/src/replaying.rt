@@ -1,6 +1,7 @@
 //! Traces that are replayed after scripts.
 use crate::findings::Ended;
 use crate::halt::Halt;
+use crate::playing::Scripts;
 use crate::question::{Question, ask};
 use numa_compile::compile;
 use numa_files::Stop;
@@ -67,7 +68,7 @@ impl<S: Read + Drop> Question for Trace<S> {
     }
 }
 
-/// Plays the texts as one script, and then a trace on a machine where no page is placed, by the
+/// Plays the scripts, and then a trace on a machine where no page is placed, by the
 /// plan of all commands that were accepted; writes what the trace met. What is wrong with a line of
 /// the scripts is told to `told`, and the line passed over. The answer is whole before its first
 /// byte is written.
@@ -77,7 +78,7 @@ impl<S: Read + Drop> Question for Trace<S> {
 /// trace that can't be replayed.
 pub fn replay<R: Read + Drop, S: Read + Drop, W: Write, T: Write + Drop>(
     alloc: Global,
-    texts: Vec<(String, R)>,
+    scripts: Scripts<R>,
     trace: Vec<(String, S)>,
     format: Shape,
     output: &mut W,
@@ -87,5 +88,5 @@ pub fn replay<R: Read + Drop, S: Read + Drop, W: Write, T: Write + Drop>(
         texts: trace,
         format,
     };
-    ask(alloc, texts, question, output, told)
+    ask(alloc, scripts, question, output, told)
 }

@@ -1,5 +1,6 @@
 //! A script that is answered line by line, into texts.
 use numa_files::Respond;
+use numa_machine::Rules;
 use numa_play::tells_lack;
 use numa_run::Script;
 use numa_script::{Serve, Watched};
@@ -11,15 +12,18 @@ use std::mem;
 #[derive(Drop)]
 pub struct Answering {
     alloc: Global,
+    // The rules that count where no line gives others.
+    rules: Rules,
     script: Script,
 }
 
 impl Answering {
-    /// Before the first line.
-    pub fn new(alloc: Global) -> Answering {
+    /// Before the first line; these rules count where no line gives others.
+    pub fn new(alloc: Global, rules: Rules) -> Answering {
         Answering {
             alloc,
-            script: Script::new(),
+            rules,
+            script: Script::by(rules),
         }
     }
 }
@@ -36,7 +40,7 @@ impl Respond for Answering {
     ghost is_fault = { says_fault };
 
     fn begin(&mut self) {
-        drop(mem::replace(&mut self.script, Script::new()));
+        drop(mem::replace(&mut self.script, Script::by(self.rules)));
     }
 
     fn respond(&mut self, line: &[u8], answer: &mut Vec<u8>) -> Result<(), AllocError> {

@@ -17,6 +17,8 @@ mod words;
 
 use endings::tell_fault;
 use numa_command_line::{Job, JobFault, Work, job};
+use numa_machine::Rules;
+use numa_play::Scripts;
 use std::env::Env;
 use std::io::{IsTerminal, Read};
 use std::process::ExitCode;
@@ -50,26 +52,26 @@ fn asked_job<R: Env + AllocGlobal>(rt: &R) -> Result<Job, JobFault>
 }
 
 /// Does work with scripts.
-fn work_done<R, S>(rt: &R, texts: Vec<(String, S)>, work: &Work) -> Result<ExitCode, JobFault>
+fn work_done<R, S>(rt: &R, scripts: Scripts<S>, work: &Work) -> Result<ExitCode, JobFault>
 where
     R: Files + Input + Print + Eprint + AllocGlobal,
     R::Reader: IsTerminal,
     S: Read + Drop,
 {
     match work {
-        Work::Run { echo } => Ok(run::answer(rt, texts, *echo)),
-        Work::Check => Ok(check::check(rt, texts)),
-        Work::Expect => Ok(expect::check(rt, texts)),
+        Work::Run { echo } => Ok(run::answer(rt, scripts, *echo)),
+        Work::Check => Ok(check::check(rt, scripts)),
+        Work::Expect => Ok(expect::check(rt, scripts)),
         Work::Ask {
             asked,
             question,
             lenient,
-        } => Ok(asked::answer(rt, texts, *asked, question, *lenient)),
+        } => Ok(asked::answer(rt, scripts, *asked, question, *lenient)),
         Work::Replay {
             trace,
             format,
             lenient,
-        } => replay::answer(rt, texts, trace, *format, *lenient),
+        } => replay::answer(rt, scripts, trace, *format, *lenient),
     }
 }
 
@@ -85,9 +87,9 @@ where
 }
 
 /// Answers a script that is typed, where there is a prompt; else does work with scripts.
-fn texts_done<R, S>(
+fn scripts_done<R, S>(
     rt: &R,
-    texts: Vec<(String, S)>,
+    scripts: Scripts<S>,
     work: &Work,
     has_prompt: bool,
 ) -> Result<ExitCode, JobFault>
@@ -97,9 +99,10 @@ where
     S: Read + Drop,
 {
     if has_prompt {
-        return Ok(terminal::answer(rt, texts));
+        let Scripts { texts, rules } = scripts;
+        return Ok(terminal::answer(rt, texts, rules));
     }
-    work_done(rt, texts, work)
+    work_done(rt, scripts, work)
 }
 
 /// Does work with the scripts of files. Where standard output is a terminal, a script that is typed
@@ -107,6 +110,7 @@ where
 fn files_done<R>(
     rt: &R,
     names: &[String],
+    rules: Rules,
     work: &Work,
     is_terminal: bool,
 ) -> Result<ExitCode, JobFault>
@@ -120,7 +124,7 @@ where
         _ => files::open_all(rt, names),
     };
     match texts {
-        Ok(texts) => texts_done(rt, texts, work, has_prompt),
+        Ok(texts) => scripts_done(rt, Scripts { texts, rules }, work, has_prompt),
         Err(fault) => Err(fault),
     }
 }
@@ -133,7 +137,7 @@ where
     requires { CanBeDone job.now }
 {
     match job {
-        Job::Scripts { files, work } => files_done(rt, files, work, is_terminal),
+        Job::Scripts { files, rules, work } => files_done(rt, files, *rules, work, is_terminal),
         Job::Storm(workers) => Ok(storm::show(rt, *workers)),
     }
 }

@@ -2,6 +2,7 @@
 use crate::answering::Answering;
 use crate::endings::{Told, stop};
 use numa_files::{Lines, Respond, Stop, TakeLine, read_all};
+use numa_machine::Rules;
 use numa_reasons::{judge, say_line};
 use numa_run::Script;
 use std::alloc::Global;
@@ -118,7 +119,7 @@ impl<W: Write, T: Write> TakeLine for Typed<W, T> {
 }
 
 /// Answers a script that is typed, with a prompt before each line.
-fn answer_all<R, S>(rt: &R, texts: Vec<(String, S)>) -> Result<(), Stop>
+fn answer_all<R, S>(rt: &R, texts: Vec<(String, S)>, rules: Rules) -> Result<(), Stop>
 where
     R: Print + Eprint + AllocGlobal,
     S: Read + Drop,
@@ -128,8 +129,8 @@ where
     let alloc = rt.alloc();
     let typed = Typed {
         alloc,
-        answering: Answering::new(alloc),
-        judged: Script::new(),
+        answering: Answering::new(alloc, rules),
+        judged: Script::by(rules),
         text: Vec::new(alloc),
         output,
         told: Told { rt },
@@ -142,12 +143,12 @@ where
 
 /// Answers a script that is typed at a terminal: with a prompt before each line, and with what is
 /// wrong with a line, in the words of `check`, on standard error; a line `help` tells the lines.
-pub fn answer<R, S>(rt: &R, texts: Vec<(String, S)>) -> ExitCode
+pub fn answer<R, S>(rt: &R, texts: Vec<(String, S)>, rules: Rules) -> ExitCode
 where
     R: Print + Eprint + AllocGlobal,
     S: Read + Drop,
 {
-    match answer_all(rt, texts) {
+    match answer_all(rt, texts, rules) {
         Ok(()) => {
             let _ = println!(rt; "");
             ExitCode::SUCCESS

@@ -1,4 +1,11 @@
 //! Words that ask about pages that a task would touch, by `--task T --node N`.
+ghost use Rattle.std.specs.Prelude.{Some, codes};
+ghost use Rattle.numa_command_line.specs.Asked.{asked_in};
+ghost use Rattle.numa_command_line.specs.Jobs.{IsMade, question_of, work_of};
+ghost use Rattle.numa_command_line.specs.Values.{touch_in};
+ghost use Rattle.clap.specs.Words.{found_of, rows_of};
+
+use crate::found::{is_on, small_at};
 use crate::jobs::{JobFault, Question, Work};
 use crate::usage::{Argument, Takes};
 use clap::ArgMatches;
@@ -27,20 +34,28 @@ pub const NODE: Argument = Argument {
 };
 
 /// What the options say.
-fn asked(alloc: Global, matches: &ArgMatches<'_>) -> Result<Touch, JobFault> {
-    match (matches.get_one("task"), matches.get_one("node")) {
+fn asked(alloc: Global, matches: &ArgMatches<'_>) -> Result<Touch, JobFault>
+    ensures { IsMade (λ touch. touch) (touch_in (rows_of (found_of matches.now))) result }
+{
+    match (small_at(matches, "task"), small_at(matches, "node")) {
         (Some(task), Some(cpu)) => Ok(Touch { task, cpu }),
         _ => Err(JobFault::usage(alloc, MISSING)),
     }
 }
 
 /// To ask a question by the options.
-pub fn work(alloc: Global, matches: &ArgMatches<'_>, question: Question) -> Result<Work, JobFault> {
+///
+/// # Errors
+/// `Usage` where `--task` or `--node` has no number; `NoMemory`.
+pub fn work(alloc: Global, matches: &ArgMatches<'_>, question: Question) -> Result<Work, JobFault>
+    ensures { IsMade work_of
+        (asked_in (rows_of (found_of matches.now)) (Some (question_of question))) result }
+{
     match asked(alloc, matches) {
         Ok(asked) => Ok(Work::Ask {
             asked,
             question,
-            lenient: matches.get_flag("lenient"),
+            lenient: is_on(matches, "lenient"),
         }),
         Err(fault) => {
             drop(question);

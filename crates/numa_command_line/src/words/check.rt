@@ -1,4 +1,7 @@
 //! `numaplan check [FILE]..`: tells what is wrong with scripts.
+ghost use Rattle.std.specs.Prelude.{codes, true};
+ghost use Rattle.numa_command_line.specs.Grammar.{IsWord, check_arguments};
+
 use crate::usage::{FILES, Word};
 
 /// What is said of the word.
@@ -11,10 +14,13 @@ words the column in bytes, the answer, and its cause with what to do. Lines that
 while none is ready are counted at the end. The status is 3 where anything was told, and else 0.",
     more: "Example, from the top of the repository:\n  ./numaplan check \
 examples/why-refused.numaplan",
+    reads_lines: true,
     arguments: &[FILES],
 };
 
 /// The word.
-pub fn word() -> &'static Word {
+pub fn word() -> &'static Word
+    ensures { IsWord (codes "check") check_arguments true result.now }
+{
     &WORD
 }

@@ -1,6 +1,13 @@
 //! `numaplan diff --task T --node N --then LINE [FILE]..`: tells which pages would go elsewhere.
+ghost use Rattle.std.specs.Prelude.{codes, true};
+ghost use Rattle.numa_command_line.specs.Grammar.{IsWord, diff_arguments};
+ghost use Rattle.clap.specs.Words.{found_of, rows_of};
+ghost use Rattle.numa_command_line.specs.Asked.{work_asked};
+ghost use Rattle.numa_command_line.specs.Jobs.{IsMade, work_of};
+ghost use Rattle.numa_command_line.specs.declared.command.Word.TheVariants as word;
+
+use crate::found::texts_at;
 use crate::jobs::{JobFault, Question, Work};
-use crate::texts;
 use crate::usage::{Argument, FILES, Takes, Word};
 use crate::words::asked;
 use crate::words::asked::{NODE, TASK};
@@ -29,16 +36,24 @@ passed over. The status is 3 where some are, unless --lenient is given, and wher
 ready after the scripts.",
     more: "Example, from the top of the repository:\n  ./numaplan diff --task 1 --node 0 --then \
 'mems 0' examples/interleaved-range.numaplan",
+    reads_lines: true,
     arguments: &[TASK, NODE, THEN, LENIENT, FILES],
 };
 
 /// The word.
-pub fn word() -> &'static Word {
+pub fn word() -> &'static Word
+    ensures { IsWord (codes "diff") diff_arguments true result.now }
+{
     &WORD
 }
 
 /// What its words ask for.
-pub fn work(alloc: Global, matches: &ArgMatches<'_>) -> Result<Work, JobFault> {
-    let lines = texts::texts_of(alloc, matches, "then")?;
+///
+/// # Errors
+/// `Usage` where `--task` or `--node` has no number; `NoMemory`.
+pub fn work(alloc: Global, matches: &ArgMatches<'_>) -> Result<Work, JobFault>
+    ensures { IsMade work_of (work_asked word.Diff (rows_of (found_of matches.now))) result }
+{
+    let lines = texts_at(alloc, matches, "then")?;
     asked::work(alloc, matches, Question::Diff(lines))
 }

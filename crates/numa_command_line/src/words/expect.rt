@@ -1,4 +1,7 @@
 //! `numaplan expect FILE..`: compares worked scripts with what their lines are answered.
+ghost use Rattle.std.specs.Prelude.{codes, true};
+ghost use Rattle.numa_command_line.specs.Grammar.{IsWord, expect_arguments};
+
 use crate::usage::{Argument, Takes, Word};
 
 /// The argument `FILE..`.
@@ -24,10 +27,13 @@ files *.answers are taken, and those *.numaplan that hold an answer.",
     more: "The status is 0 where each file holds answers and all are as wanted, and else \
 3.\n\nExample, from the top of the \
 repository:\n  ./numaplan expect examples/*.answers",
+    reads_lines: true,
     arguments: &[WORKED],
 };
 
 /// The word.
-pub fn word() -> &'static Word {
+pub fn word() -> &'static Word
+    ensures { IsWord (codes "expect") expect_arguments true result.now }
+{
     &WORD
 }

@@ -1,4 +1,12 @@
 //! `numaplan explain --task T --node N ADDRESS [FILE]..`: tells why a page goes where it goes.
+ghost use Rattle.std.specs.Prelude.{codes, true};
+ghost use Rattle.numa_command_line.specs.Grammar.{IsWord, explain_arguments};
+ghost use Rattle.clap.specs.Words.{found_of, rows_of};
+ghost use Rattle.numa_command_line.specs.Asked.{work_asked};
+ghost use Rattle.numa_command_line.specs.Jobs.{IsMade, work_of};
+ghost use Rattle.numa_command_line.specs.declared.command.Word.TheVariants as word;
+
+use crate::found::text_at;
 use crate::jobs::{JobFault, Question, Work};
 use crate::usage::{Argument, FILES, Takes, Word};
 use crate::words::asked;
@@ -34,17 +42,25 @@ refused are told on standard error as by `check`, and passed over. The status is
 are, unless --lenient is given, and where no machine is ready after the scripts.",
     more: "Example, from the top of the repository:\n  ./numaplan explain --task 1 --node 3 \
 0x32000 examples/interleaved-range.numaplan",
+    reads_lines: true,
     arguments: &[TASK, NODE, LENIENT, ADDRESS, FILES],
 };
 
 /// The word.
-pub fn word() -> &'static Word {
+pub fn word() -> &'static Word
+    ensures { IsWord (codes "explain") explain_arguments true result.now }
+{
     &WORD
 }
 
 /// What its words ask for.
-pub fn work(alloc: Global, matches: &ArgMatches<'_>) -> Result<Work, JobFault> {
-    let word = matches.get_str("ADDRESS").unwrap_or("");
+///
+/// # Errors
+/// `Usage` where the address is faulty, or an option has no number; `NoMemory`.
+pub fn work(alloc: Global, matches: &ArgMatches<'_>) -> Result<Work, JobFault>
+    ensures { IsMade work_of (work_asked word.Explain (rows_of (found_of matches.now))) result }
+{
+    let word = text_at(matches, "ADDRESS").unwrap_or("");
     match number(word.as_bytes()) {
         Some(address) => asked::work(alloc, matches, Question::Explain(address / 4096)),
         None => Err(JobFault::usage(alloc, BAD_ADDRESS)),

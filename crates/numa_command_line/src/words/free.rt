@@ -1,10 +1,19 @@
 //! How many free pages nodes have: `--free NODE=PAGES,..`.
+ghost use Rattle.std.specs.Prelude.{◌≡◌, ◌==◌, [], IfOk, option_map};
+ghost use Rattle.std.specs.List.{list_any};
+ghost use Rattle.clap.specs.Words.{found_of, rows_of};
+ghost use Rattle.numa_command_line.specs.Jobs.{IsMade};
+ghost use Rattle.numa_command_line.specs.Values.{free_in, frees_in, frees_from};
+ghost use Rattle.numa_mask.specs.Parts.{parts_of};
+
+use crate::found::text_at;
 use crate::jobs::JobFault;
 use crate::sizes::pages_of;
 use crate::usage::{Argument, Takes};
 use clap::ArgMatches;
 use numa_reports::FreePages;
-use numa_script::number::number;
+use numa_script::number::node;
+use numa_script::parts::{Parts, items};
 use std::alloc::{AllocError, Global};
 
 /// What is told where the value isn't as it should be.
@@ -22,42 +31,58 @@ pub const FREE: Argument = Argument {
 };
 
 /// One node with its free pages.
-fn one(text: &[u8]) -> Option<FreePages> {
-    let Some(place) = text.iter().position(|byte| *byte == b'=') else {
+fn one(text: &[u8]) -> Option<FreePages>
+    ensures { result ≡ free_in text.now }
+{
+    let mut parts = Parts::new(text, b'=');
+    let (Some(name), Some(size)) = (parts.next(), parts.next()) else {
         return None;
     };
-    let Some(node) = number(&text[..place]) else {
+    if parts.next().is_some() {
+        return None;
+    }
+    let Some(node) = node(name) else {
         return None;
     };
-    let Ok(node) = u8::try_from(node) else {
-        return None;
-    };
-    let Some(pages) = pages_of(&text[place + 1..]) else {
+    let Some(pages) = pages_of(size) else {
         return None;
     };
     Some(FreePages { node, pages })
 }
 
 /// Whether the node is named.
-fn has(named: &[FreePages], node: u8) -> bool {
+fn has(named: &[FreePages], node: u8) -> bool
+    ensures { result ≡ list_any (λ one. one.node == node) named.now }
+{
     named.iter().any(|one| one.node == node)
 }
 
 /// The nodes that a text names; none where it isn't as it should be.
-fn read(alloc: Global, text: &str) -> Result<Option<Vec<FreePages>>, AllocError> {
+fn read(alloc: Global, text: &str) -> Result<Option<Vec<FreePages>>, AllocError>
+    ensures { IfOk result (λ read. option_map (λ named. named.items) read
+        ≡ frees_from [] (parts_of 44 text.now)) }
+{
     let mut named = Vec::new(alloc);
-    for part in text.as_bytes().split(|byte| *byte == b',') {
-        match one(part) {
-            Some(one) if !has(&named, one.node) => named.push(one)?,
-            _ => return Ok(None),
+    for part in items(text.as_bytes()) {
+        let Some(one) = one(part) else {
+            return Ok(None);
+        };
+        if has(&named, one.node) {
+            return Ok(None);
         }
+        named.push(one)?;
     }
     Ok(Some(named))
 }
 
 /// The nodes that are named, and their free pages; none where the option isn't there.
-pub fn named(alloc: Global, matches: &ArgMatches<'_>) -> Result<Vec<FreePages>, JobFault> {
-    let Some(text) = matches.get_str("free") else {
+///
+/// # Errors
+/// `Usage` where the option is faulty; `NoMemory`.
+pub fn named(alloc: Global, matches: &ArgMatches<'_>) -> Result<Vec<FreePages>, JobFault>
+    ensures { IsMade (λ named. named.items) (frees_in (rows_of (found_of matches.now))) result }
+{
+    let Some(text) = text_at(matches, "free") else {
         return Ok(Vec::new(alloc));
     };
     match read(alloc, text)? {

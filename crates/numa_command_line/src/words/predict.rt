@@ -1,5 +1,16 @@
 //! `numaplan predict --task T --node N [--free NODE=PAGES,..] [FILE]..`: tells where pages would go
 //! after scripts.
+ghost use Rattle.std.specs.Prelude.{◌≡◌, codes, true};
+ghost use Rattle.numa_command_line.specs.Grammar.{AreNames, IsWord, format_names};
+ghost use Rattle.numa_command_line.specs.Grammar.{predict_arguments};
+ghost use Rattle.numa_command_line.specs.Usage.{Names};
+ghost use Rattle.clap.specs.Words.{found_of, rows_of};
+ghost use Rattle.numa_command_line.specs.Asked.{work_asked};
+ghost use Rattle.numa_command_line.specs.Jobs.{IsMade, work_of};
+ghost use Rattle.numa_command_line.specs.declared.command.Word.TheVariants as word;
+ghost use Rattle.numa_command_line.specs.Values.{format_in, format_named};
+
+use crate::found::text_at;
 use crate::jobs::{JobFault, Question, Work};
 use crate::usage::{Argument, FILES, Takes, Word};
 use crate::words::asked::{NODE, TASK};
@@ -16,7 +27,7 @@ const FORMAT: Argument = Argument {
     value: "FORMAT",
     help: "How the answer is written",
     is_required: false,
-    takes: Takes::OneOf(&["text", "json", "csv", "svg"]),
+    takes: Takes::OneOf("text", &["text", "json", "csv", "svg"]),
 };
 
 /// What is said of the word.
@@ -32,27 +43,48 @@ refused are told on standard error as by `check`, and passed over. The status is
 are, unless --lenient is given, and where no machine is ready after the scripts.",
     more: "Example, from the top of the repository:\n  ./numaplan predict --task 1 --node 0 \
 examples/interleaved-range.numaplan",
+    reads_lines: true,
     arguments: &[TASK, NODE, FORMAT, FREE, LENIENT, FILES],
 };
 
 /// The word.
-pub fn word() -> &'static Word {
+pub fn word() -> &'static Word
+    ensures { (formats : Names) × AreNames format_names formats
+        × IsWord (codes "predict") (predict_arguments formats) true result.now }
+{
     &WORD
 }
 
 /// The format of this name.
-fn format_of(name: Option<&str>) -> Format {
+fn format_of(name: &str) -> Format
+    ensures { result ≡ format_named name.now }
+{
     match name {
-        Some("json") => Format::Json,
-        Some("csv") => Format::Csv,
-        Some("svg") => Format::Svg,
+        "json" => Format::Json,
+        "csv" => Format::Csv,
+        "svg" => Format::Svg,
         _ => Format::Text,
     }
 }
 
+/// The format that is asked for.
+fn format_in(matches: &ArgMatches<'_>) -> Format
+    ensures { result ≡ format_in (rows_of (found_of matches.now)) }
+{
+    match text_at(matches, "format") {
+        Some(name) => format_of(name),
+        None => Format::Text,
+    }
+}
+
 /// What its words ask for.
-pub fn work(alloc: Global, matches: &ArgMatches<'_>) -> Result<Work, JobFault> {
-    let format = format_of(matches.get_str("format"));
+///
+/// # Errors
+/// `Usage` where an option has no number, or `--free` is faulty; `NoMemory`.
+pub fn work(alloc: Global, matches: &ArgMatches<'_>) -> Result<Work, JobFault>
+    ensures { IsMade work_of (work_asked word.Predict (rows_of (found_of matches.now))) result }
+{
+    let format = format_in(matches);
     let free = free::named(alloc, matches)?;
     asked::work(alloc, matches, Question::Predict { format, free })
 }

@@ -1,6 +1,15 @@
 //! `numaplan replay --trace TRACE [FILE]..`: tells what a trace of accesses meets.
+ghost use Rattle.std.specs.Prelude.{◌≡◌, codes, true};
+ghost use Rattle.numa_command_line.specs.Grammar.{AreNames, IsWord, shape_names, replay_arguments};
+ghost use Rattle.numa_command_line.specs.Usage.{Names};
+ghost use Rattle.clap.specs.Words.{found_of, rows_of};
+ghost use Rattle.numa_command_line.specs.Asked.{work_asked};
+ghost use Rattle.numa_command_line.specs.Jobs.{IsMade, work_of};
+ghost use Rattle.numa_command_line.specs.declared.command.Word.TheVariants as word;
+ghost use Rattle.numa_command_line.specs.Values.{shape_in, shape_named};
+
+use crate::found::{is_on, text_at, texts_at};
 use crate::jobs::{JobFault, Work};
-use crate::texts;
 use crate::usage::{Argument, FILES, Takes, Word};
 use crate::words::lenient::LENIENT;
 use clap::ArgMatches;
@@ -22,7 +31,7 @@ const FORMAT: Argument = Argument {
     value: "FORMAT",
     help: "How the answer is written",
     is_required: false,
-    takes: Takes::OneOf(&["text", "json"]),
+    takes: Takes::OneOf("text", &["text", "json"]),
 };
 
 /// What is said of the word.
@@ -40,29 +49,49 @@ over. The status is 3 where some are, unless --lenient is given, where no machin
 the scripts, and where a line of the trace can't be replayed.",
     more: "Example, from the top of the repository:\n  ./numaplan replay --trace \
 examples/replayed.trace examples/interleaved-range.numaplan",
+    reads_lines: true,
     arguments: &[TRACE, FORMAT, LENIENT, FILES],
 };
 
 /// The word.
-pub fn word() -> &'static Word {
+pub fn word() -> &'static Word
+    ensures { (shapes : Names) × AreNames shape_names shapes
+        × IsWord (codes "replay") (replay_arguments shapes) true result.now }
+{
     &WORD
 }
 
 /// The format of this name.
-fn format_of(name: Option<&str>) -> Shape {
+fn shape_of(name: &str) -> Shape
+    ensures { result ≡ shape_named name.now }
+{
     match name {
-        Some("json") => Shape::Json,
+        "json" => Shape::Json,
         _ => Shape::Text,
     }
 }
 
+/// The format that is asked for.
+fn shape_in(matches: &ArgMatches<'_>) -> Shape
+    ensures { result ≡ shape_in (rows_of (found_of matches.now)) }
+{
+    match text_at(matches, "format") {
+        Some(name) => shape_of(name),
+        None => Shape::Text,
+    }
+}
+
 /// What its words ask for.
-pub fn work(alloc: Global, matches: &ArgMatches<'_>) -> Result<Work, JobFault> {
-    let trace = texts::texts_of(alloc, matches, "trace")?;
-    let format = format_of(matches.get_str("format"));
+///
+/// # Errors
+/// `NoMemory`.
+pub fn work(alloc: Global, matches: &ArgMatches<'_>) -> Result<Work, JobFault>
+    ensures { IsMade work_of (work_asked word.Replay (rows_of (found_of matches.now))) result }
+{
+    let trace = texts_at(alloc, matches, "trace")?;
     Ok(Work::Replay {
         trace,
-        format,
-        lenient: matches.get_flag("lenient"),
+        format: shape_in(matches),
+        lenient: is_on(matches, "lenient"),
     })
 }

@@ -1,4 +1,7 @@
 //! `numaplan run [FILE]..`: answers scripts.
+ghost use Rattle.std.specs.Prelude.{codes, true};
+ghost use Rattle.numa_command_line.specs.Grammar.{IsWord, run_arguments};
+
 use crate::usage::{Argument, FILES, Takes, Word};
 
 /// The option `--echo`.
@@ -21,10 +24,13 @@ named, there is a prompt, what is wrong with a line is told too, and a line `hel
     more: "Example, from the top of the repository:\n  ./numaplan run \
 examples/first-run.numaplan\n\nThe language of scripts is told in docs/SCRIPT.md of the \
 repository.",
+    reads_lines: true,
     arguments: &[ECHO, FILES],
 };
 
 /// The word.
-pub fn word() -> &'static Word {
+pub fn word() -> &'static Word
+    ensures { IsWord (codes "run") run_arguments true result.now }
+{
     &WORD
 }

@@ -1,7 +1,11 @@
 //! `numaplan storm --workers K`: workers place pages while policies change.
-ghost use Rattle.std.specs.Prelude.{IfOk};
-ghost use Rattle.numa_command_line.specs.Jobs.{CanBeDone};
+ghost use Rattle.std.specs.Prelude.{IfOk, codes, false, option_map};
+ghost use Rattle.numa_command_line.specs.Grammar.{IsWord, storm_arguments};
+ghost use Rattle.numa_command_line.specs.Jobs.{CanBeDone, IsMade, doings_of, storm};
+ghost use Rattle.clap.specs.Words.{found_of, rows_of};
+ghost use Rattle.numa_command_line.specs.Values.{workers_in};
 
+use crate::found::small_at;
 use crate::jobs::{Job, JobFault};
 use crate::usage::{Argument, Takes, Word};
 use clap::ArgMatches;
@@ -31,19 +35,27 @@ on standard output tell how many workers there were, how many pages were placed 
 no frame was free, whether all placements match, and how many frames are held at the end. The \
 status is 0 where all is as it must be whichever thread is first, and else 1.",
     more: "Example, from the top of the repository:\n  ./numaplan storm --workers 4",
+    reads_lines: false,
     arguments: &[WORKERS],
 };
 
 /// The word.
-pub fn word() -> &'static Word {
+pub fn word() -> &'static Word
+    ensures { IsWord (codes "storm") storm_arguments false result.now }
+{
     &WORD
 }
 
 /// The job that its words ask for.
+///
+/// # Errors
+/// `Usage` where the number of workers is faulty; `NoMemory`.
 pub fn job(alloc: Global, matches: &ArgMatches<'_>) -> Result<Job, JobFault>
-    ensures { IfOk result CanBeDone }
+    ensures can { IfOk result CanBeDone }
+    ensures asked { IsMade doings_of
+        (option_map storm (workers_in (rows_of (found_of matches.now)))) result }
 {
-    match matches.get_one::<u32>("workers") {
+    match small_at(matches, "workers") {
         Some(count) if 1 <= count && count <= 16 => Ok(Job::Storm(count)),
         _ => Err(JobFault::usage(alloc, BAD_WORKERS)),
     }

@@ -2,16 +2,16 @@
 use crate::endings::{Told, answered};
 use crate::output::Outlet;
 use numa_command_line::Question;
-use numa_play::{Ended, Halt};
+use numa_play::{Ended, Halt, Scripts};
 use numa_reports::Touch;
 use std::io;
 use std::io::Read;
 use std::process::ExitCode;
 
-/// Asks a question about the state that the texts lead to.
+/// Asks a question about the state that scripts lead to.
 fn ask<R, S>(
     rt: &R,
-    texts: Vec<(String, S)>,
+    scripts: Scripts<S>,
     asked: Touch,
     question: &Question,
     outlet: &Outlet,
@@ -25,19 +25,19 @@ where
     let told = Told { rt };
     match question {
         Question::Predict { format, free } => {
-            numa_play::predict(alloc, texts, asked, *format, free, &mut output, told)
+            numa_play::predict(alloc, scripts, asked, *format, free, &mut output, told)
         }
-        Question::Diff(lines) => numa_play::diff(alloc, texts, lines, asked, &mut output, told),
+        Question::Diff(lines) => numa_play::diff(alloc, scripts, lines, asked, &mut output, told),
         Question::Explain(page) => {
-            numa_play::explain(alloc, texts, asked, *page, &mut output, told)
+            numa_play::explain(alloc, scripts, asked, *page, &mut output, told)
         }
     }
 }
 
-/// Answers a question about the state that the texts lead to.
+/// Answers a question about the state that scripts lead to.
 pub fn answer<R, S>(
     rt: &R,
-    texts: Vec<(String, S)>,
+    scripts: Scripts<S>,
     asked: Touch,
     question: &Question,
     lenient: bool,
@@ -47,6 +47,6 @@ where
     S: Read + Drop,
 {
     let outlet = Outlet::new();
-    let answer = ask(rt, texts, asked, question, &outlet);
+    let answer = ask(rt, scripts, asked, question, &outlet);
     answered(rt, asked, answer, lenient, &outlet)
 }

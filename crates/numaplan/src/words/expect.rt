@@ -3,6 +3,7 @@ use crate::answering::Answering;
 use crate::endings::stop_quietly;
 use crate::output::Outlet;
 use numa_files::{Expect, Stop, read_all};
+use numa_play::Scripts;
 use std::io;
 use std::io::{Read, Write};
 use std::process::ExitCode;
@@ -21,26 +22,27 @@ fn compare_by<S: Read + Drop, W: Write>(
 }
 
 /// Compares worked scripts. Whether all answers are as wanted.
-fn compare<R, S>(rt: &R, texts: Vec<(String, S)>, outlet: &Outlet) -> Result<bool, Stop>
+fn compare<R, S>(rt: &R, scripts: Scripts<S>, outlet: &Outlet) -> Result<bool, Stop>
 where
     R: Print + AllocGlobal,
     S: Read + Drop,
 {
-    let answering = Answering::new(rt.alloc());
+    let Scripts { texts, rules } = scripts;
+    let answering = Answering::new(rt.alloc(), rules);
     let mut expect = Expect::new(rt.alloc(), answering, outlet.writer(io::writer(rt)));
     let is_same = compare_by(texts, &mut expect);
     drop(expect);
     is_same
 }
 
-/// Compares worked scripts.
-pub fn check<R, S>(rt: &R, texts: Vec<(String, S)>) -> ExitCode
+/// Compares worked scripts, each of which is a script of its own.
+pub fn check<R, S>(rt: &R, scripts: Scripts<S>) -> ExitCode
 where
     R: Print + Eprint + AllocGlobal,
     S: Read + Drop,
 {
     let outlet = Outlet::new();
-    match compare(rt, texts, &outlet) {
+    match compare(rt, scripts, &outlet) {
         Ok(true) => ExitCode::SUCCESS,
         Ok(false) => ExitCode::from(DIFFERENT),
         Err(why) => stop_quietly(rt, why, &outlet),

@@ -3,6 +3,7 @@ use crate::endings::{Told, ended};
 use crate::files;
 use crate::output::Outlet;
 use numa_command_line::JobFault;
+use numa_play::Scripts;
 use numa_traces::Shape;
 use std::io;
 use std::io::{IsTerminal, Read};
@@ -12,7 +13,7 @@ use std::rt::Files;
 /// Replays a trace of this name after scripts.
 fn replay<R, S, T>(
     rt: &R,
-    texts: Vec<(String, S)>,
+    scripts: Scripts<S>,
     name: &str,
     traces: Vec<(String, T)>,
     format: Shape,
@@ -25,14 +26,21 @@ where
 {
     let outlet = Outlet::new();
     let mut output = outlet.writer(io::writer(rt));
-    let answer = numa_play::replay(rt.alloc(), texts, traces, format, &mut output, Told { rt });
+    let answer = numa_play::replay(
+        rt.alloc(),
+        scripts,
+        traces,
+        format,
+        &mut output,
+        Told { rt },
+    );
     ended(rt, name, answer, lenient, &outlet)
 }
 
 /// Replays the trace of a file after scripts.
 pub fn answer<R, S>(
     rt: &R,
-    texts: Vec<(String, S)>,
+    scripts: Scripts<S>,
     trace: &[String],
     format: Shape,
     lenient: bool,
@@ -47,9 +55,9 @@ where
         None => "",
     };
     match files::open_all(rt, trace) {
-        Ok(traces) => Ok(replay(rt, texts, name, traces, format, lenient)),
+        Ok(traces) => Ok(replay(rt, scripts, name, traces, format, lenient)),
         Err(fault) => {
-            drop(texts);
+            drop(scripts);
             Err(fault)
         }
     }

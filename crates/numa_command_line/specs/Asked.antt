@@ -1,0 +1,119 @@
+-- What a command line asks for, by its words alone.
+use Rattle.std.specs.Prelude.{◌≡◌, ◌≢◌, ◌⊎◌, ⊤, List, [], ◌∷◌, Option, Some, None, Result, MatchResult}
+use Rattle.std.specs.Prelude.{codes, option_and_then, option_map, slice_get, if◌then◌else◌}
+use Rattle.std.specs.Str.{bytes_eq}
+use Rattle.clap.specs.Words.{App, IsAmong, Row, fault_of, kind_of, subcommand_of}
+use Rattle.clap.specs.declared.error.Error.{Error}
+use Rattle.clap.specs.declared.error.kind.ErrorKind.{ErrorKind}
+use Rattle.clap.specs.declared.error.kind.ErrorKind.TheVariants as kind
+use Rattle.numa_command_line.specs.Grammar.{IsProgram}
+use Rattle.numa_command_line.specs.Jobs.{Asking, Doing, Doings, Text, ask, check, diff, doings_of}
+use Rattle.numa_command_line.specs.Jobs.{expect, explain, predict, replay, run, scripts, storm}
+use Rattle.numa_command_line.specs.Values.{format_in, frees_in, is_on, page_in, rules_in, shape_in}
+use Rattle.numa_command_line.specs.Values.{texts_at, touch_in, workers_in}
+use Rattle.numa_command_line.specs.declared.command.Word.{Word}
+use Rattle.numa_command_line.specs.declared.command.Word.TheVariants as word
+use Rattle.numa_command_line.specs.declared.jobs.Job.{Job}
+use Rattle.numa_command_line.specs.declared.jobs.JobFault.{JobFault}
+use Rattle.numa_command_line.specs.declared.jobs.JobFault.TheVariants.{Help, Usage, NoMemory}
+
+-- the word that does something with scripts, of this name
+abbrev pub word_named : Text → Option Word
+word_named name =
+    if bytes_eq name (codes "run") then Some word.Run
+    else if bytes_eq name (codes "check") then Some word.Check
+    else if bytes_eq name (codes "expect") then Some word.Expect
+    else if bytes_eq name (codes "predict") then Some word.Predict
+    else if bytes_eq name (codes "diff") then Some word.Diff
+    else if bytes_eq name (codes "explain") then Some word.Explain
+    else if bytes_eq name (codes "replay") then Some word.Replay
+    else None
+
+-- a question of where a task touches pages
+abbrev pub asked_in : List Row → Option Asking → Option Doing
+asked_in rows question = option_and_then (λ what. option_map (λ touch.
+    ask touch what (is_on (codes "lenient") rows)) (touch_in rows)) question
+
+-- what a word asks to be done with scripts, by what the parse found of its arguments
+abbrev pub work_asked : Word → List Row → Option Doing
+work_asked word.Run rows = Some (run (is_on (codes "echo") rows))
+work_asked word.Check rows = Some check
+work_asked word.Expect rows = Some expect
+work_asked word.Predict rows =
+    asked_in rows (option_map (predict (format_in rows)) (frees_in rows))
+work_asked word.Diff rows = asked_in rows (Some (diff (texts_at (codes "then") rows)))
+work_asked word.Explain rows = asked_in rows (option_map explain (page_in rows))
+work_asked word.Replay rows = Some (replay (texts_at (codes "trace") rows) (shape_in rows)
+    (is_on (codes "lenient") rows))
+
+abbrev pub scripts_asked : List Row → Word → Option Doings
+scripts_asked rows word =
+    option_map (scripts (texts_at (codes "FILE") rows) (rules_in rows)) (work_asked word rows)
+
+-- what the word of a name asks for
+abbrev pub job_named : Text → List Row → Option Doings
+job_named name rows =
+    if bytes_eq name (codes "storm") then option_map storm (workers_in rows)
+    else option_and_then (scripts_asked rows) (word_named name)
+
+-- what the parse found behind the word of this name
+abbrev pub rows_behind : Text → Option (Text × List Row) → Option (List Row)
+rows_behind name None = None
+rows_behind name (Some p) = if bytes_eq p.0 name then Some p.1 else None
+
+-- the same, where the word behind the program's name names it
+abbrev pub doings_found : List Text → Option (Text × List Row) → Option Doings
+doings_found words found = option_and_then
+    (λ name. option_and_then (job_named name) (rows_behind name found)) (slice_get words 1)
+
+-- the word behind the program's name says what is asked for, and the parse of the words behind it
+-- says with which values
+abbrev pub doings_asked : App → List Text → Option Doings
+doings_asked program words = doings_found words (subcommand_of program words)
+
+-- the name of the word that asks for this
+abbrev pub asking_name : Asking → Text
+asking_name (predict format free) = codes "predict"
+asking_name (diff lines) = codes "diff"
+asking_name (explain page) = codes "explain"
+
+abbrev pub doing_name : Doing → Text
+doing_name (run echo) = codes "run"
+doing_name check = codes "check"
+doing_name expect = codes "expect"
+doing_name (ask touch what lenient) = asking_name what
+doing_name (replay trace format lenient) = codes "replay"
+
+abbrev pub name_of : Doings → Text
+name_of (scripts files rules what) = doing_name what
+name_of (storm workers) = codes "storm"
+
+-- help, or the version
+abbrev pub IsShown : ErrorKind → Type 0
+IsShown what = (what ≡ kind.DisplayHelp) ⊎ (what ≡ kind.DisplayVersion)
+
+-- what an error is told as
+abbrev pub IsTold : Error → JobFault → Type 0
+IsTold error (Help text) = IsShown (kind_of error)
+IsTold error (Usage text) = (kind_of error ≢ kind.OutOfMemory) × (IsShown (kind_of error) → ⊥)
+IsTold error NoMemory = ⊤
+
+-- there is no job: help is asked for; or the words are refused, or ask for nothing that there is;
+-- or memory lacks
+abbrev pub HasNoJob : App → List Text → JobFault → Type 0
+HasNoJob program words (Help text) =
+    (what : ErrorKind) × IsAmong what (fault_of program words) × IsShown what
+HasNoJob program words (Usage text) =
+    ((what : ErrorKind) × IsAmong what (fault_of program words) × (IsShown what → ⊥))
+    ⊎ ((fault_of program words ≡ []) × (doings_asked program words ≡ None))
+HasNoJob program words NoMemory = ⊤
+
+-- the job is what the words ask for, and is given where the parse refuses none of them
+abbrev pub IsJobOf : App → List Text → Result Job JobFault → Type 0
+IsJobOf program words answer = MatchResult answer
+    (λ job. (fault_of program words ≡ []) × (doings_asked program words ≡ Some (doings_of job)))
+    (HasNoJob program words)
+
+-- the same, for the program's own words
+abbrev pub Answers : List Text → Result Job JobFault → Type 0
+Answers words answer = (program : App) × IsProgram program × IsJobOf program words answer

@@ -1,0 +1,142 @@
+-- What the parse found for an argument, as a value.
+use Rattle.std.specs.Prelude.{ℕ, ◌==◌, ◌^◌, ◌&&◌, ◌||◌, ◌++◌, ◌∷◌, ◌/◌, ◌*◌, ◌-◌, ◌%◌, [], List, Bool, false}
+use Rattle.std.specs.Prelude.{Option, Some, None, codes, drop, length, map, nat_lt, nat_le, slice_get}
+use Rattle.std.specs.Prelude.{take, unwrap_or, if◌then◌else◌, option_and_then, option_map, not}
+use Rattle.std.specs.Char.{digit_value}
+use Rattle.std.specs.List.{list_all, list_any}
+use Rattle.std.specs.Option.{option_map_or}
+use Rattle.std.specs.Str.{bytes_eq}
+use Rattle.std.specs.Str.Parse.{digits_value, without_leading_plus}
+use Rattle.clap.specs.Words.{Row, all_of, first_of, one_of}
+use Rattle.numa_machine.specs.declared.rules.Rules.{Rules}
+use Rattle.numa_machine.specs.declared.rules.Rules.TheVariants.{Document, Linux}
+use Rattle.numa_mask.specs.Parts.{parts_of}
+use Rattle.numa_reports.specs.declared.filling.FreePages.{FreePages}
+use Rattle.numa_reports.specs.declared.sheet.Format.{Format}
+use Rattle.numa_reports.specs.declared.sheet.Format.TheVariants as format
+use Rattle.numa_reports.specs.declared.touch.Touch.{Touch}
+use Rattle.numa_script.specs.Numbers.{node_of, number_of}
+use Rattle.numa_traces.specs.declared.report.Shape.{Shape}
+use Rattle.numa_traces.specs.declared.report.Shape.TheVariants as shape
+use Rattle.numa_command_line.specs.Jobs.{Text}
+
+-- ---- flags, texts and numbers
+
+-- all texts of an argument
+abbrev pub texts_at : Text → List Row → List Text
+texts_at id rows = unwrap_or (all_of id rows) []
+
+-- whether a flag is given
+abbrev pub is_on : Text → List Row → Bool
+is_on id rows = option_map_or (λ text. bytes_eq text (codes "true")) (first_of id rows) false
+
+-- whether the text is what the parse reads as a number below 2^32: digits, and a plus before them
+abbrev pub is_small : Text → Bool
+is_small text =
+    nat_lt 0 (length (without_leading_plus text))
+    && (list_all (λ d. nat_lt (digit_value d) 10) (without_leading_plus text)
+    && nat_lt (digits_value 10 (without_leading_plus text)) (2 ^ 32))
+
+abbrev pub small_in : Text → Option ℕ
+small_in text =
+    if is_small text then Some (digits_value 10 (without_leading_plus text)) else None
+
+abbrev pub small_at : Text → List Row → Option ℕ
+small_at id rows = option_and_then small_in (one_of id rows)
+
+-- ---- the values of the arguments
+
+abbrev pub rules_in : List Row → Rules
+rules_in rows = if option_map_or (λ name. bytes_eq name (codes "linux")) (first_of (codes "rules") rows) false then Linux else Document
+
+abbrev pub format_named : Text → Format
+format_named name =
+    if bytes_eq name (codes "json") then format.Json
+    else if bytes_eq name (codes "csv") then format.Csv
+    else if bytes_eq name (codes "svg") then format.Svg
+    else format.Text
+
+abbrev pub format_in : List Row → Format
+format_in rows = option_map_or format_named (first_of (codes "format") rows) format.Text
+
+abbrev pub shape_named : Text → Shape
+shape_named name = if bytes_eq name (codes "json") then shape.Json else shape.Text
+
+abbrev pub shape_in : List Row → Shape
+shape_in rows = option_map_or shape_named (first_of (codes "format") rows) shape.Text
+
+-- as many workers as a crew may have
+abbrev pub crew_of : ℕ → Option ℕ
+crew_of workers = if nat_le 1 workers && nat_le workers 16 then Some workers else None
+
+abbrev pub workers_in : List Row → Option ℕ
+workers_in rows = option_and_then crew_of (small_at (codes "workers") rows)
+
+abbrev pub touch_of : Option ℕ → Option ℕ → Option Touch
+touch_of (Some task) (Some cpu) = Some (record { task = task; cpu = cpu })
+touch_of _ _ = None
+
+abbrev pub touch_in : List Row → Option Touch
+touch_in rows = touch_of (small_at (codes "task") rows) (small_at (codes "node") rows)
+
+-- the page of an address
+abbrev pub page_in : List Row → Option ℕ
+page_in rows = option_map (λ address. address / 4096)
+    (number_of (unwrap_or (first_of (codes "ADDRESS") rows) []))
+
+-- ---- free pages
+
+-- the bytes of a unit: K, M, G or T, in either case
+abbrev pub unit_of : ℕ → Option ℕ
+unit_of letter =
+    if letter == 75 || letter == 107 then Some 1024
+    else if letter == 77 || letter == 109 then Some 1048576
+    else if letter == 71 || letter == 103 then Some 1073741824
+    else if letter == 84 || letter == 116 then Some 1099511627776
+    else None
+
+-- the pages of so many bytes, where they are whole pages, and fewer bytes than 2^64
+abbrev pub whole_pages : ℕ → Option ℕ
+whole_pages bytes =
+    if nat_lt bytes (2 ^ 64) && bytes % 4096 == 0 then Some (bytes / 4096) else None
+
+-- a number of pages, or one of units behind it
+abbrev pub pages_by : Text → Option ℕ → Option ℕ
+pages_by text None = number_of text
+pages_by text (Some unit) = option_and_then (λ count. whole_pages (count * unit))
+    (number_of (take (length text - 1) text))
+
+abbrev pub pages_in : Text → Option ℕ
+pages_in text =
+    option_and_then (λ letter. pages_by text (unit_of letter)) (slice_get text (length text - 1))
+
+-- NODE=PAGES
+abbrev pub free_by : Option ℕ → Option ℕ → Option FreePages
+free_by (Some node) (Some pages) = Some (record { node = node; pages = pages })
+free_by _ _ = None
+
+abbrev pub free_of : List Text → Option FreePages
+free_of (node ∷ pages ∷ []) = free_by (node_of node) (pages_in pages)
+free_of _ = None
+
+abbrev pub free_in : Text → Option FreePages
+free_in text = free_of (parts_of 61 text)
+
+-- one more node, which isn't named yet
+abbrev pub with_free : List FreePages → Option FreePages → (List FreePages → Option (List FreePages))
+    → Option (List FreePages)
+with_free named None next = None
+with_free named (Some one) next =
+    if list_any (λ other. other.node == one.node) named then None else next (named ++ one ∷ [])
+
+-- the nodes that are named in the parts, behind those that are named already
+abbrev pub frees_from : List FreePages → List Text → Option (List FreePages)
+frees_from named [] = Some named
+frees_from named (part ∷ rest) = with_free named (free_in part) (λ more. frees_from more rest)
+
+abbrev pub frees_by : Option Text → Option (List FreePages)
+frees_by None = Some []
+frees_by (Some text) = frees_from [] (parts_of 44 text)
+
+abbrev pub frees_in : List Row → Option (List FreePages)
+frees_in rows = frees_by (first_of (codes "free") rows)

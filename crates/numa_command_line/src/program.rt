@@ -1,0 +1,57 @@
+//! The program as a command of clap: its words in the order in which help names them.
+ghost use Rattle.std.specs.Prelude.{◌≡◌, IfOk};
+ghost use Rattle.clap.specs.Words.{app_of};
+ghost use Rattle.numa_command_line.specs.Grammar.{IsProgram, bare_program};
+ghost use Rattle.numa_command_line.specs.Usage.{IsLocal};
+
+use crate::usage::with_word;
+use crate::words::{check, diff, expect, explain, predict, replay, rules, run, storm};
+use clap::Command;
+use std::alloc::{AllocError, Global};
+
+/// The version, which the file VERSION has too, and the kit that it is proved with.
+const VERSION: &str = "0.10.0 (proved with rattle-kit-13f)";
+
+/// What the help of the program says.
+const PROGRAM: &str =
+    "Says where Linux would place memory under NUMA memory policies: which nodes a page may come \
+from, in which order, and which frame each fault gets. It reads scripts and writes the answer to \
+each line to standard output; or it shows that this holds while threads place pages and change \
+policies.";
+
+/// What stands at the end of the help of the program.
+const MORE: &str =
+    "Example, from the top of the repository:\n  ./numaplan run examples/first-run.numaplan\n\nThe \
+language of scripts is told in docs/SCRIPT.md of the repository, the commands in \
+docs/COMMANDS.md.";
+
+/// The program before its first word.
+fn bare<'a>(alloc: Global) -> Command<'a>
+    ensures app { app_of result ≡ bare_program }
+    ensures local { IsLocal result }
+{
+    Command::new(alloc, "numaplan")
+        .about(PROGRAM)
+        .after_help(MORE)
+        .version(VERSION)
+        .subcommand_required(true)
+        .arg_required_else_help(true)
+}
+
+/// The program, with its words.
+///
+/// # Errors
+/// `AllocError`: out of memory.
+pub fn program<'a>(alloc: Global) -> Result<Command<'a>, AllocError>
+    ensures { IfOk result (λ command. IsProgram (app_of command)) }
+{
+    let rules = rules::argument();
+    let program = with_word(alloc, bare(alloc), run::word(), rules)?;
+    let program = with_word(alloc, program, check::word(), rules)?;
+    let program = with_word(alloc, program, expect::word(), rules)?;
+    let program = with_word(alloc, program, predict::word(), rules)?;
+    let program = with_word(alloc, program, diff::word(), rules)?;
+    let program = with_word(alloc, program, explain::word(), rules)?;
+    let program = with_word(alloc, program, replay::word(), rules)?;
+    with_word(alloc, program, storm::word(), rules)
+}
