@@ -1,10 +1,10 @@
 //! How the program ends.
-use crate::output::Outlet;
 use numa_command_line::JobFault;
 use numa_files::Stop;
 use numa_play::{Ended, Halt};
 use numa_reports::Touch;
 use numa_script::RunFault;
+use numa_sources::Outlet;
 use std::io;
 use std::io::{ErrorKind, Write};
 use std::process::ExitCode;

@@ -9,9 +9,6 @@ ghost use Rattle.numa_command_line.specs.Jobs.{CanBeDone};
 
 mod answering;
 mod endings;
-mod files;
-mod folders;
-mod output;
 mod terminal;
 mod words;
 
@@ -19,6 +16,7 @@ use endings::tell_fault;
 use numa_command_line::{Job, JobFault, Work, job};
 use numa_machine::Rules;
 use numa_play::Scripts;
+use numa_sources::{open_all, open_worked};
 use std::env::Env;
 use std::io::{IsTerminal, Read};
 use std::process::ExitCode;
@@ -120,8 +118,8 @@ where
 {
     let has_prompt = is_terminal && is_typed(rt, names, work);
     let texts = match work {
-        Work::Expect => folders::open_worked(rt, names),
-        _ => files::open_all(rt, names),
+        Work::Expect => open_worked(rt, names),
+        _ => open_all(rt, names),
     };
     match texts {
         Ok(texts) => scripts_done(rt, Scripts { texts, rules }, work, has_prompt),

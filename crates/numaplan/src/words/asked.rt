@@ -1,9 +1,9 @@
 //! Words that ask about pages that a task would touch.
 use crate::endings::{Told, answered};
-use crate::output::Outlet;
 use numa_command_line::Question;
 use numa_play::{Ended, Halt, Scripts};
 use numa_reports::Touch;
+use numa_sources::Outlet;
 use std::io;
 use std::io::Read;
 use std::process::ExitCode;

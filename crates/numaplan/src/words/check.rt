@@ -1,7 +1,7 @@
 //! Tells what is wrong with scripts.
 use crate::endings::{status_of, stop_quietly};
-use crate::output::Outlet;
 use numa_play::Scripts;
+use numa_sources::Outlet;
 use std::io;
 use std::io::Read;
 use std::process::ExitCode;

@@ -1,9 +1,9 @@
 //! Compares worked scripts with what their lines are answered.
 use crate::answering::Answering;
 use crate::endings::stop_quietly;
-use crate::output::Outlet;
 use numa_files::{Expect, Stop, read_all};
 use numa_play::Scripts;
+use numa_sources::Outlet;
 use std::io;
 use std::io::{Read, Write};
 use std::process::ExitCode;

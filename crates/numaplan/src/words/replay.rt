@@ -1,9 +1,8 @@
 //! Tells what a trace of accesses meets.
 use crate::endings::{Told, ended};
-use crate::files;
-use crate::output::Outlet;
 use numa_command_line::JobFault;
 use numa_play::Scripts;
+use numa_sources::{Outlet, open_all};
 use numa_traces::Shape;
 use std::io;
 use std::io::{IsTerminal, Read};
@@ -54,7 +53,7 @@ where
         Some(name) => name.as_str(),
         None => "",
     };
-    match files::open_all(rt, trace) {
+    match open_all(rt, trace) {
         Ok(traces) => Ok(replay(rt, scripts, name, traces, format, lenient)),
         Err(fault) => {
             drop(scripts);

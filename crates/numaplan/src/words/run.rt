@@ -1,11 +1,11 @@
 //! Answers scripts.
 use crate::answering::Answering;
 use crate::endings::{fail, stop};
-use crate::files;
 use numa_files::{Echo, Joined, Lines, Stop, read_all};
 use numa_machine::Rules;
 use numa_play::Scripts;
 use numa_script::{RunFault, Watched};
+use numa_sources::without_names;
 use std::io;
 use std::io::Read;
 use std::process::ExitCode;
@@ -31,7 +31,7 @@ where
     S: Read + Drop,
 {
     let Scripts { texts, rules } = scripts;
-    match files::without_names(rt.alloc(), texts) {
+    match without_names(rt.alloc(), texts) {
         Ok(sources) => answer_sources(rt, sources, rules),
         Err(_) => Err(RunFault::Memory),
     }

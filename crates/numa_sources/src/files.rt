@@ -40,7 +40,7 @@ where
 }
 
 /// A file that can be read; a folder can't.
-pub fn open_file<R: Files>(rt: &R, name: &str) -> io::Result<R::File> {
+pub(crate) fn open_file<R: Files>(rt: &R, name: &str) -> io::Result<R::File> {
     let file = fs::open(rt, name)?;
     if file.metadata()?.is_dir() {
         return Err(io::Error::from(ErrorKind::IsADirectory));
@@ -49,7 +49,7 @@ pub fn open_file<R: Files>(rt: &R, name: &str) -> io::Result<R::File> {
 }
 
 /// Why a file of this name can't be opened.
-pub fn open_fault(alloc: Global, name: &str, error: &io::Error) -> JobFault {
+pub(crate) fn open_fault(alloc: Global, name: &str, error: &io::Error) -> JobFault {
     if error.kind() == ErrorKind::OutOfMemory {
         return JobFault::NoMemory;
     }
@@ -78,7 +78,7 @@ where
 pub type Texts<R> = Vec<(String, Source<<R as Files>::File, <R as Input>::Reader>)>;
 
 /// Opens what has this name, behind what is open.
-pub fn add_file<R>(rt: &R, name: &str, texts: &mut Texts<R>) -> Result<(), JobFault>
+pub(crate) fn add_file<R>(rt: &R, name: &str, texts: &mut Texts<R>) -> Result<(), JobFault>
 where
     R: Files + Input + Eprint + AllocGlobal,
     R::Reader: IsTerminal,
