@@ -1,0 +1,3 @@
+pub mod Otherwise
+pub mod Others
+pub mod Pages

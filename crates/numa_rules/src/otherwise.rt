@@ -1,0 +1,181 @@
+//! What a running kernel does otherwise with a command than the documents say.
+ghost use Rattle.std.specs.Prelude.{◌≡◌, ◌≢◌, true, false, Option, None};
+ghost use Rattle.std.specs.List.{list_any};
+ghost use Rattle.std.specs.Prelude.{nat_le};
+ghost use Rattle.numa_mask.specs.NodeSet.{members};
+ghost use Rattle.numa_mode.specs.Policy.{is_default};
+ghost use Rattle.numa_space.specs.Refusals.{has_no_node};
+ghost use Rattle.numa_rules.specs.Otherwise.{with_bind, with_home, with_map, with_mems, with_unmap};
+ghost use Rattle.numa_rules.specs.Otherwise.{otherwise_of, with_weight, with_command};
+
+use crate::parted::{Parted, parted_in};
+use crate::span::{PageTest, has_hole, has_page, span_of};
+use numa_mask::NodeMask;
+use numa_mode::{Mode, PolicySpec, Record};
+use numa_space::{Command, Space};
+
+/// What a running kernel does otherwise with a command than the documents say (docs/KERNEL.md).
+#[derive(Clone, Copy, Debug)]
+pub enum Otherwise {
+    /// It refuses a map that reaches up to address 2^47, since it keeps the last page free: ENOMEM.
+    KeepsLastPage,
+    /// It refuses an unmap of length 0: EINVAL.
+    WantsLength,
+    /// It judges the nodes of an mbind before the holes in its span: EINVAL in place of EFAULT.
+    JudgesNodesFirst,
+    /// It passes over the holes in the span of an mbind of DEFAULT.
+    PassesHoles,
+    /// It refuses a home where no page of the span has a policy of its own: ENOENT.
+    WantsPolicy,
+    /// It takes weight 0, and puts back 1.
+    PutsBackWeight,
+    /// It takes allowed nodes of which none has memory, and allows all that have some.
+    AllowsAllMemory,
+    /// A change of the allowed nodes leaves a policy with other nodes: this one, and maybe more.
+    LeavesNodes(Parted),
+}
+
+/// What a kernel does otherwise with a map.
+fn with_map(start: u64, length: u64) -> Option<Otherwise>
+    ensures { result ≡ with_map start length }
+{
+    let Some((first, pages)) = span_of(start, length) else {
+        return None;
+    };
+    if (1 << 35) - 1 < first + pages {
+        return Some(Otherwise::KeepsLastPage);
+    }
+    None
+}
+
+/// What a kernel does otherwise with an unmap.
+fn with_unmap(start: u64, length: u64) -> Option<Otherwise>
+    ensures { result ≡ with_unmap start length }
+{
+    let Some(_) = span_of(start, length) else {
+        return None;
+    };
+    if length == 0 {
+        return Some(Otherwise::WantsLength);
+    }
+    None
+}
+
+/// Whether a policy other than DEFAULT has no node where these are allowed.
+fn has_no_node(spec: PolicySpec, allowed: &NodeMask) -> bool
+    requires policy { is_default spec ≡ false }
+    requires some { allowed.now ≢ 0 }
+    ensures { result ≡ has_no_node allowed.now spec }
+{
+    match Record::set(spec, allowed) {
+        Ok(_) => false,
+        Err(_) => true,
+    }
+}
+
+/// What a kernel does otherwise with an mbind.
+fn with_bind(space: &Space, start: u64, length: u64, spec: PolicySpec) -> Option<Otherwise>
+    ensures { result ≡ with_bind space.now start length spec }
+{
+    let Some((first, pages)) = span_of(start, length) else {
+        return None;
+    };
+    if length == 0 {
+        return None;
+    }
+    if spec.mode() == Mode::Default {
+        if has_page(space, PageTest::IsMapped, first, pages) && has_hole(space, first, pages) {
+            return Some(Otherwise::PassesHoles);
+        }
+        return None;
+    }
+    if has_no_node(spec, &space.allowed()) && has_hole(space, first, pages) {
+        return Some(Otherwise::JudgesNodesFirst);
+    }
+    None
+}
+
+/// What a kernel does otherwise with a home.
+fn with_home(space: &Space, start: u64, length: u64, node: u32) -> Option<Otherwise>
+    ensures { result ≡ with_home space.now start length node }
+{
+    let Some((first, pages)) = span_of(start, length) else {
+        return None;
+    };
+    if node >= space.machine().nodes() || length == 0 {
+        return None;
+    }
+    if has_page(space, PageTest::HasPolicy, first, pages) {
+        return None;
+    }
+    Some(Otherwise::WantsPolicy)
+}
+
+/// What a kernel does otherwise with a weight.
+fn with_weight(space: &Space, node: u32, weight: u32) -> Option<Otherwise>
+    ensures { result ≡ with_weight space.now node weight }
+{
+    if node < space.machine().nodes() && weight == 0 {
+        return Some(Otherwise::PutsBackWeight);
+    }
+    None
+}
+
+/// Whether a set has a node of this number or above.
+fn has_node_from(mask: &NodeMask, first: u32) -> bool
+    ensures { result ≡ list_any (λ node. nat_le first node) (members mask.now) }
+{
+    mask.iter().any(|node| first <= u32::from(node.number()))
+}
+
+/// What a kernel does otherwise with a change of the allowed nodes.
+fn with_mems(space: &Space, mask: &NodeMask) -> Option<Otherwise>
+    ensures { result ≡ with_mems space.now mask.now }
+{
+    if has_node_from(mask, space.machine().nodes()) || mask.is_empty() {
+        return None;
+    }
+    let allowed = mask.and(&space.machine().memory());
+    if allowed.is_empty() {
+        return Some(Otherwise::AllowsAllMemory);
+    }
+    match parted_in(space, &allowed) {
+        Some(parted) => Some(Otherwise::LeavesNodes(parted)),
+        None => None,
+    }
+}
+
+/// What a kernel does otherwise with a command.
+fn with_command(space: &Space, command: &Command) -> Option<Otherwise>
+    ensures { result ≡ with_command space.now command.now }
+{
+    match *command {
+        Command::Map { start, length, .. } => with_map(start, length),
+        Command::Unmap { start, length } => with_unmap(start, length),
+        Command::Mbind {
+            start,
+            length,
+            spec,
+        } => with_bind(space, start, length, spec),
+        Command::SetTask { .. } => None,
+        Command::SetHome {
+            start,
+            length,
+            node,
+        } => with_home(space, start, length, node),
+        Command::SetWeight { node, weight } => with_weight(space, node, weight),
+        Command::SetMems { mask } => with_mems(space, &mask),
+    }
+}
+
+/// What a running kernel would do otherwise with a command to a space that goes by the documents'
+/// rules: another answer, or other nodes of a policy. None by the kernel's rules. That the number
+/// of commands is limited doesn't count here: where it is spent, both refuse every command.
+pub fn otherwise_of(space: &Space, command: &Command) -> Option<Otherwise>
+    ensures { result ≡ otherwise_of space.now command.now }
+{
+    if space.machine().rules().is_linux() {
+        return None;
+    }
+    with_command(space, command)
+}

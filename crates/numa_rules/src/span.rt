@@ -1,0 +1,90 @@
+//! The pages of a span, as a space holds them.
+ghost use Rattle.std.specs.Prelude.{◌≡◌, ◌+◌, ◌≤◌, ◌^◌, Some, None, MatchOption, not, is_some};
+ghost use Rattle.std.specs.Prelude.{true};
+ghost use Rattle.numa_ranges.specs.Maps.{IsSpan, any_page};
+ghost use Rattle.numa_ranges.specs.Runs.{page_at};
+ghost use Rattle.numa_space.specs.History.{page_count, page_of};
+ghost use Rattle.numa_space.specs.Refusals.{bad_span};
+ghost use Rattle.numa_rules.specs.Pages.{passes, reaches};
+
+use numa_space::{PAGE_BYTES, RangeRecord, Run, Space};
+
+/// What is asked of the pages of a span.
+#[derive(Clone, Copy)]
+pub(crate) enum PageTest {
+    /// Whether it is mapped.
+    IsMapped,
+    /// Whether its range has a policy of its own.
+    HasPolicy,
+}
+
+/// The first page of a span, and the number of its pages; none where the span is faulty.
+pub(crate) fn span_of(start: u64, length: u64) -> Option<(u64, u64)>
+    ensures span { MatchOption result (is_some (bad_span start length) ≡ true)
+        (λ span. (bad_span start length ≡ None) × (span.0 ≡ page_of start)
+        × (span.1 ≡ page_count length)) }
+    ensures within { MatchOption result (Unit {0}) (λ span. span.0 + span.1 ≤ 2 ^ 35) }
+{
+    if start % PAGE_BYTES != 0 {
+        return None;
+    }
+    let pages = length / PAGE_BYTES + u64::from(length % PAGE_BYTES != 0);
+    if start > 1 << 47 || pages > (1 << 35) - start / PAGE_BYTES {
+        return None;
+    }
+    Some((start / PAGE_BYTES, pages))
+}
+
+/// Whether a mapped page whose range has this record passes a test.
+fn passes(test: PageTest, value: &RangeRecord) -> bool
+    ensures { result ≡ passes test (Some (0, value.now)) }
+{
+    match test {
+        PageTest::IsMapped => true,
+        PageTest::HasPolicy => value.policy().is_some(),
+    }
+}
+
+/// Whether a run reaches into the pages from `first` up to `end`, and they pass a test.
+fn reaches(test: PageTest, run: &Run<RangeRecord>, first: u64, end: u64) -> bool
+    ensures { result ≡ reaches test first end run.now }
+{
+    let passed = first.saturating_sub(run.first);
+    let passes = passes(test, &run.value);
+    run.first < end && passed < run.pages && passes
+}
+
+/// Whether some page of a span passes a test.
+pub(crate) fn has_page(space: &Space, test: PageTest, first: u64, pages: u64) -> bool
+    requires span { IsSpan first pages }
+    ensures { result ≡ any_page (λ page. passes test (page_at space.now.ranges page)) first
+        pages }
+{
+    let end = first + pages;
+    for run in space.range_iter() {
+        if reaches(test, &run, first, end) {
+            return true;
+        }
+    }
+    false
+}
+
+/// Whether some page of a span isn't mapped.
+pub(crate) fn has_hole(space: &Space, first: u64, pages: u64) -> bool
+    requires span { first + pages ≤ 2 ^ 35 }
+    ensures { result ≡ any_page (λ page. not (is_some (page_at space.now.ranges page))) first
+        pages }
+{
+    let end = first + pages;
+    let mut page = first;
+    for run in space.range_iter() {
+        if page >= end {
+            return false;
+        }
+        if page < run.first {
+            return true;
+        }
+        page = page.max(run.first + run.pages);
+    }
+    page < end
+}
