@@ -4,8 +4,10 @@ ghost use Rattle.numa_play.specs.Faults.{ended_by, has_faults};
 
 use numa_files::{Stop, TakeLine};
 use numa_machine::Rules;
-use numa_reasons::{Detail, Finding, judge, lacks_memory, say_line, say_unjudged};
-use numa_run::Script;
+use numa_reasons::{Detail, Finding, Otherwise, hint_of, judge, lacks_memory, other_rules};
+use numa_reasons::{reply_by_other, say_hint, say_line, say_unjudged};
+use numa_run::{Reply, Script};
+use numa_space::{CoreRefusal, Refusal, Space};
 use std::alloc::Global;
 use std::io::Write;
 
@@ -22,11 +24,16 @@ pub enum Ended {
 }
 
 /// A script that is played, and what is told of its lines: one line of output for each that is
-/// answered by a fault or a refusal.
+/// answered by a fault or a refusal, and, where hints are asked for, one for each with which a
+/// running kernel would do otherwise.
 #[derive(Drop)]
 pub struct Findings<W> {
     alloc: Global,
     script: Script,
+    // The same script by the other rules, where it is asked for.
+    other: Option<Script>,
+    // Whether hints are told.
+    hints: bool,
     output: W,
     // What is to be written.
     text: Vec<u8>,
@@ -42,10 +49,34 @@ impl<W: Write> Findings<W> {
         Findings {
             alloc,
             script: Script::by(rules),
+            other: None,
+            hints: false,
             output,
             text: Vec::new(alloc),
             told: 0,
             unjudged: 0,
+        }
+    }
+
+    /// The same, and hints are told.
+    pub fn with_hints(mut self) -> Findings<W> {
+        self.hints = true;
+        self
+    }
+
+    /// The same, and the lines are played by the other rules too, where these count until a line
+    /// gives others.
+    pub fn with_other(mut self, rules: Rules) -> Findings<W> {
+        self.other = Some(Script::by(other_rules(rules)));
+        self
+    }
+
+    /// The space to which the lines have led by the other rules, where they are played by those.
+    pub fn other_space(&self) -> Option<&Space> {
+        let other = self.other.as_ref()?;
+        match other.core() {
+            Some(core) => Some(core.space()),
+            None => None,
         }
     }
 
@@ -99,6 +130,56 @@ impl<W: Write> Findings<W> {
         Ok(())
     }
 
+    /// What a kernel would do otherwise with a line to come, where hints are told.
+    fn hint(&self, line: &[u8]) -> Option<Otherwise> {
+        if !self.hints {
+            return None;
+        }
+        match self.script.core() {
+            Some(core) => hint_of(core.space(), line),
+            None => None,
+        }
+    }
+
+    /// Tells what a kernel would do otherwise with a line, if it would.
+    fn tell_hint(&mut self, name: &str, place: u64, hint: Option<Otherwise>) -> Result<(), Stop> {
+        let Some(otherwise) = hint else {
+            return Ok(());
+        };
+        if let Err(_) = say_hint(&mut self.text, name, place, &otherwise) {
+            return Err(Stop::Memory);
+        }
+        if self.text.len() >= GATHERED {
+            return self.flush();
+        }
+        Ok(())
+    }
+
+    /// Tells what was found in a line, and what a kernel would do otherwise with it.
+    fn tell_both(
+        &mut self,
+        name: &str,
+        place: u64,
+        finding: &Finding,
+        hint: Option<Otherwise>,
+    ) -> Result<(), Stop> {
+        match self.tell(name, place, finding) {
+            Ok(()) if !is_spent(finding) => self.tell_hint(name, place, hint),
+            told => told,
+        }
+    }
+
+    /// Plays a line by the other rules, where that is asked for.
+    fn follow(&mut self, line: &[u8]) -> Result<(), Stop> {
+        let Some(other) = &mut self.other else {
+            return Ok(());
+        };
+        match reply_by_other(self.alloc, other, line) {
+            Some(reply) if lacks_memory(reply) => Err(Stop::Memory),
+            _ => Ok(()),
+        }
+    }
+
     /// Tells how many lines weren't judged, where some weren't, and writes what is to be written.
     ///
     /// # Errors
@@ -113,10 +194,19 @@ impl<W: Write> Findings<W> {
     }
 }
 
+/// Whether a line is refused for the number of commands alone, as a kernel's rules do too.
+fn is_spent(finding: &Finding) -> bool {
+    finding.fault == Reply::Refused(CoreRefusal::Command(Refusal::CommandsSpent))
+}
+
 impl<W: Write> TakeLine for Findings<W> {
     fn take(&mut self, name: &str, place: u64, line: &[u8]) -> Result<(), Stop> {
+        if let Err(why) = self.follow(line) {
+            return Err(why);
+        }
+        let hint = self.hint(line);
         match judge(self.alloc, &mut self.script, line) {
-            None => Ok(()),
+            None => self.tell_hint(name, place, hint),
             Some(finding) if lacks_memory(finding.fault) => Err(Stop::Memory),
             Some(
                 Finding {
@@ -127,7 +217,7 @@ impl<W: Write> TakeLine for Findings<W> {
                 self.unjudged = self.unjudged.saturating_add(1);
                 Ok(())
             }
-            Some(finding) => self.tell(name, place, &finding),
+            Some(finding) => self.tell_both(name, place, &finding, hint),
         }
     }
 }

@@ -48,8 +48,17 @@ pub fn play<R: Read + Drop, W: Write + Drop>(
     output: W,
 ) -> Result<Findings<W>, Stop> {
     let Scripts { texts, rules } = scripts;
+    play_into(alloc, texts, Findings::new(alloc, rules, output))
+}
+
+/// Does so for findings that tell more, or play the lines by the other rules too.
+pub(crate) fn play_into<R: Read + Drop, W: Write + Drop>(
+    alloc: Global,
+    texts: Vec<(String, R)>,
+    findings: Findings<W>,
+) -> Result<Findings<W>, Stop> {
     let mut checking = Checking {
-        lines: Lines::new(alloc, Findings::new(alloc, rules, output)),
+        lines: Lines::new(alloc, findings),
     };
     match read_all(texts, &mut checking) {
         Ok(()) => Ok(checking.lines.taker),
@@ -69,7 +78,7 @@ fn end<W: Write>(findings: &mut Findings<W>) -> Result<Ended, Stop> {
 }
 
 /// Reads the scripts, and tells the writer what is wrong with their lines: with none, where it ends
-/// clean.
+/// clean. Tells too what a running kernel would do otherwise with a line.
 ///
 /// # Errors
 /// Where a read or a write failed, or there was no memory.
@@ -78,7 +87,9 @@ pub fn check<R: Read + Drop, W: Write + Drop>(
     scripts: Scripts<R>,
     output: W,
 ) -> Result<Ended, Stop> {
-    let mut findings = match play(alloc, scripts, output) {
+    let Scripts { texts, rules } = scripts;
+    let told = Findings::new(alloc, rules, output).with_hints();
+    let mut findings = match play_into(alloc, texts, told) {
         Ok(findings) => findings,
         Err(why) => return Err(why),
     };

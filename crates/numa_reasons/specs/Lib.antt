@@ -1,4 +1,5 @@
 pub mod Checks
 pub mod Explained
+pub mod Hints
 pub mod Lacks
 pub mod Reasons

@@ -9,6 +9,11 @@
 //! the nodes in order, as a value, each stated by the history of accepted commands, and
 //! [`say_explanation`] tells them in six lines. ("NUMA Memory Policy", scope and components of
 //! memory policies)
+//!
+//! Where the rules of the documents count, [`hint_of`] finds what a running kernel would do
+//! otherwise with a line, and [`say_hint`] tells it. A second script that is handed the same lines
+//! by [`reply_by_other`] goes by the other rules; [`by_other_rules`] finds what it makes of a page,
+//! and [`say_by_other`] tells it.
 #![tactic(auto)]
 
 mod details;
@@ -16,6 +21,8 @@ mod explanation;
 mod fault;
 pub mod finding;
 mod finding_text;
+mod hint;
+mod hint_text;
 pub mod lacks;
 mod pages;
 mod place;
@@ -29,7 +36,10 @@ pub use explanation::{Explanation, explain};
 pub use fault::ReasonFault;
 pub use finding::{Detail, Finding, judge};
 pub use finding_text::{say_finding, say_line, say_unjudged};
+pub use hint::{hint_of, reply_by_other};
+pub use hint_text::{say_by_other, say_hint};
 pub use lacks::{lacks_memory, tells_lack};
+pub use numa_rules::{ByOther, Otherwise, Owner, Parted, by_other_rules, other_rules};
 pub use place::{range_of, task_policy};
 pub use reason_text::say_explanation;
 pub use rule::{OrderRule, Turn, WeightedTurn};

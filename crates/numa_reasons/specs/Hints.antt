@@ -1,0 +1,19 @@
+-- What a kernel does otherwise with a line, and a line as the twin of a script has it, which goes by
+-- the other rules.
+use Rattle.std.specs.Prelude.{Option, None, Ok}
+use Rattle.numa_rules.specs.Otherwise.{otherwise_of}
+use Rattle.numa_rules.specs.Others.{other_rules}
+use Rattle.numa_rules.specs.declared.otherwise.Otherwise.{Otherwise}
+use Rattle.numa_script.specs.declared.line.Line.{Line}
+use Rattle.numa_script.specs.declared.line.Line.TheVariants as line
+use Rattle.numa_space.specs.Standing.{SpaceState}
+
+-- something only where the line says a command
+abbrev pub hint_for : SpaceState → Line → Option Otherwise
+hint_for space (line.Command (Ok command)) = otherwise_of space command
+hint_for space _ = None
+
+-- a line that chooses the rules chooses the other ones
+abbrev pub turned : Line → Line
+turned (line.Rules rules) = line.Rules (other_rules rules)
+turned said = said

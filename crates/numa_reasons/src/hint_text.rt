@@ -1,0 +1,129 @@
+//! What a running kernel would do otherwise, as texts.
+use crate::text::Text;
+use numa_machine::Rules;
+use numa_mask::{NodeMask, list_text};
+use numa_mode::{Mode, Record};
+use numa_rules::{ByOther, Otherwise, Owner, Parted};
+use numa_space::PAGE_BYTES;
+use std::alloc::AllocError;
+
+/// What stands behind every hint.
+const SEE: &str = "; see rules linux";
+
+/// Appends nodes, in words.
+fn put_nodes(text: &mut Text, nodes: &NodeMask) {
+    match nodes.weight() {
+        0 => return text.put("no node"),
+        1 => text.put("node "),
+        _ => text.put("nodes "),
+    }
+    text.put(list_text(nodes).as_str());
+}
+
+/// Appends whose a policy is.
+fn put_owner(text: &mut Text, owner: Owner) {
+    match owner {
+        Owner::Range(first) => text.put_hex(" of the range at ", first.saturating_mul(PAGE_BYTES)),
+        Owner::Task(task) => text.put_number(" of task ", task as u64),
+    }
+}
+
+/// Whether a kernel keeps the nodes of such a policy: else it has put nodes in the place of none.
+fn keeps_nodes(policy: &Record) -> bool {
+    matches!(
+        policy.spec().mode(),
+        Mode::Preferred | Mode::PreferredMany
+    )
+}
+
+/// Appends which nodes a kernel gives to a policy, and which the documents do.
+fn put_parted(text: &mut Text, parted: &Parted) {
+    text.put(if keeps_nodes(&parted.linux) {
+        "keeps "
+    } else {
+        "puts "
+    });
+    let spec = parted.linux.spec();
+    text.put(spec.mode().text());
+    text.put(spec.flag().text());
+    put_owner(text, parted.owner);
+    text.put(" on ");
+    put_nodes(text, &parted.linux.effective());
+    text.put(" here, where the documents give it ");
+    put_nodes(text, &parted.document.effective());
+}
+
+/// What a kernel does otherwise, where no policy is to be named.
+fn otherwise_words(otherwise: &Otherwise) -> &'static str {
+    match otherwise {
+        Otherwise::KeepsLastPage => "keeps the last page below 2^47 free: ENOMEM",
+        Otherwise::WantsLength => "refuses to unmap 0 bytes: EINVAL",
+        Otherwise::JudgesNodesFirst => "judges the nodes before the hole: EINVAL",
+        Otherwise::PassesHoles => "passes over the hole here",
+        Otherwise::WantsPolicy => {
+            "refuses a home where no page has a policy of its own: ENOENT"
+        }
+        Otherwise::PutsBackWeight => "takes weight 0, and puts back 1",
+        Otherwise::AllowsAllMemory => {
+            "takes nodes without memory, and allows all that have some"
+        }
+        Otherwise::LeavesNodes(_) => "",
+    }
+}
+
+/// Appends a line about a line: where it stands, by the name of its text and its place there from
+/// 1, and what a running kernel would do otherwise with it.
+pub fn say_hint(
+    text: &mut Vec<u8>,
+    name: &str,
+    place: u64,
+    otherwise: &Otherwise,
+) -> Result<(), AllocError> {
+    let mut written = Text::of(text);
+    written.put(name);
+    written.put_number(":", place);
+    written.put(": a kernel ");
+    match otherwise {
+        Otherwise::LeavesNodes(parted) => put_parted(&mut written, parted),
+        _ => written.put(otherwise_words(otherwise)),
+    }
+    written.put(SEE);
+    written.put("\n");
+    written.end(text)
+}
+
+/// Whose rules count, and whose don't.
+fn rules_words(rules: Rules) -> &'static str {
+    match rules {
+        Rules::Document => "rules: those of the documents; by rules linux ",
+        Rules::Linux => "rules: those of a kernel; by rules document ",
+    }
+}
+
+/// Appends a line to an explanation that goes by these rules: that they count, and what the other
+/// ones make of the page.
+pub fn say_by_other(
+    text: &mut Vec<u8>,
+    rules: Rules,
+    other: &ByOther,
+) -> Result<(), AllocError> {
+    let mut written = Text::of(text);
+    written.put(rules_words(rules));
+    if other.nodes.is_empty() {
+        written.put("the page isn't mapped\n");
+        return written.end(text);
+    }
+    match &other.policy {
+        Some(policy) => {
+            written.put("its policy is ");
+            written.put(policy.policy_text().as_str());
+        }
+        None => written.put("no policy counts"),
+    }
+    written.put(", and its nodes");
+    for node in other.nodes.as_slice() {
+        written.put_number(" ", *node as u64);
+    }
+    written.put("\n");
+    written.end(text)
+}
