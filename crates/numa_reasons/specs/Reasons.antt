@@ -3,7 +3,7 @@
 use Rattle.std.specs.Prelude.{ℕ, ◌%◌, Bool, false, Option, Some, None, List, [], ◌∷◌, ◌++◌, ◌&&◌}
 use Rattle.std.specs.Prelude.{not, filter, slice_index, unwrap_or, if◌then◌else◌}
 use Rattle.numa_mask.specs.NodeSet.{both, has, members, weight_of}
-use Rattle.numa_machine.specs.Machine.{distance_order}
+use Rattle.numa_machine.specs.Machine.{fallback_order}
 use Rattle.numa_machine.specs.Weights.{interleave_node, total_weight, weight_below, weighted_node}
 use Rattle.numa_mode.specs.Policy.{PolicyRecord, is_live}
 use Rattle.numa_mode.specs.declared.modes.Mode.{Mode}
@@ -84,17 +84,17 @@ abbrev pub set_for : Option PolicyRecord → ℕ
 set_for None = 0
 set_for (Some r) = r.effective
 
--- the nodes of a set, the nearest to a node first, and behind them the other allowed ones
+-- the nodes of a set in the order of a node, and behind them the other allowed ones
 abbrev pub before_others : Setting → ℕ → ℕ → List ℕ
-before_others setting set from = within set (distance_order setting.machine from)
+before_others setting set from = within set (fallback_order setting.machine from)
     ++ filter (λ node. has setting.allowed node && not (has set node))
-    (distance_order setting.machine from)
+    (fallback_order setting.machine from)
 
 -- the nodes as a rule puts them in order, for an effective set
 abbrev pub ordered_by : Setting → ℕ → OrderRule → List ℕ
 ordered_by setting set (Local from) = near setting from
 ordered_by setting set (Preferred node) = near setting node
-ordered_by setting set (Bind from) = within set (distance_order setting.machine from)
+ordered_by setting set (Bind from) = within set (fallback_order setting.machine from)
 ordered_by setting set (PreferredMany from) =
     before_others setting (both set setting.allowed) from
 ordered_by setting set (Interleave turn) = near setting turn.node

@@ -18,8 +18,8 @@ const RULES_FORM: &str = " is neither document nor linux";
 const FRAMES_FORM: &str = " are no decimal numbers below 2^32 with commas between them";
 
 /// What DIST isn't.
-const DISTANCES_FORM: &str =
-    " is neither flat nor decimal numbers of at most 255 with commas and semicolons";
+const DISTANCES_FORM: &str = " is neither flat nor decimal numbers of at most 255 with commas \
+and semicolons; either may stand behind kernel:";
 
 /// What is told of a carriage return.
 const RETURN: &str =
@@ -235,7 +235,7 @@ fn detail_words(detail: Detail) -> &'static str {
         Detail::Malformed(_) => ": ",
         Detail::NoMachine => ": no machine is ready; limits and machine come first",
         Detail::MachineReady => {
-            ": a machine is ready already; limits, rules and machine come before it"
+            ": a machine is ready already; limits, rules, cpus and machine come before it"
         }
         Detail::CarriageReturn => "; the line ends with ",
         Detail::Tab => "; the line has ",

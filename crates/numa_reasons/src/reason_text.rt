@@ -3,7 +3,7 @@ use crate::explanation::Explanation;
 use crate::rule::{OrderRule, WeightedTurn};
 use crate::scope::Scope;
 use crate::text::Text;
-use numa_machine::Machine;
+use numa_machine::{Fallback, Machine};
 use numa_mask::{NodeMask, list_text};
 use numa_mode::Record;
 use numa_space::PAGE_BYTES;
@@ -111,9 +111,23 @@ fn put_node(text: &mut Text, machine: &Machine, words: &str, node: u8, from: u32
     }
 }
 
-/// The first node, which is the nearest to another of the nodes that the words name.
+/// Whether nodes stand in the order that a kernel computes, and not the nearest first.
+fn is_kernel_order(machine: &Machine) -> bool {
+    match machine.fallback() {
+        Fallback::Nearest => false,
+        Fallback::Kernel(_) => true,
+    }
+}
+
+/// The first node, which is the first around another of the nodes that the words name.
 fn put_nearest(text: &mut Text, machine: &Machine, said: &Explanation, words: &str, from: u32) {
-    text.put_number(words, from as u64);
+    text.put(words);
+    text.put(if is_kernel_order(machine) {
+        "first in the kernel's order of node "
+    } else {
+        "nearest to node "
+    });
+    text.put_number("", from as u64);
     let home = match &said.policy {
         Some(policy) => policy.home(),
         None => None,
@@ -142,12 +156,12 @@ fn put_block(text: &mut Text, index: u64, block: WeightedTurn) {
 fn put_first(text: &mut Text, machine: &Machine, said: &Explanation) -> u32 {
     match said.rule {
         OrderRule::Local(from) => {
-            let words = "\nfirst: of the allowed nodes the nearest to node ";
+            let words = "\nfirst: of the allowed nodes the ";
             put_nearest(text, machine, said, words, from);
             from
         }
         OrderRule::Bind(from) | OrderRule::PreferredMany(from) => {
-            let words = "\nfirst: of the effective nodes the nearest to node ";
+            let words = "\nfirst: of the effective nodes the ";
             put_nearest(text, machine, said, words, from);
             from
         }
@@ -177,6 +191,16 @@ fn order_words(rule: OrderRule) -> &'static str {
     }
 }
 
+/// Around which node the others are in order; what stands behind it.
+fn put_around(text: &mut Text, machine: &Machine, from: u32) -> &'static str {
+    if is_kernel_order(machine) {
+        text.put_number(", in the kernel's order of node ", from as u64);
+        return ": ";
+    }
+    text.put_number(", the nearest to node ", from as u64);
+    " first: "
+}
+
 /// The line of the other nodes, which are in order around a node.
 fn put_others(text: &mut Text, machine: &Machine, said: &Explanation, from: u32) {
     let others = said.nodes.as_slice().get(1..).unwrap_or(&[]);
@@ -184,8 +208,7 @@ fn put_others(text: &mut Text, machine: &Machine, said: &Explanation, from: u32)
         return text.put("\nthen: no other node\n");
     }
     text.put(order_words(said.rule));
-    text.put_number(", the nearest to node ", from as u64);
-    let mut words: &str = " first: ";
+    let mut words = put_around(text, machine, from);
     for node in others {
         put_node(text, machine, words, *node, from);
         words = ", ";

@@ -38,22 +38,22 @@ pub struct WeightedTurn {
 }
 
 /// The rule that puts the nodes of a page in order ("NUMA Memory Policy", components of memory
-/// policies).
+/// policies). The order of a node is the machine's: the nearest to it first, or a kernel's.
 #[derive(Clone, Copy)]
 pub enum OrderRule {
-    /// The allowed nodes, the nearest to this node first, which is the faulting one.
+    /// The allowed nodes in the order of this node, which is the faulting one.
     Local(u32),
-    /// The allowed nodes, the nearest to this node first, which is the lowest of the effective set.
+    /// The allowed nodes in the order of this node, which is the lowest of the effective set.
     Preferred(u8),
-    /// The effective nodes alone, the nearest to this node first, which is the home or the faulting
+    /// The effective nodes alone, in the order of this node, which is the home or the faulting
     /// node.
     Bind(u32),
-    /// The effective nodes that are allowed, the nearest to this node first, and behind them the
-    /// other allowed ones in the same order.
+    /// The effective nodes that are allowed, in the order of this node, which is the home or the
+    /// faulting node, and behind them the other allowed ones in the same order.
     PreferredMany(u32),
-    /// The allowed nodes, the nearest to the node whose turn it is first.
+    /// The allowed nodes in the order of the node whose turn it is.
     Interleave(Turn),
-    /// The allowed nodes, the nearest to the node whose turn it is by weight first.
+    /// The allowed nodes in the order of the node whose turn it is by weight.
     WeightedInterleave(WeightedTurn),
 }
 
