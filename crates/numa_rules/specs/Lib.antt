@@ -1,3 +1,4 @@
+pub mod Both
 pub mod Otherwise
 pub mod Others
 pub mod Pages

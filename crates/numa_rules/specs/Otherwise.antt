@@ -112,7 +112,7 @@ with_home space start bytes node =
 -- weight: the kernel takes 0, to put back 1
 abbrev pub with_weight : SpaceState → ℕ → ℕ → Option Otherwise
 with_weight space node weight =
-    if nat_lt node space.machine.nodes && weight == 0 then Some PutsBackWeight else None
+    if nat_le space.machine.nodes node || not (weight == 0) then None else Some PutsBackWeight
 
 -- mems: the kernel allows all nodes with memory where none of these has some; else it leaves the
 -- nodes of PREFERRED and PREFERRED_MANY as they are, and no other policy without any

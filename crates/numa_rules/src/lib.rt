@@ -4,6 +4,7 @@
 //! has the table that both go by.
 #![tactic(auto)]
 
+pub mod laws;
 mod otherwise;
 mod page;
 mod parted;

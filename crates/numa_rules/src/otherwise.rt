@@ -115,10 +115,10 @@ fn with_home(space: &Space, start: u64, length: u64, node: u32) -> Option<Otherw
 fn with_weight(space: &Space, node: u32, weight: u32) -> Option<Otherwise>
     ensures { result ≡ with_weight space.now node weight }
 {
-    if node < space.machine().nodes() && weight == 0 {
-        return Some(Otherwise::PutsBackWeight);
+    if node >= space.machine().nodes() || weight != 0 {
+        return None;
     }
-    None
+    Some(Otherwise::PutsBackWeight)
 }
 
 /// Whether a set has a node of this number or above.

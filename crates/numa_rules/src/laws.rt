@@ -1,0 +1,19 @@
+//! Laws about what a kernel does otherwise. Each function does nothing: what it ensures is the law.
+ghost use Rattle.std.specs.Prelude.{◌≡◌, false};
+ghost use Rattle.numa_machine.specs.Rules.{is_linux};
+ghost use Rattle.numa_machine.specs.declared.rules.Rules.{Rules};
+ghost use Rattle.numa_space.specs.Refusals.{PageMap};
+ghost use Rattle.numa_space.specs.Standing.{SpaceState};
+ghost use Rattle.numa_space.specs.declared.command.Command.{Command};
+ghost use Rattle.numa_rules.specs.Both.{IsAnsweredAlike, refusal_by};
+ghost use Rattle.numa_rules.specs.Otherwise.{otherwise_of};
+
+/// Nothing is left out: where a kernel does nothing otherwise with a command, or gives a policy other
+/// nodes alone, the first cause that refuses the command is one by both rules, or there is none by
+/// either.
+pub fn answered_alike()
+    ensures { (space : SpaceState) (after : PageMap) (command : Command)
+        → is_linux space.machine.rules ≡ false → IsAnsweredAlike (otherwise_of space command)
+        → refusal_by Rules.Document space after command
+        ≡ refusal_by Rules.Linux space after command }
+{}
