@@ -136,9 +136,7 @@ module _ (space : SpaceState) (after : PageMap) where
   causes : (asked : Command) → IsAnsweredAlike (with_command space asked)
       → cause_in (scene_by Document space after) asked
       ≡ cause_in (scene_by Linux space after) asked
-  unfolding bad_map_span
-  unfolding lacks_policy
-  unfolding lacks_mems
+  unfolding bad_map_span lacks_policy lacks_mems
   causes (command.Map start bytes offset) alike = map-alike (bad_span start bytes)
       (nat_lt (2 ^ 35 - 1) (page_of start + page_count bytes)) _ alike
   causes (command.Unmap start bytes) alike =

@@ -1,0 +1,109 @@
+//! Events of a core: commands, publications, and workers' steps, which want no memory.
+use crate::tests::same::{mark, same};
+use crate::tests::shown::{Shown, shown};
+use crate::tests::spaces::COMMANDS;
+use numa_core::Core;
+use numa_examples::{commands_of, flat_machine, limits};
+use numa_machine::Frame;
+use numa_space::{Command, CoreRefusal, Event, Refusal, Request};
+use std::alloc::Global;
+use std::process::Abort;
+
+/// A core of four nodes with two workers.
+fn core_for(rt: &impl Abort, alloc: Global) -> Core {
+    let machine = flat_machine(alloc, &[8, 8, 8, 8]).expect(rt, "a machine");
+    Core::new(alloc, machine, limits(), 2).expect(rt, "a core")
+}
+
+/// What a core shows: its space, the published version, and the runs and rules of that plan.
+fn all_shown(core: &Core) -> (Shown, u64, usize, usize) {
+    let plan = core.plan();
+    (
+        shown(core.space()),
+        core.published(),
+        plan.run_count(),
+        plan.rule_count(),
+    )
+}
+
+/// Whether a refusal is for want of memory.
+fn is_lack(refusal: CoreRefusal) -> bool {
+    refusal == CoreRefusal::NoMemory || refusal == CoreRefusal::Command(Refusal::NoMemory)
+}
+
+/// An event, and once more where a growth was refused, which changed nothing.
+fn step(rt: &impl Abort, core: &mut Core, event: Event) {
+    let before = all_shown(core);
+    let Err(refusal) = core.step(event) else {
+        return;
+    };
+    same(rt, &(is_lack(refusal), all_shown(core)), &(true, before));
+    assert!(rt; core.step(event).is_ok());
+}
+
+/// Accepts a command, has the plan made that answers questions, and publishes.
+fn accept(rt: &impl Abort, core: &mut Core, command: &Command) {
+    step(rt, core, Event::Accept(*command));
+    if core.prepare().is_err() {
+        assert!(rt; core.prepare().is_ok());
+    }
+    step(rt, core, Event::Publish);
+}
+
+/// Worker 0 hunts for a frame for page 0x10 of task 2, and gives it back.
+fn hunt(rt: &impl Abort, core: &mut Core) {
+    let request = Request {
+        task: 2,
+        page: 0x10,
+        cpu: 0,
+    };
+    step(rt, core, Event::Begin(0, request));
+    step(rt, core, Event::Look(0, 0));
+    step(rt, core, Event::Try(0, Frame { node: 1, number: 3 }));
+    step(rt, core, Event::Give(0, Frame { node: 1, number: 3 }));
+}
+
+/// All events between the marks.
+fn step_all(rt: &impl Abort, alloc: Global, core: &mut Core, commands: &[Command]) {
+    mark(rt, alloc);
+    for command in commands {
+        accept(rt, core, command);
+    }
+    hunt(rt, core);
+    mark(rt, alloc);
+}
+
+#[test]
+fn events(rt: HostRuntime) {
+    let commands = commands_of(rt.alloc(), &COMMANDS).expect(&rt, "commands");
+    let mut core = core_for(&rt, rt.alloc());
+    step_all(&rt, rt.alloc(), &mut core, &commands);
+    same(&rt, &(core.published(), core.space().version()), &(18, 18));
+    drop(core);
+    drop(commands);
+}
+
+/// Copies a core between the marks, and once more where a growth was refused.
+fn copy_of(rt: &impl Abort, alloc: Global, core: &Core) -> Core {
+    mark(rt, alloc);
+    let first = core.copy();
+    mark(rt, alloc);
+    match first {
+        Ok(copy) => copy,
+        Err(_) => core.copy().expect(rt, "memory"),
+    }
+}
+
+#[test]
+fn copies(rt: HostRuntime) {
+    let commands = commands_of(rt.alloc(), &COMMANDS).expect(&rt, "commands");
+    let mut core = core_for(&rt, rt.alloc());
+    for command in &commands {
+        accept(&rt, &mut core, command);
+    }
+    let copy = copy_of(&rt, rt.alloc(), &core);
+    same(&rt, &all_shown(&copy), &all_shown(&core));
+    drop(copy);
+    drop(core);
+    drop(commands);
+}

@@ -1,0 +1,83 @@
+//! The calls of a desk as numa_hunts hands them on.
+use crate::tests::same::{mark, same};
+use crate::tests::shown::{Shown, shown};
+use crate::tests::spaces::COMMANDS;
+use numa_examples::{commands_of, flat_machine, limits};
+use numa_hunts::desk;
+use numa_machine::NoMemory;
+use numa_publish::Desk;
+use numa_space::{Command, Refusal};
+use std::alloc::Global;
+use std::process::Abort;
+use std::sync::Wait;
+
+/// A desk of four nodes for two readers.
+fn open(rt: &(impl Wait + Abort), alloc: Global) -> Result<Desk, NoMemory> {
+    let machine = flat_machine(alloc, &[8, 8, 8, 8]).expect(rt, "a machine");
+    desk::open(rt, alloc, machine, limits(), 2)
+}
+
+/// What a desk shows: its space, the published version, and how many commands are pending.
+fn all_shown(desk: &Desk) -> (Shown, u64, usize) {
+    (shown(desk.space()), desk.published(), desk.pending())
+}
+
+/// Accepts a command, and once more where a growth was refused, which changed nothing.
+fn accept(rt: &impl Abort, desk: &mut Desk, command: &Command) {
+    let before = all_shown(desk);
+    let Err(refusal) = desk::accept(desk, command) else {
+        return;
+    };
+    same(rt, &(refusal, all_shown(desk)), &(Refusal::NoMemory, before));
+    assert!(rt; desk::accept(desk, command).is_ok());
+}
+
+/// Publishes, and once more where a growth was refused, which changed nothing.
+fn publish(rt: &(impl Wait + Abort), desk: &mut Desk) {
+    let before = all_shown(desk);
+    if desk::publish(desk, rt).is_ok() {
+        return;
+    }
+    same(rt, &all_shown(desk), &before);
+    assert!(rt; desk::publish(desk, rt).is_ok());
+}
+
+/// Accepts and publishes each command between the marks.
+fn serve_all(rt: &(impl Wait + Abort), alloc: Global, desk: &mut Desk, commands: &[Command]) {
+    mark(rt, alloc);
+    for command in commands {
+        accept(rt, desk, command);
+        publish(rt, desk);
+    }
+    mark(rt, alloc);
+}
+
+#[test]
+fn calls(rt: HostRuntime) {
+    let commands = commands_of(rt.alloc(), &COMMANDS).expect(&rt, "commands");
+    let mut desk = open(&rt, rt.alloc()).expect(&rt, "a desk");
+    serve_all(&rt, rt.alloc(), &mut desk, &commands);
+    let found = (desk.published(), desk.pending());
+    desk.end(&rt);
+    same(&rt, &found, &(18, 0));
+    drop(commands);
+}
+
+/// Opens a desk between the marks, and once more where a growth was refused; what it shows.
+fn opened(rt: &(impl Wait + Abort), alloc: Global) -> (u64, usize) {
+    mark(rt, alloc);
+    let first = open(rt, alloc);
+    mark(rt, alloc);
+    let desk = match first {
+        Ok(desk) => desk,
+        Err(_) => open(rt, alloc).expect(rt, "a desk"),
+    };
+    let found = (desk.published(), desk.pending());
+    desk.end(rt);
+    found
+}
+
+#[test]
+fn opening(rt: HostRuntime) {
+    same(&rt, &opened(&rt, rt.alloc()), &(0, 0));
+}

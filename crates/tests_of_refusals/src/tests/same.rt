@@ -1,0 +1,14 @@
+//! One comparison for all tests, so that it is proved once, and marks.
+use std::alloc::Global;
+use std::fmt::Debug;
+use std::process::Abort;
+
+/// What was found is what was wanted. Where it was found goes with both, in a tuple.
+pub fn same<T: PartialEq + Debug>(rt: &impl Abort, found: &T, wanted: &T) {
+    assert_eq!(rt; *found, *wanted);
+}
+
+/// Where the growths begin that may be refused, and where they end.
+pub fn mark(rt: &impl Abort, alloc: Global) {
+    assert!(rt; numa_examples::mark(alloc));
+}
