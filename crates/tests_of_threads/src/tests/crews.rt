@@ -113,13 +113,13 @@ fn crew_crossed(rt: HostRuntime) {
 
 /// Counts for each request its calls of `before`, and 256 for each call of `after`.
 #[derive(Drop)]
-struct Counting {
+pub struct Counting {
     calls: Vec<AtomicU64>,
 }
 
 impl Counting {
     /// A gate for so many requests.
-    fn new(rt: &impl Abort, alloc: Global, requests: u64) -> Counting {
+    pub fn new(rt: &impl Abort, alloc: Global, requests: u64) -> Counting {
         let mut calls = Vec::new(alloc);
         for _ in 0..requests {
             calls.push(AtomicU64::new(0)).expect(rt, "memory");
@@ -128,7 +128,7 @@ impl Counting {
     }
 
     /// Whether each of its two calls was made once for each request.
-    fn is_even(&self) -> bool {
+    pub fn is_even(&self) -> bool {
         self.calls
             .iter()
             .all(|calls| calls.load(Ordering::SeqCst) == 0x101)

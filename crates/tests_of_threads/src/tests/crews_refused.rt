@@ -1,5 +1,7 @@
-//! A crew of which one growth is refused, as in `refused`.
+//! A crew of which one growth is refused, as in `refused`; and once more, by a gate that counts its
+//! calls.
 use crate::tests::crew_setting::{Workers, desk, placed, requests};
+use crate::tests::crews::Counting;
 use crate::tests::refused::mark;
 use crate::tests::setting::same;
 use numa_fault::{Answer, CrewRefusal, Gate};
@@ -30,14 +32,15 @@ fn placements(answers: &[Answer]) -> usize {
 type Run = Result<usize, CrewRefusal>;
 
 /// A run behind a mark.
-fn run_once<R: Threads + Abort + Sync>(
+fn run_once<R: Threads + Abort + Sync, G: Gate + Sync>(
     rt: &R,
     alloc: Global,
     workers: &mut Workers,
     wanted: &[Request],
+    gate: &G,
 ) -> Run {
     mark(rt, alloc);
-    match workers.run(rt, alloc, wanted, &Open) {
+    match workers.run(rt, alloc, wanted, gate) {
         Ok(answers) => Ok(placements(&answers)),
         Err(refusal) => Err(refusal),
     }
@@ -58,9 +61,11 @@ fn run(rt: HostRuntime) {
     let mut desk = desk(&rt, rt.alloc(), 1, 2);
     let mut workers = Workers::open(&rt, rt.alloc(), &mut desk, 1, 2);
     let wanted = requests(&rt, rt.alloc(), 2);
-    let first = run_once(&rt, rt.alloc(), &mut workers, &wanted);
-    let second = run_once(&rt, rt.alloc(), &mut workers, &wanted);
+    let gate = Counting::new(&rt, rt.alloc(), 2);
+    let first = run_once(&rt, rt.alloc(), &mut workers, &wanted, &Open);
+    let second = run_once(&rt, rt.alloc(), &mut workers, &wanted, &gate);
     drop(workers);
     desk.end(&rt);
     judge(&rt, first, second);
+    assert!(rt; gate.is_even());
 }
