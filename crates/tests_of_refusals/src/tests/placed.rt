@@ -18,7 +18,7 @@ fn placed(page: u64) -> Placement {
         node: 1,
         frame: Frame {
             node: 1,
-            number: (page % 4096) as u32,
+            number: (page % 4096) as u16,
         },
         rank: 0,
     }

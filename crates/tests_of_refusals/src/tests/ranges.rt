@@ -30,7 +30,7 @@ fn shown(map: &RangeMap<u32>) -> (usize, u64) {
 
 /// Gives the second half of a span's pages the value 9.
 fn update(map: &mut RangeMap<u32>, first: u64) -> Result<(), RangeFault>
-    requires { first < 16 * 160 }
+    requires { first < 2560 }
 {
     let nine = |_: &u32| -> u32
         ensures { result ≡ 9 }
