@@ -1,3 +1,4 @@
 pub mod Alike
+pub mod Left
 pub mod Spans
 pub mod Tasks

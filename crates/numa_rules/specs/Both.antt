@@ -1,7 +1,5 @@
 -- One state of a space, judged by either rules.
-use Rattle.std.specs.Prelude.{◌≡◌, ℕ, ◌<◌, false, Option, Some, None, List, length}
-use Rattle.std.specs.Option.{ForSome}
-use Rattle.numa_machine.specs.Rules.{is_linux}
+use Rattle.std.specs.Prelude.{◌≡◌, ℕ, Option, Some, None, length}
 use Rattle.numa_machine.specs.declared.rules.Rules.{Rules}
 use Rattle.numa_machine.specs.declared.rules.Rules.TheVariants.{Document, Linux}
 use Rattle.numa_mode.specs.Policy.{PolicyRecord, record_after}
@@ -10,7 +8,6 @@ use Rattle.numa_space.specs.Refusals.{PageMap, Scene, refusal_in}
 use Rattle.numa_space.specs.Standing.{SpaceState, record_of}
 use Rattle.numa_space.specs.declared.command.Command.{Command}
 use Rattle.numa_space.specs.declared.refusal.Refusal.{Refusal}
-use Rattle.numa_rules.specs.Otherwise.{otherwise_of}
 use Rattle.numa_rules.specs.declared.otherwise.Otherwise.{Otherwise}
 use Rattle.numa_rules.specs.declared.otherwise.Otherwise.TheVariants.{LeavesNodes}
 
@@ -36,3 +33,8 @@ abbrev pub IsAnsweredAlike : Option Otherwise → Type 0
 IsAnsweredAlike None = Unit {0}
 IsAnsweredAlike (Some (LeavesNodes parted)) = Unit {0}
 IsAnsweredAlike (Some _) = ⊥
+
+-- a change of the allowed nodes from old to new leaves a policy with the same nodes by both rules
+abbrev pub AreNodesAlike : ℕ → ℕ → PolicyRecord → Type 0
+AreNodesAlike old new r =
+    (record_after Document r old new).effective ≡ (record_after Linux r old new).effective
