@@ -31,14 +31,23 @@ fn is_lack(refusal: CoreRefusal) -> bool {
     refusal == CoreRefusal::NoMemory || refusal == CoreRefusal::Command(Refusal::NoMemory)
 }
 
+/// An event: whether memory lacked, where it is refused.
+fn lack_of(core: &mut Core, event: Event) -> Option<bool> {
+    match core.step(event) {
+        Ok(_) => None,
+        Err(refusal) => Some(is_lack(refusal)),
+    }
+}
+
 /// An event, and once more where a growth was refused, which changed nothing.
 fn step(rt: &impl Abort, core: &mut Core, event: Event) {
     let before = all_shown(core);
-    let Err(refusal) = core.step(event) else {
+    let lack = lack_of(core, event);
+    if lack.is_none() {
         return;
-    };
-    same(rt, &(is_lack(refusal), all_shown(core)), &(true, before));
-    assert!(rt; core.step(event).is_ok());
+    }
+    same(rt, &(lack, all_shown(core)), &(Some(true), before));
+    same(rt, &lack_of(core, event), &None);
 }
 
 /// Accepts a command, has the plan made that answers questions, and publishes.
