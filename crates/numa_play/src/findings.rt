@@ -4,8 +4,10 @@ ghost use Rattle.numa_play.specs.Faults.{ended_by, has_faults};
 
 use numa_files::{Stop, TakeLine};
 use numa_machine::Rules;
-use numa_reasons::{Detail, Finding, Otherwise, hint_of, judge, lacks_memory, other_rules};
-use numa_reasons::{reply_by_other, say_hint, say_line, say_unjudged};
+use numa_reasons::{
+    Detail, Finding, Otherwise, hint_of, judge, lacks_memory, other_rules, reply_by_other,
+    say_hint, say_line, say_unjudged,
+};
 use numa_run::{Reply, Script};
 use numa_space::{CoreRefusal, Refusal, Space};
 use std::alloc::Global;

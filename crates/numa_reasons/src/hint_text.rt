@@ -30,10 +30,7 @@ fn put_owner(text: &mut Text, owner: Owner) {
 
 /// Whether a kernel keeps the nodes of such a policy: else it has put nodes in the place of none.
 fn keeps_nodes(policy: &Record) -> bool {
-    matches!(
-        policy.spec().mode(),
-        Mode::Preferred | Mode::PreferredMany
-    )
+    matches!(policy.spec().mode(), Mode::Preferred | Mode::PreferredMany)
 }
 
 /// Appends which nodes a kernel gives to a policy, and which the documents do.
@@ -60,9 +57,7 @@ fn otherwise_words(otherwise: &Otherwise) -> &'static str {
         Otherwise::WantsLength => "refuses to unmap 0 bytes: EINVAL",
         Otherwise::JudgesNodesFirst => "judges the nodes before the hole: EINVAL",
         Otherwise::PassesHoles => "passes over the hole here",
-        Otherwise::WantsPolicy => {
-            "refuses a home where no page has a policy of its own: ENOENT"
-        }
+        Otherwise::WantsPolicy => { "refuses a home where no page has a policy of its own: ENOENT" }
         Otherwise::PutsBackWeight => "takes weight 0, and puts back 1",
         Otherwise::AllowsAllMemory => {
             "takes nodes without memory, and allows all that have some"
@@ -102,11 +97,7 @@ fn rules_words(rules: Rules) -> &'static str {
 
 /// Appends a line to an explanation that goes by these rules: that they count, and what the other
 /// ones make of the page.
-pub fn say_by_other(
-    text: &mut Vec<u8>,
-    rules: Rules,
-    other: &ByOther,
-) -> Result<(), AllocError> {
+pub fn say_by_other(text: &mut Vec<u8>, rules: Rules, other: &ByOther) -> Result<(), AllocError> {
     let mut written = Text::of(text);
     written.put(rules_words(rules));
     if other.nodes.is_empty() {

@@ -28,7 +28,11 @@ fn accept(rt: &impl Abort, desk: &mut Desk, command: &Command) {
     let Err(refusal) = desk::accept(desk, command) else {
         return;
     };
-    same(rt, &(refusal, all_shown(desk)), &(Refusal::NoMemory, before));
+    same(
+        rt,
+        &(refusal, all_shown(desk)),
+        &(Refusal::NoMemory, before),
+    );
     assert!(rt; desk::accept(desk, command).is_ok());
 }
 
