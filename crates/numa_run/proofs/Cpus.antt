@@ -1,7 +1,7 @@
 -- All nodes of so many, one more at a time.
 use Rattle.std.proofs.Common.{◌≡◌, ℕ, ◌+◌, [], ◌∷◌, ap, ◌∙◌}
 use Rattle.std.proofs.lemmas.List.Sums.{fold-append}
-use Rattle.std.specs.List.{fold, range_with_len}
+use Rattle.std.specs.List.{range_with_len}
 use Rattle.numa_mask.specs.NodeSet.{set_of, with_node}
 use Rattle.numa_compile.proofs.RowSteps.{range-more}
 

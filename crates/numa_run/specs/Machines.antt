@@ -1,6 +1,6 @@
 -- What the lines before a machine is ready are answered.
 use Rattle.std.specs.Prelude.{ℕ, ◌==◌, ◌&&◌, ◌||◌, nat_le, nat_lt, Bool, true, false, Option}
-use Rattle.std.specs.Prelude.{Some, None, List, if◌then◌else◌}
+use Rattle.std.specs.Prelude.{Some, None, if◌then◌else◌}
 use Rattle.std.specs.List.{range_with_len}
 use Rattle.numa_mask.specs.NodeSet.{set_of}
 use Rattle.numa_machine.specs.Machine.{Hardware}
@@ -11,7 +11,6 @@ use Rattle.numa_machine.specs.Faults.{hardware_fault, has_other_node}
 use Rattle.numa_machine.specs.declared.fault.MachineFault.{MachineFault}
 use Rattle.numa_machine.specs.declared.fault.MachineFault.TheVariants as machine_fault
 use Rattle.numa_script.specs.Machines.{frames_for, distances_for}
-use Rattle.numa_script.specs.declared.machine.Distances.{Distances}
 use Rattle.numa_script.specs.declared.line.MachineLine.{MachineLine}
 
 -- limits R T C: no more than 65,536 ranges and 1,024 tasks
