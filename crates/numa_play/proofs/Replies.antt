@@ -16,6 +16,7 @@ text_tells_fault reply.BadState = refl
 text_tells_fault reply.LimitsOk = refl
 text_tells_fault reply.BadLimits = refl
 text_tells_fault reply.RulesOk = refl
+text_tells_fault reply.CpusOk = refl
 text_tells_fault reply.Ready = refl
 text_tells_fault (reply.BadMachine fault) = refl
 text_tells_fault (reply.BadWord (word.List fault)) = refl
