@@ -17,6 +17,7 @@ const PROMPT: &str = "numaplan> ";
 const LINES: &str = "\
 limits R T C                   at most R ranges, T tasks, C commands; before machine
 rules RULES                    document or linux: whose rules count; before machine
+cpus LIST                      the nodes with CPUs, as in cpus 0-1; before machine
 machine NODES MEM FRAMES DIST  the machine, once, as in machine 2 0-1 8 flat
 map START LENGTH OFFSET        maps pages, as in map 0x10000 0x4000 0x10
 unmap START LENGTH             unmaps pages
