@@ -83,10 +83,17 @@ class Words:
         return self.dice.choice(["", "", "0", "000"]) + str(value)
 
     def distances_word(self):
-        """`flat`, or a table that is asymmetric mostly; few distances, so that some are ties."""
+        """`flat` or a table, at times in a kernel's order."""
+        return ("kernel:" if self.likely(0.4) else "") + self.table_word()
+
+    def table_word(self):
+        """`flat`, or a table that is asymmetric mostly; few distances, so that some are ties, or
+        are none by 1."""
         if self.nodes > 20 or self.likely(0.2):
             return "flat"
         some = self.dice.sample([11, 12, 15, 20, 21, 30, 99, 100, 254, 255], 3)
+        if self.likely(0.3):
+            some = self.dice.choice([[20], [20, 21], [20, 21, 22], [253, 254, 255]])
         same = self.likely(0.2)
         table = [[10 if one == other else self.dice.choice(some) for other in range(self.nodes)]
                  for one in range(self.nodes)]
@@ -108,7 +115,9 @@ class Words:
                 words[2] = self.dice.choice(["4096", "4097", "1,1", "99999", "4294967295",
                                              "4294967296", "1,", "0x1", "12345678901"])
             elif way == 3:
-                words[3] = self.dice.choice(["10", "10,20;20,10", "10,20;20,11", "flat ", "Flat"])
+                words[3] = self.dice.choice(["10", "10,20;20,10", "10,20;20,11", "flat ", "Flat",
+                                             "kernel:", "kernel", "kernel:10,20;20,11",
+                                             "kernel:kernel:flat", "flat:kernel"])
             elif way == 4:
                 other = self.dice.choice(["0", "11", "256", "1x"])
                 words[3] = str(words[3]).replace("10", other, 1)

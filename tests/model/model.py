@@ -29,6 +29,7 @@ class State:
     def __init__(self):
         self.limits = (65536, 1024, 2**32 - 1)
         self.rules = "document"
+        self.cpus = None
         self.space = None
         self.crew = None
 
@@ -50,15 +51,24 @@ def rules(state, whose):
     return "rules ok"
 
 
+def cpus(state, nodes):
+    """`cpus`: the nodes that have CPUs, all without the line; the last ones count."""
+    state.cpus = nodes
+    return "cpus ok"
+
+
 def machine(state, *words):
     """`machine`: the machine, once."""
-    made, fault = machine_of(*words)
+    made, fault = machine_of(state.cpus, *words)
     if fault:
         return f"bad machine {fault}"
     made.is_linux = state.rules == "linux"
     state.space = Space(made, state.limits)
     state.crew = Crew(state.space)
     return "ready"
+
+
+OPENING = {"limits": limits, "rules": rules, "cpus": cpus, "machine": machine}
 
 
 # ---- questions
@@ -175,7 +185,7 @@ def answer(state, line):
         name, arguments = line_of(line)
     except BadWords:
         return "bad words"
-    if (state.space is None) != (name in ("limits", "rules", "machine")):
+    if (state.space is None) != (name in OPENING):
         return "bad state"
     for argument in arguments:
         if isinstance(argument, Fault):
@@ -185,12 +195,8 @@ def answer(state, line):
 
 def served(state, name, arguments):
     """The answer to a line that is neither faulty nor at the wrong time."""
-    if name == "limits":
-        return limits(state, *arguments)
-    if name == "rules":
-        return rules(state, *arguments)
-    if name == "machine":
-        return machine(state, *arguments)
+    if name in OPENING:
+        return OPENING[name](state, *arguments)
     if name in COMMANDS:
         text, state.space = accept(state.space, name, arguments)
         return text

@@ -246,7 +246,8 @@ class Script(Words):
     def odd(self):
         """Lines that say nothing, lines at the wrong time, and lines of some 4,096 bytes."""
         silent = ["", "#", "# a remark", "#" * 4097, "#" * 5000]
-        late = [" ", "machine 2 0-1 8 flat", "machine 2 0-1 8 fla", "limits 1 1 1", "rules linux", "limits 1 1"]
+        late = [" ", "machine 2 0-1 8 flat", "machine 2 0-1 8 fla", "limits 1 1 1", "limits 1 1"]
+        late += ["rules linux", "cpus 0", "cpus a", "cpus"]
         full = "mems 0" + ",0" * 2045  # 4,096 bytes
         self.add(self.dice.choice(silent + late + [full, full + "0", full[:-1]]))
 
@@ -254,7 +255,8 @@ class Script(Words):
         """Limits, machine, a mapping and policies."""
         if self.likely(0.1):
             self.say(self.dice.choice(["ranges", "publish", "mems 0", "mems a", "map 0 1", "exit",
-                                       "maps 0", "rules", "give 0 0 0", "give 0 256 0", "task 1 x"]))
+                                       "maps 0", "rules", "give 0 0 0", "give 0 256 0", "task 1 x",
+                                       "cpus", "cpus a", "cpus 0 1"]))
         if self.likely(0.3):
             self.say("limits", *self.bounds_of_limits())
         if self.likely(0.35):
@@ -262,8 +264,14 @@ class Script(Words):
         if self.likely(0.5):
             self.say("rules", self.dice.choice(["linux"] * 8 + ["document", "kernel"]))
         words = self.machine_words()
+        if self.likely(0.35):
+            self.say("cpus", self.nodes_of_policy())
         if self.likely(0.25):
             self.say("machine", *self.bad_machine(list(words)))
+        if self.state.cpus and max(self.state.cpus) >= self.nodes:
+            if self.likely(0.5):
+                self.say("machine", *words)
+            self.add("cpus " + self.list_text(self.some_nodes(self.nodes)))
         if self.state.space is None:
             self.add("machine " + " ".join(map(str, words)))
         self.nodes = self.state.space.machine.nodes

@@ -13,6 +13,9 @@ Fault = namedtuple("Fault", "text")
 # A policy as it is asked for: a mode, "" or "static" or "relative", and the numbers of its list.
 Asked = namedtuple("Asked", "mode flag mask")
 
+# DIST: `flat` or the entries, and whether the orders are those that a kernel makes of them.
+Distances = namedtuple("Distances", "table by_kernel")
+
 
 class BadWords(Exception):
     """The line isn't of the language."""
@@ -167,10 +170,12 @@ def frames(word):
 
 
 def distances(word):
-    """DIST: `flat`, or entries of at most 255; where the semicolons are doesn't count."""
-    if word == "flat":
-        return word
-    return [item(part, 256) for part in word.replace(";", ",").split(",")]
+    """DIST: `flat`, or entries of at most 255, where it doesn't count where the semicolons are; in
+    front of either `kernel:`."""
+    table = word.removeprefix("kernel:")
+    if table != "flat":
+        table = [item(part, 256) for part in table.replace(";", ",").split(",")]
+    return Distances(table, word.startswith("kernel:"))
 
 
 def rules(word):
@@ -185,6 +190,7 @@ def rules(word):
 FORMS = {
     "limits": [small, small, small],
     "rules": [rules],
+    "cpus": [node_list],
     "machine": [small, node_list, frames, distances],
     "map": [number, number, number],
     "unmap": [number, number],
