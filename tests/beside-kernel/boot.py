@@ -8,9 +8,14 @@ import subprocess
 import sys
 import tempfile
 
-from machines import MACHINES
+from machines import machine_named
 
 MEGABYTES = 160  # of each node with memory
+ADDED_MEGABYTES = 256  # of a node whose memory is added: a multiple of what a kernel adds at once
+
+# what the kernel is told: the first line is what is played, the second that it comes up and is quick
+LINE = "numa_balancing=disable transparent_hugepage=never memhp_default_state=online"
+LINE += " console=ttyS0 quiet loglevel=0 panic=-1 tsc=unstable no_timer_check no5lvl rcupdate.rcu_expedited=1"
 
 
 def archive(files):
@@ -26,17 +31,26 @@ def archive(files):
 
 
 def words_for(machine):
-    nodes, memory, distances = MACHINES[machine]
-    words = ["-m", f"{MEGABYTES * len(memory)}M", "-smp", str(nodes)]
-    for node in range(nodes):
-        text = f"node,nodeid={node},cpus={node}"
-        if node in memory:
+    """What qemu is told of the nodes. Memory that is added is a DIMM, which the kernel finds late."""
+    it = machine_named(machine)
+    booted = len(it.memory - it.added)
+    words = ["-smp", str(len(it.with_cpus))]
+    words += ["-m", f"{MEGABYTES * booted}M" + (",slots=4,maxmem=4G" if it.added else "")]
+    cpus = {node: cpu for cpu, node in enumerate(sorted(it.with_cpus))}
+    for node in range(it.nodes):
+        text = f"node,nodeid={node}"
+        if node in it.with_cpus:
+            text += f",cpus={cpus[node]}"
+        if node in it.added:
+            words += ["-object", f"memory-backend-ram,id=m{node},size={ADDED_MEGABYTES}M"]
+            words += ["-device", f"pc-dimm,memdev=m{node},node={node}"]
+        elif node in it.memory:
             words += ["-object", f"memory-backend-ram,id=m{node},size={MEGABYTES}M"]
             text += f",memdev=m{node}"
         words += ["-numa", text]
-    for source in range(nodes):
-        for target in range(nodes):
-            value = distances[source][target]
+    for source in range(it.nodes):
+        for target in range(it.nodes):
+            value = it.distances[source][target]
             words += ["-numa", f"dist,src={source},dst={target},val={value}"]
     return words
 
@@ -50,15 +64,15 @@ def main():
     with tempfile.NamedTemporaryFile() as initrd:
         initrd.write(archive(files))
         initrd.flush()
-        line = "console=ttyS0 quiet loglevel=0 panic=-1 numa_balancing=disable"
-        line += " transparent_hugepage=never tsc=unstable"
-        command = ["qemu-system-x86_64", "-M", "pc", "-cpu", "max", "-nographic", "-no-reboot"]
-        command += ["-kernel", kernel, "-initrd", initrd.name, "-append", line]
+        # one thread, since CPUs that wait for each other take long where processors are short
+        command = ["qemu-system-x86_64", "-M", "pc", "-accel", "tcg,thread=single", "-cpu", "max"]
+        command += ["-nographic", "-no-reboot"]
+        command += ["-kernel", kernel, "-initrd", initrd.name, "-append", LINE]
         run = subprocess.run(
             command + words_for(machine),
             stdin=subprocess.DEVNULL,
             stdout=subprocess.PIPE,
-            timeout=1500,
+            timeout=3000,
         )
     seen = run.stdout.decode(errors="replace").replace("\r", "").split("\n")
     if "end" not in seen:

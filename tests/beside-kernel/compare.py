@@ -1,15 +1,17 @@
 #!/usr/bin/env python3
 """Compares what a kernel answered with what numaplan answers: compare.py PROGRAM RULES SEEN..
 
-RULES is `document` or `linux`, as the line `rules` has them. SEEN is what boot.py printed. The nodes' distances are taken from the kernel's fallback orders, as
-docs/KERNEL.md says. A difference falls under a row of that page's table of differences, which for
-`linux` has few, or is told. The last line counts; the status is 1 where a difference falls under no row. Not proved."""
+RULES is `document` or `linux`, as the line `rules` has them. SEEN is what boot.py printed. numaplan is
+given the distances that the kernel was given, and works out the kernel's orders from them, which are
+compared too. A difference falls under a row of the table of differences of docs/KERNEL.md, which for
+`linux` has few, or is told. The last line counts; the status is 1 where a difference falls under no
+row. Not proved."""
 
 import collections
 import subprocess
 import sys
 
-from machines import MACHINES, list_text
+from machines import list_text, machine_named
 
 ROWS = {
     "prefer": "prefer and many when the allowed nodes change",
@@ -21,52 +23,62 @@ ROWS = {
     "no policy": "home where no page of the span has a policy",
     "home": "home over a page with a policy of another mode",
     "unmap": "unmap of length 0",
+    "last page": "map of the last page below 2^47",
+    "no memory": "mems without a node that has memory",
     "word": "mbind of length 0 with a faulty policy",
 }
+
+# rows behind which the two have another space, so that no line is compared
+APART = {"default", "no memory"}
 
 # the rows that are left under each set of rules
 LEFT = {"document": set(ROWS), "linux": {"home", "word"}}
 
+LAST_PAGE = 2**47 - 4096
 
-def machine_line(name, orders):
-    nodes, memory, _ = MACHINES[name]
-    rows = []
-    for node in range(nodes):
-        first = 10 if node in memory else 11
-        at = {other: first + place for place, other in enumerate(orders[node])}
-        row = [10 if other == node else at.get(other, 255) for other in range(nodes)]
-        rows.append(",".join(map(str, row)))
-    return f"machine {nodes} {list_text(memory)} 8 {';'.join(rows)}"
+
+def opening(name):
+    """The lines that describe a machine. CPUs count once memory was added: a kernel makes its orders
+    before it knows any CPU, and then makes them again."""
+    it = machine_named(name)
+    rows = ";".join(",".join(map(str, row)) for row in it.distances)
+    cpus = [f"cpus {list_text(it.with_cpus)}"] if it.added else []
+    return cpus + [f"machine {it.nodes} {list_text(it.memory)} 8 kernel:{rows}"]
 
 
 def read_seen(path):
-    """The scripts of a file: (name, machine line, [(line, the kernel's answer)])."""
+    """What is in a file: the machine's name, the kernel's orders (the last ones that it made), and the
+    scripts: (name, [(line, the kernel's answer)])."""
     machine, orders, scripts = "", {}, []
     for line in open(path):
         line = line.rstrip("\n")
         if line.startswith("machine "):
-            machine, orders = line.split()[1], {}
+            machine = line.split()[1]
         elif line.startswith("order "):
             node, order = line[6:].split(":")
             orders[int(node)] = [int(other) for other in order.split()]
         elif line.startswith("script "):
-            scripts.append((line[7:], machine_line(machine, orders), []))
+            scripts.append((line[7:], []))
         else:
-            scripts[-1][2].append(tuple(line.split(" => ")))
-    return scripts
+            scripts[-1][1].append(tuple(line.split(" => ")))
+    return machine, orders, scripts
+
+
+def run(program, lines):
+    text = "\n".join(lines) + "\n"
+    done = subprocess.run([program, "run"], input=text, capture_output=True, text=True, check=True)
+    return done.stdout.splitlines()
 
 
 def ask(program, rules, machine, lines):
     """numaplan's answers; of a place line the first node, a colon, and the policy shown there."""
-    script = [f"rules {rules}", machine]
+    script = [f"rules {rules}"] + opening(machine)
+    before = len(script)
     for line in lines:
         script.append(line)
         if line.startswith("place "):
             script += ["maps " + line.split()[1], "ranges"]
-    text = "\n".join(script) + "\n"
-    run = subprocess.run([program, "run"], input=text, capture_output=True, text=True, check=True)
-    said = iter(run.stdout.splitlines())
-    next(said), next(said)  # (rules ok, ready)
+    said = iter(run(program, script)[before:])
     for line in lines:
         answer = next(said)
         if line.startswith("place "):
@@ -79,6 +91,20 @@ def ask(program, rules, machine, lines):
                     policy = rest.split(" anon=")[0]
             answer = f"{answer.split()[1]}: {policy}" if answer[0] == "v" else answer
         yield answer
+
+
+def compare_orders(program, machine, orders, counts):
+    """The order of each node is where a page goes without any policy. (Linux 6.1 begins that of a node
+    without memory with the node.)"""
+    memory = machine_named(machine).memory
+    asked = [f"place 0 0x10000 {node}" for node in orders]
+    said = run(program, opening(machine) + ["map 0x10000 0x1000 0x10"] + asked)[-len(asked) :]
+    for (node, order), answer in zip(orders.items(), said):
+        counts["orders"] += 1
+        wanted = "".join(f" {other}" for other in order if other in memory)
+        if answer != "v1:" + wanted:
+            counts["new"] += 1
+            print(f"{machine}: the order of node {node}: numaplan {answer}, the kernel{wanted}")
 
 
 def short(answer):
@@ -107,6 +133,10 @@ def cause(line, mine, seen, before):
         return "no policy"
     elif words[0] == "unmap" and int(words[2], 16) == 0 and seen == "EINVAL":
         return "unmap"
+    elif words[0] == "map" and int(words[1], 16) == LAST_PAGE and seen == "ENOMEM":
+        return "last page"
+    elif words[0] == "mems" and seen == "ok" and mine.startswith("refused NodesNotAllowed"):
+        return "no memory"
     elif words[0] == "place":
         policy, my_policy = seen.split(": ")[-1], mine.split(": ")[-1]
         if "mems" in before and (policy + my_policy).count("prefer"):
@@ -120,15 +150,17 @@ def cause(line, mine, seen, before):
     return None
 
 
-def compare(program, rules, script, counts):
+def compare(program, rules, machine, script, counts):
     """Compares one script; prints the differences that fall under no row that is left."""
-    name, machine, lines = script
+    name, lines = script
     before = set()  # what may count from here on: an accepted mems, and rows that change the state
-    for (line, seen), mine in zip(lines, ask(program, rules, machine, [line for line, _ in lines])):
-        if "default" in before:  # (a hole that a kernel passes over, by the documents' rules)
-            counts["behind a DEFAULT over a hole"] += 1
+    answers = ask(program, rules, machine, [line for line, _ in lines])
+    for (line, seen), mine in zip(lines, answers):
+        if before & APART:
+            counts["lines behind these two, not compared"] += 1
             continue
         counts["lines"] += 1
+        counts["pages"] += line.startswith("place ")
         if line.startswith("mems") and seen == "ok":
             before.add("mems")
         if mine.startswith("refused NotSupported"):
@@ -148,15 +180,19 @@ def compare(program, rules, script, counts):
 def main():
     counts = collections.Counter()
     scripts = 0
-    for path in sys.argv[3:]:
-        for script in read_seen(path):
-            scripts += 1
-            compare(sys.argv[1], sys.argv[2], script, counts)
+    program, rules, paths = sys.argv[1], sys.argv[2], sys.argv[3:]
+    for path in paths:
+        machine, orders, seen = read_seen(path)
+        compare_orders(program, machine, orders, counts)
+        scripts += len(seen)
+        for script in seen:
+            compare(program, rules, machine, script, counts)
     for row, count in sorted(counts.items()):
-        if row not in ("lines", "refused", "new"):
+        if row not in ("lines", "orders", "pages", "refused", "new"):
             print(f"{count} {row}")
-    alike = f"{counts['lines']} lines, {counts['refused']} of them refused by both alike"
-    print(f"{scripts} scripts, {alike}, {counts['new']} differences under no row")
+    alike = f"{counts['lines']} lines ({counts['pages']} pages, {counts['refused']} refused by both)"
+    total = f"{counts['orders']} orders, {scripts} scripts, {alike}"
+    print(f"{total}: {counts['new']} differences under no row")
     sys.exit(1 if counts["new"] else 0)
 
 

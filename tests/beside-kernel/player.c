@@ -27,6 +27,7 @@
 
 #define PAGE 4096UL
 #define TASKS 4
+#define NODES "/sys/devices/system/node/"
 #define WEIGHTS "/sys/kernel/mm/mempolicy/weighted_interleave/node"
 
 enum { STATIC = 1 << 15, RELATIVE = 1 << 14 };
@@ -152,16 +153,17 @@ static int set_home(unsigned long start, unsigned long length, unsigned long nod
 	return syscall(450, start, length, node, 0L) ? errno : 0;
 }
 
-/* Touches the page from a CPU of the node (its number is the node's), and tells where it went. */
-static void place(unsigned long address, int cpu, char *answer, int size)
+/* Touches the page from a CPU of the node, and tells where it went. */
+static void place(unsigned long address, int node, char *answer, int size)
 {
-	cpu_set_t cpus;
+	unsigned long cpus[4] = {0};
 	int status = -1;
 	void *page = (void *)(address & ~(PAGE - 1));
 	char policy[128];
-	CPU_ZERO(&cpus);
-	CPU_SET(cpu, &cpus);
-	if (sched_setaffinity(0, sizeof cpus, &cpus)) {
+	snprintf(policy, sizeof policy, NODES "node%d/cpulist", node);
+	read_line_of(policy, policy, sizeof policy);
+	read_list(policy, cpus);
+	if (syscall(SYS_sched_setaffinity, 0, sizeof cpus, cpus) < 0) {
 		snprintf(answer, size, "%s", error_name(errno));
 		return;
 	}
@@ -323,7 +325,7 @@ int main(void)
 	write_file("/cgroup/cgroup.subtree_control", "+cpuset");
 	printf("\n");
 	tell_orders();
-	read_line_of("/sys/devices/system/node/has_memory", all, sizeof all);
+	read_line_of(NODES "has_memory", all, sizeof all);
 	while (scripts && fgets(line, sizeof line, scripts)) {
 		long at = ftell(scripts);
 		pid_t child;

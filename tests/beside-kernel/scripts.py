@@ -9,18 +9,20 @@ is mapped. OFFSET is that of private anonymous memory. Not proved."""
 import random
 import sys
 
-from machines import MACHINES, list_text
+from machines import list_text, machine_named
 
 PAGE = 4096
 FIRST_PAGE = 0x100000  # address 2^32
 PAGES = 40  # the scripts' pages
+LAST_PAGE = 2**35 - 1  # the last one below 2^47
 FLAGS = ["", "=static", "=relative"]
 
 
 class Script:
     def __init__(self, machine, seed, weights):
         self.random = random.Random(f"{machine} {seed}")
-        self.nodes, self.memory, _ = MACHINES[machine]
+        self.machine = machine_named(machine)
+        self.nodes, self.memory = self.machine.nodes, self.machine.memory
         self.weights = weights
         self.turn = seed
         self.mapped = {}  # page: whether it was placed
@@ -64,10 +66,16 @@ class Script:
         return first, length
 
     def bytes(self, first, length):
-        return hex((FIRST_PAGE + first) * PAGE), hex(length * PAGE)
+        """START and LENGTH, of which a part of the last page may be left out."""
+        less = self.random.randrange(PAGE) if length and self.random.random() < 0.1 else 0
+        return hex((FIRST_PAGE + first) * PAGE), hex(length * PAGE - less)
 
     def map(self):
+        if self.random.random() < 0.03:
+            return self.say("map", hex(LAST_PAGE * PAGE), hex(PAGE), hex(LAST_PAGE))
         first, length = self.random.randrange(PAGES), self.random.randint(1, 12)
+        if self.random.random() < 0.03:
+            length = 0
         span = range(first, first + length)
         self.say("map", *self.bytes(first, length), hex(FIRST_PAGE + first))
         if not any(page in self.mapped for page in span):
@@ -80,7 +88,10 @@ class Script:
             self.mapped.pop(page, None)
 
     def mbind(self):
-        self.say("mbind", *self.bytes(*self.span()), self.policy())
+        start, length = self.bytes(*self.span())
+        if self.random.random() < 0.02:
+            start = hex(int(start, 16) + self.random.choice([1, 8, 2048]))
+        self.say("mbind", start, length, self.policy())
 
     def home(self):
         self.say("home", *self.bytes(*self.span()), self.random.randrange(self.nodes + 1))
@@ -89,8 +100,11 @@ class Script:
         self.say("task", self.random.randrange(4), self.policy())
 
     def mems(self):
-        memory = sorted(self.memory)
-        chosen = self.random.sample(memory, self.random.randint(1, len(memory)))
+        """Nodes with memory mostly; at times others, of which none may have memory, or be there."""
+        most = sorted(self.memory)
+        if self.random.random() < 0.3:
+            most = range(self.nodes + (1 if self.random.random() < 0.1 else 0))
+        chosen = self.random.sample(most, self.random.randint(1, len(most)))
         self.say("mems", list_text(chosen))
 
     def weight(self):
@@ -103,13 +117,15 @@ class Script:
             page = self.random.choice(sorted(waiting))
             self.mapped[page] = True
             address = hex((FIRST_PAGE + page) * PAGE)
-            self.say("place", self.random.randrange(4), address, self.random.randrange(self.nodes))
+            node = self.random.choice(sorted(self.machine.with_cpus))
+            self.say("place", self.random.randrange(4), address, node)
 
     def write(self):
         kinds = [self.map] * 3 + [self.mbind] * 6 + [self.task] * 4 + [self.mems] * 3
         kinds += [self.home, self.unmap, self.place, self.place]
         kinds += [self.weight] * 2 * self.weights
-        self.map()
+        while not self.mapped:
+            self.map()
         self.say("mbind", *self.bytes(min(self.mapped), 1), self.policy_in_turn())
         self.turn += 1
         self.say("task", 0, self.policy_in_turn())
