@@ -1,15 +1,17 @@
 -- What a handle of a script keeps, and how lines are answered.
 use Rattle.std.specs.Prelude.{◌≡◌, ◌<◌, ℕ, Bool, List, [], length, take, drop}
 use Rattle.std.specs.Prelude.{Option, Some, None, Result, Ok, Err}
-use Rattle.numa_run.specs.Answers.{State, start, answer_to, after_bytes}
+use Rattle.numa_machine.specs.declared.rules.Rules.{Rules}
+use Rattle.numa_run.specs.Answers.{State, start_by, answer_to, after_bytes}
 use Rattle.numa_run.specs.Scripts.{ScriptStandsFor}
 use Rattle.numa_handle.specs.declared.dialog.Dialog.{Dialog}
 use Rattle.numa_handle.specs.declared.dialog.LineRefusal.{LineRefusal}
 use Rattle.numa_handle.specs.declared.dialog.LineRefusal.TheVariants as refused
 
--- before the first line
-abbrev pub IsFresh : Dialog → Type 0
-IsFresh dialog = ScriptStandsFor dialog.script start × (dialog.answer.items ≡ [])
+-- before the first line, where these rules count unless a line gives others
+abbrev pub IsFresh : Rules → Dialog → Type 0
+IsFresh rules dialog =
+    ScriptStandsFor dialog.script (start_by rules) × (dialog.answer.items ≡ [])
 
 -- the script stands for the state after the line, where it stood for a state before it, and `told`
 -- is what the line is answered there

@@ -6,16 +6,19 @@ ghost use Rattle.numa_ranges.specs.Runs.{end_of};
 ghost use Rattle.numa_space.specs.Standing.{StandsFor};
 ghost use Rattle.numa_space.specs.declared.command.Command.{Command};
 ghost use Rattle.numa_handle.specs.Handles.{core_in};
-ghost use Rattle.numa_handle.specs.Asked.{HasRanges, HasRangeAt, HasListing};
+ghost use Rattle.numa_handle.specs.Asked.{HasRanges, HasRangeAt, HasListing, HasPlaceOf};
+ghost use Rattle.numa_handle.specs.Asked.{HasTaskPolicy};
 ghost use Rattle.numa_handle.specs.Calls.{Asks, IsShared};
 ghost use Rattle.numa_handle.specs.Kinds.{core_of, is_core};
 ghost use Rattle.numa_handle.specs.Steps.{Publishes};
 
 use crate::core_handle::CoreHandle;
 use crate::kept::Kept;
+use crate::search::place_of;
 use numa_core::Core;
 use numa_machine::NoMemory;
 use numa_maps::{Resident, Watched, write_maps};
+use numa_mode::Record;
 use numa_plan::Plan;
 use numa_space::{RangeRecord, Run, Space};
 use std::alloc::{AllocError, Global};
@@ -112,6 +115,29 @@ impl CoreHandle {
         let found = range_of(core_kept(&kept).space(), place);
         self.handle.put(kept);
         Some(found)
+    }
+
+    /// The place of the range that has a page, or else of the next one, as many as there are ranges
+    /// where there is none; None where it keeps no core.
+    pub fn place_of(&mut self, alloc: Global, page: u64) -> Option<usize>
+        ensures { Asks (HasPlaceOf (core_in self.old) page) (core_in self.old) result
+            (core_in self.new) }
+    {
+        let kept = self.handle.take(alloc)?;
+        let place = place_of(core_kept(&kept).space(), page);
+        self.handle.put(kept);
+        Some(place)
+    }
+
+    /// The policy of a task, or none; None where it keeps no core.
+    pub fn task_policy(&mut self, alloc: Global, task: u32) -> Option<Option<Record>>
+        ensures { Asks (HasTaskPolicy (core_in self.old) task) (core_in self.old) result
+            (core_in self.new) }
+    {
+        let kept = self.handle.take(alloc)?;
+        let policy = core_kept(&kept).space().task_policy(task);
+        self.handle.put(kept);
+        Some(policy)
     }
 
     /// The ranges as a text, for a task and with the pages that are placed, as [`write_maps`]

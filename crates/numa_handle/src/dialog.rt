@@ -6,6 +6,7 @@ ghost use Rattle.numa_handle.specs.Dialogs.{IsFresh, Serves, Copies};
 
 use crate::room::copy_bytes;
 use line_server::{Serve, Watched};
+use numa_machine::Rules;
 use numa_run::Script;
 use std::alloc::Global;
 
@@ -46,12 +47,12 @@ fn serve(script: &mut Script, alloc: Global, line: &[u8], room: Vec<u8>) -> Opti
 }
 
 impl Dialog {
-    /// Before the first line.
-    pub(crate) fn new(alloc: Global) -> Dialog
-        ensures { IsFresh result }
+    /// Before the first line, with these rules where no line gives others.
+    pub(crate) fn new(alloc: Global, rules: Rules) -> Dialog
+        ensures { IsFresh rules result }
     {
         Dialog {
-            script: Script::new(),
+            script: Script::by(rules),
             answer: Vec::new(alloc),
         }
     }

@@ -14,6 +14,7 @@ mod place;
 mod plan_handle;
 mod room;
 mod script_handle;
+mod search;
 mod seat_handle;
 
 pub use core_handle::CoreHandle;

@@ -8,6 +8,7 @@ ghost use Rattle.numa_handle.specs.Kinds.{CallsKept, dialog_of, is_script};
 use crate::dialog::{Dialog, LineRefusal};
 use crate::handle::Handle;
 use crate::kept::Kept;
+use numa_machine::Rules;
 use std::alloc::{AllocError, Global};
 
 /// A script that a C caller is giving, line by line, or none.
@@ -42,16 +43,18 @@ fn copy_kept(kept: &Kept, room: &mut [u8]) -> Result<usize, usize>
 impl ScriptHandle {
     ghost use Rattle.numa_handle.specs.Handles.{dialog_in};
 
-    /// Keeps a script before its first line, where it keeps none.
+    /// Keeps a script before its first line, with these rules where no line gives others, where it
+    /// keeps none.
     ///
     /// # Errors
     /// There was no memory for it.
-    pub fn open(&mut self, alloc: Global) -> Result<(), AllocError>
+    pub fn open(&mut self, alloc: Global, rules: Rules) -> Result<(), AllocError>
         requires closed { dialog_in self.old ≡ None }
         ensures kept { is_some (dialog_in self.new) ≡ is_ok result }
-        ensures fresh { IfSome (dialog_in self.new) IsFresh }
+        ensures fresh { IfSome (dialog_in self.new) (IsFresh rules) }
     {
-        self.handle.keep(alloc, Kept::Script(Dialog::new(alloc)))
+        self.handle
+            .keep(alloc, Kept::Script(Dialog::new(alloc, rules)))
     }
 
     /// Serves a line, keeps its answer, and tells how long that is; None where it keeps no script.
