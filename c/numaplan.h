@@ -100,6 +100,7 @@ enum np_answer {
     NP_TOO_MANY_FRAMES = 53,    /* over 4,096 of a node, over 65,536 in all, or without memory */
     NP_BAD_LIMITS = 54,         /* over 65,536 ranges or 1,024 tasks */
     NP_BAD_WORKERS = 55,        /* no worker, or more than 16 */
+    NP_BAD_RULES = 56, NP_BAD_ORDERS = 57, /* no number of enum np_rules, of enum np_orders */
 
     /* a list of nodes, as "0,2-3", is faulty */
     NP_LIST_EMPTY = 60,     /* an item without a byte */
@@ -160,6 +161,29 @@ typedef struct np_limits {
     uint32_t max_ranges, max_tasks, max_commands;
 } np_limits;
 
+/* Whose rules count where Linux's documents and its kernel differ (docs/KERNEL.md): those of the
+ * manual pages and the administration guide, or those of the running kernel, 6.1 to 6.12. */
+enum np_rules { NP_RULES_DOCUMENT = 0, NP_RULES_LINUX = 1 };
+/* In which order the nodes with memory are looked at from a node: the nearest first, of equal
+ * distances the lower number; or as that kernel makes its zone lists. */
+enum np_orders { NP_ORDERS_NEAREST = 0, NP_ORDERS_KERNEL = 1 };
+
+/* What a core is opened by; all zeros is what np_core_open goes by. A kernel's orders ask which
+ * nodes have CPUs: where all have them, or none, all zeros will do. */
+typedef struct np_options {
+    uint32_t rules, orders; /* of enum np_rules, of enum np_orders */
+    np_nodes cpus;
+} np_options;
+
+/* A policy as it stands: its mode as get_mempolicy(2) tells it, with MPOL_F_STATIC_NODES (0x8000)
+ * or MPOL_F_RELATIVE_NODES (0x4000), MPOL_DEFAULT (0) where there is no policy; its home node, or
+ * NP_NO_HOME; the nodes that were asked for, allowed or not, and those that it has at present. */
+#define NP_NO_HOME 256
+typedef struct np_policy {
+    uint32_t mode, home;
+    np_nodes asked, nodes;
+} np_policy;
+
 /* Where a page was placed: by this version, for this page and task, on this frame of this
  * node. The rank is the node's place in the page's list, from 0. */
 typedef struct np_placement {
@@ -186,11 +210,13 @@ static_assert(sizeof(np_seat) == 16 && sizeof(np_frame) == 4, "a seat, a frame")
 static_assert(sizeof(np_limits) == 12 && sizeof(np_placement) == 32, "a struct");
 static_assert(sizeof(np_counts) == 2048 && sizeof(np_range) == 24, "a struct");
 static_assert(sizeof(np_nodes) == 32 && sizeof(np_script) == 16, "a struct, a handle");
+static_assert(sizeof(np_options) == 40 && sizeof(np_policy) == 72, "a struct");
 #elif defined(__STDC_VERSION__) && __STDC_VERSION__ >= 201112L
 _Static_assert(sizeof(np_core) == 16 && sizeof(np_plan) == 16, "a handle");
 _Static_assert(sizeof(np_seat) == 16 && sizeof(np_frame) == 4, "a seat, a frame");
 _Static_assert(sizeof(np_limits) == 12 && sizeof(np_placement) == 32, "a struct");
 _Static_assert(sizeof(np_counts) == 2048 && sizeof(np_range) == 24, "a struct");
+_Static_assert(sizeof(np_options) == 40 && sizeof(np_policy) == 72, "a struct");
 #endif
 
 /* ---- opening and closing */
@@ -202,6 +228,14 @@ _Static_assert(sizeof(np_counts) == 2048 && sizeof(np_range) == 24, "a struct");
 uint32_t np_core_open(np_core *core, const uint8_t *memory, size_t memory_length,
                       const uint32_t *frames, size_t nodes, const uint8_t *distances,
                       size_t distances_count, const np_limits *limits, uint32_t workers);
+
+/* The same by options, which its copies and plans go by too. After NP_OPEN first NP_BAD_RULES,
+ * NP_BAD_ORDERS; then as np_core_open, but that NP_BAD_NODE_COUNT is also answered, before the
+ * machine is judged, for a kernel's orders where a node of `cpus` is none of the machine's. */
+uint32_t np_core_open_by(np_core *core, const uint8_t *memory, size_t memory_length,
+                         const uint32_t *frames, size_t nodes, const uint8_t *distances,
+                         size_t distances_count, const np_limits *limits, uint32_t workers,
+                         const np_options *options);
 
 /* Frees the core, where one is kept. */
 void np_core_close(np_core *core);
@@ -215,7 +249,7 @@ uint32_t np_core_copy(np_core *core, np_core *copy);
 /* How many commands are accepted, and how many of them are published. NP_CLOSED. */
 uint32_t np_core_versions(np_core *core, uint64_t *accepted, uint64_t *published);
 
-/* ---- commands: each that is accepted adds one to the version. NP_CLOSED; 10 to 22;
+/* ---- commands: each that is accepted adds one to the version. NP_CLOSED; 10 to 23;
  * NP_NO_MEMORY */
 
 /* Maps `length` bytes of unmapped pages from `start` on; the first page has the index `offset`. */
@@ -262,6 +296,15 @@ uint32_t np_core_ranges(np_core *core, size_t *count);
  * were. NP_CLOSED, NP_NO_RANGE. */
 uint32_t np_core_range(np_core *core, size_t index, np_range *range, uint8_t *policy, size_t room,
                        size_t *policy_length);
+
+/* Writes the place of the range that has an address to `index`, or else of the next one: as many as
+ * there are ranges where there is none. One search, by halves. NP_CLOSED. */
+uint32_t np_core_range_at(np_core *core, uint64_t address, size_t *index);
+
+/* Writes the policy of its own that the range at a place has, and the policy of a task.
+ * NP_CLOSED, NP_NO_RANGE. */
+uint32_t np_core_range_policy(np_core *core, size_t index, np_policy *policy);
+uint32_t np_core_task_policy(np_core *core, uint32_t task, np_policy *policy);
 
 /* Writes one line for each range, in order of address, as /proc/PID/numa_maps has it
  * (numa(7)): "00010000 bind:0-1 anon=2 N0=1 N1=1 kernelpagesize_kB=4" and a line feed. These
@@ -396,6 +439,12 @@ uint32_t np_policy_rebind(const uint8_t *policy, size_t policy_length, const uin
                           size_t old_length, const uint8_t *new_allowed, size_t new_length,
                           np_nodes *nodes);
 
+/* The same by these rules, of enum np_rules. By the kernel's, "prefer" and "many" keep their nodes,
+ * and another policy that would have no node has all new ones. First NP_BAD_RULES. */
+uint32_t np_policy_rebind_by(uint32_t rules, const uint8_t *policy, size_t policy_length,
+                             const uint8_t *old_allowed, size_t old_length,
+                             const uint8_t *new_allowed, size_t new_length, np_nodes *nodes);
+
 /* The same policy as numa_maps shows it (proc_pid_numa_maps(5)), as "prefer:1"; written as a
  * list is by np_nodes_write, and answered as by np_policy_effective. At most 1,024 bytes. */
 uint32_t np_policy_text(const uint8_t *policy, size_t policy_length, const uint8_t *allowed,
@@ -411,6 +460,9 @@ uint32_t np_script_run(const uint8_t *script, size_t length, uint8_t *answers, s
 
 /* Opens a script before its first line. NP_OPEN, NP_NO_MEMORY. */
 uint32_t np_script_open(np_script *script);
+
+/* The same by these rules, if no line `rules` gives others. NP_OPEN, NP_BAD_RULES, NP_NO_MEMORY. */
+uint32_t np_script_open_by(np_script *script, uint32_t rules);
 
 /* Frees the script, where one is kept. */
 void np_script_close(np_script *script);

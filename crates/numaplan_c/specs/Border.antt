@@ -2,15 +2,14 @@
 use Rattle.std.specs.Prelude.{◌≡◌, ◌≢◌, ◌==◌, ◌&&◌, ◌||◌, ℕ, Bool, true, not, nat_le, nat_lt}
 use Rattle.std.specs.Prelude.{if◌then◌else◌, List, length, is_some, MatchResult}
 use Rattle.std.specs.Prelude.{Option, Some, None, IfSome, Result, Ok, Err}
-use Rattle.numa_machine.specs.declared.fallback.Fallback.TheVariants.{Nearest}
-use Rattle.numa_machine.specs.declared.rules.Rules.TheVariants.{Document}
+use Rattle.numa_machine.specs.declared.fallback.Fallback.{Fallback}
 use Rattle.numa_mask.specs.declared.list.ListFault.{ListFault}
 use Rattle.numa_space.specs.declared.command.Command.{Command}
 use Rattle.numa_space.specs.declared.event.Event.{Event}
 use Rattle.numa_space.specs.declared.event.CoreReply.{CoreReply}
 use Rattle.numa_space.specs.declared.event.CoreRefusal.{CoreRefusal}
 use Rattle.numa_core.specs.Standing.{CoreState}
-use Rattle.numa_machine.specs.Faults.{machine_fault}
+use Rattle.numa_machine.specs.Faults.{machine_fault, fallback_fault}
 use Rattle.numa_machine.specs.Machine.{Hardware}
 use Rattle.numa_machine.specs.declared.fault.MachineFault.{MachineFault}
 use Rattle.numa_core.specs.World.{Setup}
@@ -20,6 +19,7 @@ use Rattle.numa_space.specs.declared.event.CoreReply.TheVariants as reply
 use Rattle.numa_plan.specs.Meaning.{PlanData}
 use Rattle.numa_handle.specs.Steps.{Steps, Touches, Compiles, Publishes}
 use Rattle.numaplan_c.specs.declared.opening.NpLimits.{NpLimits}
+use Rattle.numaplan_c.specs.declared.options.Options.{Options}
 use Rattle.numaplan_c.specs.declared.plans.Commands.{Commands}
 use Rattle.numaplan_c.specs.declared.plans.Commands.TheVariants as commands
 use Rattle.numaplan_c.specs.declared.workers.NpPlacement.{NpPlacement}
@@ -74,21 +74,22 @@ Tried old event code new before after =
     × ((core : CoreState) → old ≡ Some core → (answer : Result CoreReply CoreRefusal)
     × (code ≡ answer_code answer) × Steps event old new answer × Places answer before after)
 
--- the machine of a description, whose list of nodes with memory is a text
-abbrev pub IsMachineOf : Result ℕ ListFault → List ℕ → List ℕ → Hardware → Type 0
-IsMachineOf list frames distances machine = (memory : ℕ) × (list ≡ Ok memory) × (machine ≡ record {
-  nodes = length frames;
-  memory = memory;
-  distances = distances;
-  frames = frames;
-  rules = Document;
-  fallback = Nearest;
-})
+-- the machine of a description, whose list of nodes with memory is a text, by these options
+abbrev pub IsMachineOf : Result ℕ ListFault → List ℕ → List ℕ → Options → Hardware → Type 0
+IsMachineOf list frames distances options machine =
+    (memory : ℕ) × (list ≡ Ok memory) × (machine ≡ record {
+      nodes = length frames;
+      memory = memory;
+      distances = distances;
+      frames = frames;
+      rules = options.rules;
+      fallback = options.fallback;
+    })
 
 -- that machine, these limits and so many workers
-abbrev pub IsSetUp : Result ℕ ListFault → List ℕ → List ℕ → Bounds → ℕ → Setup → Type 0
-IsSetUp list frames distances bounds workers setup =
-    IsMachineOf list frames distances setup.machine × (setup.bounds ≡ bounds)
+abbrev pub IsSetUp : Result ℕ ListFault → List ℕ → List ℕ → Options → Bounds → ℕ → Setup → Type 0
+IsSetUp list frames distances options bounds workers setup =
+    IsMachineOf list frames distances options setup.machine × (setup.bounds ≡ bounds)
     × (setup.workers ≡ workers)
 
 -- the limits as the library has them
@@ -111,18 +112,23 @@ or_fault (Some code) fault = Some code
 or_fault None (Some fault) = Some (machine_code fault)
 or_fault None None = None
 
+abbrev pub first_fault : Option MachineFault → Option MachineFault → Option MachineFault
+first_fault (Some fault) other = Some fault
+first_fault None other = other
+
 -- the first cause for which a description is refused, out of memory apart: the list, the number of
--- nodes, what is wrong with `others` that are asked for, the machine
-abbrev pub described_cause : Result ℕ ListFault → List ℕ → List ℕ → Option ℕ → Option ℕ
-described_cause (Err fault) frames distances others = Some (list_code fault)
-described_cause (Ok memory) frames distances others = if nat_lt 256 (length frames)
+-- nodes, what is wrong with `others` that are asked for, the orders, the machine
+abbrev pub described_cause : Result ℕ ListFault → List ℕ → List ℕ → Option ℕ → Fallback → Option ℕ
+described_cause (Err fault) frames distances others fallback = Some (list_code fault)
+described_cause (Ok memory) frames distances others fallback = if nat_lt 256 (length frames)
     then Some 50
-    else or_fault others (machine_fault (length frames) memory distances frames)
+    else or_fault others (first_fault (fallback_fault (length frames) fallback)
+    (machine_fault (length frames) memory distances frames))
 
 -- the same with limits and workers
-abbrev pub opening_cause : Result ℕ ListFault → List ℕ → List ℕ → Bounds → ℕ → Option ℕ
-opening_cause list frames distances bounds workers =
-    described_cause list frames distances (limits_cause bounds workers)
+abbrev pub opening_cause : Result ℕ ListFault → List ℕ → List ℕ → Fallback → Bounds → ℕ → Option ℕ
+opening_cause list frames distances fallback bounds workers =
+    described_cause list frames distances (limits_cause bounds workers) fallback
 
 -- it is done, or out of memory
 abbrev pub is_done : ℕ → Bool

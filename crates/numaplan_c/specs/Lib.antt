@@ -1,9 +1,11 @@
 pub mod Codes
 pub mod Border
+pub mod Options
 pub mod Questions
 pub mod Names
 pub mod Policies
 pub mod Scripts
+pub mod Standing
 pub mod Texts
 pub mod Ranges
 pub mod Pools

@@ -57,6 +57,7 @@ fault_names =
     named 50 (codes "BadNodeCount") ∷ named 51 (codes "NoMemoryNode")
     ∷ named 52 (codes "BadDistance") ∷ named 53 (codes "TooManyFrames")
     ∷ named 54 (codes "BadLimits") ∷ named 55 (codes "BadWorkers")
+    ∷ named 56 (codes "BadRules") ∷ named 57 (codes "BadOrders")
     ∷ named 60 (codes "ListEmpty") ∷ named 61 (codes "ListBadDigit")
     ∷ named 62 (codes "ListBackwards") ∷ named 63 (codes "ListTooHigh")
     ∷ named 70 (codes "UnknownMode") ∷ named 71 (codes "BothFlags")

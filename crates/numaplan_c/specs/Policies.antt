@@ -1,6 +1,6 @@
 -- What an exported call about a policy word answers: a record, or the number of what is wrong.
 use Rattle.std.specs.Prelude.{◌≡◌, ℕ, ◌==◌, List, Result, Ok, Err, if◌then◌else◌}
-use Rattle.numa_machine.specs.declared.rules.Rules.TheVariants.{Document}
+use Rattle.numa_machine.specs.declared.rules.Rules.{Rules}
 use Rattle.numa_mask.specs.Lists.{list_of}
 use Rattle.numa_mask.specs.Words.{number_of}
 use Rattle.numa_mask.specs.declared.list.ListFault.{ListFault}
@@ -28,14 +28,14 @@ record_from (Ok spec) (Ok allowed) = record_of spec allowed
 abbrev pub standing : List ℕ → List ℕ → Result PolicyRecord ℕ
 standing policy allowed = record_from (policy_of policy) (list_of allowed)
 
--- the record once the allowed nodes have changed
-abbrev pub rebound : Result PolicyRecord ℕ → Result ℕ ListFault → Result ℕ ListFault
+-- the record once the allowed nodes have changed, by these rules
+abbrev pub rebound : Rules → Result PolicyRecord ℕ → Result ℕ ListFault → Result ℕ ListFault
     → Result PolicyRecord ℕ
-rebound (Err code) old new = Err code
-rebound (Ok r) (Err fault) new = Err (list_code fault)
-rebound (Ok r) (Ok old) (Err fault) = Err (list_code fault)
-rebound (Ok r) (Ok old) (Ok new) =
-    if new == 0 then Err 76 else Ok (record_after Document r old new)
+rebound rules (Err code) old new = Err code
+rebound rules (Ok r) (Err fault) new = Err (list_code fault)
+rebound rules (Ok r) (Ok old) (Err fault) = Err (list_code fault)
+rebound rules (Ok r) (Ok old) (Ok new) =
+    if new == 0 then Err 76 else Ok (record_after rules r old new)
 
 -- its nodes are told, or the number of what is wrong, and then the set is as it was
 abbrev pub TellsNodes : Result PolicyRecord ℕ → ℕ → NpNodes → NpNodes → Type 0

@@ -56,6 +56,10 @@ pub(crate) enum Code {
     BadLimits = 54,
     /// No worker, or more than 16.
     BadWorkers = 55,
+    /// No rules have this number.
+    BadRules = 56,
+    /// No orders have this number.
+    BadOrders = 57,
     /// The policy word says that there is no policy.
     NoPolicy = 75,
     /// No node is allowed.

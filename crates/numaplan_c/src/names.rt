@@ -56,13 +56,15 @@ static CALL_NAMES: [(u32, &[u8]); 18] = [
 ];
 
 /// The names of faults of machines, lists and policy words.
-static FAULT_NAMES: [(u32, &[u8]); 17] = [
+static FAULT_NAMES: [(u32, &[u8]); 19] = [
     (50, b"BadNodeCount"),
     (51, b"NoMemoryNode"),
     (52, b"BadDistance"),
     (53, b"TooManyFrames"),
     (54, b"BadLimits"),
     (55, b"BadWorkers"),
+    (56, b"BadRules"),
+    (57, b"BadOrders"),
     (60, b"ListEmpty"),
     (61, b"ListBadDigit"),
     (62, b"ListBackwards"),

@@ -1,15 +1,18 @@
 //! Opening and closing of cores, their versions, and their copies.
 ghost use Rattle.std.specs.Prelude.{◌≡◌, ◌≢◌, ◌≤◌, [], Some, None, true, is_some};
-ghost use Rattle.std.specs.Prelude.{IfOk, IfErr, IfSome, MatchOption};
+ghost use Rattle.std.specs.Prelude.{IfOk, IfErr, IfSome, MatchOption, MatchResult, is_ok};
 ghost use Rattle.numa_handle.specs.Handles.{core_in};
 ghost use Rattle.numa_core.specs.Standing.{LeadsTo, setup_of};
 ghost use Rattle.numa_mask.specs.Lists.{list_of};
 ghost use Rattle.numaplan_c.specs.Border.{Asked, IsSetUp, Opens, Shares, bounds_of, limits_cause};
 ghost use Rattle.numaplan_c.specs.Border.{opening_cause};
+ghost use Rattle.numa_machine.specs.declared.fallback.Fallback.{Fallback};
+ghost use Rattle.numaplan_c.specs.Options.{documents, options_of};
 
 use crate::codes::Code;
 use crate::keeping::{ensure_closed, kept_code, memory_code};
 use crate::machines::machine_of;
+use crate::options::{NpOptions, Options, documents, options_of};
 use numa_core::Core;
 use numa_handle::CoreHandle;
 use numa_space::Limits;
@@ -48,21 +51,22 @@ fn make(
     memory: &[u8],
     frames: &[u32],
     distances: &[u8],
+    options: Options,
     limits: NpLimits,
     workers: u32,
 ) -> Result<Core, u32>
     ensures run { IfOk result (LeadsTo []) }
     ensures setup { IfOk result (λ core. IsSetUp (list_of memory.now) frames.now distances.now
-        (bounds_of limits) workers (setup_of core)) }
+        options (bounds_of limits) workers (setup_of core)) }
     ensures cause { IfErr result (λ code. MatchOption (opening_cause (list_of memory.now)
-        frames.now distances.now
+        frames.now distances.now options.fallback
         (bounds_of limits) workers) (code ≡ 3) (λ first. code ≡ first)) }
     ensures none { IfOk result (λ core. opening_cause (list_of memory.now) frames.now
-        distances.now (bounds_of limits) workers ≡ None) }
+        distances.now options.fallback (bounds_of limits) workers ≡ None) }
     ensures refused { IfErr result (λ code. code ≢ 0) }
 {
     let others = limits_cause(limits, workers);
-    let machine = match machine_of(alloc, memory, frames, distances, others) {
+    let machine = match machine_of(alloc, memory, frames, distances, others, options) {
         Ok(machine) => machine,
         Err(code) => return Err(code),
     };
@@ -89,17 +93,57 @@ pub extern "C" fn np_core_open(
     ensures opens { Opens (core_in core.old) result (core_in core.new) }
     ensures run { core_in core.old ≡ None → IfSome (core_in core.new) (LeadsTo []) }
     ensures setup { core_in core.old ≡ None → IfSome (core_in core.new) (λ made.
-        IsSetUp (list_of memory.now) frames.now distances.now
+        IsSetUp (list_of memory.now) frames.now distances.now documents
         (bounds_of limits.now) workers (setup_of made)) }
     ensures cause { core_in core.old ≡ None → result ≢ 0 →
-        MatchOption (opening_cause (list_of memory.now) frames.now distances.now
+        MatchOption (opening_cause (list_of memory.now) frames.now distances.now Fallback.Nearest
         (bounds_of limits.now) workers) (result ≡ 3) (λ first. result ≡ first) }
     ensures none { result ≡ 0 → opening_cause (list_of memory.now) frames.now distances.now
-        (bounds_of limits.now) workers ≡ None }
+        Fallback.Nearest (bounds_of limits.now) workers ≡ None }
     ensures open { is_some (core_in core.old) ≡ true → result ≡ 2 }
 {
     ensure_closed!(core);
-    match make(alloc, memory, frames, distances, *limits, workers) {
+    let by = documents();
+    match make(alloc, memory, frames, distances, by, *limits, workers) {
+        Ok(made) => memory_code(core.open(alloc, made)),
+        Err(code) => code,
+    }
+}
+
+/// Opens a core of a machine by options.
+#[unsafe(no_mangle)]
+pub extern "C" fn np_core_open_by(
+    alloc: Global,
+    core: &mut CoreHandle,
+    memory: &[u8],
+    frames: &[u32],
+    distances: &[u8],
+    limits: &NpLimits,
+    workers: u32,
+    options: &NpOptions,
+) -> u32
+    ensures opens { Opens (core_in core.old) result (core_in core.new) }
+    ensures run { core_in core.old ≡ None → IfSome (core_in core.new) (LeadsTo []) }
+    ensures setup { core_in core.old ≡ None → IfSome (core_in core.new) (λ made.
+        IfOk (options_of options.now) (λ it.
+        IsSetUp (list_of memory.now) frames.now distances.now it
+        (bounds_of limits.now) workers (setup_of made))) }
+    ensures cause { core_in core.old ≡ None → result ≢ 0 → MatchResult (options_of options.now)
+        (λ it. MatchOption (opening_cause (list_of memory.now) frames.now distances.now
+        it.fallback (bounds_of limits.now) workers) (result ≡ 3) (λ first. result ≡ first))
+        (λ code. result ≡ code) }
+    ensures none { result ≡ 0 → IfOk (options_of options.now) (λ it.
+        opening_cause (list_of memory.now) frames.now distances.now it.fallback
+        (bounds_of limits.now) workers ≡ None) }
+    ensures read { result ≡ 0 → is_ok (options_of options.now) ≡ true }
+    ensures open { is_some (core_in core.old) ≡ true → result ≡ 2 }
+{
+    ensure_closed!(core);
+    let options = match options_of(options) {
+        Ok(options) => options,
+        Err(code) => return code,
+    };
+    match make(alloc, memory, frames, distances, options, *limits, workers) {
         Ok(made) => memory_code(core.open(alloc, made)),
         Err(code) => code,
     }

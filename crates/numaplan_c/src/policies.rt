@@ -1,12 +1,14 @@
 //! Policy words: the nodes that they have, and how numa_maps shows them.
-ghost use Rattle.std.specs.Prelude.{◌≡◌, MatchResult};
+ghost use Rattle.std.specs.Prelude.{◌≡◌, MatchOption, MatchResult};
 ghost use Rattle.numa_mask.specs.Lists.{list_of};
 ghost use Rattle.numa_mode.specs.Policy.{policy_text};
+ghost use Rattle.numaplan_c.specs.Options.{rules_of};
 ghost use Rattle.numaplan_c.specs.Policies.{record_of, standing, rebound, TellsNodes};
 ghost use Rattle.numaplan_c.specs.Texts.{IsWritten};
 
 use crate::codes::{Code, list_code, refusal_code, word_code};
 use crate::nodes::NpNodes;
+use crate::options::rules_of;
 use crate::texts::write;
 use numa_machine::Rules;
 use numa_mask::{NodeMask, read_list};
@@ -44,9 +46,14 @@ fn standing(policy: &[u8], allowed: &[u8]) -> Result<Record, u32>
     }
 }
 
-/// The record once the allowed nodes have changed, by the documents' rules.
-fn rebound(standing: Result<Record, u32>, old: &[u8], new: &[u8]) -> Result<Record, u32>
-    ensures { result ≡ rebound standing (list_of old.now) (list_of new.now) }
+/// The record once the allowed nodes have changed, by these rules.
+fn rebound(
+    rules: Rules,
+    standing: Result<Record, u32>,
+    old: &[u8],
+    new: &[u8],
+) -> Result<Record, u32>
+    ensures { result ≡ rebound rules standing (list_of old.now) (list_of new.now) }
 {
     let standing = match standing {
         Ok(standing) => standing,
@@ -63,7 +70,7 @@ fn rebound(standing: Result<Record, u32>, old: &[u8], new: &[u8]) -> Result<Reco
     if new.is_empty() {
         return Err(Code::NoNodeAllowed as u32);
     }
-    Ok(standing.rebind(Rules::Document, &old, &new))
+    Ok(standing.rebind(rules, &old, &new))
 }
 
 /// Tells the nodes of a record, where there is one.
@@ -87,7 +94,7 @@ pub extern "C" fn np_policy_effective(policy: &[u8], allowed: &[u8], nodes: &mut
     tell_nodes(standing(policy, allowed), nodes)
 }
 
-/// The nodes that a policy has once the allowed nodes have changed.
+/// The nodes that a policy has once the allowed nodes have changed, by the documents' rules.
 #[unsafe(no_mangle)]
 pub extern "C" fn np_policy_rebind(
     policy: &[u8],
@@ -95,10 +102,30 @@ pub extern "C" fn np_policy_rebind(
     new: &[u8],
     nodes: &mut NpNodes,
 ) -> u32
-    ensures { TellsNodes (rebound (standing policy.now old.now) (list_of old.now) (list_of new.now))
-        result nodes.old nodes.new }
+    ensures { TellsNodes (rebound Rules.Document (standing policy.now old.now) (list_of old.now)
+        (list_of new.now)) result nodes.old nodes.new }
 {
-    tell_nodes(rebound(standing(policy, old), old, new), nodes)
+    let documents = Rules::Document;
+    tell_nodes(rebound(documents, standing(policy, old), old, new), nodes)
+}
+
+/// The same by the rules that have a number.
+#[unsafe(no_mangle)]
+pub extern "C" fn np_policy_rebind_by(
+    rules: u32,
+    policy: &[u8],
+    old: &[u8],
+    new: &[u8],
+    nodes: &mut NpNodes,
+) -> u32
+    ensures { MatchOption (rules_of rules) ((result ≡ 56) × (nodes.new ≡ nodes.old))
+        (λ these. TellsNodes (rebound these (standing policy.now old.now) (list_of old.now)
+        (list_of new.now)) result nodes.old nodes.new) }
+{
+    let Some(rules) = rules_of(rules) else {
+        return Code::BadRules as u32;
+    };
+    tell_nodes(rebound(rules, standing(policy, old), old, new), nodes)
 }
 
 /// A policy as numa_maps shows it once it is set.

@@ -1,6 +1,7 @@
 //! Seats at pools of frames.
 ghost use Rattle.std.specs.Prelude.{◌≡◌, ◌≢◌, ℕ, Bool, Some, None, Option, true, is_some};
 ghost use Rattle.std.specs.Prelude.{IfOk, IfErr, IfSome, MatchOption};
+ghost use Rattle.numa_machine.specs.declared.fallback.Fallback.{Fallback};
 ghost use Rattle.numa_machine.specs.declared.frame.Frame.{Frame};
 ghost use Rattle.numa_mask.specs.Lists.{list_of};
 ghost use Rattle.numa_seat.specs.Seated.{Seated, at_first};
@@ -13,6 +14,7 @@ ghost use Rattle.numaplan_c.specs.Pools.{found_code, returned_code, Tells};
 use crate::codes::Code;
 use crate::keeping::{ensure_closed, kept_code, memory_code};
 use crate::machines::machine_of;
+use crate::options::documents;
 use numa_handle::SeatHandle;
 use numa_machine::Frame;
 use numa_seat::Seat;
@@ -33,12 +35,12 @@ const _: () = prove!(size_of::<NpFrame>() == 4);
 fn make(alloc: Global, memory: &[u8], frames: &[u32], distances: &[u8]) -> Result<Seat, u32>
     ensures first { IfOk result (λ seat. seat ≡ at_first frames.now seat.seat.table) }
     ensures cause { IfErr result (λ code. MatchOption (described_cause (list_of memory.now)
-        frames.now distances.now None) (code ≡ 3) (λ first. code ≡ first)) }
+        frames.now distances.now None Fallback.Nearest) (code ≡ 3) (λ first. code ≡ first)) }
     ensures none { IfOk result (λ seat. described_cause (list_of memory.now) frames.now
-        distances.now None ≡ None) }
+        distances.now None Fallback.Nearest ≡ None) }
     ensures refused { IfErr result (λ code. code ≢ 0) }
 {
-    let machine = match machine_of(alloc, memory, frames, distances, None) {
+    let machine = match machine_of(alloc, memory, frames, distances, None, documents()) {
         Ok(machine) => machine,
         Err(code) => return Err(code),
     };
@@ -63,10 +65,11 @@ pub extern "C" fn np_seat_open(
     ensures first { seat_in seat.old ≡ None → IfSome (seat_in seat.new) (λ made.
         made ≡ at_first frames.now made.seat.table) }
     ensures cause { seat_in seat.old ≡ None → result ≢ 0 →
-        MatchOption (described_cause (list_of memory.now) frames.now distances.now None)
-        (result ≡ 3) (λ first. result ≡ first) }
+        MatchOption (described_cause (list_of memory.now) frames.now distances.now None
+        Fallback.Nearest) (result ≡ 3) (λ first. result ≡ first) }
     ensures none { result ≡ 0 →
-        described_cause (list_of memory.now) frames.now distances.now None ≡ None }
+        described_cause (list_of memory.now) frames.now distances.now None Fallback.Nearest
+        ≡ None }
     ensures open { is_some (seat_in seat.old) ≡ true → result ≡ 2 }
 {
     ensure_closed!(seat);

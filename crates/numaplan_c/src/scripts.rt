@@ -1,19 +1,22 @@
 //! Scripts: whole ones, and those that are given line by line.
 ghost use Rattle.std.specs.Prelude.{◌≡◌, ◌≢◌, ℕ, Bool, List, None, Some, true, Result};
-ghost use Rattle.std.specs.Prelude.{is_some, IfSome};
+ghost use Rattle.std.specs.Prelude.{is_some, IfSome, MatchOption};
 ghost use Rattle.numa_handle.specs.Handles.{dialog_in};
 ghost use Rattle.numa_handle.specs.Dialogs.{IsFresh, ServesKept};
 ghost use Rattle.numa_handle.specs.declared.dialog.Dialog.{Dialog};
 ghost use Rattle.numa_handle.specs.declared.dialog.LineRefusal.{LineRefusal};
 ghost use Rattle.numaplan_c.specs.Border.{Asked, Opens, is_done};
+ghost use Rattle.numaplan_c.specs.Options.{rules_of};
 ghost use Rattle.numaplan_c.specs.Scripts.{AreAnswers, line_code, length_told};
 ghost use Rattle.numaplan_c.specs.Texts.{IsWritten};
 
 use crate::codes::Code;
 use crate::keeping::{ensure_closed, memory_code};
+use crate::options::rules_of;
 use crate::texts::{copy_code, length_copied, write};
 use line_server::Watched;
 use numa_handle::{LineRefusal, ScriptHandle};
+use numa_machine::Rules;
 use numa_run::run;
 use std::alloc::Global;
 
@@ -51,12 +54,30 @@ pub extern "C" fn np_script_run(
 #[unsafe(no_mangle)]
 pub extern "C" fn np_script_open(alloc: Global, script: &mut ScriptHandle) -> u32
     ensures opens { Opens (dialog_in script.old) result (dialog_in script.new) }
-    ensures fresh { dialog_in script.old ≡ None → IfSome (dialog_in script.new) IsFresh }
+    ensures fresh { dialog_in script.old ≡ None →
+        IfSome (dialog_in script.new) (IsFresh Rules.Document) }
     ensures open { is_some (dialog_in script.old) ≡ true → result ≡ 2 }
     ensures done { dialog_in script.old ≡ None → is_done result ≡ true }
 {
     ensure_closed!(script);
-    memory_code(script.open(alloc))
+    memory_code(script.open(alloc, Rules::Document))
+}
+
+/// Opens a script before its first line, with the rules of a number where no line gives others.
+#[unsafe(no_mangle)]
+pub extern "C" fn np_script_open_by(alloc: Global, script: &mut ScriptHandle, rules: u32) -> u32
+    ensures opens { Opens (dialog_in script.old) result (dialog_in script.new) }
+    ensures fresh { dialog_in script.old ≡ None → IfSome (dialog_in script.new) (λ made.
+        IfSome (rules_of rules) (λ these. IsFresh these made)) }
+    ensures open { is_some (dialog_in script.old) ≡ true → result ≡ 2 }
+    ensures done { dialog_in script.old ≡ None → MatchOption (rules_of rules) (result ≡ 56)
+        (λ these. is_done result ≡ true) }
+{
+    ensure_closed!(script);
+    let Some(rules) = rules_of(rules) else {
+        return Code::BadRules as u32;
+    };
+    memory_code(script.open(alloc, rules))
 }
 
 /// The number of an answer to a line.
