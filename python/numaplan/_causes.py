@@ -218,6 +218,14 @@ class BadWorkers(Refused):
     number, words = 55, "no worker, or more than 16; use 1 to 16"
 
 
+class BadRules(Refused):
+    number, words = 56, "no rules have this number; numaplan.h has those that there are"
+
+
+class BadOrders(Refused):
+    number, words = 57, "no orders have this number; numaplan.h has those that there are"
+
+
 # ---- lists of nodes, policy words
 
 

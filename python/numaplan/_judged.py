@@ -10,6 +10,9 @@ from typing import TYPE_CHECKING, Iterable, SupportsIndex
 if TYPE_CHECKING:
     from _typeshed import WriteableBuffer
 
+RULES = ["document", "linux"]
+ORDERS = ["nearest", "kernel"]
+
 
 def _within(name: str, value: SupportsIndex, most: int) -> int:
     number = index(value)
@@ -49,6 +52,20 @@ def list_of(name: str, nodes: "str | Iterable[SupportsIndex]") -> bytes:
     if isinstance(nodes, str):
         return nodes.encode()
     return ",".join(map(str, u8s(name, nodes))).encode()
+
+
+def rules_number(rules: str) -> int:
+    """Whose rules count, as a number of numaplan.h."""
+    if rules not in RULES:
+        raise ValueError(f"rules is {rules!r}; it has to be 'document' or 'linux'")
+    return RULES.index(rules)
+
+
+def orders_number(orders: str) -> int:
+    """Whose orders a machine has, as a number of numaplan.h."""
+    if orders not in ORDERS:
+        raise ValueError(f"orders is {orders!r}; it has to be 'nearest' or 'kernel'")
+    return ORDERS.index(orders)
 
 
 def bytes_to_write(name: str, buffer: WriteableBuffer) -> "tuple[Array[c_uint8], int]":

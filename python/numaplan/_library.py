@@ -23,6 +23,24 @@ class Limits(ctypes.Structure):
     _fields_ = [(name, c_uint32) for name in ("max_ranges", "max_tasks", "max_commands")]
 
 
+class NodeSet(ctypes.Structure):
+    """np_nodes."""
+
+    _fields_ = [("words", c_uint64 * 4)]
+
+
+class Options(ctypes.Structure):
+    """np_options."""
+
+    _fields_ = [("rules", c_uint32), ("orders", c_uint32), ("cpus", NodeSet)]
+
+
+class StandingPolicy(ctypes.Structure):
+    """np_policy."""
+
+    _fields_ = [("mode", c_uint32), ("home", c_uint32), ("asked", NodeSet), ("nodes", NodeSet)]
+
+
 class PlacedPage(ctypes.Structure):
     """np_placement."""
 
@@ -42,21 +60,18 @@ class TakenFrame(ctypes.Structure):
     _fields_ = [("node", c_uint8), ("number", c_uint16)]
 
 
-class NodeSet(ctypes.Structure):
-    """np_nodes."""
-
-    _fields_ = [("words", c_uint64 * 4)]
-
-
 _HANDLE, _TEXT, _U32, _U64 = POINTER(Handle), c_char_p, c_uint32, c_uint64
 _ROOM = [POINTER(c_uint8), c_size_t, POINTER(c_size_t)]
+_OPENED_BY = [_TEXT, c_size_t, POINTER(_U32), c_size_t, _TEXT, c_size_t, POINTER(Limits), _U32]
 _SIGNATURES = {
-    "core_open": [_HANDLE, _TEXT, c_size_t, POINTER(_U32), c_size_t, _TEXT, c_size_t,
-                  POINTER(Limits), _U32],
+    "core_open_by": [_HANDLE, *_OPENED_BY, POINTER(Options)],
     "core_copy": [_HANDLE, _HANDLE],
     "core_versions": [_HANDLE, POINTER(_U64), POINTER(_U64)],
     "core_ranges": [_HANDLE, POINTER(c_size_t)],
     "core_range": [_HANDLE, c_size_t, POINTER(Span), *_ROOM],
+    "core_range_at": [_HANDLE, _U64, POINTER(c_size_t)],
+    "core_range_policy": [_HANDLE, c_size_t, POINTER(StandingPolicy)],
+    "core_task_policy": [_HANDLE, _U32, POINTER(StandingPolicy)],
     "core_maps": [_HANDLE, _U32, POINTER(PlacedPage), c_size_t, *_ROOM],
     "core_map": [_HANDLE, _U64, _U64, _U64],
     "core_unmap": [_HANDLE, _U64, _U64],
@@ -86,10 +101,11 @@ _SIGNATURES = {
     "nodes_read": [_TEXT, c_size_t, POINTER(NodeSet)],
     "nodes_write": [POINTER(NodeSet), *_ROOM],
     "policy_effective": [_TEXT, c_size_t, _TEXT, c_size_t, POINTER(NodeSet)],
-    "policy_rebind": [_TEXT, c_size_t, _TEXT, c_size_t, _TEXT, c_size_t, POINTER(NodeSet)],
+    "policy_rebind_by": [_U32, _TEXT, c_size_t, _TEXT, c_size_t, _TEXT, c_size_t,
+                         POINTER(NodeSet)],
     "policy_text": [_TEXT, c_size_t, _TEXT, c_size_t, *_ROOM],
     "script_run": [_TEXT, c_size_t, *_ROOM],
-    "script_open": [_HANDLE],
+    "script_open_by": [_HANDLE, _U32],
     "answer_errno": [_U32, POINTER(_U32)],
     "version": [],
 }

@@ -1,0 +1,90 @@
+"""How the library is called: texts, answers, and what is closed at the end. Not proved."""
+
+from __future__ import annotations
+
+from ctypes import byref, c_size_t, c_uint8, c_uint32
+from types import TracebackType
+from typing import Any, Callable, TypeVar
+
+from ._causes import Closed, NoRoom, refusal
+from ._library import LIBRARY, Handle, NodeSet
+
+STILL = 40  # (no failure: a worker goes on)
+
+_Itself = TypeVar("_Itself", bound="Owner")
+
+
+def untyped(name: str) -> Callable[..., int]:
+    """A function of the library that takes values of ctypes as they are. With types that are looked
+    at in each call, a call takes twice as long."""
+    function = LIBRARY["np_" + name]
+    function.restype = c_uint32
+    return function
+
+
+def call(name: str, *arguments: Any) -> int:
+    """Calls a function of the library; raises what its answer says, but for 0 and STILL."""
+    code: int = getattr(LIBRARY, "np_" + name)(*arguments)
+    if code not in (0, STILL):
+        raise refusal(code)
+    return code
+
+
+def encoded(words: str) -> tuple[bytes, int]:
+    """A text as an argument: its bytes, and how many they are."""
+    data = words.encode()
+    return data, len(data)
+
+
+def written(name: str, *arguments: Any, room: int = 1024) -> str:
+    """What a call writes into a room of bytes; once more where it needs a larger one."""
+    length = c_size_t()
+    while True:
+        text = (c_uint8 * max(room, 1))()
+        try:
+            call(name, *arguments, text, room, byref(length))
+            return bytes(text[:length.value]).decode("utf-8", "surrogateescape")
+        except NoRoom:
+            room = length.value
+
+
+def members(words: NodeSet) -> list[int]:
+    """The nodes of a set."""
+    return [node for node in range(256) if words.words[node // 64] >> node % 64 & 1]
+
+
+class Owner:
+    """What is closed at the end of a `with`, or when nothing refers to it."""
+
+    _kind = ""
+
+    def __init__(self) -> None:
+        self._at, self._is_closed = byref(Handle()), False
+
+    def close(self) -> None:
+        """Frees it; a second time does nothing."""
+        self._is_closed = True
+        getattr(LIBRARY, f"np_{self._kind}_close")(self._at)
+
+    def _shown(self) -> str:
+        """What is told of it beside its class; raises Closed where it keeps nothing."""
+        if self._is_closed:
+            raise Closed
+        return ""
+
+    def __repr__(self) -> str:
+        try:
+            shown = self._shown()
+        except Closed:
+            shown = ", closed"
+        return f"<numaplan.{type(self).__name__}{shown}>"
+
+    def __enter__(self: _Itself) -> _Itself:
+        return self
+
+    def __exit__(self, kind: "type[BaseException] | None", fault: "BaseException | None",
+                 trace: "TracebackType | None") -> None:
+        self.close()
+
+    def __del__(self) -> None:
+        self.close()

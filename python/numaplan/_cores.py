@@ -1,0 +1,238 @@
+"""Cores: commands, ranges, policies and workers. Not proved."""
+
+from __future__ import annotations
+
+from ctypes import byref, c_size_t, c_uint8, c_uint64
+from typing import Iterator, NamedTuple, Sequence
+
+from ._calls import STILL, Owner, call, encoded, members, written
+from ._judged import list_of, u8, u16, u32, u64
+from ._library import Limits, PlacedPage, Span, StandingPolicy
+from ._machines import description, options_of
+from ._plans import Plan
+
+NO_HOME = 256  # (NP_NO_HOME)
+
+
+class Placement(NamedTuple):
+    """Where a page was placed: by this version, on this frame of this node, at this rank."""
+
+    version: int
+    page: int
+    task: int
+    rank: int
+    frame: int
+    node: int
+
+
+class Range(NamedTuple):
+    """A range of pages: address and length in bytes, the index of its first page, and the policy of
+    its own as a word, None where it has none."""
+
+    start: int
+    length: int
+    offset: int
+    policy: "str | None"
+
+
+class Policy(NamedTuple):
+    """A policy as it stands: the mode with its flag as get_mempolicy(2) tells it, its home node,
+    None where it was given none, the nodes that were asked for, and those that it has now."""
+
+    mode: int
+    home: "int | None"
+    asked: list[int]
+    nodes: list[int]
+
+
+class Core(Owner):
+    """A core: commands, published versions, and workers that look for frames."""
+
+    _kind = "core"
+
+    def __init__(self, frames: Sequence[int], distances: Sequence[Sequence[int]],
+                 memory: "str | Sequence[int] | None" = None, workers: int = 1,
+                 max_ranges: int = 65536, max_tasks: int = 1024, max_commands: int = 2**32 - 1,
+                 *, rules: str = "document", orders: str = "nearest",
+                 cpus: "str | Sequence[int] | None" = None):
+        """A machine: frames of each node, distances row by row, the nodes with memory (else those
+        that have frames). By `rules` those of the "document" count, or of the running kernel
+        ("linux"). By `orders` the "nearest" node comes first, of equal distances the lower number,
+        or each node has the order that a "kernel" makes where these nodes have `cpus` (else all)."""
+        super().__init__()
+        limits = Limits(u32("max_ranges", max_ranges), u32("max_tasks", max_tasks),
+                        u32("max_commands", max_commands))
+        call("core_open_by", self._at, *description(frames, distances, memory), byref(limits),
+             u32("workers", workers), byref(options_of(rules, orders, cpus)))
+
+    def _shown(self) -> str:
+        return " of version {}, published {}".format(*self.versions)
+
+    def copy(self) -> Core:
+        """A core that stands as this one does, to be asked "what if": what is done to one of the
+        two doesn't change the other."""
+        other = Core.__new__(Core)
+        Owner.__init__(other)
+        call("core_copy", self._at, other._at)
+        return other
+
+    def map(self, start: int, length: int, offset: "int | None" = None) -> None:
+        """Maps a span; without an offset as private anonymous memory, at start / 4096."""
+        start = u64("start", start)
+        offset = start // 4096 if offset is None else u64("offset", offset)
+        call("core_map", self._at, start, u64("length", length), offset)
+
+    def unmap(self, start: int, length: int) -> None:
+        """Unmaps the pages of a span."""
+        call("core_unmap", self._at, u64("start", start), u64("length", length))
+
+    def mbind(self, start: int, length: int, policy: str) -> None:
+        """Gives the pages of a span a policy of their own, as "bind:0-1"."""
+        call("core_mbind", self._at, u64("start", start), u64("length", length), *encoded(policy))
+
+    def set_task(self, task: int, policy: str) -> None:
+        """Gives a task its policy."""
+        call("core_set_task", self._at, u32("task", task), *encoded(policy))
+
+    def set_home(self, start: int, length: int, node: int) -> None:
+        """Gives the policies of a span's pages a home node."""
+        call("core_set_home", self._at, u64("start", start), u64("length", length),
+              u32("node", node))
+
+    def set_weight(self, node: int, weight: int) -> None:
+        """Gives a node its weight for weighted interleaving."""
+        call("core_set_weight", self._at, u32("node", node), u32("weight", weight))
+
+    def set_mems(self, nodes: "str | Sequence[int]") -> None:
+        """Changes the nodes on which memory may be placed."""
+        text = list_of("nodes", nodes)
+        call("core_set_mems", self._at, text, len(text))
+
+    def publish(self) -> None:
+        """Publishes all accepted commands."""
+        call("core_publish", self._at)
+
+    @property
+    def versions(self) -> tuple[int, int]:
+        """How many commands are accepted, and how many of them are published."""
+        accepted, published = c_uint64(), c_uint64()
+        call("core_versions", self._at, byref(accepted), byref(published))
+        return accepted.value, published.value
+
+    def _range(self, place: int) -> Range:
+        """The range at a place, from 0, in order of address."""
+        length, found, policy = c_size_t(), Span(), (c_uint8 * 1024)()
+        call("core_range", self._at, place, byref(found), policy, 1024, byref(length))
+        word = bytes(policy[:length.value]).decode()
+        return Range(found.start, found.length, found.offset, word or None)
+
+    def ranges(self, start: int = 0, end: int = 2**64 - 1) -> list[Range]:
+        """The ranges of pages by all accepted commands that have an address from `start` to below
+        `end`, in order of address: the first is found by one search."""
+        return list(self._ranges(self._place_of(start), end))
+
+    def _place_of(self, address: int) -> int:
+        """The place of the range that has an address, or else of the next one."""
+        place = c_size_t()
+        call("core_range_at", self._at, u64("address", address), byref(place))
+        return place.value
+
+    def _ranges(self, place: int, end: int) -> Iterator[Range]:
+        """The ranges from a place on that begin below an address."""
+        count = c_size_t()
+        call("core_ranges", self._at, byref(count))
+        for each in range(place, count.value):
+            found = self._range(each)
+            if found.start >= end:
+                return
+            yield found
+
+    def range_at(self, address: int) -> "Range | None":
+        """The range that has an address, in one search; None where it isn't mapped."""
+        return next(self._ranges(self._place_of(address), address + 1), None)
+
+    def policy_at(self, address: int) -> "Policy | None":
+        """The policy of its own that the range of an address has; None where it has none, or the
+        address isn't mapped."""
+        policy, place = StandingPolicy(), self._place_of(address)
+        if any(self._ranges(place, address + 1)):
+            call("core_range_policy", self._at, place, byref(policy))
+        return _policy(policy)
+
+    def task_policy(self, task: int) -> "Policy | None":
+        """The policy of a task; None where it has none."""
+        policy = StandingPolicy()
+        call("core_task_policy", self._at, u32("task", task), byref(policy))
+        return _policy(policy)
+
+    def maps(self, task: int, placements: Sequence[Placement] = ()) -> str:
+        """The ranges as /proc/PID/numa_maps shows them, with the policy by which a fault of this
+        task is served, and with the pages of these placements."""
+        placed = (PlacedPage * max(len(placements), 1))(*map(_placed, placements))
+        return written("core_maps", self._at, u32("task", task), placed, len(placements),
+                        room=4096)
+
+    def touch(self, worker: int, task: int, page: int, cpu: int) -> Placement:
+        """A worker places a page that a task touched on a node."""
+        placed = PlacedPage()
+        call("core_touch", self._at, *_request(worker, task, page, cpu), byref(placed))
+        return _placement(placed)
+
+    def begin(self, worker: int, task: int, page: int, cpu: int) -> None:
+        """An idle worker begins to look for a frame for a page. Raises Exhausted where no node of
+        its list has a frame."""
+        call("core_begin", self._at, *_request(worker, task, page, cpu))
+
+    def look(self, worker: int, word: int) -> None:
+        """A worker looks at the 64 frames of a word of its current node, and meets those that are
+        taken. Raises Exhausted where it has then met each frame of each listed node."""
+        call("core_look", self._at, u32("worker", worker), u32("word", word))
+
+    def try_frame(self, worker: int, node: int, frame: int) -> "Placement | None":
+        """A worker tries a frame of its current node: None where it is taken, and the worker goes
+        on. Raises Exhausted as `look` does."""
+        placed = PlacedPage()
+        code = call("core_try", self._at, u32("worker", worker), u8("node", node),
+                     u16("frame", frame), byref(placed))
+        return None if code == STILL else _placement(placed)
+
+    def give(self, worker: int, node: int, frame: int) -> None:
+        """A worker gives one of its frames back."""
+        call("core_give", self._at, u32("worker", worker), u8("node", node), u16("frame", frame))
+
+    def compile(self) -> Plan:
+        """The plan of all accepted commands."""
+        plan = Plan()
+        call("core_compile", self._at, plan._at)
+        return plan
+
+    def published_plan(self) -> Plan:
+        """The plan of the published commands, by which workers place pages."""
+        plan = Plan()
+        call("core_plan", self._at, plan._at)
+        return plan
+
+
+def _policy(told: StandingPolicy) -> "Policy | None":
+    """A policy as the library tells it."""
+    if told.mode == 0:
+        return None
+    home = told.home if told.home < NO_HOME else None
+    return Policy(told.mode, home, members(told.asked), members(told.nodes))
+
+
+def _request(worker: int, task: int, page: int, cpu: int) -> tuple[int, int, int, int]:
+    """The arguments of a worker's request."""
+    return u32("worker", worker), u32("task", task), u64("page", page), u32("cpu", cpu)
+
+
+def _placed(one: Placement) -> PlacedPage:
+    """A placement as the library takes it."""
+    version, page, task, rank, frame, node = one
+    return PlacedPage(u64("version", version), u64("page", page), u32("task", task),
+                      u32("rank", rank), u16("frame", frame), u8("node", node))
+
+
+def _placement(placed: PlacedPage) -> Placement:
+    """A placement as the library tells it."""
+    return Placement(*(getattr(placed, name) for name in Placement._fields))

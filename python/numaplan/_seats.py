@@ -1,0 +1,58 @@
+"""Seats at pools of frames. Not proved."""
+
+from __future__ import annotations
+
+from ctypes import byref, c_size_t
+from typing import NamedTuple, Sequence
+
+from ._calls import Owner, call
+from ._judged import u8, u8s, u16
+from ._library import TakenFrame
+from ._machines import description
+
+
+class Frame(NamedTuple):
+    """A frame that a seat took: number of its node's frames, and the node's place in the list."""
+
+    node: int
+    number: int
+    rank: int
+
+
+class Seat(Owner):
+    """A seat at pools of frames, for one thread: it takes frames, and gives back those it holds."""
+
+    _kind = "seat"
+
+    def __init__(self, frames: Sequence[int], distances: Sequence[Sequence[int]],
+                 memory: "str | Sequence[int] | None" = None):
+        """The first seat at new pools of a machine's frames, described as for a core."""
+        super().__init__()
+        self._pools = object()
+        call("seat_open", self._at, *description(frames, distances, memory))
+
+    def split(self) -> Seat:
+        """A seat at the same pools, for another thread; it holds nothing."""
+        other = Seat.__new__(Seat)
+        Owner.__init__(other)
+        other._pools = self._pools
+        call("seat_split", self._at, other._at)
+        return other
+
+    def take(self, nodes: Sequence[int]) -> Frame:
+        """Takes a free frame of the first of the listed nodes that has one; raises AllTaken where
+        each frame of each was found taken."""
+        frame, rank, listed = TakenFrame(), c_size_t(), u8s("nodes", nodes)
+        call("seat_take", self._at, listed, len(listed), byref(frame), byref(rank))
+        return Frame(frame.node, frame.number, rank.value)
+
+    def give(self, node: int, number: int) -> None:
+        """Gives back a frame; raises NotOwned where the seat doesn't hold it."""
+        call("seat_give", self._at, u8("node", node), u16("number", number))
+
+    def join(self, other: Seat) -> None:
+        """Gets the frames that another seat at the same pools holds, which is closed."""
+        if other is self or other._pools is not self._pools:
+            raise ValueError("not another seat at the same pools")
+        call("seat_join", self._at, other._at)
+        other._is_closed = True
