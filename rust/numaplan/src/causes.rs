@@ -94,6 +94,10 @@ causes! {
         "max_ranges is above 65536, or max_tasks above 1024; use less";
     55 BAD_WORKERS "BadWorkers"
         "no worker, or more than 16; use 1 to 16";
+    56 BAD_RULES "BadRules"
+        "no rules have this number; numaplan.h has those that there are";
+    57 BAD_ORDERS "BadOrders"
+        "no orders have this number; numaplan.h has those that there are";
     60 LIST_EMPTY "ListEmpty"
         "nothing stands where a node should; name one, or leave out the comma";
     61 LIST_BAD_DIGIT "ListBadDigit"
@@ -120,11 +124,13 @@ causes! {
 
 impl Refused {
     /// The name of the cause, as "Unaligned"; empty where no answer has this number.
+    #[must_use]
     pub fn name(self) -> &'static str {
         self.row().1
     }
 
     /// The cause in words, and what to do; empty where no answer has this number.
+    #[must_use]
     pub fn words(self) -> &'static str {
         self.row().2
     }

@@ -52,6 +52,21 @@ pub(crate) struct Nodes {
     pub words: [u64; 4],
 }
 
+#[repr(C)]
+pub(crate) struct Options {
+    pub rules: u32,
+    pub orders: u32,
+    pub cpus: Nodes,
+}
+
+#[repr(C)]
+pub(crate) struct StandingPolicy {
+    pub mode: u32,
+    pub home: u32,
+    pub asked: Nodes,
+    pub nodes: Nodes,
+}
+
 /// Where a page was placed: by this version, on this frame of this node, at this rank of its list.
 #[repr(C)]
 #[derive(Clone, Copy, Debug, Default, PartialEq, Eq)]
@@ -69,11 +84,12 @@ const _: () = assert!(size_of::<Frame>() == 4);
 const _: () = assert!(size_of::<Placement>() == 32 && size_of::<Counts>() == 2048);
 const _: () = assert!(size_of::<Span>() == 24);
 const _: () = assert!(size_of::<Nodes>() == 32);
+const _: () = assert!(size_of::<Options>() == 40 && size_of::<StandingPolicy>() == 72);
 
 #[rustfmt::skip]
 #[link(name = "numaplan", kind = "static")]
 extern "C" {
-    pub(crate) fn np_core_open(core: &mut Handle, memory: *const u8, memory_length: usize, frames: *const u32, nodes: usize, distances: *const u8, distances_count: usize, limits: &Limits, workers: u32) -> u32;
+    pub(crate) fn np_core_open_by(core: &mut Handle, memory: *const u8, memory_length: usize, frames: *const u32, nodes: usize, distances: *const u8, distances_count: usize, limits: &Limits, workers: u32, options: &Options) -> u32;
     pub(crate) fn np_core_close(core: &mut Handle);
     pub(crate) fn np_core_copy(core: &mut Handle, copy: &mut Handle) -> u32;
     pub(crate) fn np_core_versions(core: &mut Handle, accepted: &mut u64, published: &mut u64) -> u32;
@@ -87,6 +103,9 @@ extern "C" {
     pub(crate) fn np_core_publish(core: &mut Handle) -> u32;
     pub(crate) fn np_core_ranges(core: &mut Handle, count: &mut usize) -> u32;
     pub(crate) fn np_core_range(core: &mut Handle, index: usize, range: &mut Span, policy: *mut u8, room: usize, policy_length: &mut usize) -> u32;
+    pub(crate) fn np_core_range_at(core: &mut Handle, address: u64, index: &mut usize) -> u32;
+    pub(crate) fn np_core_range_policy(core: &mut Handle, index: usize, policy: &mut StandingPolicy) -> u32;
+    pub(crate) fn np_core_task_policy(core: &mut Handle, task: u32, policy: &mut StandingPolicy) -> u32;
     pub(crate) fn np_core_maps(core: &mut Handle, task: u32, placements: *const Placement, count: usize, text: *mut u8, room: usize, length: &mut usize) -> u32;
     pub(crate) fn np_core_touch(core: &mut Handle, worker: u32, task: u32, page: u64, cpu: u32, placed: &mut Placement) -> u32;
     pub(crate) fn np_core_begin(core: &mut Handle, worker: u32, task: u32, page: u64, cpu: u32) -> u32;
@@ -110,10 +129,10 @@ extern "C" {
     pub(crate) fn np_nodes_read(text: *const u8, length: usize, nodes: &mut Nodes) -> u32;
     pub(crate) fn np_nodes_write(nodes: &Nodes, text: *mut u8, room: usize, length: &mut usize) -> u32;
     pub(crate) fn np_policy_effective(policy: *const u8, policy_length: usize, allowed: *const u8, allowed_length: usize, nodes: &mut Nodes) -> u32;
-    pub(crate) fn np_policy_rebind(policy: *const u8, policy_length: usize, old: *const u8, old_length: usize, new: *const u8, new_length: usize, nodes: &mut Nodes) -> u32;
+    pub(crate) fn np_policy_rebind_by(rules: u32, policy: *const u8, policy_length: usize, old: *const u8, old_length: usize, new: *const u8, new_length: usize, nodes: &mut Nodes) -> u32;
     pub(crate) fn np_policy_text(policy: *const u8, policy_length: usize, allowed: *const u8, allowed_length: usize, text: *mut u8, room: usize, length: &mut usize) -> u32;
     pub(crate) fn np_script_run(script: *const u8, length: usize, answers: *mut u8, room: usize, written: &mut usize) -> u32;
-    pub(crate) fn np_script_open(script: &mut Handle) -> u32;
+    pub(crate) fn np_script_open_by(script: &mut Handle, rules: u32) -> u32;
     pub(crate) fn np_script_close(script: &mut Handle);
     pub(crate) fn np_script_line(script: &mut Handle, line: *const u8, length: usize, needed: &mut usize) -> u32;
     pub(crate) fn np_script_answer(script: &mut Handle, answer: *mut u8, room: usize, length: &mut usize) -> u32;
