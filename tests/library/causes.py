@@ -2,11 +2,11 @@
 are a file with the header's answers, as `NP_CLOSED 1`, and one with what tests/library/causes.rs
 prints, where there is a Rust compiler. Prints what is wrong; not proved."""
 
-import ast
 import ctypes
 import os
 import pickle
 import sys
+from types import FunctionType
 
 import numaplan
 from numaplan import Core, Plan, Refused, Script, Seat
@@ -89,9 +89,10 @@ want(repr(Plan()), "<numaplan.Plan, closed>", "a plan of nothing")
 names = {}
 exec("from numaplan import *", names)
 want(sorted(name for name in numaplan.__all__ if name not in names), [], "__all__")
-source = ast.parse(open(numaplan.__file__, encoding="utf-8").read())
-made = {one.name for one in source.body if isinstance(one, (ast.ClassDef, ast.FunctionDef))}
+made = {name for name, one in vars(numaplan).items() if isinstance(one, (type, FunctionType))}
 want({name for name in made if name[0] != "_"} - set(numaplan.__all__), set(), "names not in __all__")
+want({vars(numaplan)[name].__module__ for name in made if isinstance(vars(numaplan)[name], type)},
+     {"numaplan"}, "where classes are said to be")
 want(os.path.exists(os.path.join(os.path.dirname(numaplan.__file__), "py.typed")), True, "py.typed")
 
 print("\n".join(wrong))

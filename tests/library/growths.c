@@ -93,6 +93,7 @@ static int round_of(struct kept *kept) {
     static const uint32_t frames[2] = {8, 8};
     static const uint8_t distances[4] = {10, 20, 20, 10};
     static const np_limits limits = {65536, 1024, UINT32_MAX};
+    static const np_options kernel = {NP_RULES_LINUX, NP_ORDERS_KERNEL, {{0, 0, 0, 0}}};
     static const np_placement placed = {2, 16, 1, 0, 0, 0};
     static const uint8_t nodes[2] = {0, 1};
     np_core *core = &kept->core;
@@ -100,7 +101,7 @@ static int round_of(struct kept *kept) {
     uint8_t text[200];
     size_t length, rank;
     int count = 0;
-    MAKE(np_core_open(core, TEXT("0-1"), frames, 2, distances, 4, &limits, 2));
+    MAKE(np_core_open_by(core, TEXT("0-1"), frames, 2, distances, 4, &limits, 2, &kernel));
     MAKE(np_core_map(core, 0x10000, 0x8000, 16));
     MAKE(np_core_set_weight(core, 1, 3));
     MAKE(np_core_mbind(core, 0x10000, 0x4000, TEXT("weighted:0-1")));
