@@ -5,7 +5,7 @@ import ctypes
 import os
 import platform
 import shutil
-import signal
+import socket
 import sys
 import tempfile
 
@@ -13,7 +13,8 @@ from .emulator import Emulator
 from .machine import Machine, Unfit
 from .made_up import NODES, WEIGHTS, make_tree
 from .report import Records, Report, Wanted
-from .tracing import CONTINUE, LIBC, OPTIONS, SET_OPTIONS, TRACEME, install_filter, ptrace
+from .tracing import LIBC, OPTIONS, SEIZE, install_filter, ptrace
+from .waiting import block_signals, free_signals
 
 OWN_FAULT, ELSEWHERE = 125, 3
 ROOM = "numaplan-emulate-"  # and the number of the process: a folder of files that are made up
@@ -91,19 +92,18 @@ def cover(room):
                     f"{target} can't be covered")
 
 
-def run_program(room, program):
-    """In the child; never comes back."""
+def run_program(room, program, parent):
+    """In the child; never comes back. It goes on once the parent traces it."""
     status = OWN_FAULT
     try:
         enter_namespace()
         cover(room)
         LIBC.prctl(NO_HUGE_PAGES, 1, 0, 0, 0)
-        try:
-            ptrace(TRACEME, 0)
-        except OSError as fault:
-            raise Unfit(f"ptrace isn't allowed here: {fault.strerror}") from fault
-        os.kill(os.getpid(), signal.SIGSTOP)
+        parent.send(b"r")
+        if not parent.recv(1):
+            return
         install_filter()
+        free_signals()
         status = 127
         os.execvp(program[0], program)
     except Unfit as fault:
@@ -142,23 +142,25 @@ class Outcome:
 
 
 def begin(words, room):
-    """The number of the child, stopped before it becomes the program; else its status."""
+    """The number of the child, traced, and about to become the program."""
+    mine, other = socket.socketpair()
     child = os.fork()
     if child == 0:
-        run_program(room, words.program)
-    _, status = os.waitpid(child, 0)
-    if not os.WIFSTOPPED(status):
+        mine.close()
+        run_program(room, words.program, other)
+    other.close()
+    if not mine.recv(1):
+        os.waitpid(child, 0)
         sys.exit(OWN_FAULT)
-    ptrace(SET_OPTIONS, child, 0, OPTIONS)
+    try:
+        ptrace(SEIZE, child, 0, OPTIONS)
+    except OSError as fault:
+        mine.close()
+        os.waitpid(child, 0)
+        raise Unfit(f"ptrace isn't allowed here: {fault.strerror}") from fault
+    mine.send(b"g")
+    mine.close()
     return child
-
-
-def pass_signals(child):
-    """Signals that end programs are for the program alone; what it then does counts."""
-    signal.signal(signal.SIGINT, signal.SIG_IGN)  # (a terminal sends it to the program too)
-    signal.signal(signal.SIGQUIT, signal.SIG_IGN)
-    for one in (signal.SIGTERM, signal.SIGHUP):
-        signal.signal(one, lambda number, _: os.kill(child, number))
 
 
 def write_report(path, text):
@@ -178,8 +180,7 @@ def emulate(words, room):
     make_tree(machine, room)
     child = begin(words, room)
     emulator = Emulator(machine, room, child, outcome.is_asked(), outcome.add, log)
-    pass_signals(child)
-    ptrace(CONTINUE, child)
+    block_signals()
     status = emulator.serve()
     emulator.say("stops:", ", ".join(f"{name} {count}" for name, count in emulator.stops.most_common()))
     if not emulator.has_begun or status is None:

@@ -12,11 +12,11 @@ from .calls import ANSWERED
 from .made_up import file_for
 from .mappings import FOLLOWED
 from .space import Space
-from .tracing import CLONE, CONTINUE, EXEC, EXIT, FORK, NAMES, SECCOMP, TO_CALL_END, TOP, VFORK
+from .tracing import CLONE, CONTINUE, EXEC, EXIT, FORK, LISTEN, NAMES, SECCOMP, STOP, TO_CALL_END, TOP, VFORK
 from .tracing import Failed, cpu_of, fail, message_of, peek, poke, ptrace, registers_of, set_registers, text_at
+from .waiting import Waiting
 
 SHARES_MEMORY = 0x100  # CLONE_VM
-ANY_CHILD = 0x40000000  # __WALL
 GONE = (ProcessLookupError, FileNotFoundError)
 
 
@@ -24,7 +24,7 @@ class Task:
     """A thread: its number, its address space, and the word of its policy."""
 
     def __init__(self, number, space, word):
-        self.number, self.space, self.word, self.at_end, self.is_new = number, space, word, None, False
+        self.number, self.space, self.word, self.at_end, self.is_still = number, space, word, None, False
         space.users += 1
         space.leader = space.leader or number
 
@@ -35,7 +35,7 @@ class Emulator:
     def __init__(self, machine, room, first, watches, ended, log):
         self.machine, self.room, self.first, self.watches = machine, room, first, watches
         self.ended, self.log = ended, log  # what is told of each address space that ends; a file or None
-        self.early, self.has_begun, self.stops = set(), False, Counter()
+        self.early, self.has_begun, self.stops = {}, False, Counter()
         self.tasks = {first: Task(first, Space(machine), None)}
 
     def say(self, *words):
@@ -149,10 +149,7 @@ class Emulator:
             except numaplan.Refused:  # (too many tasks with a policy: the report says so)
                 child.word = None
         if number in self.early:
-            self.early.discard(number)
-            ptrace(CONTINUE, number)
-        else:
-            child.is_new = True
+            self.at_stop(child, self.early.pop(number))
 
     def at_exec(self, number, task):
         """The program of a process is another one: its memory is new, its policy is kept."""
@@ -179,13 +176,22 @@ class Emulator:
             task.space.core.close()
             task.space.core = None
 
+    def at_stop(self, task, signal_):
+        """Each task begins with a stop, and wakes from another one with one (SIGTRAP). By any other signal
+        the process is stopped: the task stays as it is until something wakes it."""
+        task.is_still = signal_ != signal.SIGTRAP
+        ptrace(LISTEN if task.is_still else CONTINUE, task.number)
+
     def step(self, number, status):
         """Goes on from a stop."""
         task = self.tasks.get(number)
-        if task is None:
-            self.early.add(number)
-            return
         signal_, event, go_on = status >> 8 & 0xFF, status >> 16 & 0xFF, CONTINUE
+        if task is None:
+            self.early[number] = signal_  # (its parent's call isn't told yet)
+            return
+        if event == STOP:
+            self.at_stop(task, signal_)
+            return
         if event == SECCOMP:
             go_on = self.at_call(task)
         elif event in (FORK, VFORK, CLONE):
@@ -198,19 +204,13 @@ class Emulator:
             finish, task.at_end = task.at_end, None
             finish(registers_of(number))
         is_ours = bool(event) or signal_ == signal.SIGTRAP | 0x80
-        if task.is_new and signal_ == signal.SIGSTOP:
-            task.is_new, is_ours = False, True  # (a child that is traced begins with it)
         ptrace(go_on, number, 0, 0 if is_ours else signal_)
 
     def serve(self):
         """Until all have ended: the status of the first process as the shell counts it, None where emulate
         itself was at fault."""
-        code = None
-        while self.tasks:
-            try:
-                number, status = os.waitpid(-1, ANY_CHILD)
-            except ChildProcessError:
-                break
+        code, waiting = None, Waiting(self)
+        for number, status in waiting.events():
             try:
                 if os.WIFSTOPPED(status):
                     self.step(number, status)
