@@ -13,6 +13,7 @@ from .emulator import Emulator
 from .machine import Machine, Unfit
 from .made_up import NODES, WEIGHTS, make_tree
 from .report import Records, Report, Wanted
+from .shown import write_report
 from .tracing import LIBC, OPTIONS, SEIZE, install_filter, ptrace
 from .waiting import block_signals, free_signals
 
@@ -43,7 +44,8 @@ def read_words():
     words.add_argument("--mems", metavar="LIST", help="the allowed nodes, as 0-2")
     words.add_argument("--record", metavar="DIR", help="writes a script for each address space")
     words.add_argument("--report", metavar="FILE",
-        help="writes where pages are as each process ends, and refused calls; - is standard error")
+        help="writes where pages are as each process ends, and refused calls, in the form that the name"
+        " ends with (.json, .svg, .html, else text); - is standard error. SIGUSR1 asks for it before the end")
     words.add_argument("--expect", metavar="FILE",
         help="lines NAME NODE=PAGES,..: where the pages of an area are to be as PROGRAM ends")
     words.add_argument("--log", metavar="FILE", help="writes each call that was answered")
@@ -124,21 +126,25 @@ def run_program(room, program, parent):
 class Outcome:
     """What is asked of a run: told of each address space that ends."""
 
-    def __init__(self, words):
+    def __init__(self, words, machine):
         self.records = Records(words.record) if words.record else None
-        self.report = Report() if words.report else None
+        self.path, self.report = words.report, Report(machine)
         self.wanted = Wanted(words.expect) if words.expect else None
 
     def is_asked(self):
-        return bool(self.records or self.report or self.wanted)
+        return bool(self.records or self.path or self.wanted)
 
     def add(self, emulator, task):
         if self.records:
             self.records.add(task.space)
-        if self.report:
+        if self.path:
             self.report.add(task.space, task.word)
         if self.wanted and task.space.leader == emulator.first:
             self.wanted.compare(task.space)
+
+    def write_report(self, standing=()):
+        if self.path:
+            write_report(self.path, self.report.told(standing))
 
 
 def begin(words, room):
@@ -163,30 +169,19 @@ def begin(words, room):
     return child
 
 
-def write_report(path, text):
-    try:
-        if path == "-":
-            sys.stderr.write(text)
-        else:
-            with open(path, "w", encoding="utf-8", errors="surrogateescape") as file:
-                file.write(text)
-    except OSError as fault:
-        raise Unfit(f"{path}: {fault.strerror}") from fault
-
-
 def emulate(words, room):
-    machine, outcome = Machine(words.machine, words.mems), Outcome(words)
+    machine = Machine(words.machine, words.mems)
+    outcome = Outcome(words, machine)
     log = open_log(words.log)
     make_tree(machine, room)
     child = begin(words, room)
-    emulator = Emulator(machine, room, child, outcome.is_asked(), outcome.add, log)
+    emulator = Emulator(machine, room, child, outcome, log)
     block_signals()
     status = emulator.serve()
     emulator.say("stops:", ", ".join(f"{name} {count}" for name, count in emulator.stops.most_common()))
     if not emulator.has_begun or status is None:
         return OWN_FAULT if status is None else status
-    if outcome.report:
-        write_report(words.report, outcome.report.text(machine))
+    outcome.write_report()
     if outcome.wanted:
         for failure in outcome.wanted.failures():
             tell(failure)

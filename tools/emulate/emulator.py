@@ -30,11 +30,12 @@ class Task:
 
 
 class Emulator:
-    """`watches`: everything that is placed is of interest, not only what a policy asks for."""
+    """`outcome` is told of each address space that ends. Where it is asked for anything, everything that is
+    placed is of interest, not only what a policy asks for."""
 
-    def __init__(self, machine, room, first, watches, ended, log):
-        self.machine, self.room, self.first, self.watches = machine, room, first, watches
-        self.ended, self.log = ended, log  # what is told of each address space that ends; a file or None
+    def __init__(self, machine, room, first, outcome, log):
+        self.machine, self.room, self.first, self.log = machine, room, first, log
+        self.outcome, self.watches = outcome, outcome.is_asked()
         self.early, self.has_begun, self.stops = {}, False, Counter()
         self.tasks = {first: Task(first, Space(machine), None)}
 
@@ -172,7 +173,7 @@ class Emulator:
         """A task has left its address space."""
         task.space.users -= 1
         if task.space.users == 0 and task.space.core is not None:
-            self.ended(self, task)
+            self.outcome.add(self, task)
             task.space.core.close()
             task.space.core = None
 
@@ -205,6 +206,20 @@ class Emulator:
             finish(registers_of(number))
         is_ours = bool(event) or signal_ == signal.SIGTRAP | 0x80
         ptrace(go_on, number, 0, 0 if is_ours else signal_)
+
+    def asked(self):
+        """A report is wanted while the program runs (SIGUSR1)."""
+        leaders = {id(task.space): task for task in self.tasks.values() if task.number == task.space.leader}
+        standing = []
+        for task in leaders.values():
+            try:
+                if self.follows(task):
+                    self.sweep(task)
+            except GONE:
+                pass  # (it ends just now: as it was seen last)
+            if task.space.core is not None:
+                standing.append((task.space, task.word))
+        self.outcome.write_report(standing)
 
     def serve(self):
         """Until all have ended: the status of the first process as the shell counts it, None where emulate

@@ -4,6 +4,7 @@
 import os
 import re
 import tempfile
+from collections import Counter
 
 from .machine import KILOBYTES, list_text
 from .policies import shown_form
@@ -84,8 +85,9 @@ def range_rows(space, word):
         yield start, end, policy or served, nodes
 
 
-def counts_text(nodes):
-    return " ".join(f"N{node}={nodes.count(node)}" for node in sorted(set(nodes)))
+def pages_text(pages):
+    """Pages by node, as numa_maps has them."""
+    return " ".join(f"N{node}={count}" for node, count in sorted(pages.items()))
 
 
 def numa_maps_text(all_, task):
@@ -94,7 +96,7 @@ def numa_maps_text(all_, task):
     all_.sweep(task)
     rows = []
     for start, _, policy, nodes in range_rows(task.space, task.word):
-        placed = f" anon={len(nodes)} dirty={len(nodes)} {counts_text(nodes)} kernelpagesize_kB=4" if nodes else ""
+        placed = f" anon={len(nodes)} dirty={len(nodes)} {pages_text(Counter(nodes))} kernelpagesize_kB=4" if nodes else ""
         rows.append(f"{start:08x} {policy}{placed}\n")
     return "".join(rows)
 

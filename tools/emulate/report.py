@@ -6,14 +6,14 @@ from collections import Counter
 
 from .areas import shown_name
 from .machine import Unfit, read_lines
-from .made_up import counts_text, range_rows
+from .made_up import range_rows
 
 WANTED = re.compile(r"(.+) (\d+=\d+(?:,\d+=\d+)*)$")
 
 
 def names_between(space, start, end):
     names = dict.fromkeys(area.name for area in space.areas if area.name and area.start < end and start < area.end)
-    return ", ".join(map(shown_name, names))
+    return list(map(shown_name, names))
 
 
 class Records:
@@ -36,27 +36,33 @@ class Records:
 
 
 class Report:
-    """By process and range where pages are at its end, and the refused calls."""
+    """By process and range where pages are, and the refused calls: of each address space at its end, and
+    of those that stand when the report is written. shown.py writes it."""
 
-    def __init__(self):
-        self.parts = []
+    def __init__(self, machine):
+        self.machine, self.parts = machine, []
 
     def add(self, space, word):
-        lines, all_ = [f"process {space.leader} {space.name}" + (f", policy {word}" if word else "")], []
-        for start, end, policy, nodes in range_rows(space, word):
-            if nodes:
-                all_ += nodes
-                name = names_between(space, start, end)
-                lines.append(f"{start:08x}-{end:08x} {policy} anon={len(nodes)} {counts_text(nodes)}"
-                             " kernelpagesize_kB=4" + (f"  # {name}" if name else ""))
-        lines.append(f"total anon={len(all_)} {counts_text(all_)}".rstrip())
-        for (what, why), times in space.refused.items():
-            lines.append(f"refused {what}: {why}" + (f" ({times} times)" if times > 1 else ""))
-        self.parts.append("\n".join(lines))
+        self.parts.append(part_of(space, word, "ended"))
 
-    def text(self, machine):
-        hits = " ".join(f"N{node}={count}" for node, (count, *_) in enumerate(machine.hits) if count)
-        return "\n\n".join(self.parts + [f"placed in all, as pages were first touched: {hits or 'none'}"]) + "\n"
+    def told(self, standing=()):
+        """The whole report, as JSON has it; `standing`: (space, policy) of each that hasn't ended."""
+        parts = self.parts + [part_of(space, word, "running") for space, word in standing]
+        hits = {node: count for node, (count, *_) in enumerate(self.machine.hits) if count}
+        return {"nodes": self.machine.count, "processes": parts, "placed": hits}
+
+
+def part_of(space, word, state):
+    """What a report says of an address space."""
+    rows, all_ = [], Counter()
+    for start, end, policy, nodes in range_rows(space, word):
+        if nodes:
+            all_.update(nodes)
+            rows.append({"start": start, "end": end, "policy": policy, "pages": dict(sorted(Counter(nodes).items())),
+                         "names": names_between(space, start, end)})
+    refused = [{"call": what, "reason": why, "times": times} for (what, why), times in space.refused.items()]
+    return {"process": space.leader, "program": space.name, "state": state, "policy": word, "ranges": rows,
+            "pages": dict(sorted(all_.items())), "refused": refused}
 
 
 class Wanted:
