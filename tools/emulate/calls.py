@@ -5,8 +5,9 @@ import struct
 
 import numaplan
 
+from .cpus import getcpu
 from .policies import mode_and_nodes, read_mask, shown_form, word_of, write_mask
-from .tracing import PAGE, TOP, cpu_of, fail, peek, poke
+from .tracing import PAGE, TOP, fail, peek, poke
 
 STRICT, MOVE, MOVE_ALL = 1, 2, 4  # MPOL_MF_*
 AS_NODE, AT_ADDRESS, ALLOWED = 1, 2, 4  # MPOL_F_*
@@ -160,15 +161,6 @@ def set_mempolicy_home_node(all_, task, start, length, node, flags, *_):
     length = whole_pages(length)
     all_.sweep(task, start, min(start + length, TOP))
     task.space.do("set_home", start, length, min(node, 2**32 - 1))
-    return 0
-
-
-def getcpu(all_, task, cpu, node, *_):
-    now = cpu_of(task.number)
-    if cpu:
-        poke(task.number, cpu, struct.pack("I", now))
-    if node:
-        poke(task.number, node, struct.pack("I", all_.machine.node_of.get(now, 0)))
     return 0
 
 

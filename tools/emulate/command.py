@@ -9,13 +9,14 @@ import socket
 import sys
 import tempfile
 
-from .emulator import Emulator
-from .machine import Machine, Unfit
-from .made_up import NODES, WEIGHTS, make_tree
+from .emulator import Emulator, watched_on
+from .machine import Machine
+from .made_up import CPUS, NODES, WEIGHTS, make_tree
 from .report import Records, Report, Wanted
 from .shown import write_report
 from .tracing import LIBC, OPTIONS, SEIZE, install_filter, ptrace
 from .waiting import block_signals, free_signals
+from .words import Unfit
 
 OWN_FAULT, ELSEWHERE = 125, 3
 ROOM = "numaplan-emulate-"  # and the number of the process: a folder of files that are made up
@@ -42,6 +43,8 @@ def read_words():
     words.add_argument("--machine", metavar="FILE",
         help="a script whose lines machine, mems and weight describe it (otherwise two nodes)")
     words.add_argument("--mems", metavar="LIST", help="the allowed nodes, as 0-2")
+    words.add_argument("--cpus", metavar="NUMBERS",
+        help="made-up CPUs in place of this machine's: so many a node, as 4, or for each node, as 4,4,0,0")
     words.add_argument("--record", metavar="DIR", help="writes a script for each address space")
     words.add_argument("--report", metavar="FILE",
         help="writes where pages are as each process ends, and refused calls, in the form that the name"
@@ -88,13 +91,13 @@ def enter_namespace():
 
 def cover(room):
     """Puts the made-up folders over those of sysfs."""
-    for source, target in (("node", NODES), ("weights", WEIGHTS)):
-        if target == NODES or os.path.isdir(target):
+    for source, target in (("node", NODES), ("weights", WEIGHTS), ("cpu", CPUS)):
+        if os.path.isdir(f"{room}/{source}") and (target == NODES or os.path.isdir(target)):
             checked(LIBC.mount(f"{room}/{source}".encode(), target.encode(), None, BIND, None),
                     f"{target} can't be covered")
 
 
-def run_program(room, program, parent):
+def run_program(room, program, watched, parent):
     """In the child; never comes back. It goes on once the parent traces it."""
     status = OWN_FAULT
     try:
@@ -104,7 +107,7 @@ def run_program(room, program, parent):
         parent.send(b"r")
         if not parent.recv(1):
             return
-        install_filter()
+        install_filter(watched)
         free_signals()
         status = 127
         os.execvp(program[0], program)
@@ -147,13 +150,13 @@ class Outcome:
             write_report(self.path, self.report.told(standing))
 
 
-def begin(words, room):
+def begin(program, room, watched):
     """The number of the child, traced, and about to become the program."""
     mine, other = socket.socketpair()
     child = os.fork()
     if child == 0:
         mine.close()
-        run_program(room, words.program, other)
+        run_program(room, program, watched, other)
     other.close()
     if not mine.recv(1):
         os.waitpid(child, 0)
@@ -170,11 +173,11 @@ def begin(words, room):
 
 
 def emulate(words, room):
-    machine = Machine(words.machine, words.mems)
+    machine = Machine(words.machine, words.mems, words.cpus)
     outcome = Outcome(words, machine)
     log = open_log(words.log)
     make_tree(machine, room)
-    child = begin(words, room)
+    child = begin(words.program, room, watched_on(machine))
     emulator = Emulator(machine, room, child, outcome, log)
     block_signals()
     status = emulator.serve()

@@ -9,15 +9,27 @@ from collections import Counter
 import numaplan
 
 from .calls import ANSWERED
+from .cpus import OF_MADE_UP
 from .made_up import file_for
 from .mappings import FOLLOWED
 from .space import Space
 from .tracing import CLONE, CONTINUE, EXEC, EXIT, FORK, LISTEN, NAMES, SECCOMP, STOP, TO_CALL_END, TOP, VFORK
-from .tracing import Failed, cpu_of, fail, message_of, peek, poke, ptrace, registers_of, set_registers, text_at
+from .tracing import Failed, fail, message_of, peek, poke, ptrace, registers_of, set_registers, text_at
+from .vdso import make_getcpu_a_call
 from .waiting import Waiting
 
 SHARES_MEMORY = 0x100  # CLONE_VM
 GONE = (ProcessLookupError, FileNotFoundError)
+
+
+def answered_on(machine):
+    """The calls that the kernel never sees."""
+    return ANSWERED | OF_MADE_UP if machine.cpus.are_made_up else ANSWERED
+
+
+def watched_on(machine):
+    """The calls that stop a program."""
+    return {"open", "openat", *answered_on(machine), *FOLLOWED}
 
 
 class Task:
@@ -36,17 +48,24 @@ class Emulator:
     def __init__(self, machine, room, first, outcome, log):
         self.machine, self.room, self.first, self.log = machine, room, first, log
         self.outcome, self.watches = outcome, outcome.is_asked()
+        self.answered = answered_on(machine)
         self.early, self.has_begun, self.stops = {}, False, Counter()
-        self.tasks = {first: Task(first, Space(machine), None)}
+        self.tasks = {}
+        self.add_task(first, Space(machine), None)
 
     def say(self, *words):
         if self.log:
             print(*words, file=self.log, flush=True)
 
+    def add_task(self, number, space, word, parent=None, flags=0):
+        task = self.tasks[number] = Task(number, space, word)
+        self.machine.cpus.begin(task, parent, flags)
+        return task
+
     # ---- what calls ask for
 
     def node_of(self, task):
-        return self.machine.node_of.get(cpu_of(task.number), 0)
+        return self.machine.cpus.node_of.get(self.machine.cpus.of(task), 0)
 
     def wake(self, task):
         """The core of the task's address space, as it is now."""
@@ -80,7 +99,7 @@ class Emulator:
         """The result of a call about policies: the kernel never sees it."""
         name, words = NAMES[registers.orig_rax], registers.arguments()
         try:
-            result = ANSWERED[name](self, task, *words)
+            result = self.answered[name](self, task, *words)
         except Failed as fault:
             result = -fault.number
             task.space.refuse(f"{name} by {task.number}", str(fault))
@@ -117,7 +136,7 @@ class Emulator:
         registers = registers_of(task.number)
         name = NAMES.get(registers.orig_rax)
         self.stops[name] += 1
-        if name in ANSWERED:
+        if name in self.answered:
             registers.rax = self.answer(task, registers) & 2**64 - 1
             registers.orig_rax = 2**64 - 1
             set_registers(task.number, registers)
@@ -143,7 +162,7 @@ class Emulator:
             if self.follows(task):
                 self.sweep(task)  # (what was touched by now is the parent's)
             space = space.copy()
-        child = self.tasks[number] = Task(number, space, task.word)
+        child = self.add_task(number, space, task.word, task, flags)
         if space.core is not None and child.word:
             try:
                 space.do("set_task", number, child.word)
@@ -157,7 +176,9 @@ class Emulator:
         self.has_begun = True
         old = self.tasks.pop(message_of(number), task)
         self.leave(old)
-        task = self.tasks[number] = Task(number, Space(self.machine), old.word)
+        task = self.add_task(number, Space(self.machine), old.word, old)
+        if not make_getcpu_a_call(number):
+            self.say(number, "getcpu of the vDSO can't be told")
         with open(f"/proc/{number}/comm", encoding="utf-8", errors="replace") as file:
             task.space.name = file.read().rstrip("\n")
 

@@ -1,31 +1,14 @@
-"""The machine that a program is to see: what a numaplan script says of it, and the CPUs of its nodes, which
-are those of this machine, shared out. Not proved."""
-
-import os
+"""The machine that a program is to see: what a numaplan script says of it, and the CPUs of its nodes. Not
+proved."""
 
 import numaplan
+
+from .cpus import read_cpus
+from .words import Unfit, list_text, read_lines
 
 DEFAULT = "machine 2 0-1 0 flat"
 KILOBYTES = 4 << 20  # that each node with memory shows
 TAKEN = ("limits", "machine", "weight", "mems")
-
-
-class Unfit(Exception):
-    """What is asked for can't be emulated; the text is for the user."""
-
-
-def list_text(nodes):
-    """Nodes as a list, as 0-2,5."""
-    return numaplan.nodes_text(sorted(nodes)) if nodes else ""
-
-
-def read_lines(path):
-    """The lines of a file, with their numbers."""
-    try:
-        with open(path, encoding="utf-8", errors="replace") as file:
-            return list(enumerate(file.read().splitlines(), 1))
-    except OSError as fault:
-        raise Unfit(f"{path}: {fault.strerror}") from fault
 
 
 def machine_lines(path):
@@ -57,14 +40,14 @@ def distance_rows(count, text):
 class Machine:
     """Nodes, memory, distances, weights, the nodes that are allowed, and CPUs."""
 
-    def __init__(self, path, allowed):
+    def __init__(self, path, allowed=None, cpus=None):
         lines = machine_lines(path)
         count, memory, _, distances = lines["machine"][0]
         self.count, self.memory = int(count, 0), set(numaplan.nodes(memory))
         self.distances = distance_rows(self.count, distances)
         self.weights = {int(node, 0): int(weight, 0) for node, weight in lines.get("weight", [])}
         self.allowed = self.allowed_nodes(allowed or (lines["mems"][-1][0] if "mems" in lines else None))
-        self.share_out(sorted(os.sched_getaffinity(0)))
+        self.cpus = read_cpus(cpus, self.count, set(range(self.count)))
         # pages placed on each node, and among them those interleaved, and those touched on a CPU of the node
         self.hits = [[0, 0, 0] for _ in range(self.count)]
 
@@ -81,12 +64,6 @@ class Machine:
         if not asked & self.memory:
             raise Unfit(f"--mems {text}: none of these nodes has memory")
         return asked & self.memory
-
-    def share_out(self, cpus):
-        """Gives each node a like part of the CPUs; where these are fewer, some nodes get none."""
-        nodes = [place * self.count // len(cpus) for place in range(len(cpus))]
-        self.node_of = dict(zip(cpus, nodes))
-        self.cpus = {node: [cpu for cpu in cpus if self.node_of[cpu] == node] for node in range(self.count)}
 
     def core(self):
         """A new core of the library, and the lines that a script needs for the same."""

@@ -6,14 +6,16 @@ import re
 import tempfile
 from collections import Counter
 
-from .machine import KILOBYTES, list_text
+from .machine import KILOBYTES
 from .policies import shown_form
 from .tracing import PAGE
+from .words import list_text, mask_text
 
-NODES = "/sys/devices/system/node"
+NODES, CPUS = "/sys/devices/system/node", "/sys/devices/system/cpu"
 WEIGHTS = "/sys/kernel/mm/mempolicy/weighted_interleave"
 PROCESS = re.compile(r"/proc/(self|thread-self|\d+)(?:/task/(\d+))?/(status|numa_maps)$")
-CPUSET = re.compile(r"/sys/fs/cgroup/.*cpuset\.(?:mems|mems\.effective|effective_mems)$|/dev/cpuset/.*mems$")
+MEMS_SET, CPU_SET = (re.compile(rf"/sys/fs/cgroup/.*cpuset\.(?:{name}|{name}\.effective|effective_{name})$"
+                                rf"|/dev/cpuset/.*{name}$") for name in ("mems", "cpus"))
 OF_NODE = re.compile(re.escape(NODES) + r"/node(\d+)/(meminfo|numastat)$")
 
 
@@ -25,8 +27,8 @@ def write(path, text):
 
 def make_tree(machine, root):
     """The folders that stand over those of sysfs."""
-    every = set(range(machine.count))
-    lists = {"online": every, "possible": every, "has_cpu": {n for n in every if machine.cpus[n]},
+    every, cpus = set(range(machine.count)), machine.cpus
+    lists = {"online": every, "possible": every, "has_cpu": {node for node in every if cpus.of_node[node]},
              "has_memory": machine.memory, "has_normal_memory": machine.memory, "has_generic_initiator": set()}
     for name, nodes in lists.items():
         write(f"{root}/node/{name}", list_text(nodes))
@@ -34,19 +36,38 @@ def make_tree(machine, root):
         make_node(machine, f"{root}/node/node{node}", node)
         write(f"{root}/weights/node{node}", str(machine.weights.get(node, 1)))
     write(f"{root}/weights/auto", "false")
+    if cpus.are_made_up:
+        make_cpus(cpus, f"{root}/cpu")
 
 
 def make_node(machine, folder, node):
-    cpus = machine.cpus[node]
-    words = max(1, -(-(max(machine.node_of) + 1) // 32))
-    mask = f"{sum(1 << cpu for cpu in cpus):0{8 * words}x}"
-    write(f"{folder}/cpumap", ",".join(mask[at:at + 8] for at in range(0, 8 * words, 8)))
-    write(f"{folder}/cpulist", list_text(set(cpus)) if max(machine.node_of) < 256 else ",".join(map(str, cpus)))
+    cpus = machine.cpus.of_node[node]
+    write(f"{folder}/cpumap", mask_text(cpus, max(machine.cpus.node_of)))
+    write(f"{folder}/cpulist", list_text(cpus))
     write(f"{folder}/distance", " ".join(map(str, machine.distances[node])))
     write(f"{folder}/meminfo", memory_text(machine, node, 0))
     write(f"{folder}/numastat", hits_text(machine, node))
     for cpu in cpus:
         os.symlink(f"../../cpu/cpu{cpu}", f"{folder}/cpu{cpu}")
+
+
+def make_cpus(cpus, folder):
+    """/sys/devices/system/cpu: each node is a package, each CPU a core."""
+    most = max(cpus.node_of)
+    for name in ("online", "possible", "present"):
+        write(f"{folder}/{name}", list_text(cpus.node_of))
+    write(f"{folder}/offline", "")
+    write(f"{folder}/kernel_max", str(most))
+    for cpu, node in cpus.node_of.items():
+        mates = cpus.of_node[node]
+        rows = {"physical_package_id": node, "core_id": mates.index(cpu)}
+        for names, members in (("core_cpus thread_siblings", [cpu]), ("package_cpus core_siblings", mates)):
+            for name in names.split():
+                rows[name], rows[name + "_list"] = mask_text(members, most), list_text(members)
+        for name, text in rows.items():
+            write(f"{folder}/cpu{cpu}/topology/{name}", str(text))
+        write(f"{folder}/cpu{cpu}/online", "1")
+        os.symlink(f"../../node/node{node}", f"{folder}/cpu{cpu}/node{node}")
 
 
 def memory_text(machine, node, used):
@@ -69,12 +90,29 @@ def hits_text(machine, node):
 def status_text(all_, number):
     with open(f"/proc/{number}/status", encoding="utf-8", errors="surrogateescape") as file:
         text = file.read()
-    bits = f"{sum(1 << node for node in all_.machine.allowed):08x}"
-    while len(bits) % 8:
-        bits = "0" + bits
-    words = ",".join(bits[at:at + 8] for at in range(0, len(bits), 8))
-    text = re.sub(r"Mems_allowed:.*", "Mems_allowed:\t" + words, text)
-    return re.sub(r"Mems_allowed_list:.*", "Mems_allowed_list:\t" + list_text(all_.machine.allowed), text)
+    rows = [("Mems", all_.machine.allowed, 0)]
+    if all_.machine.cpus.are_made_up and number in all_.tasks:
+        rows.append(("Cpus", all_.tasks[number].mask, max(all_.machine.cpus.node_of)))
+    for name, members, least in rows:
+        text = re.sub(name + r"_allowed:.*", f"{name}_allowed:\t{mask_text(members, least)}", text)
+        text = re.sub(name + r"_allowed_list:.*", f"{name}_allowed_list:\t{list_text(members)}", text)
+    return text
+
+
+def cpuinfo_text(cpus):
+    """/proc/cpuinfo: what this machine says of its first CPU, for each one."""
+    with open("/proc/cpuinfo", encoding="utf-8", errors="replace") as file:
+        model = file.read().split("\n\n")[0]
+    parts = []
+    for cpu, node in cpus.node_of.items():
+        rows = {"processor": cpu, "apicid": cpu, "initial apicid": cpu, "physical id": node,
+                "core id": cpus.of_node[node].index(cpu), "siblings": len(cpus.of_node[node]),
+                "cpu cores": len(cpus.of_node[node])}
+        text = model
+        for name, number in rows.items():
+            text = re.sub(rf"^({name}\t*: ).*", rf"\g<1>{number}", text, flags=re.MULTILINE)
+        parts.append(text + "\n\n")
+    return "".join(parts)
 
 
 def range_rows(space, word):
@@ -110,8 +148,11 @@ def text_of(all_, task, path):
         if other is None:
             return None
         return status_text(all_, number) if found[3] == "status" else numa_maps_text(all_, other)
-    if CPUSET.match(path):
+    if MEMS_SET.match(path):
         return list_text(all_.machine.allowed) + "\n"
+    if all_.machine.cpus.are_made_up and (CPU_SET.match(path) or path == "/proc/cpuinfo"):
+        is_set, cpus = path != "/proc/cpuinfo", all_.machine.cpus
+        return list_text(cpus.node_of) + "\n" if is_set else cpuinfo_text(cpus)
     found = OF_NODE.match(path)
     if found and int(found[1]) < all_.machine.count:
         if all_.follows(task):

@@ -6,8 +6,8 @@ import re
 
 import numaplan
 
-from .machine import list_text
 from .tracing import PAGE, fail, peek, poke
+from .words import list_text
 
 MODES = ["default", "prefer", "bind", "interleave", "local", "many", "weighted"]
 SHOWN = {"prefer (many)": "many", "weighted interleave": "weighted"}

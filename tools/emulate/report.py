@@ -5,8 +5,8 @@ import re
 from collections import Counter
 
 from .areas import shown_name
-from .machine import Unfit, read_lines
 from .made_up import range_rows
+from .words import Unfit, read_lines
 
 WANTED = re.compile(r"(.+) (\d+=\d+(?:,\d+=\d+)*)$")
 

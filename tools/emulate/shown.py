@@ -6,8 +6,8 @@ import json
 import os
 import sys
 
-from .machine import Unfit
 from .made_up import pages_text
+from .words import Unfit
 
 COLORS = ("#a6cee3", "#fdbf6f", "#b2df8a", "#fb9a99", "#cab2d6", "#ffff99", "#dddddd", "#ffffff")
 WIDTH, HEIGHT = 600, 16  # of a bar that shows all pages of a row

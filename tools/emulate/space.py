@@ -7,10 +7,10 @@ import errno
 import numaplan
 
 from .areas import areas_of, gaps, merged, shown_name, with_names, without, without_names
-from .machine import list_text
 from .policies import is_interleaved
 from .touched import Pagemap
 from .tracing import PAGE, TOP
+from .words import list_text
 
 LINES = {
     "map": "map 0x{:x} 0x{:x} 0x{:x}", "unmap": "unmap 0x{:x} 0x{:x}", "mbind": "mbind 0x{:x} 0x{:x} {}",
@@ -24,6 +24,7 @@ class Space:
     def __init__(self, machine):
         self.machine, self.core, self.users = machine, None, 0
         self.leader, self.name = None, "?"  # the process, and its program
+        self.last_cpu = None  # of the thread that began last, where CPUs are made up
         self.placed = {}  # by page its node
         self.spans = []  # what the core has mapped, merged
         self.areas = []  # as they were when they were last looked at

@@ -20,9 +20,9 @@ OPTIONS = 1 | 1 << FORK | 1 << VFORK | 1 << CLONE | 1 << EXEC | 1 << EXIT | 1 <<
 
 CALLS = {
     "open": 2, "mmap": 9, "munmap": 11, "brk": 12, "mremap": 25, "execve": 59, "shmdt": 67,
-    "prctl": 157, "sched_setaffinity": 203, "mbind": 237, "set_mempolicy": 238,
-    "get_mempolicy": 239, "migrate_pages": 256, "openat": 257, "move_pages": 279, "getcpu": 309,
-    "execveat": 322, "set_mempolicy_home_node": 450,
+    "prctl": 157, "sched_setaffinity": 203, "sched_getaffinity": 204, "mbind": 237,
+    "set_mempolicy": 238, "get_mempolicy": 239, "migrate_pages": 256, "openat": 257,
+    "move_pages": 279, "getcpu": 309, "execveat": 322, "rseq": 334, "set_mempolicy_home_node": 450,
 }
 NAMES = {number: name for name, number in CALLS.items()}
 X86_64 = 0xC000003E  # AUDIT_ARCH_X86_64
@@ -123,12 +123,12 @@ def cpu_of(task):
 # ---- the filter
 
 
-def filter_program():
-    """The instructions of the filter: the calls of CALLS stop the program, mmap only with MAP_FIXED, prctl
+def filter_program(names):
+    """The instructions of the filter: the named calls stop the program, mmap only with MAP_FIXED, prctl
     only with PR_SET_VMA; all others, and those of 32-bit programs, go on at full speed."""
     load, equal, has_bits, answer = 0x20, 0x15, 0x45, 0x06
     allow, stop = (answer, 0, 0, 0x7FFF0000), (answer, 0, 0, 0x7FF00000)
-    others = [number for name, number in CALLS.items() if name not in ("mmap", "prctl")]
+    others = [number for name, number in CALLS.items() if name in names and name not in ("mmap", "prctl")]
     count = len(others)
     code = [(load, 0, 0, 4), (equal, 1, 0, X86_64), allow, (load, 0, 0, 0),
             (equal, 0, 3, CALLS["mmap"]), (load, 0, 0, 16 + 8 * 3), (has_bits, count + 6, 0, MAP_FIXED), allow,
@@ -138,9 +138,9 @@ def filter_program():
     return b"".join(struct.pack("HBBI", *one) for one in code), len(code)
 
 
-def install_filter():
+def install_filter(names):
     """Puts the filter before this process, for good."""
-    code, count = filter_program()
+    code, count = filter_program(names)
     kept = ctypes.create_string_buffer(code)
     program = ctypes.create_string_buffer(struct.pack("HxxxxxxQ", count, ctypes.addressof(kept)))
     LIBC.prctl(38, 1, 0, 0, 0)  # PR_SET_NO_NEW_PRIVS
