@@ -3,15 +3,15 @@
 import errno
 import struct
 
-import numaplan
-
+from .common import move
 from .cpus import getcpu
-from .policies import mode_and_nodes, read_mask, shown_form, word_of, write_mask
+from .policies import read_mask, word_of, write_mask
 from .tracing import PAGE, TOP, fail, peek, poke
 
 STRICT, MOVE, MOVE_ALL = 1, 2, 4  # MPOL_MF_*
 AS_NODE, AT_ADDRESS, ALLOWED = 1, 2, 4  # MPOL_F_*
-MODE_BITS = 2**32 - 1
+MODE_BITS, FLAGS = 2**32 - 1, 0xC000
+INTERLEAVE, WEIGHTED = 3, 6
 
 
 def whole_pages(length):
@@ -21,33 +21,38 @@ def whole_pages(length):
 def mbind(all_, task, start, length, mode, mask, most, flags):
     if flags & ~(STRICT | MOVE | MOVE_ALL):
         fail(errno.EINVAL)
+    word_of(mode & MODE_BITS, None)
     nodes = read_mask(task.number, mask, most)
+    if flags & MOVE_ALL and not all_.may_move_all:
+        fail(errno.EPERM)
+    length = whole_pages(length)
+    if start % PAGE == 0 and length == 0:
+        return 0
     word = word_of(mode & MODE_BITS, nodes)
+    if word == "default":
+        flags &= ~STRICT
     all_.wake(task)
-    space, length = task.space, whole_pages(length)
+    space, astray = task.space, []
     if start % PAGE == 0 and start + length <= TOP:
         all_.sweep(task, start, start + length)
+        if flags:
+            pages = space.placed_between(start, start + length)
+            astray = [page for page in pages if space.placed[page] not in (nodes or ())]
+    if astray and not flags & (MOVE | MOVE_ALL):
+        space.would("mbind", start, length, word)  # (a fault of the words, or a hole, comes first)
+        fail(errno.EIO)
     space.do("mbind", start, length, word)
-    if flags:
-        move_misplaced(all_, task, start, length, word, flags)
+    move_astray(all_, task, astray, flags)
     return 0
 
 
-def move_misplaced(all_, task, start, length, word, flags):
-    """The pages of the span that lie elsewhere than the policy says: moved, or EIO."""
+def move_astray(all_, task, pages, flags):
+    """Moves pages to where their policies now say, but for those that other processes have too."""
     space, cpu = task.space, all_.node_of(task)
-    pages = space.placed_between(start, start + length)
-    if word == "default" or word.startswith("local"):
-        wrong = pages if word == "default" or flags & (MOVE | MOVE_ALL) else []
-        if not flags & (MOVE | MOVE_ALL):
-            return
-    else:
-        nodes = mode_and_nodes(space.policy_at(start))[1]
-        wrong = [page for page in pages if space.placed[page] not in nodes]
-    if not flags & (MOVE | MOVE_ALL) and wrong:
-        fail(errno.EIO)
-    for page in wrong:
-        space.placed[page] = space.lists().choice(task.number, page, cpu)[0]
+    shared = set() if flags & MOVE_ALL else space.shared_of(task.number, pages)
+    for page in pages:
+        if page not in shared:
+            move(space, page, space.lists().choice(task.number, page, cpu)[0])
 
 
 def set_mempolicy(all_, task, mode, mask, most, *_):
@@ -84,7 +89,7 @@ def policy_at(all_, task, address, flags):
     all_.wake(task)
     if not task.space.has(address):
         fail(errno.EFAULT)
-    number, nodes = mode_and_nodes(task.space.policy_at(address))
+    number, nodes = told_form(task.space.core.policy_at(address))
     if flags & AS_NODE:
         page = address // PAGE
         all_.sweep(task, page * PAGE, page * PAGE + PAGE)
@@ -94,64 +99,126 @@ def policy_at(all_, task, address, flags):
 
 
 def policy_of_task(all_, task, flags):
-    """The policy of the task; with a flag the nodes are those that were asked for."""
-    shown = shown_form(task.word, all_.machine.allowed)
-    number, nodes = mode_and_nodes(shown)
-    if task.word and ("=static:" in task.word or "=relative:" in task.word):
-        nodes = set(numaplan.nodes(task.word.split(":")[1]))
+    """The policy of the task. With AS_NODE the node of its next turn, which is the first one here: a kernel
+    counts what it takes for itself too."""
+    all_.wake(task)
+    number, nodes = told_form(task.space.core.task_policy(task.number))
     if flags & AS_NODE:
-        if number & 0xFF not in (3, 6) or not nodes:
+        if number & 0xFF not in (INTERLEAVE, WEIGHTED) or not nodes:
             fail(errno.EINVAL)
         number = min(nodes)
     return number, nodes
 
 
+def told_form(policy):
+    """The mode and the nodes of a policy of the library: with a flag those that were asked for."""
+    if policy is None:
+        return 0, set()
+    return policy.mode, set(policy.asked if policy.mode & FLAGS else policy.nodes)
+
+
 def move_pages(all_, task, number, count, pages, nodes, status, flags):
     if flags & ~(MOVE | MOVE_ALL):
         fail(errno.EINVAL)
+    if flags & MOVE_ALL and not all_.may_move_all:
+        fail(errno.EPERM)
     other = all_.other(task, number)
     all_.wake(other)
     if count >= 1 << 27:
         fail(errno.E2BIG)
     starts = struct.unpack(f"{count}Q", peek(task.number, pages, 8 * count))
     wanted = struct.unpack(f"{count}i", peek(task.number, nodes, 4 * count)) if nodes else [None] * count
-    told = [move_page(all_, other, *pair) for pair in zip(starts, wanted)]
+    told, fault, batch = [], None, Batch()
+    for start, node in zip(starts, wanted):
+        fault = fault_of_node(all_.machine, node)
+        if fault:
+            break
+        told.append(move_page(all_, other, start & -PAGE, node, flags, batch))
     if status:
-        poke(task.number, status, struct.pack(f"{count}i", *told))
+        poke(task.number, status, struct.pack(f"{len(told)}i", *told))
+    if fault:
+        fail(fault)
     return 0
 
 
-def move_page(all_, task, start, node):
-    """The node of a page once it is moved, or an error number below 0. A faulty node ends the call."""
-    machine, space, start = all_.machine, task.space, start & -PAGE
-    if node is not None and node not in machine.memory:
-        fail(errno.ENODEV)
-    if node is not None and node not in machine.allowed:
-        fail(errno.EACCES)
-    if not space.has(start):
-        return -errno.EFAULT
-    all_.sweep(task, start, start + PAGE)
-    page = start // PAGE
+def fault_of_node(machine, node):
+    """Why no page can go to a node. It ends the call; the pages before it are moved."""
+    if node is None:
+        return None
+    if node not in machine.memory:
+        return errno.ENODEV
+    return None if node in machine.allowed else errno.EACCES
+
+
+class Batch:
+    """Pages that go to one node together, one after the other in a list: the kernel takes each once."""
+
+    def __init__(self):
+        self.node, self.pages = None, set()
+
+    def has(self, page, node):
+        if node != self.node:
+            self.pages.clear()
+        self.node = node
+        return page in self.pages
+
+
+def move_page(all_, task, start, node, flags, batch):
+    """The node of a page once it is moved, or an error number below 0. What isn't moved ends the batch."""
+    space, page = task.space, start // PAGE
+    is_twice = batch.has(page, node)
+    if space.has(start):
+        all_.sweep(task, start, start + PAGE)
     if page not in space.placed:
-        return -errno.ENOENT
-    if node is not None:
-        space.placed[page] = node
-    return space.placed[page]
+        told = -errno.ENOENT if space.has(start) else -errno.EFAULT
+    elif node is None:
+        return space.placed[page]
+    elif is_twice:
+        told = -errno.EBUSY
+    elif node == space.placed[page]:
+        told = node
+    elif not flags & MOVE_ALL and space.shared_of(task.number, [page]):
+        told = -errno.EACCES
+    else:
+        move(space, page, node)
+        batch.pages.add(page)
+        return node
+    batch.pages.clear()
+    return told
 
 
 def migrate_pages(all_, task, number, most, old, new, *_):
-    other = all_.other(task, number)
-    all_.wake(other)
-    sources = sorted(read_mask(task.number, old, most) or ())
-    targets = sorted(read_mask(task.number, new, most) or ())
-    if not set(targets) & all_.machine.allowed:
+    sources = read_mask(task.number, old, most) or set()
+    targets = read_mask(task.number, new, most) or set()
+    other, machine = all_.other(task, number), all_.machine
+    if targets - machine.allowed and not all_.may_move_all:
+        fail(errno.EPERM)
+    targets &= machine.allowed
+    if not targets:
         fail(errno.EINVAL)
+    all_.wake(other)
     all_.sweep(other)
-    to = {node: targets[place % len(targets)] for place, node in enumerate(sources)
-          if len(sources) == len(targets) or node not in targets}
-    for page, node in other.space.placed.items():
-        other.space.placed[page] = to.get(node, node)
+    stays = set() if all_.may_move_all else other.space.shared_of(other.number, other.space.placed)
+    for source, target in steps_of(sources, targets):
+        for page in [page for page, node in other.space.placed.items() if node == source and page not in stays]:
+            move(other.space, page, target)
     return 0
+
+
+def steps_of(sources, targets):
+    """(from, to), in the order in which a kernel moves all pages of a node: the n-th of the sources goes to the
+    n-th of the targets, counted round; where these are of another number, what is on one of them stays. A node
+    to which none is to come any more is taken first."""
+    before, after, left = sorted(sources), sorted(targets), set(sources)
+    to = {node: after[place % len(after)] for place, node in enumerate(before)
+          if len(before) == len(after) or node not in targets}
+    while True:
+        rows = [node for node in sorted(left) if to.get(node, node) != node]
+        if not rows:
+            return
+        source = next((node for node in rows if to[node] not in left), rows[-1])
+        left.discard(source)
+        yield source, to[source]
 
 
 def set_mempolicy_home_node(all_, task, start, length, node, flags, *_):

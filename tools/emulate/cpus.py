@@ -85,7 +85,8 @@ def sched_setaffinity(all_, task, number, size, start, *_):
     mask = {cpu for cpu in all_.machine.cpus.node_of if bits >> cpu & 1}
     if not mask:
         fail(errno.EINVAL)
-    if all_.follows(other):
+    if all_.has_begun:
+        all_.wake(other)
         all_.sweep(other)  # (what was touched by now was touched on the CPU of now)
     other.mask = mask
     other.cpu = other.cpu if other.cpu in mask else min(mask)

@@ -48,6 +48,7 @@ class Emulator:
     def __init__(self, machine, room, first, outcome, log):
         self.machine, self.room, self.first, self.log = machine, room, first, log
         self.outcome, self.watches = outcome, outcome.is_asked()
+        self.may_move_all = os.geteuid() == 0  # (CAP_SYS_NICE)
         self.answered = answered_on(machine)
         self.early, self.has_begun, self.stops = {}, False, Counter()
         self.tasks = {}
@@ -161,7 +162,7 @@ class Emulator:
         if not flags & SHARES_MEMORY:
             if self.follows(task):
                 self.sweep(task)  # (what was touched by now is the parent's)
-            space = space.copy()
+            space = space.copy(task.number)
         child = self.add_task(number, space, task.word, task, flags)
         if space.core is not None and child.word:
             try:
@@ -195,8 +196,7 @@ class Emulator:
         task.space.users -= 1
         if task.space.users == 0 and task.space.core is not None:
             self.outcome.add(self, task)
-            task.space.core.close()
-            task.space.core = None
+            task.space.close()
 
     def at_stop(self, task, signal_):
         """Each task begins with a stop, and wakes from another one with one (SIGTRAP). By any other signal

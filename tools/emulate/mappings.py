@@ -29,6 +29,16 @@ def forget(all_, task, start, length):
     task.space.unmap(start, end)
 
 
+def madvise(all_, task, start, length, *_):
+    """MADV_DONTNEED: the pages go, and are placed anew when they are touched again."""
+    end = start + whole_pages(length)
+    if start % PAGE or end > TOP or not all_.follows(task):
+        return
+    all_.sweep(task, start, end)
+    for page in task.space.placed_between(start, end):
+        task.space.forget(page)
+
+
 def brk(all_, task, end, *_):
     """(A heap that grows is seen when the areas are looked at.)"""
     if end and task.space.core is not None:
@@ -44,7 +54,8 @@ def shmdt(all_, task, *_):
 
 def before_other_cpu(all_, task, *_):
     """sched_setaffinity: what was touched by now was touched on the CPU of now."""
-    if all_.follows(task):
+    if all_.has_begun:
+        all_.wake(task)
         all_.sweep(task)
 
 
@@ -61,18 +72,18 @@ def mremap(all_, task, old, old_length, new_length, *_):
     all_.sweep(task, old, old + old_length)
     pieces = [(max(start, old), min(end, old + old_length), index + (max(start, old) - start) // PAGE, policy)
               for start, end, index, policy in space.ranges() if start < old + old_length and old < end]
-    kept = {page: space.placed[page] for page in space.placed_between(old, old + old_length)}
 
     def follow(registers):
         if registers.rax < FAILED:
-            moved(space, pieces, kept, (old, old_length), (registers.rax, new_length))
+            moved(space, pieces, (old, old_length), (registers.rax, new_length))
 
     return follow
 
 
-def moved(space, pieces, kept, old, new):
+def moved(space, pieces, old, new):
     """Maps the pieces anew, each with its policy; the last one is as long as the new span."""
     (from_, old_length), (to, new_length) = old, new
+    kept = space.take(from_, from_ + min(old_length, new_length))
     space.unmap(from_, from_ + old_length)
     space.unmap(to, to + new_length)
     for place, (start, end, index, policy) in enumerate(pieces):
@@ -86,9 +97,8 @@ def moved(space, pieces, kept, old, new):
         space.spans = sorted(space.spans + [(first, after)])
         if policy:
             space.do("mbind", first, after - first, to_ask(policy))
-    for page, node in kept.items():
-        if page * PAGE - from_ < new_length:
-            space.placed[page + (to - from_) // PAGE] = node
+    for page, (node, frame) in kept.items():
+        space.put(page + (to - from_) // PAGE, node, frame)
 
 
 def prctl(_all, task, _option, what, start, length, name, *_):
@@ -109,5 +119,5 @@ def prctl(_all, task, _option, what, start, length, name, *_):
     return succeed
 
 
-FOLLOWED = {"mmap": mmap, "munmap": munmap, "brk": brk, "shmdt": shmdt, "mremap": mremap,
+FOLLOWED = {"mmap": mmap, "munmap": munmap, "brk": brk, "shmdt": shmdt, "mremap": mremap, "madvise": madvise,
             "prctl": prctl, "sched_setaffinity": before_other_cpu, "execve": before_exec, "execveat": before_exec}

@@ -7,8 +7,9 @@ import errno
 import numaplan
 
 from .areas import areas_of, gaps, merged, shown_name, with_names, without, without_names
+from .common import leave, leave_all, share, written
 from .policies import is_interleaved
-from .touched import Pagemap
+from .touched import Pagemap, is_own
 from .tracing import PAGE, TOP
 from .words import list_text
 
@@ -25,7 +26,7 @@ class Space:
         self.machine, self.core, self.users = machine, None, 0
         self.leader, self.name = None, "?"  # the process, and its program
         self.last_cpu = None  # of the thread that began last, where CPUs are made up
-        self.placed = {}  # by page its node
+        self.placed, self.common = {}, {}  # by page its node; its frame where other processes have it too
         self.spans = []  # what the core has mapped, merged
         self.areas = []  # as they were when they were last looked at
         self.names = []  # that the program gave: (start, end, name)
@@ -45,6 +46,11 @@ class Space:
             raise
         self.plan = self.kept = None
         self.lines.append(line)
+
+    def would(self, what, *words):
+        """Raises what the command would be refused for; changes nothing."""
+        with self.core.copy() as core:
+            getattr(core, what)(*words)
 
     def refuse(self, what, why):
         """Notes a refused call for the report."""
@@ -77,9 +83,13 @@ class Space:
             return
         self.do("unmap", start, end - start)
         for page in self.placed_between(start, end):
-            del self.placed[page]
+            self.forget(page)
         self.spans = without(self.spans, start, end)
         self.names = without_names(self.names, start, end)
+
+    def forget(self, page):
+        del self.placed[page]
+        leave(self, page)
 
     def placed_between(self, start, end):
         first, after = start // PAGE, -(-end // PAGE)
@@ -117,6 +127,9 @@ class Space:
         start, end = start & -PAGE, min(-(-end // PAGE) * PAGE, TOP)
         pagemap, seen = Pagemap(task), set()
         try:
+            if self.common:
+                for page in list(written(self, self.placed_between(start, end), pagemap)):
+                    self.forget(page)
             for area in self.areas:
                 if area.is_closed or area.end <= start or end <= area.start:
                     continue
@@ -128,7 +141,7 @@ class Space:
             pagemap.close()
         for page in self.placed_between(start, end):
             if page not in seen:
-                del self.placed[page]
+                self.forget(page)
 
     def place(self, task, word, cpu, first, count):
         """Places the pages of a run that aren't placed yet."""
@@ -145,13 +158,44 @@ class Space:
             if turns and is_interleaved(self.policy_at(page * PAGE) or word):
                 self.machine.hits[node][1] += 1
 
-    def copy(self):
-        """The address space of a child."""
+    def shared_of(self, task, pages):
+        """Those of the pages that another process has too: the kernel knows."""
+        pagemap = Pagemap(task)
+        try:
+            return {page for page, entry in pagemap.entries(pages) if entry >> 62 and not is_own(entry)}
+        finally:
+            pagemap.close()
+
+    def take(self, start, end):
+        """Takes the pages out: by page its node and its frame, to be put elsewhere."""
+        pages = self.placed_between(start, end)
+        return {page: (self.placed.pop(page), self.common.pop(page, None)) for page in pages}
+
+    def put(self, page, node, frame):
+        self.placed[page] = node
+        if frame is not None:
+            self.common[page] = frame
+            frame.holders[self] = page
+
+    def copy(self, task):
+        """The address space of a child of the task."""
         other = Space(self.machine)
         other.placed, other.spans, other.areas = dict(self.placed), list(self.spans), list(self.areas)
         other.lines, other.name, other.names = list(self.lines), self.name, list(self.names)
         other.core = self.core and self.core.copy()
+        if self.placed:
+            pagemap = Pagemap(task)
+            try:
+                share(self, other, pagemap)
+            finally:
+                pagemap.close()
         return other
+
+    def close(self):
+        """The address space has ended."""
+        leave_all(self)
+        self.core.close()
+        self.core = None
 
     def allowed(self):
         return list_text(self.machine.allowed)

@@ -56,6 +56,16 @@ def runs_of(kinds, first):
             begin = place
 
 
+def number_of(entry):
+    """The machine's own number of a page; 0 where only root is told."""
+    return entry & (1 << 55) - 1 if entry >> 62 == 2 else 0
+
+
+def is_own(entry):
+    """Whether no other process has the page (on Linux 4.2 and later)."""
+    return entry >> 56 & 1 == 1
+
+
 class Pagemap:
     """Looks at the pages of a task's address space."""
 
@@ -71,6 +81,16 @@ class Pagemap:
             except OSError:
                 Pagemap.can_scan = False
         return list(runs_by_reading(self.file, start, end))
+
+    def entries(self, pages):
+        """(page, its 8 bytes) of each page, in rising order."""
+        begin, rows = 0, sorted(pages)
+        for place in range(1, len(rows) + 1):
+            if place == len(rows) or rows[place] != rows[place - 1] + 1:
+                self.file.seek(rows[begin] * 8)
+                raw = self.file.read((place - begin) * 8)
+                yield from zip(rows[begin:place], (entry for entry, in struct.iter_unpack("Q", raw)))
+                begin = place
 
     def close(self):
         self.file.close()

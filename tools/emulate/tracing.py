@@ -19,15 +19,16 @@ FORK, VFORK, CLONE, EXEC, EXIT, SECCOMP, STOP = 1, 2, 3, 4, 6, 7, 128
 OPTIONS = 1 | 1 << FORK | 1 << VFORK | 1 << CLONE | 1 << EXEC | 1 << EXIT | 1 << SECCOMP | 1 << 20
 
 CALLS = {
-    "open": 2, "mmap": 9, "munmap": 11, "brk": 12, "mremap": 25, "execve": 59, "shmdt": 67,
+    "open": 2, "mmap": 9, "munmap": 11, "brk": 12, "mremap": 25, "madvise": 28, "execve": 59, "shmdt": 67,
     "prctl": 157, "sched_setaffinity": 203, "sched_getaffinity": 204, "mbind": 237,
     "set_mempolicy": 238, "get_mempolicy": 239, "migrate_pages": 256, "openat": 257,
     "move_pages": 279, "getcpu": 309, "execveat": 322, "rseq": 334, "set_mempolicy_home_node": 450,
 }
 NAMES = {number: name for name, number in CALLS.items()}
 X86_64 = 0xC000003E  # AUDIT_ARCH_X86_64
-MAP_FIXED = 0x10
-SET_AREA = 0x53564D41  # PR_SET_VMA
+# Calls that matter with one word alone: its place, whether it is a bit among others, and the word.
+MAP_FIXED, SET_AREA, FORGET = 0x10, 0x53564D41, 4  # (PR_SET_VMA, MADV_DONTNEED)
+ONLY_WITH = {"mmap": (3, True, MAP_FIXED), "prctl": (0, False, SET_AREA), "madvise": (2, False, FORGET)}
 
 
 class Registers(ctypes.Structure):
@@ -124,16 +125,19 @@ def cpu_of(task):
 
 
 def filter_program(names):
-    """The instructions of the filter: the named calls stop the program, mmap only with MAP_FIXED, prctl
-    only with PR_SET_VMA; all others, and those of 32-bit programs, go on at full speed."""
+    """The instructions of the filter: the named calls stop the program, those of ONLY_WITH with such a word
+    alone; all others, and those of 32-bit programs, go on at full speed."""
     load, equal, has_bits, answer = 0x20, 0x15, 0x45, 0x06
     allow, stop = (answer, 0, 0, 0x7FFF0000), (answer, 0, 0, 0x7FF00000)
-    others = [number for name, number in CALLS.items() if name in names and name not in ("mmap", "prctl")]
-    count = len(others)
-    code = [(load, 0, 0, 4), (equal, 1, 0, X86_64), allow, (load, 0, 0, 0),
-            (equal, 0, 3, CALLS["mmap"]), (load, 0, 0, 16 + 8 * 3), (has_bits, count + 6, 0, MAP_FIXED), allow,
-            (equal, 0, 3, CALLS["prctl"]), (load, 0, 0, 16), (equal, count + 2, 0, SET_AREA), allow]
-    code += [(equal, count - place, 0, number) for place, number in enumerate(others)]
+    always = [CALLS[name] for name in CALLS if name in names and name not in ONLY_WITH]
+    with_words = [(CALLS[name], *ONLY_WITH[name]) for name in ONLY_WITH if name in names]
+    code = [(load, 0, 0, 4), (equal, 1, 0, X86_64), allow, (load, 0, 0, 0)]
+    end = len(code) + 4 * len(with_words) + len(always) + 1  # the place of `stop`
+    for number, place, is_bit, word in with_words:
+        code += [(equal, 0, 3, number), (load, 0, 0, 16 + 8 * place)]
+        code += [(has_bits if is_bit else equal, end - len(code) - 1, 0, word), allow]
+    for number in always:
+        code.append((equal, end - len(code) - 1, 0, number))
     code += [allow, stop]
     return b"".join(struct.pack("HBBI", *one) for one in code), len(code)
 
