@@ -10,7 +10,7 @@ import sys
 import tempfile
 
 from .emulator import Emulator, watched_on
-from .machine import Machine
+from .machine import RULES, Machine
 from .made_up import CPUS, NODES, WEIGHTS, make_tree
 from .report import Records, Report, Wanted
 from .shown import write_report
@@ -41,10 +41,13 @@ def read_words():
     words = Words(prog="numaplan-emulate", description=ABOUT, epilog=STATUS, allow_abbrev=False,
                   usage="numaplan-emulate [OPTION].. PROGRAM [ARGUMENT]..")
     words.add_argument("--machine", metavar="FILE",
-        help="a script whose lines machine, mems and weight describe it (otherwise two nodes)")
+        help="a script whose lines machine, cpus, rules, mems and weight describe it (otherwise two nodes)")
     words.add_argument("--mems", metavar="LIST", help="the allowed nodes, as 0-2")
     words.add_argument("--cpus", metavar="NUMBERS",
         help="made-up CPUs in place of this machine's: so many a node, as 4, or for each node, as 4,4,0,0")
+    words.add_argument("--rules", choices=RULES,
+        help="whose rules count where Linux's documents and its kernel differ (otherwise as FILE says, or"
+        " the documents')")
     words.add_argument("--record", metavar="DIR", help="writes a script for each address space")
     words.add_argument("--report", metavar="FILE",
         help="writes where pages are as each process ends, and refused calls, in the form that the name"
@@ -173,7 +176,7 @@ def begin(program, room, watched):
 
 
 def emulate(words, room):
-    machine = Machine(words.machine, words.mems, words.cpus)
+    machine = Machine(words.machine, words.mems, words.cpus, words.rules)
     outcome = Outcome(words, machine)
     log = open_log(words.log)
     make_tree(machine, room)

@@ -8,7 +8,9 @@ from .words import Unfit, list_text, read_lines
 
 DEFAULT = "machine 2 0-1 0 flat"
 KILOBYTES = 4 << 20  # that each node with memory shows
-TAKEN = ("limits", "machine", "weight", "mems")
+TAKEN = ("limits", "rules", "cpus", "machine", "weight", "mems")
+RULES = ("document", "linux")
+KERNEL_ORDERS = "kernel:"
 
 
 def machine_lines(path):
@@ -18,8 +20,6 @@ def machine_lines(path):
     with numaplan.Script() as script:
         for number, line in lines:
             word = line.split(" ")[0]
-            if line == "rules linux":
-                raise Unfit(f"{path}:{number}: the rules are those of the documents; leave the line out")
             if word not in TAKEN:
                 continue
             answer = script.line(line).strip()
@@ -38,18 +38,25 @@ def distance_rows(count, text):
 
 
 class Machine:
-    """Nodes, memory, distances, weights, the nodes that are allowed, and CPUs."""
+    """Nodes, memory, distances, whose rules count, weights, the nodes that are allowed, and CPUs."""
 
-    def __init__(self, path, allowed=None, cpus=None):
+    def __init__(self, path, allowed=None, cpus=None, rules=None):
         lines = machine_lines(path)
         count, memory, _, distances = lines["machine"][0]
         self.count, self.memory = int(count, 0), set(numaplan.nodes(memory))
-        self.distances = distance_rows(self.count, distances)
+        self.has_kernel_orders = distances.startswith(KERNEL_ORDERS)
+        self.distances = distance_rows(self.count, distances.removeprefix(KERNEL_ORDERS))
+        self.rules = rules or (lines["rules"][-1][0] if "rules" in lines else RULES[0])
         self.weights = {int(node, 0): int(weight, 0) for node, weight in lines.get("weight", [])}
         self.allowed = self.allowed_nodes(allowed or (lines["mems"][-1][0] if "mems" in lines else None))
-        self.cpus = read_cpus(cpus, self.count, set(range(self.count)))
+        self.cpu_nodes = set(numaplan.nodes(lines["cpus"][-1][0])) if "cpus" in lines else set(range(self.count))
+        self.cpus = read_cpus(cpus, self.count, self.cpu_nodes)
         # pages placed on each node, and among them those interleaved, and those touched on a CPU of the node
         self.hits = [[0, 0, 0] for _ in range(self.count)]
+        try:
+            self.core()[0].close()
+        except TypeError as fault:
+            raise Unfit(f"this library can't go by the machine's rules or orders: {fault}") from fault
 
     def allowed_nodes(self, text):
         if text is None:
@@ -65,11 +72,24 @@ class Machine:
             raise Unfit(f"--mems {text}: none of these nodes has memory")
         return asked & self.memory
 
+    def opened(self):
+        """What a core is opened by, beside the nodes, and the lines that say so in a script."""
+        options, lines = {}, []
+        if self.rules != RULES[0]:
+            options["rules"] = self.rules
+            lines.append(f"rules {self.rules}")
+        if self.has_kernel_orders:
+            options.update(orders="kernel", cpus=sorted(self.cpu_nodes))
+            lines.append(f"cpus {list_text(self.cpu_nodes)}")
+        return options, lines
+
     def core(self):
         """A new core of the library, and the lines that a script needs for the same."""
-        core = numaplan.Core([0] * self.count, self.distances, memory=sorted(self.memory))
+        options, lines = self.opened()
+        core = numaplan.Core([0] * self.count, self.distances, memory=sorted(self.memory), **options)
         rows = ";".join(",".join(map(str, row)) for row in self.distances)
-        lines = [f"machine {self.count} {list_text(self.memory)} 0 {rows}"]
+        orders = KERNEL_ORDERS if self.has_kernel_orders else ""
+        lines.append(f"machine {self.count} {list_text(self.memory)} 0 {orders}{rows}")
         for node, weight in self.weights.items():
             core.set_weight(node, weight)
             lines.append(f"weight {node} {weight}")
