@@ -22,16 +22,6 @@ SHARES_MEMORY = 0x100  # CLONE_VM
 GONE = (ProcessLookupError, FileNotFoundError)
 
 
-def answered_on(machine):
-    """The calls that the kernel never sees."""
-    return ANSWERED | OF_MADE_UP if machine.cpus.are_made_up else ANSWERED
-
-
-def watched_on(machine):
-    """The calls that stop a program."""
-    return {"open", "openat", *answered_on(machine), *FOLLOWED}
-
-
 class Task:
     """A thread: its number, its address space, and the word of its policy."""
 
@@ -45,14 +35,31 @@ class Emulator:
     """`outcome` is told of each address space that ends. Where it is asked for anything, everything that is
     placed is of interest, not only what a policy asks for."""
 
-    def __init__(self, machine, room, first, outcome, log):
-        self.machine, self.room, self.first, self.log = machine, room, first, log
+    space_type, fakes = Space, True
+
+    def __init__(self, machine, room, outcome, log):
+        self.machine, self.room, self.log, self.first = machine, room, log, None
         self.outcome, self.watches = outcome, outcome.is_asked()
         self.may_move_all = os.geteuid() == 0  # (CAP_SYS_NICE)
-        self.answered = answered_on(machine)
+        self.answered, self.followed = self.calls_answered(), self.calls_followed()
         self.early, self.has_begun, self.stops = {}, False, Counter()
         self.tasks = {}
-        self.add_task(first, Space(machine), None)
+
+    def begin(self, first):
+        """With a process that is about to become the program."""
+        self.first = first
+        self.add_task(first, self.space_type(self.machine), None)
+
+    def calls_answered(self):
+        """The calls that the kernel never sees."""
+        return ANSWERED | OF_MADE_UP if self.machine.cpus.are_made_up else ANSWERED
+
+    def calls_followed(self):
+        return FOLLOWED
+
+    def watched(self):
+        """The calls that stop a program."""
+        return {*self.answered, *self.followed, *(("open", "openat") if self.fakes else ())}
 
     def say(self, *words):
         if self.log:
@@ -144,9 +151,9 @@ class Emulator:
             return CONTINUE
         if name in ("open", "openat"):
             task.at_end = self.redirect(task, registers)
-        elif name in FOLLOWED:
+        elif name in self.followed:
             try:
-                task.at_end = FOLLOWED[name](self, task, *registers.arguments())
+                task.at_end = self.followed[name](self, task, *registers.arguments())
             except Failed:
                 pass  # (a text that isn't there: the kernel says so)
         return TO_CALL_END if task.at_end else CONTINUE
@@ -177,8 +184,8 @@ class Emulator:
         self.has_begun = True
         old = self.tasks.pop(message_of(number), task)
         self.leave(old)
-        task = self.add_task(number, Space(self.machine), old.word, old)
-        if not make_getcpu_a_call(number):
+        task = self.add_task(number, self.space_type(self.machine), old.word, old)
+        if self.fakes and not make_getcpu_a_call(number):
             self.say(number, "getcpu of the vDSO can't be told")
         with open(f"/proc/{number}/comm", encoding="utf-8", errors="replace") as file:
             task.space.name = file.read().rstrip("\n")

@@ -4,18 +4,16 @@ proved."""
 import numaplan
 
 from .cpus import read_cpus
-from .words import Unfit, list_text, read_lines
+from .words import Unfit, list_text
 
-DEFAULT = "machine 2 0-1 0 flat"
 KILOBYTES = 4 << 20  # that each node with memory shows
 TAKEN = ("limits", "rules", "cpus", "machine", "weight", "mems")
 RULES = ("document", "linux")
 KERNEL_ORDERS = "kernel:"
 
 
-def machine_lines(path):
+def machine_lines(lines, path):
     """The lines about the machine, each accepted by the library."""
-    lines = read_lines(path) if path else [(1, DEFAULT)]
     taken = {}
     with numaplan.Script() as script:
         for number, line in lines:
@@ -40,8 +38,8 @@ def distance_rows(count, text):
 class Machine:
     """Nodes, memory, distances, whose rules count, weights, the nodes that are allowed, and CPUs."""
 
-    def __init__(self, path, allowed=None, cpus=None, rules=None):
-        lines = machine_lines(path)
+    def __init__(self, numbered, path, allowed=None, cpus=None, rules=None):
+        lines = machine_lines(numbered, path)
         count, memory, _, distances = lines["machine"][0]
         self.count, self.memory = int(count, 0), set(numaplan.nodes(memory))
         self.has_kernel_orders = distances.startswith(KERNEL_ORDERS)

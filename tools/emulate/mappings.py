@@ -101,7 +101,7 @@ def moved(space, pieces, old, new):
         space.put(page + (to - from_) // PAGE, node, frame)
 
 
-def prctl(_all, task, _option, what, start, length, name, *_):
+def prctl(all_, task, _option, what, start, length, name, *_):
     """PR_SET_VMA_ANON_NAME: the name is kept, also where the kernel is built without names."""
     end = start + whole_pages(length)
     if what != 0 or start % PAGE or end > TOP:
@@ -116,7 +116,7 @@ def prctl(_all, task, _option, what, start, length, name, *_):
             registers.rax = 0
             set_registers(task.number, registers)
 
-    return succeed
+    return succeed if all_.fakes else None
 
 
 FOLLOWED = {"mmap": mmap, "munmap": munmap, "brk": brk, "shmdt": shmdt, "mremap": mremap, "madvise": madvise,

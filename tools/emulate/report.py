@@ -6,6 +6,7 @@ from collections import Counter
 
 from .areas import shown_name
 from .made_up import range_rows
+from .shown import write_report
 from .words import Unfit, read_lines
 
 WANTED = re.compile(r"(.+) (\d+=\d+(?:,\d+=\d+)*)$")
@@ -16,11 +17,38 @@ def names_between(space, start, end):
     return list(map(shown_name, names))
 
 
+class Outcome:
+    """What is asked of a run: told of each address space that ends."""
+
+    def __init__(self, words, machine, is_real):
+        self.records = Records(words.record, "record" if is_real else "emulate") if words.record else None
+        self.path, self.report = words.report, Report(machine, is_real)
+        self.wanted = Wanted(words.expect) if words.expect else None
+
+    def is_asked(self):
+        return bool(self.records or self.path or self.wanted)
+
+    def add(self, emulator, task):
+        if self.records:
+            self.records.add(task.space)
+        if self.path:
+            self.report.add(task.space, task.word)
+        if self.wanted and task.space.leader == emulator.first:
+            self.wanted.compare(task.space)
+
+    def write_report(self, standing=()):
+        if self.path:
+            write_report(self.path, self.report.told(standing))
+
+    def failures(self):
+        return self.wanted.failures() if self.wanted else []
+
+
 class Records:
     """One script for each address space."""
 
-    def __init__(self, folder):
-        self.folder, self.count = folder, 0
+    def __init__(self, folder, command):
+        self.folder, self.command, self.count = folder, command, 0
         try:
             os.makedirs(folder, exist_ok=True)
         except OSError as fault:
@@ -31,7 +59,7 @@ class Records:
         name = re.sub(r"[^\w.+-]", "_", space.name)
         path = f"{self.folder}/{self.count:03}-{space.leader}-{name}.numaplan"
         with open(path, "w", encoding="utf-8", errors="surrogateescape") as file:
-            file.write(f"# recorded by numaplan-emulate: process {space.leader}, {name}\n")
+            file.write(f"# recorded by numaplan-{self.command}: process {space.leader}, {name}\n")
             file.write("\n".join(space.lines) + "\n")
 
 
@@ -39,17 +67,18 @@ class Report:
     """By process and range where pages are, and the refused calls: of each address space at its end, and
     of those that stand when the report is written. shown.py writes it."""
 
-    def __init__(self, machine):
-        self.machine, self.parts = machine, []
+    def __init__(self, machine, is_real):
+        self.machine, self.is_real, self.parts = machine, is_real, []
 
     def add(self, space, word):
         self.parts.append(part_of(space, word, "ended"))
 
     def told(self, standing=()):
-        """The whole report, as JSON has it; `standing`: (space, policy) of each that hasn't ended."""
+        """The whole report, as JSON has it; `standing`: (space, policy) of each that hasn't ended. Where the
+        kernel placed the pages it has no sum of all."""
         parts = self.parts + [part_of(space, word, "running") for space, word in standing]
         hits = {node: count for node, (count, *_) in enumerate(self.machine.hits) if count}
-        return {"nodes": self.machine.count, "processes": parts, "placed": hits}
+        return {"nodes": self.machine.count, "processes": parts, "placed": None if self.is_real else hits}
 
 
 def part_of(space, word, state):

@@ -56,13 +56,16 @@ def refusal_text(refusal):
 
 
 def placed_text(told):
-    return f"placed in all, as pages were first touched: {pages_text(told['placed']) or 'none'}"
+    """The sum of all, where there is one: a list of one text."""
+    if told["placed"] is None:
+        return []
+    return [f"placed in all, as pages were first touched: {pages_text(told['placed']) or 'none'}"]
 
 
 def text_of(told):
     parts = ["\n".join([heading(part), *map(row_text, part["ranges"]), total_text(part),
                         *map(refusal_text, part["refused"])]) for part in told["processes"]]
-    return "\n\n".join(parts + [placed_text(told)]) + "\n"
+    return "\n\n".join(parts + placed_text(told)) + "\n"
 
 
 # ---- JSON
@@ -115,7 +118,8 @@ def svg_of(told):
         for refusal in part["refused"]:
             say(refusal_text(refusal))
         top += 14
-    say(placed_text(told), 14)
+    for text in placed_text(told):
+        say(text, 14)
     return (f'<?xml version="1.0" encoding="UTF-8"?>\n<svg xmlns="http://www.w3.org/2000/svg" version="1.1" '
             f'width="1100" height="{top}" viewBox="0 0 1100 {top}" font-family="monospace">\n'
             '<rect width="1100" height="100%" fill="#ffffff"/>\n' + "\n".join(rows) + "\n</svg>\n")
@@ -148,7 +152,7 @@ def html_of(told):
             "<style>body{font-family:sans-serif} table{border-collapse:collapse;font-family:monospace}"
             " td,th{text-align:left;padding:2px 8px;border-bottom:1px solid #ddd}</style>\n</head>\n<body>\n"
             "<h1>Where pages are</h1>\n" + "\n".join(map(html_part, told["processes"]))
-            + f"\n<p>{escaped(placed_text(told))}</p>\n</body>\n</html>\n")
+            + "".join(f"\n<p>{escaped(text)}</p>" for text in placed_text(told)) + "\n</body>\n</html>\n")
 
 
 FORMS = {".json": json_of, ".svg": svg_of, ".html": html_of}

@@ -179,7 +179,7 @@ class Space:
 
     def copy(self, task):
         """The address space of a child of the task."""
-        other = Space(self.machine)
+        other = type(self)(self.machine)
         other.placed, other.spans, other.areas = dict(self.placed), list(self.spans), list(self.areas)
         other.lines, other.name, other.names = list(self.lines), self.name, list(self.names)
         other.core = self.core and self.core.copy()

@@ -1,8 +1,17 @@
 """What users are told, and lists of numbers as texts. Not proved."""
 
+import os
+import sys
+
+OWN_FAULT = 125  # the status where the command itself can't go on
+
 
 class Unfit(Exception):
     """What is asked for can't be done; the text is for the user."""
+
+
+def tell(what):
+    print(f"{os.path.basename(sys.argv[0])}: {what}", file=sys.stderr, flush=True)
 
 
 def list_text(numbers):

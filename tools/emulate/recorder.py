@@ -1,0 +1,108 @@
+"""Recording on the real machine (numaplan-record): the kernel answers all calls, and the core does the same as
+far as they succeed. Where pages are, the kernel tells too. Not proved."""
+
+import errno
+
+import numaplan
+
+from .calls import MODE_BITS, whole_pages
+from .emulator import Emulator
+from .host import nodes_of
+from .mappings import FAILED, FOLLOWED
+from .policies import read_mask, word_of
+from .space import Space
+from .touched import Pagemap
+from .tracing import Failed
+
+
+class Recorded(Space):
+    """An address space; its pages are looked for where it is told of, and never before."""
+
+    def sweep(self, task, word, cpu, start=0, end=0):
+        """(A policy places nothing here.)"""
+
+    def survey(self, task):
+        """Where all pages are."""
+        pagemap, pages = Pagemap(task), []
+        try:
+            for area in self.areas:
+                for first, count, is_cache in () if area.is_closed else pagemap.runs(area.start, area.end):
+                    if not (is_cache and area.has_cache):
+                        pages += range(first, first + count)
+        finally:
+            pagemap.close()
+        self.placed = nodes_of(task, pages)
+
+
+class Recorder(Emulator):
+    """`outcome` is told of each address space that ends."""
+
+    space_type, fakes = Recorded, False
+
+    def sweep(self, task, start=None, end=None):
+        """Before a program ends, or where a report is wanted."""
+        if start is None:
+            task.space.survey(task.number)
+
+    def calls_answered(self):
+        return {}
+
+    def calls_followed(self):
+        return FOLLOWED | OBSERVED
+
+
+def observed(all_, task, name, words, what, *arguments):
+    """Follows a call at its end: the command `what`, if the kernel did it."""
+    space = task.space
+
+    def follow(registers):
+        told = errno.errorcode.get(2**64 - registers.rax) if registers.rax >= FAILED else "0"
+        all_.say(task.number, f"{name}({', '.join(map(hex, words))}) = {told}")
+        try:
+            if told == "0":
+                space.do(what, *arguments)
+                if what == "set_task":
+                    task.word = None if arguments[1].startswith("default") else arguments[1]
+                return
+            space.lines.append(f"# {name} by {task.number} was refused by the kernel: {told}")
+            space.would(what, *arguments)
+            space.refuse(f"{name} by {task.number}", f"{told} by the kernel; numaplan would accept it")
+        except numaplan.Refused as refusal:
+            if told != "0":
+                space.refuse(f"{name} by {task.number}", f"{told}: {refusal}")
+
+    return follow
+
+
+def mbind(all_, task, start, length, mode, mask, most, flags):
+    all_.wake(task)
+    word = word_of(mode & MODE_BITS, read_mask(task.number, mask, most))
+    if flags & 6:
+        task.space.lines.append(f"# mbind 0x{start:x} moves pages too")
+    return observed(all_, task, "mbind", [start, length, mode, mask, most, flags], "mbind", start,
+                    whole_pages(length), word)
+
+
+def set_mempolicy(all_, task, mode, mask, most, *_):
+    all_.wake(task)
+    word = word_of(mode & MODE_BITS, read_mask(task.number, mask, most))
+    return observed(all_, task, "set_mempolicy", [mode, mask, most], "set_task", task.number, word)
+
+
+def set_mempolicy_home_node(all_, task, start, length, node, flags, *_):
+    all_.wake(task)
+    return observed(all_, task, "set_mempolicy_home_node", [start, length, node, flags], "set_home", start,
+                    whole_pages(length), min(node, 2**32 - 1))
+
+
+def moves(name):
+    """A call that moves pages, which a script can't say."""
+    def note(all_, task, *_):
+        if task.space.core is not None:
+            task.space.lines.append(f"# {name} by {task.number}")
+
+    return note
+
+
+OBSERVED = {call.__name__: call for call in (mbind, set_mempolicy, set_mempolicy_home_node)}
+OBSERVED |= {name: moves(name) for name in ("move_pages", "migrate_pages")}

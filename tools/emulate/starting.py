@@ -1,0 +1,94 @@
+"""The child, up to the program, and how it comes to be traced. Not proved."""
+
+import ctypes
+import os
+import socket
+import sys
+
+from .made_up import CPUS, NODES, WEIGHTS
+from .tracing import LIBC, OPTIONS, SEIZE, install_filter, ptrace
+from .waiting import free_signals
+from .words import OWN_FAULT, Unfit, tell
+
+NEW_MOUNTS, NEW_USER = 0x20000, 0x10000000  # CLONE_NEWNS, CLONE_NEWUSER
+BIND, RECURSIVE, PRIVATE = 0x1000, 0x4000, 0x40000  # MS_*
+NO_HUGE_PAGES = 41  # PR_SET_THP_DISABLE
+
+
+def checked(answer, what):
+    if answer:
+        number = ctypes.get_errno()
+        raise Unfit(f"{what}: {os.strerror(number)}")
+
+
+def enter_namespace():
+    """Mounts of its own, in a user namespace where that is what is allowed."""
+    if LIBC.unshare(NEW_MOUNTS):
+        user, group = os.geteuid(), os.getegid()
+        checked(LIBC.unshare(NEW_USER | NEW_MOUNTS), "namespaces aren't allowed here")
+        for name, text in (("setgroups", "deny"), ("uid_map", f"{user} {user} 1"),
+                           ("gid_map", f"{group} {group} 1")):
+            try:
+                with open(f"/proc/self/{name}", "w", encoding="ascii") as file:
+                    file.write(text)
+            except OSError as fault:
+                raise Unfit(f"user namespaces aren't allowed here: {name}: {fault.strerror}") from fault
+    checked(LIBC.mount(b"none", b"/", None, PRIVATE | RECURSIVE, None), "mounts can't be made private")
+
+
+def cover(room):
+    """Puts the made-up folders over those of sysfs."""
+    for source, target in (("node", NODES), ("weights", WEIGHTS), ("cpu", CPUS)):
+        if os.path.isdir(f"{room}/{source}") and (target == NODES or os.path.isdir(target)):
+            checked(LIBC.mount(f"{room}/{source}".encode(), target.encode(), None, BIND, None),
+                    f"{target} can't be covered")
+
+
+def run_program(room, program, watched, parent):
+    """In the child; never comes back. It goes on once the parent traces it. With a room its files are put
+    over the machine's."""
+    status = OWN_FAULT
+    try:
+        if room:
+            enter_namespace()
+            cover(room)
+            LIBC.prctl(NO_HUGE_PAGES, 1, 0, 0, 0)
+        parent.send(b"r")
+        if not parent.recv(1):
+            return
+        install_filter(watched)
+        free_signals()
+        status = 127
+        os.execvp(program[0], program)
+    except Unfit as fault:
+        tell(fault)
+    except FileNotFoundError as fault:
+        tell(f"{program[0]}: {fault.strerror}")
+    except OSError as fault:
+        status = 126 if status == 127 else status
+        tell(f"{program[0]}: {fault.strerror}")
+    finally:
+        sys.stderr.flush()
+        os._exit(status)
+
+
+def begin(program, room, watched):
+    """The number of the child, traced, and about to become the program."""
+    mine, other = socket.socketpair()
+    child = os.fork()
+    if child == 0:
+        mine.close()
+        run_program(room, program, watched, other)
+    other.close()
+    if not mine.recv(1):
+        os.waitpid(child, 0)
+        sys.exit(OWN_FAULT)
+    try:
+        ptrace(SEIZE, child, 0, OPTIONS)
+    except OSError as fault:
+        mine.close()
+        os.waitpid(child, 0)
+        raise Unfit(f"ptrace isn't allowed here: {fault.strerror}") from fault
+    mine.send(b"g")
+    mine.close()
+    return child
