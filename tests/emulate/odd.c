@@ -1,0 +1,219 @@
+/* Programs that do odd things: odd WHAT, run by numaplan-emulate on a machine of two nodes or more. The status is
+ * 0 where all went as the man pages of the calls say. Not proved. */
+#define _GNU_SOURCE
+#include <errno.h>
+#include <fcntl.h>
+#include <pthread.h>
+#include <sched.h>
+#include <signal.h>
+#include <stdio.h>
+#include <stdlib.h>
+#include <string.h>
+#include <sys/mman.h>
+#include <sys/ptrace.h>
+#include <sys/syscall.h>
+#include <sys/time.h>
+#include <sys/wait.h>
+#include <unistd.h>
+
+enum { BIND = 2, INTERLEAVE = 3 };
+static char *self;
+
+#define MUST(what)                                                                                 \
+    do {                                                                                           \
+        if (!(what)) {                                                                             \
+            printf("line %d: %s (%s)\n", __LINE__, #what, strerror(errno));                        \
+            exit(1);                                                                               \
+        }                                                                                          \
+    } while (0)
+
+static long bind_to(void *at, long length, unsigned long mask) {
+    return syscall(SYS_mbind, at, length, (long)BIND, &mask, 65L, 0L);
+}
+
+static int node_of(void *at) {
+    int status = -99;
+    MUST(syscall(SYS_move_pages, 0L, 1L, &at, NULL, &status, 0L) == 0);
+    return status;
+}
+
+static char *some_pages(int pages) {
+    char *at = mmap(NULL, pages * 4096L, PROT_READ | PROT_WRITE, MAP_PRIVATE | MAP_ANONYMOUS, -1, 0);
+    MUST(at != MAP_FAILED);
+    return at;
+}
+
+static int status_of(pid_t child) {
+    int status = -1;
+    MUST(waitpid(child, &status, 0) == child);
+    return status;
+}
+
+/* Whether the task's policy is to bind to node 1, as a program that was run has to find. */
+static void after_exec(void) {
+    unsigned long mask[16] = {0};
+    int mode = -1;
+    MUST(syscall(SYS_get_mempolicy, &mode, mask, 1024L, NULL, 0L) == 0);
+    MUST(mode == BIND && mask[0] == 2);
+}
+
+static void set_task(void) {
+    unsigned long mask = 2;
+    MUST(syscall(SYS_set_mempolicy, (long)BIND, &mask, 65L) == 0);
+}
+
+static void by_vfork(void) {
+    set_task();
+    for (int k = 0; k < 20; k++) {
+        pid_t child = vfork();
+        if (child == 0) {
+            execl(self, self, "after-exec", NULL);
+            _exit(9);
+        }
+        MUST(status_of(child) == 0);
+    }
+}
+
+static void *run_again(void *unused) {
+    set_task();
+    execl(self, self, "after-exec", NULL);
+    return unused;
+}
+
+static void *sleeps(void *unused) {
+    pause();
+    return unused;
+}
+
+static void exec_from_thread(void) {
+    pthread_t one;
+    for (int k = 0; k < 8; k++)
+        MUST(pthread_create(&one, NULL, sleeps, NULL) == 0);
+    MUST(pthread_create(&one, NULL, run_again, NULL) == 0);
+    pause();
+}
+
+static volatile int ticks;
+static void tick(int number) { ticks += number == SIGALRM; }
+
+/* Calls that are answered, followed or redirected, while signals come. */
+static void signals(void) {
+    struct sigaction action = {.sa_handler = tick, .sa_flags = SA_RESTART};
+    struct itimerval often = {{0, 700}, {0, 700}};
+    MUST(sigaction(SIGALRM, &action, NULL) == 0 && setitimer(ITIMER_REAL, &often, NULL) == 0);
+    for (int k = 0; k < 300; k++) {
+        char *at = some_pages(4), text[32] = "";
+        int file = open("/sys/devices/system/node/node1/distance", O_RDONLY);
+        MUST(file >= 0 && read(file, text, sizeof text - 1) > 0 && strstr(text, "10"));
+        close(file);
+        MUST(bind_to(at, 4 * 4096, 1 << k % 2) == 0);
+        at[4096] = 1;
+        MUST(node_of(at + 4096) == k % 2);
+        MUST(munmap(at, 4 * 4096) == 0);
+    }
+    MUST(ticks > 10);
+}
+
+static void *maps_and_ends(void *unused) {
+    char *at = some_pages(2);
+    MUST(bind_to(at, 8192, 2) == 0);
+    *at = 1;
+    MUST(node_of(at) == 1);
+    munmap(at, 8192);
+    return unused;
+}
+
+static void threads(void) {
+    for (int k = 0; k < 60; k++) {
+        pthread_t some[8];
+        for (int n = 0; n < 8; n++)
+            MUST(pthread_create(&some[n], NULL, maps_and_ends, NULL) == 0);
+        for (int n = 0; n < 8; n++)
+            MUST(pthread_join(some[n], NULL) == 0);
+    }
+}
+
+static void children(void) {
+    for (int k = 0; k < 200; k++) {
+        pid_t some[5];
+        for (int n = 0; n < 5; n++)
+            if ((some[n] = fork()) == 0)
+                _exit(n);
+        for (int n = 0; n < 5; n++)
+            MUST(status_of(some[n]) == n << 8);
+    }
+}
+
+static void killed(void) {
+    pid_t child = fork();
+    if (child == 0)
+        for (;;)
+            close(open("/sys/devices/system/node/online", O_RDONLY));
+    usleep(100000);
+    MUST(kill(child, SIGKILL) == 0 && status_of(child) == SIGKILL);
+    for (int k = 0; k < 40; k++) {
+        if ((child = fork()) == 0)
+            for (;;)
+                maps_and_ends(NULL);
+        usleep(3000);
+        MUST(kill(child, SIGKILL) == 0 && status_of(child) == SIGKILL);
+    }
+}
+
+/* More areas than a process mostly has: each second page has a policy of its own. */
+static void areas(void) {
+    char *at = some_pages(60000);
+    for (int k = 0; k < 60000; k += 2)
+        MUST(mprotect(at + k * 4096L, 4096, PROT_READ) == 0);
+    MUST(bind_to(at, 60000 * 4096L, 2) == 0);
+    for (int k = 1; k < 200; k += 2)
+        MUST(bind_to(at + k * 4096L, 4096, 1) == 0);
+    at[4096] = at[201 * 4096] = 1;
+    MUST(node_of(at + 4096) == 0 && node_of(at + 201 * 4096) == 1);
+}
+
+static int shares_memory(void *at) {
+    *(char *)at = 1;
+    return 5;
+}
+
+/* A process that shares the memory of its parent, and one that wants to be traced. */
+static void processes(void) {
+    char *stack = some_pages(16), *at = some_pages(1);
+    pid_t child;
+    MUST(bind_to(at, 4096, 2) == 0);
+    child = clone(shares_memory, stack + 16 * 4096, CLONE_VM | SIGCHLD, at);
+    MUST(status_of(child) == 5 << 8 && *at == 1 && node_of(at) == 1);
+    if ((child = fork()) == 0)
+        _exit(ptrace(PTRACE_TRACEME, 0, NULL, NULL) == -1 ? 7 : 8);
+    MUST(status_of(child) == 7 << 8);
+}
+
+/* Rights that can't be had: setuid programs run without. */
+static void rights(void) {
+    char *words[] = {"su", "-c", "true", "nobody", NULL};
+    pid_t child = fork();
+    if (child == 0) {
+        MUST(setgid(65534) == 0 && setuid(65534) == 0);
+        close(0), close(1), close(2);
+        execvp(words[0], words);
+        _exit(127);
+    }
+    MUST(WIFEXITED(status_of(child)));
+}
+
+int main(int count, char **words) {
+    static const struct {
+        const char *name;
+        void (*run)(void);
+    } rows[] = {{"after-exec", after_exec}, {"vfork", by_vfork}, {"exec-from-thread", exec_from_thread},
+                {"signals", signals}, {"threads", threads}, {"children", children}, {"killed", killed},
+                {"areas", areas}, {"processes", processes}, {"rights", rights}};
+    self = words[0];
+    for (size_t k = 0; k < sizeof rows / sizeof rows[0]; k++)
+        if (count == 2 && !strcmp(rows[k].name, words[1])) {
+            rows[k].run();
+            return 0;
+        }
+    return 2;
+}
