@@ -1,25 +1,28 @@
 # Completions of numaplan's command line for bash. Made by tools/write-completions of docs/help. Not proved.
 _numaplan() {
-    local at=$COMP_CWORD word=${COMP_WORDS[COMP_CWORD]} words='' files=''
+    local at=$COMP_CWORD word=${COMP_WORDS[COMP_CWORD]} words='' files='' own=''
     # (in --format=json the sign is a word of its own)
     [ "$word" != = ] || word='' at=$((at + 1))
     [ "${COMP_WORDS[at - 1]}" != = ] || at=$((at - 1))
     COMPREPLY=()
+    # (the words of the repository's script)
+    [[ ${COMP_WORDS[0]} != */* || ! -f ${COMP_WORDS[0]%/*}/crates.txt ]] || own=' prove try install library'
     case ${COMP_WORDS[1]}:${COMP_WORDS[at - 1]} in
+        run:--rules | check:--rules | expect:--rules | predict:--rules | diff:--rules | explain:--rules | replay:--rules) words='document linux' ;;
         predict:--task | predict:--node | predict:--free | diff:--task | diff:--node | diff:--then | explain:--task | explain:--node | storm:--workers) : ;;
         predict:--format) words='text json csv svg' ;;
         replay:--trace) files=yes ;;
         replay:--format) words='text json' ;;
         *)
-            [ "$COMP_CWORD" != 1 ] || words='run check expect predict diff explain replay storm help --help --version'
+            [ "$COMP_CWORD" != 1 ] || words='run check expect predict diff explain replay storm help --help --version'$own
             [ "$COMP_CWORD" = 1 ] || case ${COMP_WORDS[1]} in
-                run) words='--echo --help' files=yes ;;
-                check) words='--help' files=yes ;;
-                expect) words='--help' files=yes ;;
-                predict) words='--task --node --format --free --lenient --help' files=yes ;;
-                diff) words='--task --node --then --lenient --help' files=yes ;;
-                explain) words='--task --node --lenient --help' files=yes ;;
-                replay) words='--trace --format --lenient --help' files=yes ;;
+                run) words='--echo --rules --help' files=yes ;;
+                check) words='--rules --help' files=yes ;;
+                expect) words='--rules --help' files=yes ;;
+                predict) words='--task --node --format --free --lenient --rules --help' files=yes ;;
+                diff) words='--task --node --then --lenient --rules --help' files=yes ;;
+                explain) words='--task --node --lenient --rules --help' files=yes ;;
+                replay) words='--trace --format --lenient --rules --help' files=yes ;;
                 storm) words='--workers --help' ;;
                 help) words='run check expect predict diff explain replay storm help' ;;
             esac

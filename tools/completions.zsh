@@ -14,6 +14,7 @@ _numaplan() {
         'storm:Lets workers place pages while policies change, and compares each placement'
         'help:Print this message or the help of the given subcommand(s)'
     )
+    [[ $words[1] != */* || ! -f ${words[1]:h}/crates.txt ]] || commands+=(prove try install library)
     _arguments -C \
         '(-h --help)-h[Print help]' '(-h --help)--help[Print help]' \
         '(-V --version)-V[Print version]' '(-V --version)--version[Print version]' \
@@ -24,16 +25,19 @@ _numaplan() {
         run)
             _arguments \
                 '(--echo)--echo[Writes each line of the script, and its answer behind `=> `]' \
+                '(--rules)--rules[Whose rules count, where no line `rules` of the scripts says so]:RULES:(document linux)' \
                 '(-h --help)-h[Print help]' '(-h --help)--help[Print help]' \
                 '*:file:_files'
             ;;
         check)
             _arguments \
+                '(--rules)--rules[Whose rules count, where no line `rules` of the scripts says so]:RULES:(document linux)' \
                 '(-h --help)-h[Print help]' '(-h --help)--help[Print help]' \
                 '*:file:_files'
             ;;
         expect)
             _arguments \
+                '(--rules)--rules[Whose rules count, where no line `rules` of the scripts says so]:RULES:(document linux)' \
                 '(-h --help)-h[Print help]' '(-h --help)--help[Print help]' \
                 '*:file:_files'
             ;;
@@ -44,6 +48,7 @@ _numaplan() {
                 '(--format)--format[How the answer is written]:FORMAT:(text json csv svg)' \
                 '(--free)--free[So many free pages on these nodes; with K, M, G or T behind it a number is one of bytes]:NODE=PAGES,..: ' \
                 '(--lenient)--lenient[Ends with status 0 where lines were faulty or refused]' \
+                '(--rules)--rules[Whose rules count, where no line `rules` of the scripts says so]:RULES:(document linux)' \
                 '(-h --help)-h[Print help]' '(-h --help)--help[Print help]' \
                 '*:file:_files'
             ;;
@@ -53,6 +58,7 @@ _numaplan() {
                 '(--node)--node[The node of the CPU on which it does]:N: ' \
                 '*--then[A script line that is added; several in turn]:LINE: ' \
                 '(--lenient)--lenient[Ends with status 0 where lines were faulty or refused]' \
+                '(--rules)--rules[Whose rules count, where no line `rules` of the scripts says so]:RULES:(document linux)' \
                 '(-h --help)-h[Print help]' '(-h --help)--help[Print help]' \
                 '*:file:_files'
             ;;
@@ -61,6 +67,7 @@ _numaplan() {
                 '(--task)--task[The task that touches the pages]:T: ' \
                 '(--node)--node[The node of the CPU on which it does]:N: ' \
                 '(--lenient)--lenient[Ends with status 0 where lines were faulty or refused]' \
+                '(--rules)--rules[Whose rules count, where no line `rules` of the scripts says so]:RULES:(document linux)' \
                 '(-h --help)-h[Print help]' '(-h --help)--help[Print help]' \
                 '*:file:_files'
             ;;
@@ -69,6 +76,7 @@ _numaplan() {
                 '(--trace)--trace[The file of the trace; - is standard input]:TRACE:_files' \
                 '(--format)--format[How the answer is written]:FORMAT:(text json)' \
                 '(--lenient)--lenient[Ends with status 0 where lines were faulty or refused]' \
+                '(--rules)--rules[Whose rules count, where no line `rules` of the scripts says so]:RULES:(document linux)' \
                 '(-h --help)-h[Print help]' '(-h --help)--help[Print help]' \
                 '*:file:_files'
             ;;
