@@ -14,7 +14,7 @@ from .made_up import make_tree
 from .recorder import Recorder
 from .report import Outcome
 from .starting import begin
-from .waiting import block_signals
+from .waiting import block_signals, pass_early_signals
 from .words import OWN_FAULT, Unfit, read_lines, tell
 
 ELSEWHERE = 3  # the status where pages lie elsewhere than is wanted
@@ -116,6 +116,7 @@ def sweep_rooms():
 
 def main(is_real=False):
     room = None
+    pass_early_signals()
     try:
         if platform.machine() != "x86_64" or sys.platform != "linux":
             raise Unfit("this runs on Linux on x86-64 alone")

@@ -7,7 +7,8 @@ import signal
 ANY_CHILD = 0x40000000  # __WALL
 PASSED = {signal.SIGTERM, signal.SIGHUP}
 BY_TERMINAL = {signal.SIGTSTP, signal.SIGTTIN, signal.SIGTTOU}
-AWAITED = PASSED | {signal.SIGCHLD, signal.SIGUSR1}
+ASKED = PASSED | {signal.SIGUSR1}
+AWAITED = ASKED | {signal.SIGCHLD}
 A_MOMENT = 0.02  # seconds
 
 
@@ -19,9 +20,14 @@ def block_signals():
     signal.signal(signal.SIGQUIT, signal.SIG_IGN)
 
 
+def pass_early_signals():
+    """A report that is asked for before the program begins is none."""
+    signal.signal(signal.SIGUSR1, signal.SIG_IGN)
+
+
 def free_signals():
-    """For the program: those that Python passes over are as they mostly are."""
-    for one in (signal.SIGPIPE, signal.SIGXFSZ):
+    """For the program: those that Python and this one pass over are as they mostly are."""
+    for one in (signal.SIGPIPE, signal.SIGXFSZ, signal.SIGUSR1):
         signal.signal(one, signal.SIG_DFL)
 
 
@@ -40,8 +46,17 @@ class Waiting:
                 return
             if number:
                 yield number, status
+                for one in signal.sigpending() & ASKED:
+                    self.take(signal.sigwait({one}))
             else:
                 self.rest()
+
+    def take(self, one):
+        """A signal is for the program, or asks for a report."""
+        if one == signal.SIGUSR1:
+            self.emulator.asked()
+        elif one in PASSED and self.emulator.first in self.emulator.tasks:
+            os.kill(self.emulator.first, one)
 
     def rest(self):
         """No task has anything to tell."""
@@ -53,11 +68,7 @@ class Waiting:
         elif is_stopped and signal.sigpending() & BY_TERMINAL:
             self.stop()
             return
-        got = signal.sigwait(AWAITED)
-        if got in PASSED and first is not None:
-            os.kill(first.number, got)
-        elif got == signal.SIGUSR1:
-            self.emulator.asked()
+        self.take(signal.sigwait(AWAITED))
 
     def stop(self):
         """The terminal stopped the program, and with it all of its group: once they are still, this one is
