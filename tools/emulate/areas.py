@@ -31,6 +31,38 @@ def areas_of(task):
                        found[3].startswith("---"), name)
 
 
+def joined(areas):
+    """Neighbours that could be one mapping as one: they differ in rights alone."""
+    last = None
+    for area in areas:
+        if last and last.end == area.start and last.name == area.name and \
+                last.index + (last.end - last.start) // PAGE == area.index:
+            last = last._replace(end=area.end)
+            continue
+        if last:
+            yield last
+        last = area
+    if last:
+        yield last
+
+
+def open_spans(areas, start, end):
+    """(start, end, has_cache) of what can be touched from start to end, neighbours of a kind as one."""
+    last = None
+    for area in areas:
+        first, after = max(start, area.start), min(end, area.end)
+        if area.is_closed or after <= first:
+            continue
+        if last and last[1] == first and last[2] == area.has_cache:
+            last = last[0], after, last[2]
+            continue
+        if last:
+            yield last
+        last = first, after, area.has_cache
+    if last:
+        yield last
+
+
 def with_names(areas, names):
     """The areas, parted where a program has named some of them: names are (start, end, name)."""
     for area in areas:

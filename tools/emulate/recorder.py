@@ -5,6 +5,7 @@ import errno
 
 import numaplan
 
+from .areas import open_spans
 from .calls import MODE_BITS, whole_pages
 from .emulator import Emulator
 from .host import nodes_of
@@ -12,7 +13,7 @@ from .mappings import FAILED, FOLLOWED
 from .policies import read_mask, word_of
 from .space import Space
 from .touched import Pagemap
-from .tracing import Failed
+from .tracing import TOP
 
 
 class Recorded(Space):
@@ -25,9 +26,9 @@ class Recorded(Space):
         """Where all pages are."""
         pagemap, pages = Pagemap(task), []
         try:
-            for area in self.areas:
-                for first, count, is_cache in () if area.is_closed else pagemap.runs(area.start, area.end):
-                    if not (is_cache and area.has_cache):
+            for start, end, has_cache in open_spans(self.areas, 0, TOP):
+                for first, count, is_cache in pagemap.runs(start, end):
+                    if not (is_cache and has_cache):
                         pages += range(first, first + count)
         finally:
             pagemap.close()

@@ -6,7 +6,7 @@ import errno
 
 import numaplan
 
-from .areas import areas_of, gaps, merged, shown_name, with_names, without, without_names
+from .areas import areas_of, gaps, joined, merged, open_spans, shown_name, with_names, without, without_names
 from .common import leave, leave_all, share, written
 from .policies import is_interleaved
 from .touched import Pagemap, is_own
@@ -68,7 +68,7 @@ class Space:
     def look_at_areas(self, task):
         """Maps what is mapped, and not known yet."""
         self.areas = list(with_names(areas_of(task), self.names))
-        for area in self.areas:
+        for area in joined(self.areas):
             for start, end in list(gaps(self.spans, area.start, area.end)):
                 if area.name:
                     self.lines.append(f"# name: {shown_name(area.name)}")
@@ -130,11 +130,9 @@ class Space:
             if self.common:
                 for page in list(written(self, self.placed_between(start, end), pagemap)):
                     self.forget(page)
-            for area in self.areas:
-                if area.is_closed or area.end <= start or end <= area.start:
-                    continue
-                for first, count, is_cache in pagemap.runs(max(start, area.start), min(end, area.end)):
-                    if not (is_cache and area.has_cache):
+            for low, high, has_cache in open_spans(self.areas, start, end):
+                for first, count, is_cache in pagemap.runs(low, high):
+                    if not (is_cache and has_cache):
                         seen.update(range(first, first + count))
                         self.place(task, word, cpu, first, count)
         finally:
