@@ -93,7 +93,7 @@ class Words:
             return "flat"
         some = self.dice.sample([11, 12, 15, 20, 21, 30, 99, 100, 254, 255], 3)
         if self.likely(0.3):
-            some = self.dice.choice([[20], [20, 21], [20, 21, 22], [253, 254, 255]])
+            some = self.dice.choice([[20], [20, 21], [20, 21, 22], [11], [11, 12]])
         same = self.likely(0.2)
         table = [[10 if one == other else self.dice.choice(some) for other in range(self.nodes)]
                  for one in range(self.nodes)]
