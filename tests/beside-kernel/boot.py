@@ -13,9 +13,10 @@ from machines import machine_named
 MEGABYTES = 160  # of each node with memory
 ADDED_MEGABYTES = 256  # of a node whose memory is added: a multiple of what a kernel adds at once
 
-# what the kernel is told: the first line is what is played, the second that it comes up and is quick
-LINE = "numa_balancing=disable transparent_hugepage=never memhp_default_state=online"
-LINE += " console=ttyS0 quiet loglevel=0 panic=-1 tsc=unstable no_timer_check no5lvl rcupdate.rcu_expedited=1"
+# The kernel's command line: what is played; page tables of four levels; that it comes up quickly.
+LINE = "console=ttyS0 quiet loglevel=0 panic=-1 numa_balancing=disable transparent_hugepage=never"
+LINE += " memhp_default_state=online no5lvl"
+LINE += " tsc=unstable no_timer_check rcupdate.rcu_expedited=1"
 
 
 def archive(files):
