@@ -48,8 +48,8 @@ def read_words(is_real):
         words.add_argument("--cpus", metavar="NUMBERS",
             help="made-up CPUs in place of this machine's: so many a node, as 4, or for each node, as 4,4,0,0")
     words.add_argument("--rules", choices=RULES,
-        help="whose rules count where Linux's documents and its kernel differ (otherwise as FILE says, or"
-        " the documents')")
+        help="whose rules count where Linux's documents and its kernel differ (otherwise as FILE says, "
+        + ("without one" if is_real else "else") + (" the kernel's)" if is_real else " the documents')"))
     words.add_argument("--record", metavar="DIR", help="writes a script for each address space")
     words.add_argument("--report", metavar="FILE",
         help="writes where pages are as each process ends, and refused calls, in the form that the name"
