@@ -1,7 +1,9 @@
 pub mod Meeting
 pub mod Moving
+pub mod Periods
 pub mod Placed
 pub mod Refusing
+pub mod Repeating
 pub mod Taking
 pub mod Telling
 pub mod Tiling

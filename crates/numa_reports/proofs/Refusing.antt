@@ -19,6 +19,7 @@ use Rattle.numa_compile.specs.Standing.{PlanStandsFor}
 use Rattle.numa_reports.specs.Common.{AreCommon, AreRising, has_page, span_end}
 use Rattle.numa_reports.specs.Failing.{FailsBy, MayFail, MayRefuse, MovesMayFail}
 use Rattle.numa_reports.specs.Mapped.{IsOutlook, span_of}
+use Rattle.numa_reports.specs.Turns.{HasPages}
 use Rattle.numa_reports.specs.declared.fault.ReportFault.{ReportFault}
 use Rattle.numa_reports.specs.declared.fault.ReportFault.TheVariants.{Memory, Refused}
 use Rattle.numa_reports.specs.declared.outlook.Outlook.{Outlook}
@@ -111,6 +112,13 @@ left-value left all rest range has is =
     let own : AreLeft (range ∷ rest) all = subst (λ l. AreLeft l all) is has in
     let here : page_at (range ∷ rest) range.first ≡ Some (range.index + (range.first - range.first), range.value) = rw (in_pages-true range.first range.pages range.first (omega arith) (omega (arith, own.apart.1))) refl in
     ap (λ (o : Option (ℕ × Option PolicyRecord)). option_and_then (λ at. at.1) o) (sym (own.same range.first own.apart.0) ∙ here)
+
+-- what the ranges say of each page of the next range
+pub left-pages : (left all rest : List (Run (Option PolicyRecord))) (range : Run (Option PolicyRecord)) → AreLeft left all → left ≡ range ∷ rest → HasPages all range
+left-pages left all rest range has is page low high =
+    let own : AreLeft (range ∷ rest) all = subst (λ l. AreLeft l all) is has in
+    let here : page_at (range ∷ rest) page ≡ Some (range.index + (page - range.first), range.value) = rw (in_pages-true range.first range.pages page low high) refl in
+    sym (own.same page (omega (arith, low, own.apart.0))) ∙ here
 
 -- each page of the next range is one of a range
 pub left-page : (left all rest : List (Run (Option PolicyRecord))) (range : Run (Option PolicyRecord)) (page : ℕ) → AreLeft left all → left ≡ range ∷ rest → range.first ≤ page → page < end_of range → is_some (page_at all page) ≡ true

@@ -5,3 +5,4 @@ pub mod Mapped
 pub mod Moved
 pub mod Predicted
 pub mod Told
+pub mod Turns

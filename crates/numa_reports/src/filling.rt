@@ -1,6 +1,6 @@
 //! Where all mapped pages would go, on nodes that have so many free pages each.
-ghost use Rattle.std.specs.Prelude.{◌≡◌, ◌+◌, ◌-◌, ◌<◌, ◌≤◌, ◌^◌, ℕ, List, Err, IfErr, OnOk};
-ghost use Rattle.std.specs.Prelude.{length, option_and_then, replicate, slice_index};
+ghost use Rattle.std.specs.Prelude.{◌≡◌, ◌⊎◌, ◌+◌, ◌-◌, ◌<◌, ◌≤◌, ◌^◌, ℕ, List, Err};
+ghost use Rattle.std.specs.Prelude.{IfErr, IfOk, OnOk, length, option_and_then, replicate, slice_index};
 ghost use Rattle.numa_compile.specs.Standing.{PlanStandsFor};
 ghost use Rattle.numa_plan.specs.Meaning.{RefusesSpan, place_refusal};
 ghost use Rattle.numa_ranges.specs.Runs.{page_at};
@@ -12,10 +12,13 @@ ghost use Rattle.numa_reports.specs.Failing.{FailsBy, FailsForNode};
 ghost use Rattle.numa_reports.specs.Filled.{first_free, one_less, free_behind};
 ghost use Rattle.numa_reports.specs.Filled.{nodes_of, planned_nodes, with_named};
 ghost use Rattle.numa_reports.specs.Told.{IsFilling, IsTaken, LacksOne, ToldEach, ToldOne};
+ghost use Rattle.numa_reports.specs.Turns.{HasPages, Repeats};
 
 use crate::fault::ReportFault;
+use crate::period::period_in;
 use crate::prediction::{RangePrediction, TakeRange, policy_of};
 use crate::touch::{Touch, has_node};
+use crate::turns::{all_left_behind, all_times_left};
 use numa_plan::{Plan, Steps};
 use numa_space::{PlaceRefusal, RangeRecord, Run, Space};
 
@@ -79,8 +82,8 @@ fn fill_page(
     }
 }
 
-/// Takes a free page for each page of a span, the lowest first.
-pub(crate) fn fill_span(
+/// Takes a free page for each page of a span, the lowest first, page by page.
+fn fill_pages(
     plan: &Plan,
     touch: Touch,
     first: u64,
@@ -94,6 +97,72 @@ pub(crate) fn fill_span(
 {
     for page in first..first + pages {
         fill_page(plan, touch, page, free)?;
+    }
+    Ok(())
+}
+
+/// Takes a free page for each page of a period, page by page, and at once for those of the periods
+/// behind it which take the same. Tells for how many pages: `left` at most.
+fn fill_periods(
+    plan: &Plan,
+    touch: Touch,
+    first: u64,
+    period: u64,
+    left: u64,
+    free: &mut [u64; 256],
+) -> Result<u64, PlaceRefusal>
+    requires small { first + left < 2 ^ 64 }
+    requires some { 0 < period }
+    requires fits { period ≤ left }
+    ensures some { IfOk result (λ done. 0 < done) }
+    ensures few { IfOk result (λ done. done ≤ left) }
+    ensures free { Repeats (planned_nodes plan.now touch.task touch.cpu) first left period
+        → IfOk result (λ done. free.new
+        ≡ free_behind (planned_nodes plan.now touch.task touch.cpu) free.old first done) }
+    ensures err { IfErr result (RefusesSpan plan.now first left touch.cpu) }
+{
+    let before = *free;
+    fill_pages(plan, touch, first, period, free)?;
+    let times = all_times_left(&before, free, (left - period) / period);
+    *free = all_left_behind(&before, free, times);
+    Ok(period + times * period)
+}
+
+/// A period, or what is left where that is less, or where no period is known and it is 0.
+fn period_within(period: u64, left: u64) -> u64
+    requires { 0 < left }
+    ensures some { 0 < result }
+    ensures few { result ≤ left }
+    ensures is { (result ≡ period) ⊎ (result ≡ left) }
+{
+    if period == 0 || left < period {
+        return left;
+    }
+    period
+}
+
+/// Takes a free page for each page of a span, the lowest first. The node lists of the pages come
+/// again after a period, or it is 0. The time grows with the period, and the nodes that have no
+/// free page left on the way; where the period is 0 or longer, with the pages.
+pub(crate) fn fill_span(
+    plan: &Plan,
+    touch: Touch,
+    first: u64,
+    pages: u64,
+    period: u64,
+    free: &mut [u64; 256],
+) -> Result<(), PlaceRefusal>
+    requires { first + pages < 2 ^ 64 }
+    ensures free { Repeats (planned_nodes plan.now touch.task touch.cpu) first pages period
+        → OnOk result (free.new
+        ≡ free_behind (planned_nodes plan.now touch.task touch.cpu) free.old first pages) }
+    ensures err { IfErr result (RefusesSpan plan.now first pages touch.cpu) }
+{
+    let mut left = pages;
+    while left > 0 {
+        let page = first + (pages - left);
+        let part = period_within(period, left);
+        left -= fill_periods(plan, touch, page, part, left, free)?;
     }
     Ok(())
 }
@@ -139,10 +208,13 @@ fn fill_next<T: TakeRange>(
     free: &mut [u64; 256],
     taker: &mut T,
 ) -> Result<(), ReportFault>
+    requires known { touch.cpu < space.now.machine.nodes }
     requires own { option_and_then (λ at. at.1) (page_at space.now.ranges range.now.first)
         ≡ range.now.value }
+    requires pages { HasPages space.now.ranges range.now }
     requires small { range.now.first + range.now.pages < 2 ^ 64 }
-    ensures free { OnOk result (free.new ≡ free_behind
+    ensures free { (history : List Command) → StandsFor space.now history
+        → PlanStandsFor space.now.machine plan.now history → OnOk result (free.new ≡ free_behind
         (planned_nodes plan.now touch.task touch.cpu) free.old range.now.first range.now.pages) }
     ensures told { (history : List Command) → StandsFor space.now history → OnOk result
         (ToldOne T.told (IsTaken space.now.machine history touch.task free.old free.new)
@@ -152,9 +224,11 @@ fn fill_next<T: TakeRange>(
     ensures lack { IfErr result (λ why. why ≡ Memory → T.lacks taker.old range.now) }
 {
     let before = *free;
-    fill_span(plan, touch, range.first, range.pages, free)?;
+    let policy = policy_of(space, touch.task, range);
+    let period = period_in(space, &policy);
+    fill_span(plan, touch, range.first, range.pages, period, free)?;
     let said = RangePrediction {
-        policy: policy_of(space, touch.task, range),
+        policy,
         counts: taken(&before, free),
     };
     taker.take(range, &said)?;
@@ -165,7 +239,8 @@ fn fill_next<T: TakeRange>(
 /// node `cpu`, those of lower addresses first: a page goes to the first node of its list that has a
 /// free page left, and takes it; where no node has one, it goes nowhere. How many pages of a range
 /// each node gets is told to the taker on the way, for each range once and in the order of their
-/// addresses. The plan is one of the space. The time grows with the pages.
+/// addresses. The plan is one of the space. The time grows with the cycles of the ranges' policies,
+/// and with the nodes that run out on the way, and not with the pages.
 ///
 /// # Errors
 /// `Refused(BadCpu)` where the machine has no node `cpu`; `Refused(Unmapped)` only where the plan

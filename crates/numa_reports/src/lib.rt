@@ -8,10 +8,12 @@ mod fault;
 mod filling;
 mod moves;
 mod outlook;
+mod period;
 mod prediction;
 pub mod sheet;
 mod tally;
 mod touch;
+mod turns;
 
 pub use fault::ReportFault;
 pub use filling::{FreePages, fill_all};

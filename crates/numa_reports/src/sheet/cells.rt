@@ -6,6 +6,7 @@ ghost use Rattle.numa_reports.specs.Failing.{FailsForNode};
 
 use crate::fault::ReportFault;
 use crate::filling::{FreePages, fill_few, fill_span, free_of};
+use crate::period::period_in;
 use crate::sheet::written::Written;
 use crate::touch::Touch;
 use numa_plan::Plan;
@@ -19,6 +20,7 @@ pub(crate) const CELLS: usize = 64;
 /// 0, and those of pages that find no node with a free page. Where free pages are counted, each
 /// page takes one.
 fn put_cells(
+    space: &Space,
     plan: &Plan,
     touch: Touch,
     range: &Run<RangeRecord>,
@@ -34,7 +36,8 @@ fn put_cells(
     match free {
         Some(free) => {
             fill_few(plan, touch, range.first, &mut nodes[..pages as usize], free)?;
-            fill_span(plan, touch, behind, range.pages - pages, free)?;
+            let period = period_in(space, &space.policy_at(touch.task, range.first));
+            fill_span(plan, touch, behind, range.pages - pages, period, free)?;
         }
         None => plan.fill(
             touch.task,
@@ -69,7 +72,7 @@ pub(crate) fn first_cells(
     let mut left = free_where_named(named);
     let mut cells = Written::new(alloc);
     for range in space.range_iter() {
-        put_cells(plan, touch, &range, &mut left, &mut cells)?;
+        put_cells(space, plan, touch, &range, &mut left, &mut cells)?;
     }
     Ok(cells.take()?)
 }

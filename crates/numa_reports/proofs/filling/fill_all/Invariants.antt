@@ -1,5 +1,6 @@
-use Rattle.std.proofs.Common.{◌≡◌, List}
+use Rattle.std.proofs.Common.{◌≡◌, ◌<◌, List}
 use Rattle.numa_ranges.specs.Runs.{AreApart}
+use Rattle.numa_compile.specs.Standing.{PlanStandsFor}
 use Rattle.numa_space.specs.Standing.{StandsFor}
 use Rattle.numa_space.specs.declared.command.Command.{Command}
 use Rattle.numa_reports.specs.Filled.{planned_nodes}
@@ -11,11 +12,13 @@ use Rattle.numa_reports.proofs.filling.fill_all.Given as goal
 
 abbrev pub invariant-loop-range : goal.invariant-loop-range
 invariant-loop-range g l = record {
-  left : free_runs (planned_nodes l.plan l.task l.cpu) l.free l.range-iterator ≡ free_runs (planned_nodes l.plan l.task l.cpu) l.fn.free l.space.ranges;
+  left : (history : List Command) → StandsFor l.space history → PlanStandsFor l.space.machine l.plan history
+      → free_runs (planned_nodes l.plan l.task l.cpu) l.free l.range-iterator ≡ free_runs (planned_nodes l.plan l.task l.cpu) l.fn.free l.space.ranges;
   apart : AreApart 0 l.space.ranges;
+  known : l.cpu < l.space.machine.nodes;
   rest : AreLeft l.range-iterator l.space.ranges;
   lack : LacksOne g.T.TakeRange.lacks l.range-iterator → LacksOne g.T.TakeRange.lacks l.space.ranges;
-  told : (history : List Command) → StandsFor l.space history → (end : g.row.T.Denot)
+  told : (history : List Command) → StandsFor l.space history → PlanStandsFor l.space.machine l.plan history → (end : g.row.T.Denot)
       → FilledEach g.T.TakeRange.told (IsTaken l.space.machine history l.task) (planned_nodes l.plan l.task l.cpu) l.free l.range-iterator l.taker end
       → FilledEach g.T.TakeRange.told (IsTaken l.space.machine history l.task) (planned_nodes l.plan l.task l.cpu) l.fn.free l.space.ranges l.fn.taker end;
 }

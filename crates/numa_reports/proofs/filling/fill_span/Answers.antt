@@ -1,22 +1,35 @@
 use Rattle.std.proofs.Common.{◌≡◌, ℕ, ◌+◌, ◌-◌, arith, ap, sym, ◌∙◌}
 use Rattle.numa_reports.specs.Filled.{free_behind, planned_nodes}
-use Rattle.std.proofs.lemmas.Result.{err_from_is_err_and}
-use Rattle.numa_reports.proofs.Refusing.{page-refused}
-use Rattle.numa_reports.proofs.Taking.{free-next, free-start}
+use Rattle.numa_reports.proofs.Taking.{free-start}
+use Rattle.numa_reports.proofs.Repeating.{free-join, repeats-part}
 use Rattle.numa_reports.proofs.filling.fill_span.Goals as goal
 
-pub loop-page-preserved : goal.loop-page-preserved
-loop-page-preserved c =
-    free-next (planned_nodes c.args.plan.now c.args.touch.task c.args.touch.cpu) c.loop-page.free c.fill_page.new.free c.loop-page.page (c.args.first + c.args.pages - (c.loop-page.page + 1)) (c.args.first + c.args.pages - c.loop-page.page) c.in_ok-fill_page.ensures.free (omega (arith, c.loop-page-test.true))
-    ∙ c.loop-page.invariant
+pub loop-left-init : goal.loop-left-init
+loop-left-init c =
+    let nodes = planned_nodes c.args.plan.now c.args.touch.task c.args.touch.cpu in
+    let start : c.args.first + (c.args.pages - c.args.pages) ≡ c.args.first = omega arith in
+    record {
+      few = omega arith;
+      same = λ repeats. ap (λ (p : ℕ). free_behind nodes c.args.free.now p c.args.pages) start;
+    }
+
+pub loop-left-preserved : goal.loop-left-preserved
+loop-left-preserved c =
+    let nodes = planned_nodes c.args.plan.now c.args.touch.task c.args.touch.cpu in
+    let done = c.in_ok-left.field-0 in
+    record {
+      few = omega (arith, c.loop-left.invariant.few);
+      same = λ repeats.
+          let page = c.args.first + (c.args.pages - c.loop-left.left) in
+          let took = c.in_ok-left.ensures.free (repeats-part nodes c.args.first c.args.pages c.args.period page c.loop-left.left c.period_within-part.result (omega arith) (omega (arith, c.loop-left.invariant.few)) c.period_within-part.ensures.is repeats) in
+          free-join nodes c.loop-left.free c.fill_periods.new.free page (c.args.first + (c.args.pages - (c.loop-left.left - done))) done c.loop-left.left (c.loop-left.left - done) took (omega (arith, c.in_ok-left.ensures.few)) (omega (arith, c.in_ok-left.ensures.few, c.loop-left.invariant.few))
+          ∙ c.loop-left.invariant.same repeats;
+    }
 
 pub returns-clause-free : goal.returns-clause-free
-returns-clause-free c =
+returns-clause-free c repeats =
     let nodes = planned_nodes c.args.plan.now c.args.touch.task c.args.touch.cpu in
-    let none : c.args.first + c.args.pages - c.loop-page.page ≡ 0 = omega (arith, c.loop-page-test.false) in
-    sym (free-start nodes c.loop-page.free c.loop-page.page) ∙ sym (ap (λ (k : ℕ). free_behind nodes c.loop-page.free c.loop-page.page k) none) ∙ c.loop-page.invariant
-
-pub returns-in_err-fill_page-clause-err : goal.returns-in_err-fill_page-clause-err
-returns-in_err-fill_page-clause-err c =
-    let exit = err_from_is_err_and c.from_residual.result c.from_residual.ensures.1 in
-    rw (exit.1, exit.2) (page-refused c.args.plan.now c.args.first c.args.pages c.loop-page.page c.args.touch.cpu c.in_err-fill_page.field-0.0 c.in_err-fill_page.ensures.err (omega arith) (omega (arith, c.loop-page-test.true)))
+    let none : c.loop-left.left ≡ 0 = omega (arith, c.loop-left-test.false) in
+    sym (free-start nodes c.loop-left.free (c.args.first + (c.args.pages - c.loop-left.left)))
+    ∙ sym (ap (λ (k : ℕ). free_behind nodes c.loop-left.free (c.args.first + (c.args.pages - c.loop-left.left)) k) none)
+    ∙ c.loop-left.invariant.same repeats
