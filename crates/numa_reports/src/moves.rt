@@ -18,7 +18,7 @@ use numa_space::PlaceRefusal;
 use std::alloc::{AllocError, Global};
 
 /// How many pages are looked at together.
-const BLOCK: usize = 4096;
+pub(crate) const BLOCK: usize = 4096;
 
 /// How many entries a table has.
 pub(crate) const ENTRIES: usize = 65_536;

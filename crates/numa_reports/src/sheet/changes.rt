@@ -9,7 +9,7 @@ ghost use Rattle.numa_reports.specs.Failing.{MayFail, MovesMayFail};
 ghost use Rattle.numa_reports.specs.Mapped.{IsOutlook};
 
 use crate::fault::ReportFault;
-use crate::moves::{ENTRIES, empty_table, span_moves};
+use crate::moves::{BLOCK, ENTRIES, empty_table, span_moves};
 use crate::outlook::{Outlook, PageSpan, common_spans};
 use crate::sheet::fields::bytes;
 use crate::sheet::written::Written;
@@ -77,12 +77,20 @@ fn put_line(text: &mut Written, span: PageSpan, table: &[u64], nodes: u32) {
     put_moves(text, moved, table, nodes);
 }
 
-/// Adds a table to another of the same size.
-fn add_table(total: &mut Vec<u64>, table: &[u64]) {
-    for k in 0..total.len() {
-        if let Some(more) = table.get(k) {
-            total[k] = total[k].saturating_add(*more);
+/// Adds to a row of a table what that of another has, for so many nodes.
+fn add_from(total: &mut Vec<u64>, table: &[u64], nodes: u32, from: u32) {
+    for to in 0..nodes {
+        let place = from as usize * 256 + to as usize;
+        if let Some(sum) = total.get_mut(place) {
+            *sum = sum.saturating_add(entry(table, from, to));
         }
+    }
+}
+
+/// Adds a table to another, for so many nodes: no page is on others.
+fn add_table(total: &mut Vec<u64>, table: &[u64], nodes: u32) {
+    for from in 0..nodes {
+        add_from(total, table, nodes, from);
     }
 }
 
@@ -104,7 +112,7 @@ impl Difference {
     /// Adds the line of a span, and its pages to those of all.
     fn add(&mut self, span: PageSpan, table: &[u64], nodes: u32) -> Result<(), AllocError> {
         put_line(&mut self.text, span, table, nodes);
-        add_table(&mut self.total, table);
+        add_table(&mut self.total, table, nodes);
         self.text.checked()
     }
 
@@ -117,7 +125,43 @@ impl Difference {
     }
 }
 
-/// Adds the line of a span, and its pages to those of all.
+/// Whether each page of a block, as many as both lists have places, goes to the same node by both
+/// plans. It is false where a plan lacks one.
+fn block_stays(
+    before: &Plan,
+    after: &Plan,
+    touch: Touch,
+    first: u64,
+    old: &mut [u8],
+    new: &mut [u8],
+) -> bool {
+    if before.fill(touch.task, touch.cpu, first, old).is_err() {
+        return false;
+    }
+    if after.fill(touch.task, touch.cpu, first, new).is_err() {
+        return false;
+    }
+    *old == *new
+}
+
+/// Whether each page of a span goes to the same node by both plans. It is false where a plan lacks
+/// one.
+fn stays(before: &Plan, after: &Plan, touch: Touch, span: PageSpan) -> bool {
+    let mut old = [0u8; BLOCK];
+    let mut new = [0u8; BLOCK];
+    let mut left = span.pages;
+    while left > 0 {
+        let page = span.first.saturating_add(span.pages - left);
+        let part = left.min(BLOCK as u64) as usize;
+        if !block_stays(before, after, touch, page, &mut old[..part], &mut new[..part]) {
+            return false;
+        }
+        left -= part as u64;
+    }
+    true
+}
+
+/// Adds the line of a span, and its pages to those of all; nothing where all of them stay.
 fn push_span(
     alloc: Global,
     before: &Plan,
@@ -131,6 +175,9 @@ fn push_span(
         → PlanStandsFor machine before.now old → PlanStandsFor machine after.now new
         → IfErr result (MovesMayFail machine old new span.first span.pages touch.cpu) }
 {
+    if stays(before, after, touch, span) {
+        return Ok(());
+    }
     let table = span_moves(
         alloc, before, after, touch.task, touch.cpu, span.first, span.pages,
     )?;
