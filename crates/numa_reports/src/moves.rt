@@ -1,5 +1,5 @@
 //! Which pages go to another node.
-ghost use Rattle.std.specs.Prelude.{◌≡◌, ◌≤◌, ◌<◌, ◌==◌, ◌&&◌, ℕ, List, length, slice_index};
+ghost use Rattle.std.specs.Prelude.{◌≡◌, ◌-◌, ◌≤◌, ◌<◌, ◌==◌, ◌&&◌, ℕ, List, length, slice_index};
 ghost use Rattle.std.specs.Prelude.{Err, IfErr, IfOk, OnOk, nat_lt, if◌then◌else◌};
 ghost use Rattle.numa_compile.specs.Standing.{PlanStandsFor};
 ghost use Rattle.numa_machine.specs.Machine.{Hardware};
@@ -100,7 +100,7 @@ fn add_block(
 }
 
 /// Adds the pages of a span, block by block.
-fn add_moves(
+pub(crate) fn add_moves(
     before: &Plan,
     after: &Plan,
     touch: Touch,
@@ -114,6 +114,8 @@ fn add_moves(
         → touch.cpu < machine.nodes → OnOk result (AddsMoves table.old.items table.new.items
         (meant_moves machine old new touch.task touch.cpu span.first span.pages)) }
     ensures entries { length table.new.items ≡ 65536 }
+    ensures left { (left : ℕ) → HasRoomFor table.old.items left → span.pages ≤ left
+        → OnOk result (HasRoomFor table.new.items (left - span.pages)) }
     ensures err { IfErr result
         (RefusesEither before.now after.now span.first span.pages touch.cpu) }
 {
@@ -133,7 +135,7 @@ fn add_moves(
 }
 
 /// Whether a plan has the node.
-fn has_node(plan: &Plan, node: u32) -> bool
+pub(crate) fn has_node(plan: &Plan, node: u32) -> bool
     ensures { result ≡ nat_lt node plan.now.nodes }
 {
     plan.fill(0, node, 0, &mut []).is_ok()

@@ -1,5 +1,5 @@
 //! Differences as text.
-ghost use Rattle.std.specs.Prelude.{◌≡◌, ◌≤◌, List, Err, IfErr};
+ghost use Rattle.std.specs.Prelude.{◌≡◌, ◌≤◌, List, Err, IfErr, IfOk, OnOk};
 ghost use Rattle.numa_compile.specs.Standing.{PlanStandsFor};
 ghost use Rattle.numa_machine.specs.Machine.{Hardware};
 ghost use Rattle.numa_space.specs.declared.command.Command.{Command};
@@ -7,9 +7,10 @@ ghost use Rattle.numa_space.specs.declared.refusal.PlaceRefusal.TheVariants.{Bad
 ghost use Rattle.numa_reports.specs.declared.fault.ReportFault.TheVariants.{Refused};
 ghost use Rattle.numa_reports.specs.Failing.{MayFail, MovesMayFail};
 ghost use Rattle.numa_reports.specs.Mapped.{IsOutlook};
+ghost use Rattle.numa_reports.specs.Moved.{HasRoomFor};
 
 use crate::fault::ReportFault;
-use crate::moves::{BLOCK, ENTRIES, empty_table, span_moves};
+use crate::moves::{BLOCK, ENTRIES, add_moves, empty_table, has_node};
 use crate::outlook::{Outlook, PageSpan, common_spans};
 use crate::sheet::fields::bytes;
 use crate::sheet::written::Written;
@@ -18,18 +19,22 @@ use numa_plan::Plan;
 use numa_space::PlaceRefusal;
 use std::alloc::{AllocError, Global};
 
-/// How many pages go from a node to another.
-fn entry(table: &[u64], from: u32, to: u32) -> u64 {
-    match table.get(from as usize * 256 + to as usize) {
-        Some(pages) => *pages,
-        None => 0,
+/// How many pages go from a node to another, of those that weren't told before.
+fn entry(table: &[u64], told: &[u64], from: u32, to: u32) -> u64 {
+    let place = from as usize * 256 + to as usize;
+    let Some(pages) = table.get(place) else {
+        return 0;
+    };
+    match told.get(place) {
+        Some(before) => pages.saturating_sub(*before),
+        None => *pages,
     }
 }
 
 /// How many pages go from a node to another one, for each such two nodes between which some go.
-fn put_from(text: &mut Written, table: &[u64], nodes: u32, from: u32) {
+fn put_from(text: &mut Written, table: &[u64], told: &[u64], nodes: u32, from: u32) {
     for to in 0..nodes {
-        let pages = entry(table, from, to);
+        let pages = entry(table, told, from, to);
         if from != to && pages > 0 {
             text.put_form(b" N$->N$=$", &[from as u64, to as u64, pages]);
         }
@@ -37,90 +42,104 @@ fn put_from(text: &mut Written, table: &[u64], nodes: u32, from: u32) {
 }
 
 /// How many pages go from a node to another one.
-fn moved_from(table: &[u64], nodes: u32, from: u32) -> u64 {
+fn moved_from(table: &[u64], told: &[u64], nodes: u32, from: u32) -> u64 {
     let mut sum = 0u64;
     for to in 0..nodes {
         if from != to {
-            sum = sum.saturating_add(entry(table, from, to));
+            sum = sum.saturating_add(entry(table, told, from, to));
         }
     }
     sum
 }
 
 /// How many pages go to another node.
-fn moved(table: &[u64], nodes: u32) -> u64 {
+fn moved(table: &[u64], told: &[u64], nodes: u32) -> u64 {
     let mut sum = 0u64;
     for from in 0..nodes {
-        sum = sum.saturating_add(moved_from(table, nodes, from));
+        sum = sum.saturating_add(moved_from(table, told, nodes, from));
     }
     sum
 }
 
 /// The end of a line: how many pages go to another node, and from each node to each other, where
 /// some go.
-fn put_moves(text: &mut Written, moved: u64, table: &[u64], nodes: u32) {
-    text.put_form(b" moved=$", &[moved]);
+fn put_moves(text: &mut Written, table: &[u64], told: &[u64], nodes: u32) {
+    text.put_form(b" moved=$", &[moved(table, told, nodes)]);
     for from in 0..nodes {
-        put_from(text, table, nodes, from);
+        put_from(text, table, told, nodes, from);
     }
     text.put(b"\n");
 }
 
 /// The line of a span; nothing where none of its pages goes to another node.
-fn put_line(text: &mut Written, span: PageSpan, table: &[u64], nodes: u32) {
-    let moved = moved(table, nodes);
-    if moved == 0 {
+fn put_line(text: &mut Written, span: PageSpan, table: &[u64], told: &[u64], nodes: u32) {
+    if moved(table, told, nodes) == 0 {
         return;
     }
     let end = span.first.saturating_add(span.pages);
     text.put_addresses(bytes(span.first), bytes(end));
-    put_moves(text, moved, table, nodes);
+    put_moves(text, table, told, nodes);
 }
 
-/// Adds to a row of a table what that of another has, for so many nodes.
-fn add_from(total: &mut Vec<u64>, table: &[u64], nodes: u32, from: u32) {
+/// Notes that what goes from a node to others is told.
+fn note_from(told: &mut Vec<u64>, table: &[u64], nodes: u32, from: u32) {
     for to in 0..nodes {
         let place = from as usize * 256 + to as usize;
-        if let Some(sum) = total.get_mut(place) {
-            *sum = sum.saturating_add(entry(table, from, to));
+        if let Some(note) = told.get_mut(place) {
+            *note = entry(table, &[], from, to);
         }
     }
 }
 
-/// Adds a table to another, for so many nodes: no page is on others.
-fn add_table(total: &mut Vec<u64>, table: &[u64], nodes: u32) {
+/// Notes that what goes from each node to others is told.
+fn note_all(told: &mut Vec<u64>, table: &[u64], nodes: u32) {
     for from in 0..nodes {
-        add_from(total, table, nodes, from);
+        note_from(told, table, nodes, from);
     }
 }
 
-/// The lines so far, and how many pages of all spans go from each node to each.
+/// The lines so far, how many pages of all spans go from each node to each, and how many of them
+/// were told. So many pages more have room.
 #[derive(Drop)]
 struct Difference {
     text: Written,
     total: Vec<u64>,
+    told: Vec<u64>,
+    left: u64,
 }
 
 impl Difference {
     /// No lines.
-    fn new(alloc: Global) -> Result<Difference, AllocError> {
+    fn new(alloc: Global) -> Result<Difference, AllocError>
+        ensures room { IfOk result (λ difference.
+            HasRoomFor difference.total.items difference.left) }
+    {
         let total = empty_table(alloc, ENTRIES)?;
+        let told = empty_table(alloc, ENTRIES)?;
         let text = Written::new(alloc);
-        Ok(Difference { text, total })
+        Ok(Difference {
+            text,
+            total,
+            told,
+            left: u64::MAX,
+        })
     }
 
-    /// Adds the line of a span, and its pages to those of all.
-    fn add(&mut self, span: PageSpan, table: &[u64], nodes: u32) -> Result<(), AllocError> {
-        put_line(&mut self.text, span, table, nodes);
-        add_table(&mut self.total, table, nodes);
+    /// Adds the line of a span whose pages are counted.
+    fn add(&mut self, span: PageSpan, nodes: u32) -> Result<(), AllocError>
+        ensures total { self.new.total ≡ self.old.total }
+        ensures left { self.new.left ≡ self.old.left }
+    {
+        let table = self.total.as_slice();
+        put_line(&mut self.text, span, table, self.told.as_slice(), nodes);
+        note_all(&mut self.told, table, nodes);
         self.text.checked()
     }
 
     /// Writes the last line, and gives the text.
     fn end(&mut self, nodes: u32) -> Result<Vec<u8>, AllocError> {
-        let table = self.total.as_slice();
         self.text.put(b"total");
-        put_moves(&mut self.text, moved(table, nodes), table, nodes);
+        put_moves(&mut self.text, self.total.as_slice(), &[], nodes);
         self.text.take()
     }
 }
@@ -153,7 +172,14 @@ fn stays(before: &Plan, after: &Plan, touch: Touch, span: PageSpan) -> bool {
     while left > 0 {
         let page = span.first.saturating_add(span.pages - left);
         let part = left.min(BLOCK as u64) as usize;
-        if !block_stays(before, after, touch, page, &mut old[..part], &mut new[..part]) {
+        if !block_stays(
+            before,
+            after,
+            touch,
+            page,
+            &mut old[..part],
+            &mut new[..part],
+        ) {
             return false;
         }
         left -= part as u64;
@@ -161,9 +187,33 @@ fn stays(before: &Plan, after: &Plan, touch: Touch, span: PageSpan) -> bool {
     true
 }
 
+/// Counts the pages of a span.
+fn count_span(
+    before: &Plan,
+    after: &Plan,
+    touch: Touch,
+    span: PageSpan,
+    difference: &mut Difference,
+) -> Result<(), ReportFault>
+    requires { HasRoomFor difference.old.total.items difference.old.left }
+    ensures room { OnOk result (HasRoomFor difference.new.total.items difference.new.left) }
+    ensures err { (machine : Hardware) (old new : List Command)
+        → PlanStandsFor machine before.now old → PlanStandsFor machine after.now new
+        → IfErr result (MovesMayFail machine old new span.first span.pages touch.cpu) }
+{
+    if !has_node(before, touch.cpu) {
+        return Err(ReportFault::Refused(PlaceRefusal::BadCpu));
+    }
+    let Some(left) = difference.left.checked_sub(span.pages) else {
+        return Err(ReportFault::Memory);
+    };
+    add_moves(before, after, touch, span, &mut difference.total)?;
+    difference.left = left;
+    Ok(())
+}
+
 /// Adds the line of a span, and its pages to those of all; nothing where all of them stay.
 fn push_span(
-    alloc: Global,
     before: &Plan,
     after: &Plan,
     nodes: u32,
@@ -171,17 +221,17 @@ fn push_span(
     span: PageSpan,
     difference: &mut Difference,
 ) -> Result<(), ReportFault>
-    ensures { (machine : Hardware) (old new : List Command)
+    requires { HasRoomFor difference.old.total.items difference.old.left }
+    ensures room { OnOk result (HasRoomFor difference.new.total.items difference.new.left) }
+    ensures err { (machine : Hardware) (old new : List Command)
         → PlanStandsFor machine before.now old → PlanStandsFor machine after.now new
         → IfErr result (MovesMayFail machine old new span.first span.pages touch.cpu) }
 {
     if stays(before, after, touch, span) {
         return Ok(());
     }
-    let table = span_moves(
-        alloc, before, after, touch.task, touch.cpu, span.first, span.pages,
-    )?;
-    difference.add(span, table.as_slice(), nodes)?;
+    count_span(before, after, touch, span, difference)?;
+    difference.add(span, nodes)?;
     Ok(())
 }
 
@@ -213,7 +263,6 @@ pub fn difference_text(
     let touch = Touch { task, cpu };
     for span in &spans {
         push_span(
-            alloc,
             &before.plan,
             &after.plan,
             nodes,

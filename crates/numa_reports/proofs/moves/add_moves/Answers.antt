@@ -46,3 +46,11 @@ pub returns-in_err-add_block-clause-err : goal.returns-in_err-add_block-clause-e
 returns-in_err-add_block-clause-err c =
     let exit = err_from_is_err_and c.from_residual.result c.from_residual.ensures.1 in
     rw (exit.1, exit.2) (both-part c.args.before.now c.args.after.now c.args.span.first c.args.span.pages c.loop-page.page c.min-part.result c.args.touch.cpu c.in_err-add_block.field-0.0 c.loop-page.invariant.low (omega (arith, c.min-part.ensures)) c.in_err-add_block.ensures.err)
+
+pub returns-clause-left : goal.returns-clause-left
+returns-clause-left c left has few = record {
+  entries = c.loop-page.invariant.entries;
+  room = λ from to f t.
+      let test : ℕ → Bool = λ page. is_number from (planned_first c.args.before.now c.args.touch.task page c.args.touch.cpu) && is_number to (planned_first c.args.after.now c.args.touch.task page c.args.touch.cpu) in
+      omega (arith, c.loop-page.invariant.counted from to f t, count-most test c.args.span.first (c.loop-page.page - c.args.span.first), has.room from to f t, few, c.loop-page.invariant.low, c.loop-page.invariant.high);
+}
