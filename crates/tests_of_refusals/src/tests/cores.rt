@@ -1,6 +1,6 @@
 //! Events of a core: commands, publications, and workers' steps, which want no memory.
 use crate::tests::same::{mark, same};
-use crate::tests::shown::{Shown, shown};
+use crate::tests::shown::summed;
 use crate::tests::spaces::COMMANDS;
 use numa_core::Core;
 use numa_examples::{commands_of, flat_machine, limits};
@@ -16,10 +16,10 @@ fn core_for(rt: &impl Abort, alloc: Global) -> Core {
 }
 
 /// What a core shows: its space, the published version, and the runs and rules of that plan.
-fn all_shown(core: &Core) -> (Shown, u64, usize, usize) {
+fn all_shown(core: &Core) -> (u64, u64, usize, usize) {
     let plan = core.plan();
     (
-        shown(core.space()),
+        summed(core.space()),
         core.published(),
         plan.run_count(),
         plan.rule_count(),
@@ -31,32 +31,33 @@ fn is_lack(refusal: CoreRefusal) -> bool {
     refusal == CoreRefusal::NoMemory || refusal == CoreRefusal::Command(Refusal::NoMemory)
 }
 
-/// An event: whether memory lacked, where it is refused.
-fn lack_of(core: &mut Core, event: Event) -> Option<bool> {
-    match core.step(event) {
-        Ok(_) => None,
-        Err(refusal) => Some(is_lack(refusal)),
+/// An event: 0 where it isn't refused, 1 where it is for want of memory, else 2.
+fn cause_of(core: &mut Core, event: &Event) -> u32 {
+    match core.step(*event) {
+        Ok(_) => 0,
+        Err(refusal) if is_lack(refusal) => 1,
+        Err(_) => 2,
     }
 }
 
 /// An event, and once more where a growth was refused, which changed nothing.
-fn step(rt: &impl Abort, core: &mut Core, event: Event) {
+fn step(rt: &impl Abort, core: &mut Core, event: &Event) {
     let before = all_shown(core);
-    let lack = lack_of(core, event);
-    if lack.is_none() {
+    let cause = cause_of(core, event);
+    if cause == 0 {
         return;
     }
-    same(rt, &(lack, all_shown(core)), &(Some(true), before));
-    same(rt, &lack_of(core, event), &None);
+    same(rt, &(cause, all_shown(core)), &(1, before));
+    same(rt, &cause_of(core, event), &0);
 }
 
 /// Accepts a command, has the plan made that answers questions, and publishes.
 fn accept(rt: &impl Abort, core: &mut Core, command: &Command) {
-    step(rt, core, Event::Accept(*command));
+    step(rt, core, &Event::Accept(*command));
     if core.prepare().is_err() {
         assert!(rt; core.prepare().is_ok());
     }
-    step(rt, core, Event::Publish);
+    step(rt, core, &Event::Publish);
 }
 
 /// Worker 0 hunts for a frame for page 0x10 of task 2, and gives it back.
@@ -66,10 +67,10 @@ fn hunt(rt: &impl Abort, core: &mut Core) {
         page: 0x10,
         cpu: 0,
     };
-    step(rt, core, Event::Begin(0, request));
-    step(rt, core, Event::Look(0, 0));
-    step(rt, core, Event::Try(0, Frame { node: 1, number: 3 }));
-    step(rt, core, Event::Give(0, Frame { node: 1, number: 3 }));
+    step(rt, core, &Event::Begin(0, request));
+    step(rt, core, &Event::Look(0, 0));
+    step(rt, core, &Event::Try(0, Frame { node: 1, number: 3 }));
+    step(rt, core, &Event::Give(0, Frame { node: 1, number: 3 }));
 }
 
 /// All events between the marks.

@@ -1,6 +1,6 @@
 //! The calls of a desk as numa_hunts hands them on.
 use crate::tests::same::{mark, same};
-use crate::tests::shown::{Shown, shown};
+use crate::tests::shown::summed;
 use crate::tests::spaces::COMMANDS;
 use numa_examples::{commands_of, flat_machine, limits};
 use numa_hunts::desk;
@@ -18,8 +18,8 @@ fn open(rt: &(impl Wait + Abort), alloc: Global) -> Result<Desk, NoMemory> {
 }
 
 /// What a desk shows: its space, the published version, and how many commands are pending.
-fn all_shown(desk: &Desk) -> (Shown, u64, usize) {
-    (shown(desk.space()), desk.published(), desk.pending())
+fn all_shown(desk: &Desk) -> (u64, u64, usize) {
+    (summed(desk.space()), desk.published(), desk.pending())
 }
 
 /// Accepts a command, and once more where a growth was refused, which changed nothing.

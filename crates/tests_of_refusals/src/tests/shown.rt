@@ -53,18 +53,25 @@ fn weights_of(space: &Space) -> u64 {
     sum
 }
 
-/// What a space shows: its version, how many ranges there are and what they hold, its tasks, its
-/// weights and its allowed nodes.
-pub type Shown = (u64, usize, u64, u64, u64, [u64; 4]);
+/// The allowed nodes.
+fn allowed_in(space: &Space) -> u64 {
+    let mut sum = 0u64;
+    for word in space.allowed().words() {
+        sum = mixed(sum, word);
+    }
+    sum
+}
 
-/// What a space shows now.
-pub fn shown(space: &Space) -> Shown {
-    (
-        space.version(),
-        space.ranges(),
-        ranges_of(space),
-        tasks_of(space),
-        weights_of(space),
-        space.allowed().words(),
-    )
+/// What a space shows now: its version, how many ranges there are, and a sum of what they hold, of
+/// its tasks, its weights and its allowed nodes.
+pub fn shown(space: &Space) -> (u64, usize, u64) {
+    let sum = mixed(ranges_of(space), tasks_of(space));
+    let sum = mixed(mixed(sum, weights_of(space)), allowed_in(space));
+    (space.version(), space.ranges(), sum)
+}
+
+/// The same as one sum.
+pub fn summed(space: &Space) -> u64 {
+    let (version, ranges, sum) = shown(space);
+    mixed(mixed(sum, version), ranges as u64)
 }
