@@ -94,6 +94,7 @@ prove_in_room() {
     show
     [ ! -t 2 ] || echo >&2
     if [ "$status" = 0 ]; then
+        tail -n 1 "$room/said" >"$new/proof" # (which ./numaplan package records)
         grep '^rt: note: ' "$room/said" >&2
         return 0
     fi

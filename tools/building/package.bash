@@ -1,0 +1,150 @@
+# A part of ./numaplan: makes packages of the program and the library as they were proved: a tarball,
+# a package for Debian, and the wheel.
+#
+# All is made in the room, by one command that can be ended at any time, and goes to its folder whole.
+# The same sources and proofs make the same bytes: times are that of the commit. Not proved.
+
+# Sets what the packages say of the sources: their version, commit, time and maintainer.
+describe_sources() {
+    local changed
+    version=$(<"$top/VERSION") && package_name=numaplan-$version-linux-x86_64
+    commit='no known commit' maintainer='nobody <nobody@example.org>'
+    SOURCE_DATE_EPOCH=$(stat -c %Y "$top/VERSION")
+    [ -e "$top/.git" ] && changed=$(git -C "$top" status --porcelain 2>/dev/null) || return 0
+    commit="commit $(git -C "$top" log -1 --format=%H)${changed:+, with changes}"
+    maintainer=$(git -C "$top" log -1 --format='%an <%ae>')
+    SOURCE_DATE_EPOCH=$(git -C "$top" log -1 --format=%ct)
+}
+
+# The record of the proof, of the files below a folder.
+write_record() {
+    printf '%s\n' "numaplan $version, of $commit" '' \
+        "Proved with $(sed -n 2p "$out/proved/of"). The last line of rt ci:" \
+        "  for the program and the crates below it: $(<"$out/proved/proof")" \
+        "  for the crates below the library: $(<"$out/library/proof")" \
+        'The crate of the library itself was proved when its archive was built.' '' \
+        'What was proved is in these files, here with their SHA-256 and as they were built; scripts' \
+        'in bin and share are not proved. sha256sum -c takes these lines, in the folder of bin and lib.' ''
+    cd "$1" && sha256sum bin/numaplan lib/libnumaplan.a "lib/libnumaplan.so.$version"
+}
+
+# Puts a list of changes and the documents and examples for authors beside the others.
+pack_documents() {
+    local documents=$1/share/doc/numaplan kind
+    for kind in c python; do
+        install -D -m 644 -t "$documents/examples/$kind" "$top/$kind/examples/"* || return
+    done
+    sed -E -e 's@`(c|python)/examples/@`examples/\1/@g' -e 's@\bdocs/([A-Z])@\1@g' \
+        "$top/docs/LIBRARY.md" >"$documents/LIBRARY.md" && cp "$top/CHANGELOG.md" "$documents/"
+}
+
+# Makes the tree that is packed, below a folder like /usr, and the wheel beside it.
+make_tree() {
+    local tree=$1 made=$2
+    # (a subshell each, since they end the script where they fail)
+    (install_in "$tree") && (library_in "$tree") && pack_documents "$tree" &&
+        sed -i 's@^prefix=.*@prefix=${pcfiledir}/../..@' "$tree/lib/pkgconfig/numaplan.pc" &&
+        write_record "$tree" >"$room/PROOF" && mv "$room/PROOF" "$tree/share/doc/numaplan/" || return
+    ! compgen -G "$tree/share/numaplan/*.whl" >/dev/null || mv "$tree/share/numaplan/"*.whl "$made"
+}
+
+make_tarball() {
+    tar -C "$room" --sort=name --owner=0 --group=0 --numeric-owner --mode=u+w,go-w,a+rX \
+        --mtime="@$SOURCE_DATE_EPOCH" -cf - "$package_name" | gzip -9n >"$1/$package_name.tar.gz"
+}
+
+# ---- the package for Debian
+
+# The newest libc that a file asks for.
+libc_of() { objdump -T "$@" | grep -o 'GLIBC_[0-9][0-9.]*' | sort -uV | tail -n 1 | cut -d _ -f 2; }
+
+write_control() {
+    local root=$1
+    printf '%s\n' 'Package: numaplan' "Version: $version-1" 'Architecture: amd64' 'Section: utils' \
+        'Priority: optional' "Maintainer: $maintainer" \
+        "Installed-Size: $(du -sk --apparent-size "$root/usr" | cut -f 1)" \
+        "Depends: libc6 (>= $(libc_of "$root/usr/bin/numaplan" "$root/usr/lib/libnumaplan.so"))" \
+        'Recommends: python3 (>= 3.10)' \
+        'Description: says where Linux would place memory under NUMA policies' \
+        ' It answers for a machine and policies that are described: nodes and distances, mbind and' \
+        ' set_mempolicy, weights, home nodes, and the nodes that a cpuset allows. The program and the' \
+        ' library libnumaplan are proved, and need libc alone; numaplan-emulate and the other scripts' \
+        ' are not proved, and need Python.'
+}
+
+# Places and forms that Debian has of its own: compressed pages and changes, zsh's completions.
+suit_debian() {
+    local usr=$1/usr documents=$1/usr/share/doc/numaplan
+    mkdir -p "$usr/share/zsh/vendor-completions" &&
+        mv "$usr/share/zsh/site-functions/_numaplan" "$usr/share/zsh/vendor-completions/" &&
+        rmdir "$usr/share/zsh/site-functions" &&
+        mv "$documents/CHANGELOG.md" "$documents/changelog" &&
+        printf '%s\n' "numaplan ($version-1) unstable; urgency=medium" '' \
+            "  * Made by ./numaplan package, of $commit." '' \
+            " -- $maintainer  $(date -uRd "@$SOURCE_DATE_EPOCH")" >"$documents/changelog.Debian" &&
+        printf '%s\n' 'No licence has been granted yet; that is for the owners of the repository of' \
+            'numaplan to decide.' >"$documents/copyright" &&
+        gzip -9n "$documents"/changelog{,.Debian} "$usr/share/man"/man*/*
+}
+
+make_deb() {
+    local root=$room/root made=$1
+    mkdir -p "$root/DEBIAN" && cp -a "$room/$package_name" "$root/usr" && suit_debian "$root" &&
+        chmod -R u+w,go-w,a+rX "$root" && write_control "$root" >"$root/DEBIAN/control" &&
+        echo 'activate-noawait ldconfig' >"$root/DEBIAN/triggers" &&
+        echo "libnumaplan ${version%%.*} numaplan (>= $version)" >"$root/DEBIAN/shlibs" &&
+        (cd "$root" && find usr -type f | LC_ALL=C sort | xargs md5sum >DEBIAN/md5sums) &&
+        dpkg-deb --root-owner-group --build "$root" "$made/numaplan_$version-1_amd64.deb"
+}
+
+# ---- all of them
+
+# Makes the packages in a folder.
+make_packages() {
+    local made=$1 tree=$room/$package_name
+    trap - EXIT INT TERM HUP
+    export SOURCE_DATE_EPOCH TMPDIR=$room/temporary
+    umask 022
+    mkdir -p "$made" "$tree" "$TMPDIR" && make_tree "$tree" "$made" && make_tarball "$made" || return
+    ! command -v dpkg-deb >/dev/null || make_deb "$made"
+}
+
+# Puts what was made into its folder, in place of what an earlier run made there of this version.
+hand_over() {
+    trap '' INT TERM HUP
+    rmdir "$new"
+    new=$2/.numaplan-new
+    rm -rf "$new"
+    mkdir -p "$new" 2>/dev/null && cp "$1/"* "$new" && mv "$new"/* "$2" || fault="$2 can't be written"
+}
+
+# Sees to it that what is packed is proved, and that rt's word on it is kept.
+need_record() {
+    [ -e "$out/$1/proof" ] || rm -rf "${out:?}/$1"
+    need_proved "$1"
+}
+
+package_in() {
+    local folder commit version package_name maintainer SOURCE_DATE_EPOCH
+    command -v rt >/dev/null || { say "rt, which proves what is packed, isn't in PATH" && exit 1; }
+    unset NUMAPLAN_ARCHIVE # (which nobody proved here)
+    folder=$(realpath -m "$1")
+    need_record proved
+    need_record library
+    describe_sources
+    hold "$top/VERSION" 'makes packages'
+    begin packages
+    [ -n "$fault" ] || start make_packages "$room/made"
+    [ -n "$fault" ] || await || fault=$(tail -n 1 "$room/said")
+    [ -n "$fault" ] || hand_over "$room/made" "$folder"
+    leave
+    [ -z "$fault" ] || { say "no package is made: $fault" && exit 1; }
+    tell_packages "$folder"
+}
+
+# Tells what was made, and what wasn't.
+tell_packages() {
+    say "in $1: $(cd "$1" && echo "$package_name".tar.gz numaplan*"$version"*.@(deb|whl))"
+    command -v dpkg-deb >/dev/null || say "dpkg-deb isn't in PATH, so there is no .deb"
+    command -v python3 >/dev/null || say "python3 isn't in PATH, so there is no wheel"
+}
