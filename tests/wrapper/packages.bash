@@ -1,5 +1,5 @@
-# A part of the test of ./numaplan: its packages, of the stand-in's program and library. They have what
-# they should, of one version, and nothing is left behind. Not proved.
+# A part of the test of ./numaplan: its packages, of the stand-in's program and library. They have
+# what they should, of one version, and nothing is left behind. Not proved.
 
 # What the packages are called.
 packed() {
@@ -33,7 +33,8 @@ holds() {
 
 is_recorded() {
     local record=$tree/share/doc/numaplan/PROOF
-    grep -q 'Proved with fake-kit 2' "$record" && grep -q 'crates below it: rt: numaplan ' "$record" &&
+    grep -q 'Proved with fake-kit 2' "$record" &&
+        grep -q 'crates below it: rt: numaplan ' "$record" &&
         (cd "$tree" && sha256sum -c --quiet share/doc/numaplan/PROOF 2>"$top/said") &&
         [ "$(grep -cE '^[0-9a-f]{64}  ' "$record")" = 3 ]
 }
@@ -57,7 +58,8 @@ try_tree() {
     check 'its program is the proved one' answers proved
     check 'no place of this run is named in it' bash -c "! grep -rlF '$top/' '$tree'"
     ! command -v pkg-config >/dev/null || check 'numaplan.pc names the place it is at' is_elsewhere
-    answer=$(cd "$tree/share/numaplan" && python3 -B -c 'import numaplan; print(numaplan.__version__)')
+    answer=$(cd "$tree/share/numaplan" &&
+        python3 -B -c 'import numaplan; print(numaplan.__version__)')
     check 'its Python module finds the library beside it, and both are of the version' \
         test "$answer" = "$(<"$top/VERSION")"
 }
@@ -87,7 +89,8 @@ try_packages() {
     run package "$top/made"
     check 'packages prove what they are made of first' says 'proving the C library and the 3 crates'
     check 'and say where they are' says "in $top/made: numaplan-"
-    check 'a tarball, a wheel and a .deb' packed "$top/made" " numaplan_$(<"$top/VERSION")-1_amd64.deb"
+    check 'a tarball, a wheel and a .deb' \
+        packed "$top/made" " numaplan_$(<"$top/VERSION")-1_amd64.deb"
     check 'nothing half done stays behind packages' is_tidy
     try_tree
     [ ! -x /usr/bin/dpkg-deb ] || try_deb
@@ -102,7 +105,8 @@ try_faults_of_packing() {
     touch "$slow"
     for signal in INT TERM HUP; do
         run_and_end $signal pack package
-        check "packing is ended by $signal" fails $((128 + $(kill -l $signal))) 'interrupted; clearing up'
+        check "packing is ended by $signal" \
+            fails $((128 + $(kill -l $signal))) 'interrupted; clearing up'
         check 'which leaves nothing behind' bash -c "[ ! -e '$top/out/packages' ]"
         check 'and nothing half done' is_tidy
     done
@@ -142,6 +146,7 @@ try_versions() {
     check 'and the Python package' grep -qx "__version__ = \"$version\"" python/numaplan/__init__.py
     check 'and its project' grep -qx "version = \"$version\"" python/pyproject.toml
     check 'and the Rust crate' grep -qx "version = \"$version\"" rust/numaplan/Cargo.toml
-    check 'and its constant' grep -qx "pub const VERSION: &str = \"$version\";" rust/numaplan/src/lib.rs
+    check 'and its constant' \
+        grep -qx "pub const VERSION: &str = \"$version\";" rust/numaplan/src/lib.rs
     cd "$top/elsewhere" || exit 1
 }

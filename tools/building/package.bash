@@ -1,8 +1,8 @@
-# A part of ./numaplan: makes packages of the program and the library as they were proved: a tarball,
-# a package for Debian, and the wheel.
+# A part of ./numaplan: makes packages of the program and the library as they were proved: a
+# tarball, a package for Debian, and the wheel.
 #
-# All is made in the room, by one command that can be ended at any time, and goes to its folder whole.
-# The same sources and proofs make the same bytes: times are that of the commit. Not proved.
+# All is made in the room, by one command that can be ended at any time, and goes to its folder
+# whole. The same sources and proofs make the same bytes: times are that of the commit. Not proved.
 
 # Sets what the packages say of the sources: their version, commit, time and maintainer.
 describe_sources() {
@@ -23,8 +23,8 @@ write_record() {
         "  for the program and the crates below it: $(<"$out/proved/proof")" \
         "  for the crates below the library: $(<"$out/library/proof")" \
         'The crate of the library itself was proved when its archive was built.' '' \
-        'What was proved is in these files, here with their SHA-256 and as they were built; scripts' \
-        'in bin and share are not proved. sha256sum -c takes these lines, in the folder of bin and lib.' ''
+        'What was proved is in these files, here with their SHA-256, as it was built; scripts in' \
+        'bin and share are not proved. sha256sum -c takes these lines, where bin and lib are.' ''
     cd "$1" && sha256sum bin/numaplan lib/libnumaplan.a "lib/libnumaplan.so.$version"
 }
 
@@ -44,7 +44,8 @@ make_tree() {
     # (a subshell each, since they end the script where they fail)
     (install_in "$tree") && (library_in "$tree") && pack_documents "$tree" &&
         sed -i 's@^prefix=.*@prefix=${pcfiledir}/../..@' "$tree/lib/pkgconfig/numaplan.pc" &&
-        write_record "$tree" >"$room/PROOF" && mv "$room/PROOF" "$tree/share/doc/numaplan/" || return
+        write_record "$tree" >"$room/PROOF" &&
+        mv "$room/PROOF" "$tree/share/doc/numaplan/" || return
     ! compgen -G "$tree/share/numaplan/*.whl" >/dev/null || mv "$tree/share/numaplan/"*.whl "$made"
 }
 
@@ -66,10 +67,10 @@ write_control() {
         "Depends: libc6 (>= $(libc_of "$root/usr/bin/numaplan" "$root/usr/lib/libnumaplan.so"))" \
         'Recommends: python3 (>= 3.10)' \
         'Description: says where Linux would place memory under NUMA policies' \
-        ' It answers for a machine and policies that are described: nodes and distances, mbind and' \
-        ' set_mempolicy, weights, home nodes, and the nodes that a cpuset allows. The program and the' \
-        ' library libnumaplan are proved, and need libc alone; numaplan-emulate and the other scripts' \
-        ' are not proved, and need Python.'
+        ' It answers for a machine and policies that are described: nodes and distances,' \
+        ' mbind and set_mempolicy, weights, home nodes, and the nodes that a cpuset allows.' \
+        ' The program and the library libnumaplan are proved, and need libc alone;' \
+        ' numaplan-emulate and the other scripts are not proved, and need Python.'
 }
 
 # Places and forms that Debian has of its own: compressed pages and changes, zsh's completions.
@@ -82,8 +83,8 @@ suit_debian() {
         printf '%s\n' "numaplan ($version-1) unstable; urgency=medium" '' \
             "  * Made by ./numaplan package, of $commit." '' \
             " -- $maintainer  $(date -uRd "@$SOURCE_DATE_EPOCH")" >"$documents/changelog.Debian" &&
-        printf '%s\n' 'No licence has been granted yet; that is for the owners of the repository of' \
-            'numaplan to decide.' >"$documents/copyright" &&
+        printf '%s\n' 'No licence has been granted yet; that is for the owners of the' \
+            'repository of numaplan to decide.' >"$documents/copyright" &&
         gzip -9n "$documents"/changelog{,.Debian} "$usr/share/man"/man*/*
 }
 
@@ -105,7 +106,8 @@ make_packages() {
     trap - EXIT INT TERM HUP
     export SOURCE_DATE_EPOCH TMPDIR=$room/temporary
     umask 022
-    mkdir -p "$made" "$tree" "$TMPDIR" && make_tree "$tree" "$made" && make_tarball "$made" || return
+    mkdir -p "$made" "$tree" "$TMPDIR" && make_tree "$tree" "$made" &&
+        make_tarball "$made" || return
     ! command -v dpkg-deb >/dev/null || make_deb "$made"
 }
 
@@ -115,7 +117,8 @@ hand_over() {
     rmdir "$new"
     new=$2/.numaplan-new
     rm -rf "$new"
-    mkdir -p "$new" 2>/dev/null && cp "$1/"* "$new" && mv "$new"/* "$2" || fault="$2 can't be written"
+    mkdir -p "$new" 2>/dev/null && cp "$1/"* "$new" && mv "$new"/* "$2" ||
+        fault="$2 can't be written"
 }
 
 # Sees to it that what is packed is proved, and that rt's word on it is kept.
