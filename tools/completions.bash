@@ -6,7 +6,7 @@ _numaplan() {
     [ "${COMP_WORDS[at - 1]}" != = ] || at=$((at - 1))
     COMPREPLY=()
     # (the words of the repository's script)
-    [[ ${COMP_WORDS[0]} != */* || ! -f ${COMP_WORDS[0]%/*}/crates.txt ]] || own=' prove try install library'
+    [[ ${COMP_WORDS[0]} != */* || ! -f ${COMP_WORDS[0]%/*}/crates.txt ]] || own=' prove try install library package'
     case ${COMP_WORDS[1]}:${COMP_WORDS[at - 1]} in
         run:--rules | check:--rules | expect:--rules | predict:--rules | diff:--rules | explain:--rules | replay:--rules) words='document linux' ;;
         predict:--task | predict:--node | predict:--free | diff:--task | diff:--node | diff:--then | explain:--task | explain:--node | storm:--workers) : ;;

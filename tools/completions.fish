@@ -23,7 +23,7 @@ complete -c numaplan -n __numaplan_begins -f -a explain -d 'Tells why a page goe
 complete -c numaplan -n __numaplan_begins -f -a replay -d 'Tells what a trace of accesses meets after scripts'
 complete -c numaplan -n __numaplan_begins -f -a storm -d 'Lets workers place pages while policies change, and compares each placement'
 complete -c numaplan -n __numaplan_begins -f -a help -d 'Print this message or the help of the given subcommand(s)'
-complete -c numaplan -n __numaplan_is_script -f -a 'prove try install library'
+complete -c numaplan -n __numaplan_is_script -f -a 'prove try install library package'
 complete -c numaplan -n '__numaplan_begins' -s h -l help -d 'Print help'
 complete -c numaplan -n '__numaplan_begins' -s V -l version -d 'Print version'
 complete -c numaplan -n '__numaplan_has run' -l echo -d 'Writes each line of the script, and its answer behind `=> `'

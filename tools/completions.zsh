@@ -14,7 +14,7 @@ _numaplan() {
         'storm:Lets workers place pages while policies change, and compares each placement'
         'help:Print this message or the help of the given subcommand(s)'
     )
-    [[ $words[1] != */* || ! -f ${words[1]:h}/crates.txt ]] || commands+=(prove try install library)
+    [[ $words[1] != */* || ! -f ${words[1]:h}/crates.txt ]] || commands+=(prove try install library package)
     _arguments -C \
         '(-h --help)-h[Print help]' '(-h --help)--help[Print help]' \
         '(-V --version)-V[Print version]' '(-V --version)--version[Print version]' \
