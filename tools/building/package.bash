@@ -67,10 +67,10 @@ write_control() {
         "Depends: libc6 (>= $(libc_of "$root/usr/bin/numaplan" "$root/usr/lib/libnumaplan.so"))" \
         'Recommends: python3 (>= 3.10)' \
         'Description: says where Linux would place memory under NUMA policies' \
-        ' It answers for a machine and policies that are described: nodes and distances,' \
-        ' mbind and set_mempolicy, weights, home nodes, and the nodes that a cpuset allows.' \
-        ' The program and the library libnumaplan are proved, and need libc alone;' \
-        ' numaplan-emulate and the other scripts are not proved, and need Python.'
+        ' It answers for a machine and policies that are described: nodes and' \
+        ' distances, mbind and set_mempolicy, weights, home nodes, and the nodes that' \
+        ' a cpuset allows. The program and the library libnumaplan are proved, and' \
+        ' need libc alone; numaplan-emulate and the other scripts need Python.'
 }
 
 # Places and forms that Debian has of its own: compressed pages and changes, zsh's completions.
@@ -81,10 +81,13 @@ suit_debian() {
         rmdir "$usr/share/zsh/site-functions" &&
         mv "$documents/CHANGELOG.md" "$documents/changelog" &&
         printf '%s\n' "numaplan ($version-1) unstable; urgency=medium" '' \
-            "  * Made by ./numaplan package, of $commit." '' \
+            '  * Made by ./numaplan package, of' "    $commit." '' \
             " -- $maintainer  $(date -uRd "@$SOURCE_DATE_EPOCH")" >"$documents/changelog.Debian" &&
         printf '%s\n' 'No licence has been granted yet; that is for the owners of the' \
             'repository of numaplan to decide.' >"$documents/copyright" &&
+        chmod a-x "$usr/lib/libnumaplan.so.$version" && mkdir -p "$usr/share/lintian/overrides" &&
+        printf '%s\n' '# (what was proved is packed as it was built: PROOF has its sum)' \
+            'numaplan: unstripped-binary-or-object' >"$usr/share/lintian/overrides/numaplan" &&
         gzip -9n "$documents"/changelog{,.Debian} "$usr/share/man"/man*/*
 }
 
