@@ -117,8 +117,8 @@ def short(answer):
     return "ok" if words[0] == "ok" else answer
 
 
-def cause(line, mine, seen, before):
-    """The row of the table that a difference falls under, or None."""
+def cause(line, mine, seen, before, left):
+    """The row of the table that a difference falls under, where it is left, or None."""
     words = line.split()
     if words[0] == "mbind":
         if int(words[2], 16) == 0 and seen == "ok":
@@ -139,13 +139,13 @@ def cause(line, mine, seen, before):
         return "no memory"
     elif words[0] == "place":
         policy, my_policy = seen.split(": ")[-1], mine.split(": ")[-1]
-        if "mems" in before and (policy + my_policy).count("prefer"):
+        if "prefer" in left and "mems" in before and (policy + my_policy).count("prefer"):
             return "prefer"
         if "mems" in before and "=static" in policy and my_policy != policy:
             return "static"
         if "weight" in before and policy.startswith("weighted"):
             return "weight"
-        if "home" in before and policy.startswith("bind"):
+        if "home" in before and policy.startswith(("bind", "prefer (many)")):
             return "home"
     return None
 
@@ -168,7 +168,7 @@ def compare(program, rules, machine, script, counts):
         if short(mine) == seen:
             counts["refused"] += seen.startswith("E")
             continue
-        row = cause(line, mine, seen, before)
+        row = cause(line, mine, seen, before, LEFT[rules])
         if row not in LEFT[rules]:
             counts["new"] += 1
             print(f"{name}: {line}: numaplan {mine}, the kernel {seen}")
