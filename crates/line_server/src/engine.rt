@@ -4,7 +4,7 @@ ghost use Rattle.line_server.specs.Lines.{IsPiece};
 ghost use Rattle.line_server.specs.Progress.{Takes};
 ghost use Rattle.line_server.specs.Watching.{has_failed, held_in};
 
-use crate::held::Held;
+use crate::held::LineBuffer;
 use crate::serve::Serve;
 use crate::watched::{CallFailed, Watched};
 use memchr::memchr;
@@ -15,7 +15,7 @@ use std::io::Write;
 #[derive(Drop)]
 pub(crate) struct Engine<S> {
     pub server: S,
-    pub line: Held,
+    pub line: LineBuffer,
 }
 
 impl<S: Serve + Drop> Engine<S> {
@@ -27,7 +27,7 @@ impl<S: Serve + Drop> Engine<S> {
         ensures server { IfOk result (λ e. e.server ≡ server) }
         ensures line { IfOk result (λ e. e.line ≡ []) }
     {
-        let line = Held::new(alloc)?;
+        let line = LineBuffer::new(alloc)?;
         Ok(Engine { server, line })
     }
 

@@ -14,11 +14,11 @@ const LIMIT: usize = 4097;
 /// Texts that are not yet handed to the writer, or the line that no line feed has ended yet: as
 /// many of its bytes as a server is given.
 #[derive(Drop)]
-pub(crate) struct Held {
+pub(crate) struct LineBuffer {
     bytes: Vec<u8>,
 }
 
-impl Model for Held {
+impl Model for LineBuffer {
     ghost use Rattle.std.specs.Prelude.{ℕ, List, ◌≤◌, vec_capacity};
 
     ghost Value = { List ℕ };
@@ -28,16 +28,16 @@ impl Model for Held {
     ghost invariant = { λ h. 4097 ≤ vec_capacity h.bytes };
 }
 
-impl Held {
+impl LineBuffer {
     /// Room for a line or for texts, and nothing held yet.
     ///
     /// # Errors
     /// `AllocError`: out of memory.
-    pub fn new(alloc: Global) -> Result<Held, AllocError>
+    pub fn new(alloc: Global) -> Result<LineBuffer, AllocError>
         ensures { IfOk result (λ h. h ≡ []) }
     {
         let bytes = Vec::with_capacity(alloc, LIMIT)?;
-        Ok(Held { bytes })
+        Ok(LineBuffer { bytes })
     }
 
     /// Keeps a text after those that are held, where there is room for it. Whether there is.

@@ -7,9 +7,9 @@ ghost use Rattle.std.specs.Io.KnownBytes.{Appends, ReadConsumes};
 ghost use Rattle.line_server.specs.Watching.{has_failed, held_in, read_count, unsent};
 ghost use Rattle.line_server.specs.Written.{AppendsFront, IsSent, Said, SaidNothing};
 
-use crate::held::Held;
+use crate::held::LineBuffer;
 use itoa::Buffer;
-use numa_count::Count;
+use numa_ghost::Count;
 use std::alloc::{AllocError, Global};
 use std::io::{Read, Write};
 
@@ -20,7 +20,7 @@ pub struct Watched<S> {
     /// The reader or the writer.
     pub inner: S,
     pub(crate) failed: bool,
-    pub(crate) held: Option<Held>,
+    pub(crate) held: Option<LineBuffer>,
     pub(crate) reads: Count,
 }
 
@@ -125,7 +125,7 @@ impl<W: Write> Watched<W> {
         if self.held.is_some() {
             return Ok(());
         }
-        self.held = Some(Held::new(alloc)?);
+        self.held = Some(LineBuffer::new(alloc)?);
         Ok(())
     }
 

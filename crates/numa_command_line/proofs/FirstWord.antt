@@ -9,15 +9,15 @@ use Rattle.numa_reports.specs.declared.touch.Touch.{Touch}
 use Rattle.numa_command_line.specs.Asked.{Answers, asked_in, asking_name, doing_name, doings_found, job_named, name_of, rows_behind, scripts_asked, word_named, work_asked}
 use Rattle.numa_command_line.specs.Jobs.{Asking, Doing, Doings, Text, ask, diff, doings_of, explain, predict, scripts, storm}
 use Rattle.numa_command_line.specs.Values.{format_in, frees_in, is_on, page_in, rules_in, texts_at, touch_in, workers_in}
-use Rattle.numa_command_line.specs.declared.command.Word.{Word}
-use Rattle.numa_command_line.specs.declared.command.Word.TheVariants as word
+use Rattle.numa_command_line.specs.declared.command.Subcommand.{Subcommand}
+use Rattle.numa_command_line.specs.declared.command.Subcommand.TheVariants as word
 use Rattle.numa_command_line.specs.declared.jobs.Job.{Job}
 use Rattle.numa_command_line.specs.declared.jobs.JobFault.{JobFault}
 
 some_is : {X : Type 0} (x y : X) → Some x ≡ Some y → x ≡ y
 some_is x y e = ap (λ o. unwrap_or o x) e
 
-abbrev label : Word → Text
+abbrev label : Subcommand → Text
 label word.Run = codes "run"
 label word.Check = codes "check"
 label word.Expect = codes "expect"
@@ -27,7 +27,7 @@ label word.Explain = codes "explain"
 label word.Replay = codes "replay"
 
 -- a test of a name against a word's, where the tests behind it name theirs
-one_of_words : (name : Text) (w found : Word) (rest : Option Word) → (rest ≡ Some found → name ≡ label found)
+one_of_words : (name : Text) (w found : Subcommand) (rest : Option Subcommand) → (rest ≡ Some found → name ≡ label found)
     → cond (bytes_eq name (label w)) (Some w) rest ≡ Some found → name ≡ label found
 one_of_words name w found rest behind = go (bytes_eq name (label w)) refl
   where
@@ -35,7 +35,7 @@ one_of_words name w found rest behind = go (bytes_eq name (label w)) refl
     go true same e = (bytes_eq-Decides name (label w)).0 same ∙ ap label (some_is w found e)
     go false other e = behind e
 
-named_word : (name : Text) (found : Word) → word_named name ≡ Some found → name ≡ label found
+named_word : (name : Text) (found : Subcommand) → word_named name ≡ Some found → name ≡ label found
 named_word name found =
     one_of_words name word.Run found _ (one_of_words name word.Check found _ (one_of_words name word.Expect found _ (one_of_words name word.Predict found _
     (one_of_words name word.Diff found _ (one_of_words name word.Explain found _ (one_of_words name word.Replay found None (λ none. cc)))))))
@@ -52,7 +52,7 @@ mapped_name : {X : Type 0} (make : X → Asking) (named : Text) → ((x : X) →
 mapped_name make named names None what e = cc
 mapped_name make named names (Some x) what e = ap asking_name (sym (some_is (make x) what e)) ∙ names x
 
-work_name : (w : Word) (rows : List Row) (doing : Doing) → work_asked w rows ≡ Some doing → doing_name doing ≡ label w
+work_name : (w : Subcommand) (rows : List Row) (doing : Doing) → work_asked w rows ≡ Some doing → doing_name doing ≡ label w
 work_name word.Run rows doing e = ap doing_name (sym (some_is _ doing e))
 work_name word.Check rows doing e = ap doing_name (sym (some_is _ doing e))
 work_name word.Expect rows doing e = ap doing_name (sym (some_is _ doing e))
@@ -73,7 +73,7 @@ storm_name : (workers : Option ℕ) (d : Doings) → option_map storm workers �
 storm_name None d e = cc
 storm_name (Some k) d e = ap name_of (sym (some_is (storm k) d e))
 
-word_name : (name : Text) (rows : List Row) (found : Option Word) (d : Doings) → ((w : Word) → found ≡ Some w → name ≡ label w)
+word_name : (name : Text) (rows : List Row) (found : Option Subcommand) (d : Doings) → ((w : Subcommand) → found ≡ Some w → name ≡ label w)
     → option_and_then (scripts_asked rows) found ≡ Some d → name ≡ name_of d
 word_name name rows None d names e = cc
 word_name name rows (Some w) d names e = names w refl ∙ sym (scripts_name (texts_at (codes "FILE") rows) rows (work_asked w rows) d (label w) (work_name w rows) e)

@@ -11,14 +11,14 @@ use Rattle.numa_command_line.specs.Jobs.{Asking, Doing, Doings, Text, ask, check
 use Rattle.numa_command_line.specs.Jobs.{expect, explain, predict, replay, run, scripts, storm}
 use Rattle.numa_command_line.specs.Values.{format_in, frees_in, is_on, page_in, rules_in, shape_in}
 use Rattle.numa_command_line.specs.Values.{texts_at, touch_in, workers_in}
-use Rattle.numa_command_line.specs.declared.command.Word.{Word}
-use Rattle.numa_command_line.specs.declared.command.Word.TheVariants as word
+use Rattle.numa_command_line.specs.declared.command.Subcommand.{Subcommand}
+use Rattle.numa_command_line.specs.declared.command.Subcommand.TheVariants as word
 use Rattle.numa_command_line.specs.declared.jobs.Job.{Job}
 use Rattle.numa_command_line.specs.declared.jobs.JobFault.{JobFault}
 use Rattle.numa_command_line.specs.declared.jobs.JobFault.TheVariants.{Help, Usage, NoMemory}
 
 -- the word that does something with scripts, of this name
-abbrev pub word_named : Text → Option Word
+abbrev pub word_named : Text → Option Subcommand
 word_named name =
     if bytes_eq name (codes "run") then Some word.Run
     else if bytes_eq name (codes "check") then Some word.Check
@@ -35,7 +35,7 @@ asked_in rows question = option_and_then (λ what. option_map (λ touch.
     ask touch what (is_on (codes "lenient") rows)) (touch_in rows)) question
 
 -- what a word asks to be done with scripts, by what the parse found of its arguments
-abbrev pub work_asked : Word → List Row → Option Doing
+abbrev pub work_asked : Subcommand → List Row → Option Doing
 work_asked word.Run rows = Some (run (is_on (codes "echo") rows))
 work_asked word.Check rows = Some check
 work_asked word.Expect rows = Some expect
@@ -46,7 +46,7 @@ work_asked word.Explain rows = asked_in rows (option_map explain (page_in rows))
 work_asked word.Replay rows = Some (replay (texts_at (codes "trace") rows) (shape_in rows)
     (is_on (codes "lenient") rows))
 
-abbrev pub scripts_asked : List Row → Word → Option Doings
+abbrev pub scripts_asked : List Row → Subcommand → Option Doings
 scripts_asked rows word =
     option_map (scripts (texts_at (codes "FILE") rows) (rules_in rows)) (work_asked word rows)
 

@@ -4,7 +4,7 @@ use Rattle.clap.specs.Words.{App, Rule, Shape, Text, with_rule, with_subcommand}
 use Rattle.clap.specs.Simple.{new_shape}
 use Rattle.numa_command_line.specs.Usage.{Names, bare, choice, flag, needed, number, number_or}
 use Rattle.numa_command_line.specs.Usage.{option, options, rule_said, words}
-use Rattle.numa_command_line.specs.declared.usage.Word.{Word}
+use Rattle.numa_command_line.specs.declared.usage.SubcommandHelp.{SubcommandHelp}
 
 -- ---- arguments
 
@@ -37,7 +37,7 @@ rules_names = codes "document" ∷ codes "linux" ∷ []
 
 -- ---- words: each is one name, its arguments, and whether it reads lines of scripts
 
-abbrev pub IsWord : Text → List Rule → Bool → Word → Type 0
+abbrev pub IsWord : Text → List Rule → Bool → SubcommandHelp → Type 0
 IsWord name arguments reads_lines word =
     (word.name.now ≡ name) × (map rule_said word.arguments.now ≡ arguments)
     × (word.reads_lines ≡ reads_lines)

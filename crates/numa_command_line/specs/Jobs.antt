@@ -11,10 +11,10 @@ use Rattle.numa_command_line.specs.declared.jobs.Job.{Job}
 use Rattle.numa_command_line.specs.declared.jobs.Job.TheVariants.{Scripts, Storm}
 use Rattle.numa_command_line.specs.declared.jobs.JobFault.{JobFault}
 use Rattle.numa_command_line.specs.declared.jobs.JobFault.TheVariants.{Help, Usage, NoMemory}
-use Rattle.numa_command_line.specs.declared.jobs.Question.{Question}
-use Rattle.numa_command_line.specs.declared.jobs.Question.TheVariants.{Predict, Diff, Explain}
-use Rattle.numa_command_line.specs.declared.jobs.Work.{Work}
-use Rattle.numa_command_line.specs.declared.jobs.Work.TheVariants.{Run, Check, Expect, Ask, Replay}
+use Rattle.numa_command_line.specs.declared.jobs.PageQuestion.{PageQuestion}
+use Rattle.numa_command_line.specs.declared.jobs.PageQuestion.TheVariants.{Predict, Diff, Explain}
+use Rattle.numa_command_line.specs.declared.jobs.ScriptJob.{ScriptJob}
+use Rattle.numa_command_line.specs.declared.jobs.ScriptJob.TheVariants.{Run, Check, Expect, Ask, Replay}
 
 -- a storm is of as many workers as a crew may have
 abbrev pub CanBeDone : Job → Type 0
@@ -43,12 +43,12 @@ pub data Doings : Type 0 where
   scripts : List Text → Rules → Doing → Doings
   storm : ℕ → Doings
 
-abbrev pub question_of : Question → Asking
+abbrev pub question_of : PageQuestion → Asking
 question_of (Predict format free) = predict format free.items
 question_of (Diff lines) = diff (map string_bytes lines.items)
 question_of (Explain page) = explain page
 
-abbrev pub work_of : Work → Doing
+abbrev pub work_of : ScriptJob → Doing
 work_of (Run echo) = run echo
 work_of Check = check
 work_of Expect = expect

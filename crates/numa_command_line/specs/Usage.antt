@@ -9,7 +9,7 @@ use Rattle.clap.specs.declared.builder.command.Command.TheViews.{out-Command as 
 use Rattle.clap.specs.declared.builder.action.ArgAction.TheVariants.{Set, Append, SetTrue}
 use Rattle.clap.specs.declared.builder.value_parser.ValueParser.TheVariants as parser
 use Rattle.numa_command_line.specs.declared.usage.Argument.{Argument}
-use Rattle.numa_command_line.specs.declared.usage.Word.{Word}
+use Rattle.numa_command_line.specs.declared.usage.SubcommandHelp.{SubcommandHelp}
 use Rattle.numa_command_line.specs.declared.usage.Takes.{Takes}
 use Rattle.numa_command_line.specs.declared.usage.Takes.TheVariants.{Nothing, Text as One, Texts, Number, NumberOr, OneOf, Bare, Files}
 
@@ -71,18 +71,18 @@ abbrev pub rule_said : Argument → Rule
 rule_said said = needed said.is_required (rule_by said.takes said.name.now)
 
 -- what is said of a word: its name and its own arguments
-abbrev pub own_app : Word → App
+abbrev pub own_app : SubcommandHelp → App
 own_app said = record {
   top = record (new_shape said.name.now) { rules = map rule_said said.arguments.now };
   subs = [];
 }
 
 -- and `--rules`, where it reads lines of scripts
-abbrev pub app_said : Word → Argument → App
+abbrev pub app_said : SubcommandHelp → Argument → App
 app_said said rules =
     if said.reads_lines then with_rule (own_app said) (rule_said rules) else own_app said
 
-abbrev pub shape_said : Word → Argument → Shape
+abbrev pub shape_said : SubcommandHelp → Argument → Shape
 shape_said said rules = (app_said said rules).top
 
 -- no argument of the command, nor of what stands below it, is one of each word

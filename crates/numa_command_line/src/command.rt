@@ -8,7 +8,7 @@ ghost use Rattle.numa_command_line.specs.Asked.{name_of, scripts_asked, word_nam
 ghost use Rattle.numa_command_line.specs.Jobs.{CanBeDone, IsMade, doings_of, work_of};
 
 use crate::found::{is_on, texts_at};
-use crate::jobs::{Job, JobFault, Work};
+use crate::jobs::{Job, JobFault, ScriptJob};
 use crate::program::program;
 use crate::words::{diff, explain, predict, replay, rules, storm};
 use clap::error::ErrorKind;
@@ -20,7 +20,7 @@ const NO_COMMAND: &str = "error: a command is missing\n\nFor more information, t
 
 /// A word that does something with scripts.
 #[derive(Clone, Copy)]
-pub(crate) enum Word {
+pub(crate) enum Subcommand {
     Run,
     Check,
     Expect,
@@ -31,17 +31,17 @@ pub(crate) enum Word {
 }
 
 /// The word of this name.
-fn word_of(name: &str) -> Option<Word>
+fn word_of(name: &str) -> Option<Subcommand>
     ensures { result ≡ word_named name.now }
 {
     match name {
-        "run" => Some(Word::Run),
-        "check" => Some(Word::Check),
-        "expect" => Some(Word::Expect),
-        "predict" => Some(Word::Predict),
-        "diff" => Some(Word::Diff),
-        "explain" => Some(Word::Explain),
-        "replay" => Some(Word::Replay),
+        "run" => Some(Subcommand::Run),
+        "check" => Some(Subcommand::Check),
+        "expect" => Some(Subcommand::Expect),
+        "predict" => Some(Subcommand::Predict),
+        "diff" => Some(Subcommand::Diff),
+        "explain" => Some(Subcommand::Explain),
+        "replay" => Some(Subcommand::Replay),
         _ => None,
     }
 }
@@ -62,24 +62,24 @@ fn fault(alloc: Global, error: &Error) -> JobFault
 }
 
 /// What a word asks to be done with scripts.
-fn work_of(alloc: Global, word: Word, matches: &ArgMatches<'_>) -> Result<Work, JobFault>
+fn work_of(alloc: Global, word: Subcommand, matches: &ArgMatches<'_>) -> Result<ScriptJob, JobFault>
     ensures { IsMade work_of (work_asked word (rows_of (found_of matches.now))) result }
 {
     match word {
-        Word::Run => Ok(Work::Run {
+        Subcommand::Run => Ok(ScriptJob::Run {
             echo: is_on(matches, "echo"),
         }),
-        Word::Check => Ok(Work::Check),
-        Word::Expect => Ok(Work::Expect),
-        Word::Predict => predict::work(alloc, matches),
-        Word::Diff => diff::work(alloc, matches),
-        Word::Explain => explain::work(alloc, matches),
-        Word::Replay => replay::work(alloc, matches),
+        Subcommand::Check => Ok(ScriptJob::Check),
+        Subcommand::Expect => Ok(ScriptJob::Expect),
+        Subcommand::Predict => predict::work(alloc, matches),
+        Subcommand::Diff => diff::work(alloc, matches),
+        Subcommand::Explain => explain::work(alloc, matches),
+        Subcommand::Replay => replay::work(alloc, matches),
     }
 }
 
 /// The job of a word that does something with scripts.
-fn scripts_job(alloc: Global, word: Word, matches: &ArgMatches<'_>) -> Result<Job, JobFault>
+fn scripts_job(alloc: Global, word: Subcommand, matches: &ArgMatches<'_>) -> Result<Job, JobFault>
     ensures can { IfOk result CanBeDone }
     ensures asked { IsMade doings_of
         (scripts_asked (rows_of (found_of matches.now)) word) result }

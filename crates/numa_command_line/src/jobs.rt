@@ -8,7 +8,7 @@ use std::alloc::{AllocError, Global};
 
 /// What is asked of pages that a task would touch.
 #[derive(Drop)]
-pub enum Question {
+pub enum PageQuestion {
     /// Where pages would go, where nodes are named in `free`, with so many free pages on these.
     Predict {
         format: Format,
@@ -22,7 +22,7 @@ pub enum Question {
 
 /// What is done with scripts, which are read in turn.
 #[derive(Drop)]
-pub enum Work {
+pub enum ScriptJob {
     /// To answer them; each line beside its answer, where `echo` says so.
     Run {
         echo: bool,
@@ -35,7 +35,7 @@ pub enum Work {
     /// pass, where `lenient` says so.
     Ask {
         asked: Touch,
-        question: Question,
+        question: PageQuestion,
         lenient: bool,
     },
     /// To replay the trace of the one file that `trace` names after them, as lenient.
@@ -54,7 +54,7 @@ pub enum Job {
     Scripts {
         files: Vec<String>,
         rules: Rules,
-        work: Work,
+        work: ScriptJob,
     },
     /// To let so many workers place pages while policies change.
     Storm(u32),

@@ -14,4 +14,4 @@ mod usage;
 mod words;
 
 pub use command::job;
-pub use jobs::{Job, JobFault, Question, Work};
+pub use jobs::{Job, JobFault, PageQuestion, ScriptJob};

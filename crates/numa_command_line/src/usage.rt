@@ -40,7 +40,7 @@ pub struct Argument {
 }
 
 /// A word of the command line.
-pub struct Word {
+pub struct SubcommandHelp {
     pub name: &'static str,
     /// What its help says in a line, in full, and at its end.
     pub line: &'static str,
@@ -123,7 +123,7 @@ fn with_argument<'a>(
 }
 
 /// The command of a word, before its arguments.
-fn bare_command<'a>(alloc: Global, word: &'a Word) -> Command<'a>
+fn bare_command<'a>(alloc: Global, word: &'a SubcommandHelp) -> Command<'a>
     ensures app { app_of result ≡ new_app word.entry.now.name.now }
     ensures local { IsLocal result }
 {
@@ -134,7 +134,7 @@ fn bare_command<'a>(alloc: Global, word: &'a Word) -> Command<'a>
 }
 
 /// The command of a word, with its own arguments.
-fn own_command<'a>(alloc: Global, word: &'a Word) -> Result<Command<'a>, AllocError>
+fn own_command<'a>(alloc: Global, word: &'a SubcommandHelp) -> Result<Command<'a>, AllocError>
     ensures app { IfOk result (λ command. app_of command ≡ own_app word.entry.now) }
     ensures local { IfOk result IsLocal }
 {
@@ -148,7 +148,7 @@ fn own_command<'a>(alloc: Global, word: &'a Word) -> Result<Command<'a>, AllocEr
 /// The command of a word; `rules` is the argument `--rules`.
 fn command_of<'a>(
     alloc: Global,
-    word: &'a Word,
+    word: &'a SubcommandHelp,
     rules: &'a Argument,
 ) -> Result<Command<'a>, AllocError>
     ensures app { IfOk result (λ command.
@@ -169,7 +169,7 @@ fn command_of<'a>(
 pub fn with_word<'a>(
     alloc: Global,
     program: Command<'a>,
-    word: &'a Word,
+    word: &'a SubcommandHelp,
     rules: &'a Argument,
 ) -> Result<Command<'a>, AllocError>
     requires { IsLocal program }

@@ -12,12 +12,12 @@ use Rattle.numa_space.specs.declared.event.CoreReply.TheVariants.{Still, Exhaust
 use Rattle.numa_space.specs.declared.event.CoreRefusal.{CoreRefusal}
 use Rattle.numa_space.specs.declared.event.CoreRefusal.TheVariants.{Command as Because, NoSuchWorker, Busy, Idle, BadTry, NotOwned, BadCpu, Unmapped}
 use Rattle.numa_space.specs.declared.refusal.Refusal.TheVariants.{NoMemory as NoRoom}
-use Rattle.numa_core.specs.World.{Setup, Hunt, World, hunt_of, owner_of, is_frame, list_at, current_rank, hunt_after_look, hunt_past, may_try, new_hunt}
+use Rattle.numa_core.specs.World.{Setup, FrameSearch, World, frame_search_of, owner_of, is_frame, list_at, current_rank, frame_search_after_look, frame_search_past, may_try, new_frame_search}
 use Rattle.numa_core.specs.Steps.{first_refusal, refusal_of, reply_of, refused_or, goes_on, placement_of, owns, IsAnswer, IsOutOfMemory}
-use Rattle.numa_core.specs.Executions.{Moment, IsExecution}
+use Rattle.numa_core.specs.Executions.{CoreStep, IsExecution}
 
 -- what came earlier is an execution
-pub legal_before : (s : Setup) (later rest : List Moment) → IsExecution s (later ++ rest) → IsExecution s rest
+pub legal_before : (s : Setup) (later rest : List CoreStep) → IsExecution s (later ++ rest) → IsExecution s rest
 legal_before s [] rest legal = legal
 legal_before s (m ∷ later) rest legal = legal_before s later rest legal.0
 
@@ -64,8 +64,8 @@ three_rows false false true x y z h = absurd (cc)
 three_rows false false false x y z h = (refl, refl, refl)
 
 -- a Begin that isn't refused has a list
-pub begin_means : (s : Setup) (world : World) (version w : ℕ) (request : Request) → refusal_of s world version (Begin w request) ≡ None → list_at s.machine world.history version request ≡ Some (new_hunt s world version request).nodes
-begin_means s world version w request h = go (list_at s.machine world.history version request) (four_rows (nat_le s.workers w) (is_some (hunt_of world w)) (nat_le s.machine.nodes request.cpu) (is_none (list_at s.machine world.history version request)) NoSuchWorker Busy BadCpu (Unmapped version) h).3
+pub begin_means : (s : Setup) (world : World) (version w : ℕ) (request : Request) → refusal_of s world version (Begin w request) ≡ None → list_at s.machine world.history version request ≡ Some (new_frame_search s world version request).nodes
+begin_means s world version w request h = go (list_at s.machine world.history version request) (four_rows (nat_le s.workers w) (is_some (frame_search_of world w)) (nat_le s.machine.nodes request.cpu) (is_none (list_at s.machine world.history version request)) NoSuchWorker Busy BadCpu (Unmapped version) h).3
   where
     go : (o : Option (List ℕ)) → is_none o ≡ false → o ≡ Some (unwrap_or o [])
     go None e = absurd (cc)
@@ -73,7 +73,7 @@ begin_means s world version w request h = go (list_at s.machine world.history ve
 
 -- a Give that isn't refused is by the owner
 pub give_means : (s : Setup) (world : World) (version w : ℕ) (frame : Frame) → refusal_of s world version (Give w frame) ≡ None → owner_of world frame ≡ Some w
-give_means s world version w frame h = go (owner_of world frame) (three_rows (nat_le s.workers w) (is_some (hunt_of world w)) (not (owns world w frame)) NoSuchWorker Busy NotOwned h).2
+give_means s world version w frame h = go (owner_of world frame) (three_rows (nat_le s.workers w) (is_some (frame_search_of world w)) (not (owns world w frame)) NoSuchWorker Busy NotOwned h).2
   where
     go : (o : Option ℕ) → not (option_map_or (λ v. v == w) o false) ≡ false → o ≡ Some w
     go None e = absurd (cc)
@@ -83,40 +83,40 @@ give_means s world version w frame h = go (owner_of world frame) (three_rows (na
         same v w e = grind (arith, nat_tests)
 
 -- a Try that isn't refused is of an unmet frame of the current node
-pub try_means : (s : Setup) (world : World) (version w : ℕ) (frame : Frame) (hunt : Hunt) → refusal_of s world version (Try w frame) ≡ None → hunt_of world w ≡ Some hunt → may_try s hunt frame ≡ true
-try_means s world version w frame hunt h is = not_false _ (sym (ap (λ o. not (option_map_or (λ hunt. may_try s hunt frame) o false)) is) ∙ (three_rows (nat_le s.workers w) (is_none (hunt_of world w)) (not (option_map_or (λ hunt. may_try s hunt frame) (hunt_of world w) false)) NoSuchWorker Idle BadTry h).2)
+pub try_means : (s : Setup) (world : World) (version w : ℕ) (frame : Frame) (frame_search : FrameSearch) → refusal_of s world version (Try w frame) ≡ None → frame_search_of world w ≡ Some frame_search → may_try s frame_search frame ≡ true
+try_means s world version w frame frame_search h is = not_false _ (sym (ap (λ o. not (option_map_or (λ frame_search. may_try s frame_search frame) o false)) is) ∙ (three_rows (nat_le s.workers w) (is_none (frame_search_of world w)) (not (option_map_or (λ frame_search. may_try s frame_search frame) (frame_search_of world w) false)) NoSuchWorker Idle BadTry h).2)
 
 -- two frames are one where the test says so
 pub one_frame : (frame : Frame) (n k : ℕ) → is_frame frame n k ≡ true → (n ≡ frame.node) × (k ≡ frame.number)
 one_frame frame n k h = grind (arith, nat_tests)
 
-goes_on-not_won : (s : Setup) (hunt : Hunt) (placement : Placement) → Won placement ≡ goes_on s hunt → ⊥
-goes_on-not_won s hunt placement = go (current_rank s hunt)
+goes_on-not_won : (s : Setup) (frame_search : FrameSearch) (placement : Placement) → Won placement ≡ goes_on s frame_search → ⊥
+goes_on-not_won s frame_search placement = go (current_rank s frame_search)
   where
-    go : (o : Option ℕ) → Won placement ≡ (if is_some o then Still else Exhausted hunt.version) → ⊥
+    go : (o : Option ℕ) → Won placement ≡ (if is_some o then Still else Exhausted frame_search.version) → ⊥
     go None e = cc
     go (Some rank) e = cc
 
 -- a reply that won
-pub won_means : (s : Setup) (world : World) (w version : ℕ) (frame : Frame) (placement : Placement) → Won placement ≡ reply_of s world version (Try w frame) → (hunt : Hunt) × (hunt_of world w ≡ Some hunt) × (owner_of world frame ≡ None) × (placement ≡ placement_of s hunt frame)
-won_means s world w version frame placement = go (owner_of world frame) (hunt_of world w)
+pub won_means : (s : Setup) (world : World) (w version : ℕ) (frame : Frame) (placement : Placement) → Won placement ≡ reply_of s world version (Try w frame) → (frame_search : FrameSearch) × (frame_search_of world w ≡ Some frame_search) × (owner_of world frame ≡ None) × (placement ≡ placement_of s frame_search frame)
+won_means s world w version frame placement = go (owner_of world frame) (frame_search_of world w)
   where
-    go : (owner : Option ℕ) (o : Option Hunt) → Won placement ≡ (if is_some owner then option_map_or (λ hunt. goes_on s (hunt_past frame hunt)) o Still else option_map_or (λ hunt. Won (placement_of s hunt frame)) o Still) → (hunt : Hunt) × (o ≡ Some hunt) × (owner ≡ None) × (placement ≡ placement_of s hunt frame)
+    go : (owner : Option ℕ) (o : Option FrameSearch) → Won placement ≡ (if is_some owner then option_map_or (λ frame_search. goes_on s (frame_search_past frame frame_search)) o Still else option_map_or (λ frame_search. Won (placement_of s frame_search frame)) o Still) → (frame_search : FrameSearch) × (o ≡ Some frame_search) × (owner ≡ None) × (placement ≡ placement_of s frame_search frame)
     go (Some v) None e = absurd (cc)
-    go (Some v) (Some hunt) e = absurd (goes_on-not_won s (hunt_past frame hunt) placement e)
+    go (Some v) (Some frame_search) e = absurd (goes_on-not_won s (frame_search_past frame frame_search) placement e)
     go None None e = absurd (cc)
-    go None (Some hunt) e = (hunt, refl, refl, cc)
+    go None (Some frame_search) e = (frame_search, refl, refl, cc)
 
 -- only a Try wins, and the frame that it tried
 pub won_by_try : (s : Setup) (world : World) (version : ℕ) (event : Event) (placement : Placement) → Won placement ≡ reply_of s world version event → (w : ℕ) × (event ≡ Try w placement.frame)
 won_by_try s world version (Accept command) placement e = absurd (cc)
 won_by_try s world version Publish placement e = absurd (cc)
-won_by_try s world version (Begin w request) placement e = absurd (goes_on-not_won s (new_hunt s world version request) placement e)
-won_by_try s world version (Look w word) placement e = absurd (go (hunt_of world w) e)
+won_by_try s world version (Begin w request) placement e = absurd (goes_on-not_won s (new_frame_search s world version request) placement e)
+won_by_try s world version (Look w word) placement e = absurd (go (frame_search_of world w) e)
   where
-    go : (o : Option Hunt) → Won placement ≡ option_map_or (λ hunt. goes_on s (hunt_after_look s world word hunt)) o Still → ⊥
+    go : (o : Option FrameSearch) → Won placement ≡ option_map_or (λ frame_search. goes_on s (frame_search_after_look s world word frame_search)) o Still → ⊥
     go None e = cc
-    go (Some hunt) e = goes_on-not_won s (hunt_after_look s world word hunt) placement e
+    go (Some frame_search) e = goes_on-not_won s (frame_search_after_look s world word frame_search) placement e
 won_by_try s world version (Try w frame) placement e =
     let win = won_means s world w version frame placement e in
     (w, ap (λ f. Try w f) (sym (ap (λ (p : Placement). p.frame) win.3)))

@@ -22,7 +22,7 @@ use Rattle.numa_space.specs.declared.event.CoreRefusal.{CoreRefusal}
 use Rattle.numa_space.specs.declared.placement.Placement.{Placement}
 use Rattle.numa_core.specs.World.{Setup, World, first_commands, is_published, list_at, newest_published, owner_of}
 use Rattle.numa_core.specs.Steps.{because, refusal_of, effect_of, world_after, IsAnswer}
-use Rattle.numa_core.specs.Executions.{Moment, accepts, is_accept, world_of, IsExecution, IsRightPlacement}
+use Rattle.numa_core.specs.Executions.{CoreStep, accepts, is_accept, world_of, IsExecution, IsRightPlacement}
 use Rattle.numa_core.proofs.Answered.{replied}
 use Rattle.numa_core.proofs.Newest.{newest}
 use Rattle.numa_core.proofs.Tracking.{first_commands-more}
@@ -135,18 +135,18 @@ module _ (s : Setup) (world : World) (version : ℕ) where
 
 -- ---- over runs
 
-pub past-accepted : (s : Setup) (past : List Moment) → IsExecution s past → IsAccepted s.machine s.bounds (world_of s past).history
+pub past-accepted : (s : Setup) (past : List CoreStep) → IsExecution s past → IsAccepted s.machine s.bounds (world_of s past).history
 past-accepted s [] legal = tt
 past-accepted s (m ∷ past) legal = accepted-step s (world_of s past) m.version m.event m.answer legal.2 (past-accepted s past legal.0)
 
-pub past-counted : (s : Setup) (past : List Moment) → length (world_of s past).history ≡ count_by accepts past
+pub past-counted : (s : Setup) (past : List CoreStep) → length (world_of s past).history ≡ count_by accepts past
 past-counted s [] = refl
 past-counted s (m ∷ past) = counted-step s (world_of s past) m.version m.event m.answer ∙ ap (λ n. (if accepts m then 1 else 0) + n) (past-counted s past) ∙ sym (sum_by-cons (λ m. if accepts m then 1 else 0) m past)
 
-pub newest-known : (s : Setup) (past : List Moment) → IsExecution s past → newest_published (world_of s past) ≤ length (world_of s past).history
+pub newest-known : (s : Setup) (past : List CoreStep) → IsExecution s past → newest_published (world_of s past) ≤ length (world_of s past).history
 newest-known s past legal = (sound s past legal).published (newest_published (world_of s past)) (newest s past legal).there
 
-past-first : (s : Setup) (later earlier : List Moment) (v : ℕ) → v ≤ length (world_of s earlier).history
+past-first : (s : Setup) (later earlier : List CoreStep) (v : ℕ) → v ≤ length (world_of s earlier).history
     → (first_commands v (world_of s (later ++ earlier)).history ≡ first_commands v (world_of s earlier).history) × (v ≤ length (world_of s (later ++ earlier)).history)
 past-first s [] earlier v low = (refl, low)
 past-first s (m ∷ later) earlier v low =
@@ -154,16 +154,16 @@ past-first s (m ∷ later) earlier v low =
     let step = first-step s (world_of s (later ++ earlier)) m.version m.event m.answer v rest.1 in
     (step.0 ∙ rest.0, step.1)
 
-legal-before : (s : Setup) (later earlier : List Moment) → IsExecution s (later ++ earlier) → IsExecution s earlier
+legal-before : (s : Setup) (later earlier : List CoreStep) → IsExecution s (later ++ earlier) → IsExecution s earlier
 legal-before s [] earlier legal = legal
 legal-before s (m ∷ later) earlier legal = legal-before s later earlier legal.0
 
 -- a published version means the same commands for ever
-pub past-same : (s : Setup) (later earlier : List Moment) (v : ℕ) → IsExecution s (later ++ earlier) → is_published (world_of s earlier) v ≡ true → first_commands v (world_of s (later ++ earlier)).history ≡ first_commands v (world_of s earlier).history
+pub past-same : (s : Setup) (later earlier : List CoreStep) (v : ℕ) → IsExecution s (later ++ earlier) → is_published (world_of s earlier) v ≡ true → first_commands v (world_of s (later ++ earlier)).history ≡ first_commands v (world_of s earlier).history
 past-same s later earlier v legal published = (past-first s later earlier v ((sound s earlier (legal-before s later earlier legal)).published v published)).0
 
 -- the newest published version never falls
-pub past-rises : (s : Setup) (later earlier : List Moment) → IsExecution s (later ++ earlier) → newest_published (world_of s earlier) ≤ newest_published (world_of s (later ++ earlier))
+pub past-rises : (s : Setup) (later earlier : List CoreStep) → IsExecution s (later ++ earlier) → newest_published (world_of s earlier) ≤ newest_published (world_of s (later ++ earlier))
 past-rises s [] earlier legal = omega arith
 past-rises s (m ∷ later) earlier legal =
     let step : newest_published (world_of s (later ++ earlier)) ≤ newest_published (world_of s (m ∷ (later ++ earlier))) = rises-step s (world_of s (later ++ earlier)) m.version m.event m.answer (newest-known s (later ++ earlier) legal.0) in
@@ -179,7 +179,7 @@ accepted-drop machine bounds (suc n) (command ∷ history) accepted = accepted-d
 
 module _ (s : Setup) (some : s.machine.memory ≢ 0) (small : s.machine.memory < 2 ^ 256) where
   -- each list that a version of an execution means is one in which memory can be looked for
-  pub past-list : (past : List Moment) (version : ℕ) (request : Request) (nodes : List ℕ) → IsExecution s past → list_at s.machine (world_of s past).history version request ≡ Some nodes
+  pub past-list : (past : List CoreStep) (version : ℕ) (request : Request) (nodes : List ℕ) → IsExecution s past → list_at s.machine (world_of s past).history version request ≡ Some nodes
       → IsNodeList (allowed_nodes s.machine (first_commands version (world_of s past).history)) nodes
   unfolding list_at
   past-list past version request nodes legal listed = go (is_mapped (first_commands version (world_of s past).history) request.page) listed
@@ -195,7 +195,7 @@ module _ (s : Setup) (some : s.machine.memory ≢ 0) (small : s.machine.memory <
           (meant-list s.machine s.bounds some small commands request.task request.page request.cpu (accepted-drop s.machine s.bounds _ (world_of s past).history (past-accepted s past legal)))
 
   -- the node of a right placement is allowed at its version
-  pub right-allowed : (past : List Moment) (w : ℕ) (placement : Placement) → IsExecution s past → IsRightPlacement s w placement past
+  pub right-allowed : (past : List CoreStep) (w : ℕ) (placement : Placement) → IsExecution s past → IsRightPlacement s w placement past
       → has (allowed_nodes s.machine (first_commands placement.version (world_of s past).history)) placement.node ≡ true
   right-allowed past w placement legal right =
       let list = past-list past right.begun.version right.begun.request right.nodes legal right.listed in

@@ -2,22 +2,22 @@
 use Rattle.std.proofs.Common.{zero, suc, ◌≡◌, ℕ, Some, List, [], ◌∷◌, length, map, slice_get, vec_len, refl, sym, ap, subst, ◌∙◌, arith}
 use Rattle.std.specs.List.{AllZip}
 use Rattle.numa_space.specs.Standing.{SpaceState}
-use Rattle.numa_core.specs.declared.seat.Seat.{Seat}
+use Rattle.numa_core.specs.declared.seat.WorkerSeat.{WorkerSeat}
 use Rattle.numa_core.specs.declared.state.State.{State}
 use Rattle.numa_core.specs.Hints.{AreTaken}
 use Rattle.numa_core.specs.Kept.{IsKept}
 use Rattle.numa_core.specs.Seats.{busy_of, SeatFits, IsSeatCopy}
 use Rattle.numa_core.specs.Standing.{frames_before}
 
-pub copies-busy : (seats copies : List Seat) → AllZip IsSeatCopy seats copies → map busy_of copies ≡ map busy_of seats
+pub copies-busy : (seats copies : List WorkerSeat) → AllZip IsSeatCopy seats copies → map busy_of copies ≡ map busy_of seats
 copies-busy [] [] same = refl
 copies-busy [] (y ∷ ys) same = absurd same
 copies-busy (x ∷ xs) [] same = absurd same
 copies-busy (x ∷ xs) (y ∷ ys) same = λ i. same.0.busy i ∷ copies-busy xs ys same.1 i
 
-copies-fit : (frames : List ℕ) (seats copies : List Seat) → AllZip IsSeatCopy seats copies
-    → ((w : ℕ) (seat : Seat) → slice_get seats w ≡ Some seat → SeatFits frames seat)
-    → (w : ℕ) (seat : Seat) → slice_get copies w ≡ Some seat → SeatFits frames seat
+copies-fit : (frames : List ℕ) (seats copies : List WorkerSeat) → AllZip IsSeatCopy seats copies
+    → ((w : ℕ) (seat : WorkerSeat) → slice_get seats w ≡ Some seat → SeatFits frames seat)
+    → (w : ℕ) (seat : WorkerSeat) → slice_get copies w ≡ Some seat → SeatFits frames seat
 copies-fit frames [] [] same fits w seat at = fits w seat at
 copies-fit frames [] (y ∷ ys) same fits w seat at = absurd same
 copies-fit frames (x ∷ xs) [] same fits w seat at = absurd same

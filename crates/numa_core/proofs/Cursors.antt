@@ -1,10 +1,10 @@
--- The cursor of a seat, and the current node of its hunt.
+-- The cursor of a seat, and the current node of its frame search.
 use Rattle.std.proofs.Common.{zero, suc, ◌≡◌, ◌≢◌, ℕ, ◌+◌, ◌<◌, ◌≤◌, ◌==◌, ◌||◌, ◌⊎◌, inl, inr, Bool, true, false, not, Option, Some, None, List, [], ◌∷◌, length, refl, sym, ap, subst, arith, slice_index}
 use Rattle.std.proofs.lemmas.Bool.Decides.{eqb_tells}
 use Rattle.numa_space.specs.declared.event.CoreReply.TheVariants.{Still, Exhausted}
-use Rattle.numa_core.specs.World.{Setup, Hunt, any_below, first_place, current_rank}
+use Rattle.numa_core.specs.World.{Setup, FrameSearch, any_below, first_place, current_rank}
 use Rattle.numa_core.specs.Steps.{goes_on, going_on}
-use Rattle.numa_core.specs.Standing.{Busy, met_at, hunt_in}
+use Rattle.numa_core.specs.Standing.{Busy, met_at, frame_search_in}
 use Rattle.numa_core.specs.Seats.{IsPassed, IsCursor, IsAllMet}
 
 pub or_true : (a b : Bool) → b ≡ true → (a || b) ≡ true
@@ -85,21 +85,21 @@ abbrev unmet_in : List ℕ → List ℕ → ℕ → Bool
 unmet_in frames words n = any_below (λ k. not (met_at frames words n k)) (slice_index frames n)
 
 -- the current node is that of the cursor
-pub rank-at : (s : Setup) (frames : List ℕ) (busy : Busy) (rank next : ℕ) → frames ≡ s.machine.frames → IsCursor frames busy.nodes busy.met rank next → current_rank s (hunt_in frames busy) ≡ Some rank
+pub rank-at : (s : Setup) (frames : List ℕ) (busy : Busy) (rank next : ℕ) → frames ≡ s.machine.frames → IsCursor frames busy.nodes busy.met rank next → current_rank s (frame_search_in frames busy) ≡ Some rank
 rank-at s frames busy rank next same cursor = subst (λ fs. first_place (λ n. any_below (λ k. not (met_at frames busy.met n k)) (slice_index fs n)) busy.nodes ≡ Some rank) same
     (first_place-at (unmet_in frames busy.met) busy.nodes rank cursor.listed
     (λ j lower. any_below-false (λ k. not (met_at frames busy.met (slice_index busy.nodes j) k)) (slice_index frames (slice_index busy.nodes j)) (λ k few. ap not (cursor.passed.earlier j k lower few)))
     (any_below-true (λ k. not (met_at frames busy.met (slice_index busy.nodes rank) k)) (slice_index frames (slice_index busy.nodes rank)) next cursor.within (ap not cursor.unmet)))
 
-pub rank-none : (s : Setup) (frames : List ℕ) (busy : Busy) → frames ≡ s.machine.frames → IsAllMet frames busy.nodes busy.met → current_rank s (hunt_in frames busy) ≡ None
+pub rank-none : (s : Setup) (frames : List ℕ) (busy : Busy) → frames ≡ s.machine.frames → IsAllMet frames busy.nodes busy.met → current_rank s (frame_search_in frames busy) ≡ None
 rank-none s frames busy same all = subst (λ fs. first_place (λ n. any_below (λ k. not (met_at frames busy.met n k)) (slice_index fs n)) busy.nodes ≡ None) same
     (first_place-none (unmet_in frames busy.met) busy.nodes
     (λ j low. any_below-false (λ k. not (met_at frames busy.met (slice_index busy.nodes j) k)) (slice_index frames (slice_index busy.nodes j)) (λ k few. ap not (all j k low few))))
 
--- a hunt that goes on
-pub settled : (s : Setup) (frames : List ℕ) (busy : Busy) (rank next : ℕ) → frames ≡ s.machine.frames → IsCursor frames busy.nodes busy.met rank next → (Still ≡ goes_on s (hunt_in frames busy)) × (Some (hunt_in frames busy) ≡ going_on s (hunt_in frames busy))
+-- a frame search that goes on
+pub settled : (s : Setup) (frames : List ℕ) (busy : Busy) (rank next : ℕ) → frames ≡ s.machine.frames → IsCursor frames busy.nodes busy.met rank next → (Still ≡ goes_on s (frame_search_in frames busy)) × (Some (frame_search_in frames busy) ≡ going_on s (frame_search_in frames busy))
 settled s frames busy rank next same cursor = rw (rank-at s frames busy rank next same cursor) (refl, refl)
 
--- a hunt that is over
-pub ended : (s : Setup) (frames : List ℕ) (busy : Busy) → frames ≡ s.machine.frames → IsAllMet frames busy.nodes busy.met → (Exhausted busy.version ≡ goes_on s (hunt_in frames busy)) × (let none : Option Hunt = None in none ≡ going_on s (hunt_in frames busy))
+-- a frame search that is over
+pub ended : (s : Setup) (frames : List ℕ) (busy : Busy) → frames ≡ s.machine.frames → IsAllMet frames busy.nodes busy.met → (Exhausted busy.version ≡ goes_on s (frame_search_in frames busy)) × (let none : Option FrameSearch = None in none ≡ going_on s (frame_search_in frames busy))
 ended s frames busy same all = rw (rank-none s frames busy same all) (refl, refl)

@@ -11,7 +11,7 @@ use Rattle.numa_space.specs.declared.event.CoreReply.TheVariants.{Won}
 use Rattle.numa_space.specs.declared.event.CoreRefusal.{CoreRefusal}
 use Rattle.numa_core.specs.World.{Setup, World, owner_of, is_frame}
 use Rattle.numa_core.specs.Steps.{refusal_of, reply_of, effect_of, IsAnswer}
-use Rattle.numa_core.specs.Executions.{Moment, world_of, IsExecution, IsWin, worker_of, gives_back, gives_event}
+use Rattle.numa_core.specs.Executions.{CoreStep, world_of, IsExecution, IsWin, worker_of, gives_back, gives_event}
 use Rattle.numa_core.proofs.Answered.{replied, give_means, one_frame, won_means, won_by_try}
 
 -- a frame that the worker has stays with it, but for a Give by the worker
@@ -47,7 +47,7 @@ same_number : (a b : ℕ) → ◌≡◌ {A = Option ℕ} (Some a) (Some b) → a
 same_number a b e = cc
 
 -- a win is a Try of a frame that nobody owns
-pub win_means : (s : Setup) (past : List Moment) (w : ℕ) (frame : Frame) (m : Moment) → IsExecution s (m ∷ past) → IsWin w frame m → (m.event ≡ Try w frame) × (owner_of (world_of s past) frame ≡ None)
+pub win_means : (s : Setup) (past : List CoreStep) (w : ℕ) (frame : Frame) (m : CoreStep) → IsExecution s (m ∷ past) → IsWin w frame m → (m.event ≡ Try w frame) × (owner_of (world_of s past) frame ≡ None)
 win_means s past w frame m legal win =
     let answer = replied s (world_of s past) m.version m.event (Won win.placement) (subst (λ a. IsAnswer s (world_of s past) m.version m.event a) win.answer legal.2) in
     let attempt = won_by_try s (world_of s past) m.version m.event win.placement answer.1 in
@@ -60,35 +60,35 @@ takes : (s : Setup) (world : World) (w version : ℕ) (frame : Frame) → owner_
 takes s world w version frame free = rw free (rw (eq-eqb frame.node frame.node refl, eq-eqb frame.number frame.number refl) refl)
 
 -- after a win the frame is the worker's
-pub has_won : (s : Setup) (past : List Moment) (w : ℕ) (frame : Frame) (m : Moment) → IsExecution s (m ∷ past) → IsWin w frame m → owner_of (world_of s (m ∷ past)) frame ≡ Some w
+pub has_won : (s : Setup) (past : List CoreStep) (w : ℕ) (frame : Frame) (m : CoreStep) → IsExecution s (m ∷ past) → IsWin w frame m → owner_of (world_of s (m ∷ past)) frame ≡ Some w
 has_won s past w frame m legal win =
     let means = win_means s past w frame m legal win in
     subst (λ a. owner_of (if is_ok a then effect_of s (world_of s past) m.version m.event else world_of s past) frame ≡ Some w) (sym win.answer)
     (subst (λ x. owner_of (effect_of s (world_of s past) m.version x) frame ≡ Some w) (sym means.0) (takes s (world_of s past) w m.version frame means.1))
 
--- one moment more
-moment_keeps : (s : Setup) (past : List Moment) (m : Moment) (w : ℕ) (frame : Frame) → IsExecution s (m ∷ past) → owner_of (world_of s past) frame ≡ Some w → gives_back w frame m ≡ false → owner_of (world_of s (m ∷ past)) frame ≡ Some w
-moment_keeps s past m w frame legal e g = go m.answer legal.2 g
+-- one step more
+core_step_keeps : (s : Setup) (past : List CoreStep) (m : CoreStep) (w : ℕ) (frame : Frame) → IsExecution s (m ∷ past) → owner_of (world_of s past) frame ≡ Some w → gives_back w frame m ≡ false → owner_of (world_of s (m ∷ past)) frame ≡ Some w
+core_step_keeps s past m w frame legal e g = go m.answer legal.2 g
   where
     go : (answer : Result CoreReply CoreRefusal) → IsAnswer s (world_of s past) m.version m.event answer → (is_ok answer && gives_event w frame m.event) ≡ false → owner_of (if is_ok answer then effect_of s (world_of s past) m.version m.event else world_of s past) frame ≡ Some w
     go (Ok reply) answer g = keeps s (world_of s past) w m.version frame m.event (replied s (world_of s past) m.version m.event reply answer).0 e g
     go (Err refusal) answer g = e
 
--- what one moment changes
-further : (s : Setup) (past : List Moment) (m : Moment) (w : ℕ) (frame : Frame) (gave : Bool) → IsExecution s (m ∷ past) → (gave ≡ true) ⊎ (owner_of (world_of s past) frame ≡ Some w) → ((gives_back w frame m || gave) ≡ true) ⊎ (owner_of (world_of s (m ∷ past)) frame ≡ Some w)
+-- what one step changes
+further : (s : Setup) (past : List CoreStep) (m : CoreStep) (w : ℕ) (frame : Frame) (gave : Bool) → IsExecution s (m ∷ past) → (gave ≡ true) ⊎ (owner_of (world_of s past) frame ≡ Some w) → ((gives_back w frame m || gave) ≡ true) ⊎ (owner_of (world_of s (m ∷ past)) frame ≡ Some w)
 further s past m w frame gave legal (inl g) = inl (grind (arith, nat_tests))
 further s past m w frame gave legal (inr has) = go (gives_back w frame m) refl
   where
     go : (b : Bool) → gives_back w frame m ≡ b → ((b || gave) ≡ true) ⊎ (owner_of (world_of s (m ∷ past)) frame ≡ Some w)
     go true g = inl refl
-    go false g = inr (moment_keeps s past m w frame legal has g)
+    go false g = inr (core_step_keeps s past m w frame legal has g)
 
 -- either the worker gave the frame back, or it still has it
-pub gave_or_has : (s : Setup) (between earlier : List Moment) (w : ℕ) (frame : Frame) (first : Moment) → IsExecution s (between ++ first ∷ earlier) → IsWin w frame first → (list_any (gives_back w frame) between ≡ true) ⊎ (owner_of (world_of s (between ++ first ∷ earlier)) frame ≡ Some w)
+pub gave_or_has : (s : Setup) (between earlier : List CoreStep) (w : ℕ) (frame : Frame) (first : CoreStep) → IsExecution s (between ++ first ∷ earlier) → IsWin w frame first → (list_any (gives_back w frame) between ≡ true) ⊎ (owner_of (world_of s (between ++ first ∷ earlier)) frame ≡ Some w)
 gave_or_has s [] earlier w frame first legal win = inr (has_won s earlier w frame first legal win)
 gave_or_has s (m ∷ between) earlier w frame first legal win = further s (between ++ first ∷ earlier) m w frame (list_any (gives_back w frame) between) legal (gave_or_has s between earlier w frame first legal.0 win)
 
-pub given_back : (s : Setup) (between earlier : List Moment) (first second : Moment) (v w : ℕ) (frame : Frame) → IsExecution s (second ∷ (between ++ first ∷ earlier)) → IsWin v frame first → IsWin w frame second → list_any (gives_back v frame) between ≡ true
+pub given_back : (s : Setup) (between earlier : List CoreStep) (first second : CoreStep) (v w : ℕ) (frame : Frame) → IsExecution s (second ∷ (between ++ first ∷ earlier)) → IsWin v frame first → IsWin w frame second → list_any (gives_back v frame) between ≡ true
 given_back s between earlier first second v w frame legal old new = go (gave_or_has s between earlier v frame first legal.0 old)
   where
     free : owner_of (world_of s (between ++ first ∷ earlier)) frame ≡ None

@@ -7,7 +7,7 @@ use Rattle.numa_space.specs.declared.event.CoreReply.{CoreReply}
 use Rattle.numa_space.specs.declared.event.CoreRefusal.{CoreRefusal}
 use Rattle.numa_core.specs.World.{Setup, Worker, World, is_published, newest_published, last_of, owner_of}
 use Rattle.numa_core.specs.Steps.{effect_of, MayTake}
-use Rattle.numa_core.specs.Executions.{Moment, world_of, IsExecution}
+use Rattle.numa_core.specs.Executions.{CoreStep, world_of, IsExecution}
 use Rattle.numa_core.proofs.Versions.{IsSound, sound, by_itself}
 
 pub record HasNewest (world : World) : Type 0 where
@@ -52,7 +52,7 @@ newest-step s world version (Try v frame) may sound newest = go (owner_of world 
 newest-step s world version (Give v frame) may sound newest = record { there = newest.there; greatest = newest.greatest; lasts = newest.lasts }
 
 -- every execution leads to a world with a newest published version
-pub newest : (s : Setup) (past : List Moment) → IsExecution s past → HasNewest (world_of s past)
+pub newest : (s : Setup) (past : List CoreStep) → IsExecution s past → HasNewest (world_of s past)
 newest s [] legal = record { there = refl; greatest = λ v h. go v (0 == v) refl h; lasts = λ w. omega arith }
   where
     go : (v : ℕ) (b : Bool) → (0 == v) ≡ b → (b || false) ≡ true → v ≤ 0

@@ -9,9 +9,9 @@ use Rattle.numa_machine.specs.declared.frame.Frame.{Frame}
 use Rattle.numa_space.specs.declared.placement.Placement.{Placement}
 use Rattle.numa_space.specs.declared.event.Event.TheVariants.{Try}
 use Rattle.numa_space.specs.declared.event.CoreReply.TheVariants.{Won}
-use Rattle.numa_core.specs.World.{Setup, Hunt, owner_of, any_below, first_place, one_further, current_rank, at_current, has_unmet}
+use Rattle.numa_core.specs.World.{Setup, FrameSearch, owner_of, any_below, first_place, one_further, current_rank, at_current, has_unmet}
 use Rattle.numa_core.specs.Steps.{refusal_of, reply_of, placement_of, IsAnswer}
-use Rattle.numa_core.specs.Executions.{Moment, world_of, IsExecution, IsRightPlacement}
+use Rattle.numa_core.specs.Executions.{CoreStep, world_of, IsExecution, IsRightPlacement}
 use Rattle.numa_core.proofs.Answered.{replied, try_means, won_means, won_by_try}
 use Rattle.numa_core.proofs.Tracking.{Tracked, tracked, tracked-listed}
 
@@ -67,10 +67,10 @@ first_place-none test (n ∷ ns) e i low = go (test n) refl e (first_place-none 
     go false not_here e ih (suc i) low = ih (one_further-none (first_place test ns) e) i (omega arith)
 
 -- where the test holds of the current node, there is one
-at_current-means : (s : Setup) (hunt : Hunt) (test : ℕ → Bool) → at_current s hunt test ≡ true → (rank : ℕ) × (current_rank s hunt ≡ Some rank) × (test (slice_index hunt.nodes rank) ≡ true)
-at_current-means s hunt test = go (current_rank s hunt)
+at_current-means : (s : Setup) (frame_search : FrameSearch) (test : ℕ → Bool) → at_current s frame_search test ≡ true → (rank : ℕ) × (current_rank s frame_search ≡ Some rank) × (test (slice_index frame_search.nodes rank) ≡ true)
+at_current-means s frame_search test = go (current_rank s frame_search)
   where
-    go : (o : Option ℕ) → option_map_or (λ rank. test (slice_index hunt.nodes rank)) o false ≡ true → (rank : ℕ) × (o ≡ Some rank) × (test (slice_index hunt.nodes rank) ≡ true)
+    go : (o : Option ℕ) → option_map_or (λ rank. test (slice_index frame_search.nodes rank)) o false ≡ true → (rank : ℕ) × (o ≡ Some rank) × (test (slice_index frame_search.nodes rank) ≡ true)
     go None e = absurd (cc)
     go (Some rank) e = (rank, refl, e)
 
@@ -84,30 +84,30 @@ pub not_false-is : (b : Bool) → not b ≡ false → b ≡ true
 not_false-is true e = refl
 not_false-is false e = absurd (cc)
 
-placed : (s : Setup) (past : List Moment) (w : ℕ) (frame : Frame) (hunt : Hunt) (placement : Placement) → Tracked s past w hunt → owner_of (world_of s past) frame ≡ None → placement ≡ placement_of s hunt frame → (rank : ℕ) → current_rank s hunt ≡ Some rank
-    → ((slice_index hunt.nodes rank == frame.node) ≡ true) × (nat_lt frame.number (frames_of s.machine (slice_index hunt.nodes rank)) ≡ true) × (not (hunt.met (slice_index hunt.nodes rank) frame.number) ≡ true) → IsRightPlacement s w placement past
-placed s past w frame hunt placement t free is rank current tried =
-    let spot = first_place-some (has_unmet s hunt) hunt.nodes rank current in
-    let here : slice_index hunt.nodes rank ≡ frame.node = eqb-true _ _ tried.0 in
-    let ranked : unwrap_or (current_rank s hunt) 0 ≡ rank = ap (λ o. unwrap_or o 0) current in
+placed : (s : Setup) (past : List CoreStep) (w : ℕ) (frame : Frame) (frame_search : FrameSearch) (placement : Placement) → Tracked s past w frame_search → owner_of (world_of s past) frame ≡ None → placement ≡ placement_of s frame_search frame → (rank : ℕ) → current_rank s frame_search ≡ Some rank
+    → ((slice_index frame_search.nodes rank == frame.node) ≡ true) × (nat_lt frame.number (frames_of s.machine (slice_index frame_search.nodes rank)) ≡ true) × (not (frame_search.met (slice_index frame_search.nodes rank) frame.number) ≡ true) → IsRightPlacement s w placement past
+placed s past w frame frame_search placement t free is rank current tried =
+    let spot = first_place-some (has_unmet s frame_search) frame_search.nodes rank current in
+    let here : slice_index frame_search.nodes rank ≡ frame.node = eqb-true _ _ tried.0 in
+    let ranked : unwrap_or (current_rank s frame_search) 0 ≡ rank = ap (λ o. unwrap_or o 0) current in
     subst (λ p. IsRightPlacement s w p past) (sym is) record {
       begun = t.begun;
-      nodes = hunt.nodes;
+      nodes = frame_search.nodes;
       is_last = t.is_last;
       version = t.version;
       published = t.published;
       task = ap (λ (r : Request). r.task) t.request;
       page = ap (λ (r : Request). r.page) t.request;
-      listed = tracked-listed s past w hunt t;
-      rank = subst (λ r. r < length hunt.nodes) (sym ranked) spot.0;
-      node = ap (λ r. slice_index hunt.nodes r) ranked ∙ here;
+      listed = tracked-listed s past w frame_search t;
+      rank = subst (λ r. r < length frame_search.nodes) (sym ranked) spot.0;
+      node = ap (λ r. slice_index frame_search.nodes r) ranked ∙ here;
       frame_node = refl;
       frame_number = subst (λ n. frame.number < frames_of s.machine n) here (ltb-true _ _ tried.1);
       free = free;
-      earlier = λ i k low few. sym (t.met (slice_index hunt.nodes i) k) ∙ not_false-is _ (any_below-none (λ k. not (hunt.met (slice_index hunt.nodes i) k)) (frames_of s.machine (slice_index hunt.nodes i)) k (spot.1 i (subst (λ r. i < r) ranked low)) few);
+      earlier = λ i k low few. sym (t.met (slice_index frame_search.nodes i) k) ∙ not_false-is _ (any_below-none (λ k. not (frame_search.met (slice_index frame_search.nodes i) k)) (frames_of s.machine (slice_index frame_search.nodes i)) k (spot.1 i (subst (λ r. i < r) ranked low)) few);
     }
 
-right_try : (s : Setup) (past : List Moment) (w version : ℕ) (frame : Frame) (placement : Placement) → IsExecution s past → refusal_of s (world_of s past) version (Try w frame) ≡ None → Won placement ≡ reply_of s (world_of s past) version (Try w frame) → IsRightPlacement s w placement past
+right_try : (s : Setup) (past : List CoreStep) (w version : ℕ) (frame : Frame) (placement : Placement) → IsExecution s past → refusal_of s (world_of s past) version (Try w frame) ≡ None → Won placement ≡ reply_of s (world_of s past) version (Try w frame) → IsRightPlacement s w placement past
 right_try s past w version frame placement legal ok reply =
     let win = won_means s (world_of s past) w version frame placement reply in
     let t = tracked s past legal w win.0 win.1 in
@@ -115,7 +115,7 @@ right_try s past w version frame placement legal ok reply =
     placed s past w frame win.0 placement t win.2 win.3 tried.0 tried.1 (all_three _ _ _ tried.2)
 
 -- each reply Won answers a Try of its frame, and its placement is right
-pub right : (s : Setup) (past : List Moment) (m : Moment) (placement : Placement) → IsExecution s (m ∷ past) → m.answer ≡ Ok (Won placement) → (w : ℕ) × (m.event ≡ Try w placement.frame) × IsRightPlacement s w placement past
+pub right : (s : Setup) (past : List CoreStep) (m : CoreStep) (placement : Placement) → IsExecution s (m ∷ past) → m.answer ≡ Ok (Won placement) → (w : ℕ) × (m.event ≡ Try w placement.frame) × IsRightPlacement s w placement past
 right s past m placement legal e =
     let answer = replied s (world_of s past) m.version m.event (Won placement) (subst (λ a. IsAnswer s (world_of s past) m.version m.event a) e legal.2) in
     let attempt = won_by_try s (world_of s past) m.version m.event placement answer.1 in (

@@ -103,7 +103,7 @@ older-row : answers (four_on (with_frames (1 ∷ 1 ∷ []))) (accepted (Map 0x10
 unfolding members fallback_order list_at mems_of lacks_mems
 older-row = refl
 
--- a page with a policy of its own, a fault on node 1, and a hunt that later commands and publications leave as it is
+-- a page with a policy of its own, a fault on node 1, and a frame search that later commands and publications leave as it is
 pages : List Command
 pages = Mbind 0x11000 0x1000 (asked Bind Plain (1 ∷ [])) ∷ Map 0x10000 0x2000 0 ∷ []
 

@@ -6,7 +6,7 @@ use Rattle.numa_core.specs.declared.free_frames.Spot.{Spot}
 use Rattle.numa_space.specs.declared.event.CoreReply.TheVariants.{Exhausted, Won}
 use Rattle.numa_space.specs.declared.event.CoreRefusal.{CoreRefusal}
 use Rattle.numa_space.specs.declared.event.CoreRefusal.TheVariants.{NoSuchWorker, Busy, BadCpu, Unmapped}
-use Rattle.numa_core.specs.World.{Hunt, World, newest_published, hunt_of, list_at}
+use Rattle.numa_core.specs.World.{FrameSearch, World, newest_published, frame_search_of, list_at}
 use Rattle.numa_core.specs.Steps.{with_owner, put_frame}
 use Rattle.numa_core.specs.Standing.{CoreState, CoreStandsFor, setup_of, owner_at, place_in}
 use Rattle.numa_core.specs.Kept.{core_state, IsKept}
@@ -23,13 +23,13 @@ tables-show state world kept stands = record {
   owned = λ n k. subst (λ frames. world.owner n k ≡ owner_at state.owners.items (place_in frames n k)) (sym kept.places) (sym (stands.owners n k));
 }
 
-no_hunt : (o : Option Hunt) → is_some o ≡ false → o ≡ None
-no_hunt None e = refl
-no_hunt (Some hunt) e = absurd (cc)
+no_frame_search : (o : Option FrameSearch) → is_some o ≡ false → o ≡ None
+no_frame_search None e = refl
+no_frame_search (Some frame_search) e = absurd (cc)
 
 -- a worker whose Begin isn't refused is idle
-idle : (core : CoreState) (world : World) (w : ℕ) (request : Request) → touch_refusal (setup_of core) world w request ≡ None → hunt_of world w ≡ None
-idle core world w request e = no_hunt (hunt_of world w) (four_rows (nat_le (setup_of core).workers w) (is_some (hunt_of world w)) (nat_le core.space.machine.nodes request.cpu) (is_none (list_at core.space.machine world.history (newest_published world) request)) NoSuchWorker Busy BadCpu (Unmapped (newest_published world)) e).1
+idle : (core : CoreState) (world : World) (w : ℕ) (request : Request) → touch_refusal (setup_of core) world w request ≡ None → frame_search_of world w ≡ None
+idle core world w request e = no_frame_search (frame_search_of world w) (four_rows (nat_le (setup_of core).workers w) (is_some (frame_search_of world w)) (nat_le core.space.machine.nodes request.cpu) (is_none (list_at core.space.machine world.history (newest_published world) request)) NoSuchWorker Busy BadCpu (Unmapped (newest_published world)) e).1
 
 -- the Begin is refused
 pub refuses : (core : CoreState) (w : ℕ) (request : Request) (refusal : CoreRefusal) (world : World) → CoreStandsFor core world → IsJudged core w request (Some refusal)

@@ -11,13 +11,13 @@ use Rattle.numa_space.specs.declared.refusal.PlaceRefusal.{PlaceRefusal}
 use Rattle.numa_space.specs.declared.refusal.PlaceRefusal.TheVariants.{BadCpu as NoCpu, Unmapped as NoPage}
 use Rattle.numa_plan.specs.Meaning.{PlanData, planned_list, place_refusal}
 use Rattle.numa_space.specs.declared.request.Request.{Request}
-use Rattle.numa_core.specs.declared.seat.Job.{Job}
-use Rattle.numa_core.specs.declared.seat.Seat.{Seat}
+use Rattle.numa_core.specs.declared.seat.OngoingSearch.{OngoingSearch}
+use Rattle.numa_core.specs.declared.seat.WorkerSeat.{WorkerSeat}
 use Rattle.numa_space.specs.declared.event.Event.TheVariants.{Begin}
 use Rattle.numa_space.specs.declared.event.CoreRefusal.TheVariants.{BadCpu, Unmapped}
-use Rattle.numa_core.specs.World.{World, newest_published, first_commands, hunt_of, list_at}
+use Rattle.numa_core.specs.World.{World, newest_published, first_commands, frame_search_of, list_at}
 use Rattle.numa_core.specs.Steps.{refusal_of, first_refusal}
-use Rattle.numa_core.specs.Standing.{CoreState, CoreStandsFor, Busy, setup_of, hunt_by}
+use Rattle.numa_core.specs.Standing.{CoreState, CoreStandsFor, Busy, setup_of, frame_search_by}
 use Rattle.numa_core.specs.Seats.{busy_of, busy_by}
 use Rattle.numa_core.specs.Judging.{IsJudged, IsListed, cause_at}
 
@@ -28,13 +28,13 @@ high_true : (a b : ℕ) → a ≤ b → nat_le a b ≡ true
 high_true a b h = grind (arith, nat_tests)
 
 -- a seat without a job shows a worker that is about nothing
-pub idle-seat : (seats : List Seat) (count w : ℕ) (seat : Seat) → count ≡ length seats → w < count → seat ≡ get_or seats w seat → false ≡ is_some seat.job → slice_get (map busy_of seats) w ≡ Some None
+pub idle-seat : (seats : List WorkerSeat) (count w : ℕ) (seat : WorkerSeat) → count ≡ length seats → w < count → seat ≡ get_or seats w seat → false ≡ is_some seat.job → slice_get (map busy_of seats) w ≡ Some None
 idle-seat seats count w seat all low read none =
     slice_get-map busy_of seats w
     ∙ ap (λ o. option_map busy_of o) (slice_get_read seats count w seat all low read)
     ∙ go seat.job none
   where
-    go : (o : Option Job) → false ≡ is_some o → ◌≡◌ {A = Option (Option Busy)} (Some (busy_by o seat.nodes.items seat.met.items)) (Some None)
+    go : (o : Option OngoingSearch) → false ≡ is_some o → ◌≡◌ {A = Option (Option Busy)} (Some (busy_by o seat.nodes.items seat.met.items)) (Some None)
     go None e = refl
     go (Some job) e = absurd (cc)
 
@@ -60,7 +60,7 @@ judged-idle : (core : CoreState) (w : ℕ) (request : Request) (world : World) �
     ∷ (is_none (list_at core.space.machine world.history (newest_published world) request), Unmapped (newest_published world))
     ∷ [])
 judged-idle core w request world stands idle =
-    let none : hunt_of world w ≡ None = sym (stands.hunts w) ∙ ap (λ o. hunt_by core.space.machine (option_and_then (λ busy. busy) o)) idle in
+    let none : frame_search_of world w ≡ None = sym (stands.frame_searches w) ∙ ap (λ o. frame_search_by core.space.machine (option_and_then (λ busy. busy) o)) idle in
     rw (low_false (length core.workers) w (slice_get_within core.workers w None idle), none) refl
 
 -- not at all, where the plan has a list

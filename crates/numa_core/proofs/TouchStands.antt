@@ -3,22 +3,22 @@ use Rattle.std.proofs.Common.{zero, suc, ◌≡◌, ◌≢◌, ℕ, ◌<◌, ◌
 use Rattle.std.proofs.lemmas.Bool.{eq-eqb}
 use Rattle.std.proofs.lemmas.Bool.Decides.{eqb_tells, nat_tests}
 use Rattle.numa_machine.specs.declared.frame.Frame.{Frame}
-use Rattle.numa_core.specs.World.{Worker, World, newest_published, hunt_of, is_frame}
+use Rattle.numa_core.specs.World.{Worker, World, newest_published, frame_search_of, is_frame}
 use Rattle.numa_core.specs.Steps.{with_worker, with_owner, put_frame}
-use Rattle.numa_core.specs.Standing.{CoreState, CoreStandsFor, shown_hunt, owner_at, place_in}
+use Rattle.numa_core.specs.Standing.{CoreState, CoreStandsFor, shown_frame_search, owner_at, place_in}
 use Rattle.numa_core.proofs.Versions.{by_itself}
 use Rattle.numa_core.proofs.InARow.{is_at, same_place, place-is}
 
 -- an idle worker took the newest version
-pub stands-idle : (core : CoreState) (world : World) (w : ℕ) → hunt_of world w ≡ None → CoreStandsFor core world → CoreStandsFor core (with_worker world w (newest_published world) None)
+pub stands-idle : (core : CoreState) (world : World) (w : ℕ) → frame_search_of world w ≡ None → CoreStandsFor core world → CoreStandsFor core (with_worker world w (newest_published world) None)
 stands-idle core world w idle stands = record {
   space = stands.space;
   plan = stands.plan;
-  hunts = λ v. by_itself (λ (worker : Worker). shown_hunt core v ≡ worker.hunt) w v (record { last = newest_published world; hunt = None }) (world.worker v) (λ e. stands.hunts v ∙ subst (λ u. hunt_of world u ≡ None) e idle) (stands.hunts v);
+  frame_searches = λ v. by_itself (λ (worker : Worker). shown_frame_search core v ≡ worker.frame_search) w v (record { last = newest_published world; frame_search = None }) (world.worker v) (λ e. stands.frame_searches v ∙ subst (λ u. frame_search_of world u ≡ None) e idle) (stands.frame_searches v);
   owners = stands.owners;
   published = stands.published;
   known = stands.known;
-  not_newer = λ v. by_itself (λ (worker : Worker). worker.last ≤ newest_published world) w v (record { last = newest_published world; hunt = None }) (world.worker v) (λ e. omega arith) (stands.not_newer v);
+  not_newer = λ v. by_itself (λ (worker : Worker). worker.last ≤ newest_published world) w v (record { last = newest_published world; frame_search = None }) (world.worker v) (λ e. omega arith) (stands.not_newer v);
 }
 
 -- a frame has another owner
@@ -28,7 +28,7 @@ pub stands-owner : (core : CoreState) (owners : List (Option ℕ)) (world : Worl
 stands-owner core owners world frame owner each stands = record {
   space = stands.space;
   plan = stands.plan;
-  hunts = stands.hunts;
+  frame_searches = stands.frame_searches;
   owners = λ n k. each n k ∙ ap (λ o. if is_frame frame n k then owner else o) (stands.owners n k);
   published = stands.published;
   known = stands.known;

@@ -4,17 +4,17 @@ use Rattle.std.proofs.lemmas.Bool.{eq-eqb}
 use Rattle.numa_machine.specs.declared.frame.Frame.{Frame}
 use Rattle.numa_space.specs.declared.event.Event.TheVariants.{Try}
 use Rattle.numa_space.specs.declared.event.CoreReply.TheVariants.{Won}
-use Rattle.numa_core.specs.World.{Setup, Hunt, Worker, World, newest_published, hunt_of, last_of, owner_of, may_try, hunt_past}
+use Rattle.numa_core.specs.World.{Setup, FrameSearch, Worker, World, newest_published, frame_search_of, last_of, owner_of, may_try, frame_search_past}
 use Rattle.numa_core.specs.Steps.{refusal_of, goes_on, going_on, placement_of, with_worker, with_owner, put}
 use Rattle.numa_core.specs.Touching.{answered_with, lowest_free, first_free}
 
 -- ---- changes of a worker
 
-pub hunt-put : (world : World) (w last : ℕ) (hunt : Option Hunt) → hunt_of (with_worker world w last hunt) w ≡ hunt
-hunt-put world w last hunt = ap (λ b. (if b then record { last = last; hunt = hunt } else world.worker w).hunt) (eq-eqb w w refl)
+pub frame_search-put : (world : World) (w last : ℕ) (frame_search : Option FrameSearch) → frame_search_of (with_worker world w last frame_search) w ≡ frame_search
+frame_search-put world w last frame_search = ap (λ b. (if b then record { last = last; frame_search = frame_search } else world.worker w).frame_search) (eq-eqb w w refl)
 
-pub last-put : (world : World) (w last : ℕ) (hunt : Option Hunt) → last_of (with_worker world w last hunt) w ≡ last
-last-put world w last hunt = ap (λ b. (if b then record { last = last; hunt = hunt } else world.worker w).last) (eq-eqb w w refl)
+pub last-put : (world : World) (w last : ℕ) (frame_search : Option FrameSearch) → last_of (with_worker world w last frame_search) w ≡ last
+last-put world w last frame_search = ap (λ b. (if b then record { last = last; frame_search = frame_search } else world.worker w).last) (eq-eqb w w refl)
 
 put-twice : (f : ℕ → Worker) (w : ℕ) (x y : Worker) (v : ℕ) → put (put f w x) w y v ≡ put f w y v
 put-twice f w x y v = go (w == v)
@@ -24,26 +24,26 @@ put-twice f w x y v = go (w == v)
     go false = refl
 
 -- the second change of one worker hides the first
-pub worker-twice : (world : World) (w a b : ℕ) (g h : Option Hunt) → with_worker (with_worker world w a g) w b h ≡ with_worker world w b h
+pub worker-twice : (world : World) (w a b : ℕ) (g h : Option FrameSearch) → with_worker (with_worker world w a g) w b h ≡ with_worker world w b h
 worker-twice world w a b g h = λ i. record {
   history = world.history;
   published = world.published;
-  worker = λ v. put-twice world.worker w (record { last = a; hunt = g }) (record { last = b; hunt = h }) v i;
+  worker = λ v. put-twice world.worker w (record { last = a; frame_search = g }) (record { last = b; frame_search = h }) v i;
   owner = world.owner;
 }
 
 -- ---- Trys
 
-module _ (s : Setup) (world : World) (w : ℕ) (frame : Frame) (hunt : Hunt) (some : nat_le s.workers w ≡ false) (busy : hunt_of world w ≡ Some hunt) (may : may_try s hunt frame ≡ true) where
+module _ (s : Setup) (world : World) (w : ℕ) (frame : Frame) (frame_search : FrameSearch) (some : nat_le s.workers w ≡ false) (busy : frame_search_of world w ≡ Some frame_search) (may : may_try s frame_search frame ≡ true) where
   allowed : (version : ℕ) → refusal_of s world version (Try w frame) ≡ None
   allowed version = rw (some, busy, may) refl
 
   -- the frame has an owner
-  pub try-owned : (v : ℕ) → owner_of world frame ≡ Some v → answered_with s world (Try w frame) ≡ record { answer = Ok (goes_on s (hunt_past frame hunt)); world = with_worker world w (last_of world w) (going_on s (hunt_past frame hunt)) }
+  pub try-owned : (v : ℕ) → owner_of world frame ≡ Some v → answered_with s world (Try w frame) ≡ record { answer = Ok (goes_on s (frame_search_past frame frame_search)); world = with_worker world w (last_of world w) (going_on s (frame_search_past frame frame_search)) }
   try-owned v owned = rw (allowed (newest_published world), owned, busy) refl
 
   -- the frame is free
-  pub try-free : owner_of world frame ≡ None → answered_with s world (Try w frame) ≡ record { answer = Ok (Won (placement_of s hunt frame)); world = with_worker (with_owner world frame (Some w)) w (last_of world w) None }
+  pub try-free : owner_of world frame ≡ None → answered_with s world (Try w frame) ≡ record { answer = Ok (Won (placement_of s frame_search frame)); world = with_worker (with_owner world frame (Some w)) w (last_of world w) None }
   try-free free = rw (allowed (newest_published world), free, busy) refl
 
 -- ---- the first free spot of a list

@@ -9,19 +9,19 @@ use Rattle.numa_space.specs.declared.event.Event.TheVariants.{Accept, Publish, B
 use Rattle.numa_space.specs.declared.event.CoreReply.{CoreReply}
 use Rattle.numa_space.specs.declared.event.CoreReply.TheVariants.{Still, Exhausted, Won}
 use Rattle.numa_space.specs.declared.event.CoreRefusal.{CoreRefusal}
-use Rattle.numa_core.specs.World.{Setup, Hunt, Worker, World, is_published, last_of, hunt_of, owner_of, current_rank, new_hunt, hunt_after_look, hunt_past}
+use Rattle.numa_core.specs.World.{Setup, FrameSearch, Worker, World, is_published, last_of, frame_search_of, owner_of, current_rank, new_frame_search, frame_search_after_look, frame_search_past}
 use Rattle.numa_core.specs.Steps.{reply_of, effect_of, goes_on, going_on, placement_of, IsAnswer, MayTake}
-use Rattle.numa_core.specs.Executions.{Moment, world_of, IsExecution, version_told, worker_of}
+use Rattle.numa_core.specs.Executions.{CoreStep, world_of, IsExecution, version_told, worker_of}
 use Rattle.numa_core.proofs.Answered.{legal_before, replied}
 
--- each published version is of accepted commands, each worker's last one too, and a hunt is by the last one
+-- each published version is of accepted commands, each worker's last one too, and a frame search is by the last one
 pub record IsSound (world : World) : Type 0 where
   pub published : (v : ℕ) → is_published world v ≡ true → v ≤ length world.history
   pub lasts : (w : ℕ) → last_of world w ≤ length world.history
-  pub hunts : (w : ℕ) (hunt : Hunt) → hunt_of world w ≡ Some hunt → hunt.version ≡ last_of world w
+  pub frame_searches : (w : ℕ) (frame_search : FrameSearch) → frame_search_of world w ≡ Some frame_search → frame_search.version ≡ last_of world w
 
--- the hunt that goes on is the one that there was
-pub going_on-is : (s : Setup) (old new : Hunt) → going_on s old ≡ Some new → new ≡ old
+-- the frame search that goes on is the one that there was
+pub going_on-is : (s : Setup) (old new : FrameSearch) → going_on s old ≡ Some new → new ≡ old
 going_on-is s old new = go (current_rank s old)
   where
     go : (o : Option ℕ) → (if is_some o then Some old else None) ≡ Some new → new ≡ old
@@ -29,7 +29,7 @@ going_on-is s old new = go (current_rank s old)
     go (Some rank) e = cc
 
 -- the same, where there was one before
-pub went_on : (s : Setup) (o : Option Hunt) (f : Hunt → Hunt) (new : Hunt) → option_map_or (λ hunt. going_on s (f hunt)) o None ≡ Some new → (old : Hunt) × (o ≡ Some old) × (new ≡ f old)
+pub went_on : (s : Setup) (o : Option FrameSearch) (f : FrameSearch → FrameSearch) (new : FrameSearch) → option_map_or (λ frame_search. going_on s (f frame_search)) o None ≡ Some new → (old : FrameSearch) × (o ≡ Some old) × (new ≡ f old)
 went_on s None f new e = absurd (cc)
 went_on s (Some old) f new e = (old, refl, going_on-is s (f old) new e)
 
@@ -45,12 +45,12 @@ sound-step : (s : Setup) (world : World) (version : ℕ) (event : Event) → May
 sound-step s world version (Accept command) may sound = record {
   published = λ v h. let low : v ≤ length world.history = sound.published v h in omega arith;
   lasts = λ w. let low : last_of world w ≤ length world.history = sound.lasts w in omega arith;
-  hunts = sound.hunts;
+  frame_searches = sound.frame_searches;
 }
 sound-step s world version Publish may sound = record {
   published = λ v h. go v h;
   lasts = sound.lasts;
-  hunts = sound.hunts;
+  frame_searches = sound.frame_searches;
 }
   where
     go : (v : ℕ) → ((length world.history == v) || list_any (λ u. u == v) world.published) ≡ true → v ≤ length world.history
@@ -62,14 +62,14 @@ sound-step s world version Publish may sound = record {
 sound-step s world version (Begin v request) may sound = record {
   published = sound.published;
   lasts = λ w. by_itself (λ (worker : Worker). worker.last ≤ length world.history) v w _ (world.worker w) (λ e. sound.published version may.0) (sound.lasts w);
-  hunts = λ w hunt. by_itself (λ (worker : Worker). worker.hunt ≡ Some hunt → hunt.version ≡ worker.last) v w _ (world.worker w) (λ e is. ap (λ (h : Hunt). h.version) (going_on-is s (new_hunt s world version request) hunt is)) (sound.hunts w hunt);
+  frame_searches = λ w frame_search. by_itself (λ (worker : Worker). worker.frame_search ≡ Some frame_search → frame_search.version ≡ worker.last) v w _ (world.worker w) (λ e is. ap (λ (h : FrameSearch). h.version) (going_on-is s (new_frame_search s world version request) frame_search is)) (sound.frame_searches w frame_search);
 }
 sound-step s world version (Look v word) may sound = record {
   published = sound.published;
   lasts = λ w. by_itself (λ (worker : Worker). worker.last ≤ length world.history) v w _ (world.worker w) (λ e. sound.lasts v) (sound.lasts w);
-  hunts = λ w hunt. by_itself (λ (worker : Worker). worker.hunt ≡ Some hunt → hunt.version ≡ worker.last) v w _ (world.worker w)
-      (λ e is. let old = went_on s (hunt_of world v) (hunt_after_look s world word) hunt is in ap (λ (h : Hunt). h.version) old.2 ∙ sound.hunts v old.0 old.1)
-      (sound.hunts w hunt);
+  frame_searches = λ w frame_search. by_itself (λ (worker : Worker). worker.frame_search ≡ Some frame_search → frame_search.version ≡ worker.last) v w _ (world.worker w)
+      (λ e is. let old = went_on s (frame_search_of world v) (frame_search_after_look s world word) frame_search is in ap (λ (h : FrameSearch). h.version) old.2 ∙ sound.frame_searches v old.0 old.1)
+      (sound.frame_searches w frame_search);
 }
 sound-step s world version (Try v frame) may sound = go (owner_of world frame) refl
   where
@@ -77,23 +77,23 @@ sound-step s world version (Try v frame) may sound = go (owner_of world frame) r
     go (Some u) is = rw is record {
       published = sound.published;
       lasts = λ w. by_itself (λ (worker : Worker). worker.last ≤ length world.history) v w _ (world.worker w) (λ e. sound.lasts v) (sound.lasts w);
-      hunts = λ w hunt. by_itself (λ (worker : Worker). worker.hunt ≡ Some hunt → hunt.version ≡ worker.last) v w _ (world.worker w)
-          (λ e is. let old = went_on s (hunt_of world v) (hunt_past frame) hunt is in ap (λ (h : Hunt). h.version) old.2 ∙ sound.hunts v old.0 old.1)
-          (sound.hunts w hunt);
+      frame_searches = λ w frame_search. by_itself (λ (worker : Worker). worker.frame_search ≡ Some frame_search → frame_search.version ≡ worker.last) v w _ (world.worker w)
+          (λ e is. let old = went_on s (frame_search_of world v) (frame_search_past frame) frame_search is in ap (λ (h : FrameSearch). h.version) old.2 ∙ sound.frame_searches v old.0 old.1)
+          (sound.frame_searches w frame_search);
     }
     go None is = rw is record {
       published = sound.published;
       lasts = λ w. by_itself (λ (worker : Worker). worker.last ≤ length world.history) v w _ (world.worker w) (λ e. sound.lasts v) (sound.lasts w);
-      hunts = λ w hunt. by_itself (λ (worker : Worker). worker.hunt ≡ Some hunt → hunt.version ≡ worker.last) v w _ (world.worker w) (λ e is. absurd (cc)) (sound.hunts w hunt);
+      frame_searches = λ w frame_search. by_itself (λ (worker : Worker). worker.frame_search ≡ Some frame_search → frame_search.version ≡ worker.last) v w _ (world.worker w) (λ e is. absurd (cc)) (sound.frame_searches w frame_search);
     }
-sound-step s world version (Give v frame) may sound = record { published = sound.published; lasts = sound.lasts; hunts = sound.hunts }
+sound-step s world version (Give v frame) may sound = record { published = sound.published; lasts = sound.lasts; frame_searches = sound.frame_searches }
 
 -- every execution leads to a sound world
-pub sound : (s : Setup) (past : List Moment) → IsExecution s past → IsSound (world_of s past)
+pub sound : (s : Setup) (past : List CoreStep) → IsExecution s past → IsSound (world_of s past)
 sound s [] legal = record {
   published = λ v h. go v h;
   lasts = λ w. omega arith;
-  hunts = λ w hunt e. absurd (cc);
+  frame_searches = λ w frame_search e. absurd (cc);
 }
   where
     go : (v : ℕ) → ((0 == v) || false) ≡ true → v ≤ 0
@@ -121,7 +121,7 @@ rises-step s world version w (Try v frame) may = go (owner_of world frame) refl
 rises-step s world version w (Give v frame) may = omega arith
 
 -- a worker's last version never falls
-pub rises : (s : Setup) (between past : List Moment) (w : ℕ) → IsExecution s (between ++ past) → last_of (world_of s past) w ≤ last_of (world_of s (between ++ past)) w
+pub rises : (s : Setup) (between past : List CoreStep) (w : ℕ) → IsExecution s (between ++ past) → last_of (world_of s past) w ≤ last_of (world_of s (between ++ past)) w
 rises s [] past w legal = omega arith
 rises s (m ∷ between) past w legal = go m.answer (rises s between past w legal.0)
   where
@@ -136,20 +136,20 @@ same_number v w e = cc
 own : (v w : ℕ) → ◌≡◌ {A = Option ℕ} (Some v) (Some w) → (v == w) ≡ true
 own v w e = eq-eqb v w (same_number v w e)
 
-told-goes_on : (s : Setup) (hunt : Hunt) (a : ℕ) → version_told (Ok (goes_on s hunt)) ≡ Some a → hunt.version ≡ a
-told-goes_on s hunt a = go (current_rank s hunt)
+told-goes_on : (s : Setup) (frame_search : FrameSearch) (a : ℕ) → version_told (Ok (goes_on s frame_search)) ≡ Some a → frame_search.version ≡ a
+told-goes_on s frame_search a = go (current_rank s frame_search)
   where
-    go : (o : Option ℕ) → version_told (Ok (if is_some o then Still else Exhausted hunt.version)) ≡ Some a → hunt.version ≡ a
+    go : (o : Option ℕ) → version_told (Ok (if is_some o then Still else Exhausted frame_search.version)) ≡ Some a → frame_search.version ≡ a
     go None e = cc
     go (Some rank) e = absurd (cc)
 
-told-hunt : (s : Setup) (o : Option Hunt) (f : Hunt → Hunt) (a : ℕ) → version_told (Ok (option_map_or (λ hunt. goes_on s (f hunt)) o Still)) ≡ Some a → (hunt : Hunt) × (o ≡ Some hunt) × ((f hunt).version ≡ a)
-told-hunt s None f a e = absurd (cc)
-told-hunt s (Some hunt) f a e = (hunt, refl, told-goes_on s (f hunt) a e)
+told-frame_search : (s : Setup) (o : Option FrameSearch) (f : FrameSearch → FrameSearch) (a : ℕ) → version_told (Ok (option_map_or (λ frame_search. goes_on s (f frame_search)) o Still)) ≡ Some a → (frame_search : FrameSearch) × (o ≡ Some frame_search) × ((f frame_search).version ≡ a)
+told-frame_search s None f a e = absurd (cc)
+told-frame_search s (Some frame_search) f a e = (frame_search, refl, told-goes_on s (f frame_search) a e)
 
-told-won : (s : Setup) (o : Option Hunt) (frame : Frame) (a : ℕ) → version_told (Ok (option_map_or (λ hunt. Won (placement_of s hunt frame)) o Still)) ≡ Some a → (hunt : Hunt) × (o ≡ Some hunt) × (hunt.version ≡ a)
+told-won : (s : Setup) (o : Option FrameSearch) (frame : Frame) (a : ℕ) → version_told (Ok (option_map_or (λ frame_search. Won (placement_of s frame_search frame)) o Still)) ≡ Some a → (frame_search : FrameSearch) × (o ≡ Some frame_search) × (frame_search.version ≡ a)
 told-won s None frame a e = absurd (cc)
-told-won s (Some hunt) frame a e = (hunt, refl, cc)
+told-won s (Some frame_search) frame a e = (frame_search, refl, cc)
 
 by_true : (P : Worker → Type 0) (b : Bool) (x y : Worker) → b ≡ true → P x → P (if b then x else y)
 by_true P true x y e h = h
@@ -159,19 +159,19 @@ told-step : (s : Setup) (world : World) (version : ℕ) (event : Event) (w a : �
 told-step s world version (Accept command) w a sound own_step e = absurd (cc)
 told-step s world version Publish w a sound own_step e = absurd (cc)
 told-step s world version (Begin v request) w a sound own_step e =
-    by_true (λ worker. worker.last ≡ a) (v == w) _ (world.worker w) (own v w own_step) (told-goes_on s (new_hunt s world version request) a e)
+    by_true (λ worker. worker.last ≡ a) (v == w) _ (world.worker w) (own v w own_step) (told-goes_on s (new_frame_search s world version request) a e)
 told-step s world version (Look v word) w a sound own_step e =
-    let hunt = told-hunt s (hunt_of world v) (hunt_after_look s world word) a e in
-    by_true (λ worker. worker.last ≡ a) (v == w) _ (world.worker w) (own v w own_step) (sym (sound.hunts v hunt.0 hunt.1) ∙ hunt.2)
+    let frame_search = told-frame_search s (frame_search_of world v) (frame_search_after_look s world word) a e in
+    by_true (λ worker. worker.last ≡ a) (v == w) _ (world.worker w) (own v w own_step) (sym (sound.frame_searches v frame_search.0 frame_search.1) ∙ frame_search.2)
 told-step s world version (Try v frame) w a sound own_step e = go (owner_of world frame) refl e
   where
-    go : (owner : Option ℕ) → owner_of world frame ≡ owner → version_told (Ok (if is_some owner then option_map_or (λ hunt. goes_on s (hunt_past frame hunt)) (hunt_of world v) Still else option_map_or (λ hunt. Won (placement_of s hunt frame)) (hunt_of world v) Still)) ≡ Some a → last_of (effect_of s world version (Try v frame)) w ≡ a
-    go (Some u) is e = let hunt = told-hunt s (hunt_of world v) (hunt_past frame) a e in rw is (by_true (λ worker. worker.last ≡ a) (v == w) _ (world.worker w) (own v w own_step) (sym (sound.hunts v hunt.0 hunt.1) ∙ hunt.2))
-    go None is e = let hunt = told-won s (hunt_of world v) frame a e in rw is (by_true (λ worker. worker.last ≡ a) (v == w) _ (world.worker w) (own v w own_step) (sym (sound.hunts v hunt.0 hunt.1) ∙ hunt.2))
+    go : (owner : Option ℕ) → owner_of world frame ≡ owner → version_told (Ok (if is_some owner then option_map_or (λ frame_search. goes_on s (frame_search_past frame frame_search)) (frame_search_of world v) Still else option_map_or (λ frame_search. Won (placement_of s frame_search frame)) (frame_search_of world v) Still)) ≡ Some a → last_of (effect_of s world version (Try v frame)) w ≡ a
+    go (Some u) is e = let frame_search = told-frame_search s (frame_search_of world v) (frame_search_past frame) a e in rw is (by_true (λ worker. worker.last ≡ a) (v == w) _ (world.worker w) (own v w own_step) (sym (sound.frame_searches v frame_search.0 frame_search.1) ∙ frame_search.2))
+    go None is e = let frame_search = told-won s (frame_search_of world v) frame a e in rw is (by_true (λ worker. worker.last ≡ a) (v == w) _ (world.worker w) (own v w own_step) (sym (sound.frame_searches v frame_search.0 frame_search.1) ∙ frame_search.2))
 told-step s world version (Give v frame) w a sound own_step e = absurd (cc)
 
 -- the version that a reply tells the worker is its last one then
-pub told_is_last : (s : Setup) (past : List Moment) (m : Moment) (w a : ℕ) → IsExecution s (m ∷ past) → worker_of m.event ≡ Some w → version_told m.answer ≡ Some a → last_of (world_of s (m ∷ past)) w ≡ a
+pub told_is_last : (s : Setup) (past : List CoreStep) (m : CoreStep) (w a : ℕ) → IsExecution s (m ∷ past) → worker_of m.event ≡ Some w → version_told m.answer ≡ Some a → last_of (world_of s (m ∷ past)) w ≡ a
 told_is_last s past m w a legal own_step e = go m.answer legal.2 e
   where
     go : (answer : Result CoreReply CoreRefusal) → IsAnswer s (world_of s past) m.version m.event answer → version_told answer ≡ Some a → last_of (if is_ok answer then effect_of s (world_of s past) m.version m.event else world_of s past) w ≡ a
@@ -183,7 +183,7 @@ told_is_last s past m w a legal own_step e = go m.answer legal.2 e
         none : ◌≡◌ {A = Option ℕ} None (Some a) → ⊥
         none e = cc
 
-pub never_falls : (s : Setup) (between earlier : List Moment) (old new : Moment) (w a b : ℕ) → IsExecution s (new ∷ (between ++ old ∷ earlier)) → worker_of old.event ≡ Some w → worker_of new.event ≡ Some w → version_told old.answer ≡ Some a → version_told new.answer ≡ Some b → a ≤ b
+pub never_falls : (s : Setup) (between earlier : List CoreStep) (old new : CoreStep) (w a b : ℕ) → IsExecution s (new ∷ (between ++ old ∷ earlier)) → worker_of old.event ≡ Some w → worker_of new.event ≡ Some w → version_told old.answer ≡ Some a → version_told new.answer ≡ Some b → a ≤ b
 never_falls s between earlier old new w a b legal old_step new_step first second =
     let one : last_of (world_of s (old ∷ earlier)) w ≡ a = told_is_last s earlier old w a (legal_before s between (old ∷ earlier) legal.0) old_step first in
     let two : last_of (world_of s (new ∷ (between ++ old ∷ earlier))) w ≡ b = told_is_last s (between ++ old ∷ earlier) new w b legal new_step second in

@@ -1,4 +1,4 @@
--- Executions, the newest moment first, and what holds of each placement in them.
+-- Executions, the newest step first, and what holds of each placement in them.
 use Rattle.std.specs.Prelude.{◌≡◌, ℕ, ◌/◌, ◌<◌, ◌==◌, ◌&&◌, ◌||◌, Bool, true, false}
 use Rattle.std.specs.Prelude.{Option, Some, None, Result, Ok, Err, is_some, is_ok}
 use Rattle.std.specs.Prelude.{List, [], ◌∷◌, length, slice_index, if◌then◌else◌}
@@ -15,11 +15,11 @@ use Rattle.numa_space.specs.declared.event.CoreReply.TheVariants.{Accepted, Publ
 use Rattle.numa_space.specs.declared.event.CoreReply.TheVariants.{Exhausted, Won, Given}
 use Rattle.numa_space.specs.declared.event.CoreRefusal.{CoreRefusal}
 use Rattle.numa_core.specs.World.{Setup, World, opening, is_published, newest_published}
-use Rattle.numa_core.specs.World.{hunt_of, owner_of, is_frame, list_at, at_current}
+use Rattle.numa_core.specs.World.{frame_search_of, owner_of, is_frame, list_at, at_current}
 use Rattle.numa_core.specs.Steps.{world_after, answer_of, IsAnswer, MayTake}
 
 -- an event with its answer, and the version that it took if it is a Begin
-pub record Moment : Type 0 where
+pub record CoreStep : Type 0 where
   pub event : Event
   pub version : ℕ
   pub answer : Result CoreReply CoreRefusal
@@ -42,28 +42,28 @@ is_accept (Look w word) = false
 is_accept (Try w frame) = false
 is_accept (Give w frame) = false
 
--- a command was accepted at the moment
-abbrev pub accepts : Moment → Bool
+-- a command was accepted at the step
+abbrev pub accepts : CoreStep → Bool
 accepts m = is_ok m.answer && is_accept m.event
 
 -- ---- executions
 
 module _ (s : Setup) where
   -- the world after an execution
-  abbrev pub world_of : List Moment → World
+  abbrev pub world_of : List CoreStep → World
   world_of [] = opening
   world_of (m ∷ past) = world_after s (world_of past) m.version m.event m.answer
 
-  -- each moment is a step of the world that the moments before it left
-  abbrev pub IsExecution : List Moment → Type 0
+  -- each step is a step of the world that the steps before it left
+  abbrev pub IsExecution : List CoreStep → Type 0
   IsExecution [] = Unit {0}
   IsExecution (m ∷ past) = IsExecution past × MayTake (world_of past) m.version m.event
       × IsAnswer s (world_of past) m.version m.event m.answer
 
-  -- the moment of an event that comes after an execution, with ample memory; a Begin takes the
+  -- the step of an event that comes after an execution, with ample memory; a Begin takes the
   -- newest published version
-  abbrev pub next_moment : List Moment → Event → Moment
-  next_moment past event = record {
+  abbrev pub next_core_step : List CoreStep → Event → CoreStep
+  next_core_step past event = record {
     event = event;
     version = newest_published (world_of past);
     answer = answer_of s (world_of past) (newest_published (world_of past)) event;
@@ -75,10 +75,10 @@ module _ (s : Setup) where
 pub record Begun : Type 0 where
   pub request : Request
   pub version : ℕ
-  pub before : List Moment
+  pub before : List CoreStep
 
 -- the Begin of the worker that this event is
-abbrev pub begin_event : ℕ → Event → ℕ → List Moment → Option Begun
+abbrev pub begin_event : ℕ → Event → ℕ → List CoreStep → Option Begun
 begin_event w (Begin v request) version past = if v == w
     then Some (record { request = request; version = version; before = past }) else None
 begin_event w (Accept command) version past = None
@@ -87,7 +87,7 @@ begin_event w (Look v word) version past = None
 begin_event w (Try v frame) version past = None
 begin_event w (Give v frame) version past = None
 
-abbrev pub begun_at : ℕ → Moment → List Moment → Option Begun
+abbrev pub begun_at : ℕ → CoreStep → List CoreStep → Option Begun
 begun_at w m past = if is_ok m.answer then begin_event w m.event m.version past else None
 
 abbrev pub or_else : Option Begun → Option Begun → Option Begun
@@ -95,7 +95,7 @@ or_else (Some begun) other = Some begun
 or_else None other = other
 
 -- the last Begin of the worker that wasn't refused
-abbrev pub last_begin : ℕ → List Moment → Option Begun
+abbrev pub last_begin : ℕ → List CoreStep → Option Begun
 last_begin w [] = None
 last_begin w (m ∷ past) = or_else (begun_at w m past) (last_begin w past)
 
@@ -106,7 +106,7 @@ module _ (s : Setup) where
   -- of the frame
   abbrev pub reads : World → ℕ → Event → ℕ → ℕ → Bool
   reads world w (Look v word) n k = (v == w)
-      && (option_map_or (λ hunt. at_current s hunt (λ m. n == m)) (hunt_of world w) false
+      && (option_map_or (λ frame_search. at_current s frame_search (λ m. n == m)) (frame_search_of world w) false
       && (k / 64 == word))
   reads world w (Try v frame) n k = (v == w) && is_frame frame n k
   reads world w (Accept command) n k = false
@@ -119,14 +119,14 @@ module _ (s : Setup) where
   finds world w event n k = reads world w event n k && is_some (world.owner n k)
 
   -- since its last Begin the worker found the frame with an owner
-  abbrev pub found_owned : ℕ → List Moment → ℕ → ℕ → Bool
+  abbrev pub found_owned : ℕ → List CoreStep → ℕ → ℕ → Bool
   found_owned w [] n k = false
   found_owned w (m ∷ past) n k = if is_some (begun_at w m past) then false
       else (is_ok m.answer && finds (world_of s past) w m.event n k) || found_owned w past n k
 
   -- since its last Begin the worker found each frame of each of the first nodes of the list with an
   -- owner, as many nodes as the count says
-  abbrev pub AllFoundOwned : ℕ → List ℕ → ℕ → List Moment → Type 0
+  abbrev pub AllFoundOwned : ℕ → List ℕ → ℕ → List CoreStep → Type 0
   AllFoundOwned w nodes count past = (i k : ℕ) → i < count →
       k < frames_of s.machine (slice_index nodes i) →
       found_owned w past (slice_index nodes i) k ≡ true
@@ -136,7 +136,7 @@ module _ (s : Setup) where
   -- stands at its rank in the node list of the accepted commands up to that version; its frame is
   -- one of that node and had no owner; and each frame of each node earlier in the list was found
   -- with an owner since that Begin
-  pub record IsRightPlacement (w : ℕ) (placement : Placement) (past : List Moment) : Type 0 where
+  pub record IsRightPlacement (w : ℕ) (placement : Placement) (past : List CoreStep) : Type 0 where
     pub begun : Begun
     pub nodes : List ℕ
     pub is_last : last_begin w past ≡ Some begun
@@ -156,7 +156,7 @@ module _ (s : Setup) where
   -- after the execution the list of the worker's last Begin is exhausted: that Begin took this
   -- version, which was published before it; and each frame of each node of the list was found with
   -- an owner since
-  pub record IsExhausted (w version : ℕ) (past : List Moment) : Type 0 where
+  pub record IsExhausted (w version : ℕ) (past : List CoreStep) : Type 0 where
     pub begun : Begun
     pub nodes : List ℕ
     pub is_last : last_begin w past ≡ Some begun
@@ -169,7 +169,7 @@ module _ (s : Setup) where
 -- ---- what passes from hand to hand
 
 -- the worker wins the frame
-pub record IsWin (w : ℕ) (frame : Frame) (m : Moment) : Type 0 where
+pub record IsWin (w : ℕ) (frame : Frame) (m : CoreStep) : Type 0 where
   pub placement : Placement
   pub worker : worker_of m.event ≡ Some w
   pub answer : m.answer ≡ Ok (Won placement)
@@ -184,7 +184,7 @@ gives_event w frame (Look v word) = false
 gives_event w frame (Try v tried) = false
 
 -- the worker gives the frame back
-abbrev pub gives_back : ℕ → Frame → Moment → Bool
+abbrev pub gives_back : ℕ → Frame → CoreStep → Bool
 gives_back w frame m = is_ok m.answer && gives_event w frame m.event
 
 -- the version that a reply Won or Exhausted carries

@@ -10,7 +10,7 @@ use Rattle.numa_core.specs.World.{World, newest_published, list_at}
 use Rattle.numa_core.specs.Steps.{refusal_of}
 use Rattle.numa_core.specs.Standing.{CoreState, CoreStandsFor, setup_of}
 use Rattle.numa_core.specs.Seats.{core_of}
-use Rattle.numa_core.specs.declared.seat.Seat.{Seat}
+use Rattle.numa_core.specs.declared.seat.WorkerSeat.{WorkerSeat}
 use Rattle.numa_space.specs.Standing.{SpaceState}
 use Rattle.numa_plan.specs.Meaning.{PlanData}
 
@@ -31,10 +31,10 @@ IsListed core request nodes = (world : World) → CoreStandsFor core world →
     list_at core.space.machine world.history (newest_published world) request ≡ Some nodes
 
 -- so it is in each core with this plan and these seats
-abbrev pub Judges : PlanData → List Seat → ℕ → Request → Option CoreRefusal → Type 0
+abbrev pub Judges : PlanData → List WorkerSeat → ℕ → Request → Option CoreRefusal → Type 0
 Judges plan seats w request refusal = (space : SpaceState) (owners : List (Option ℕ)) →
     IsJudged (core_of space plan seats owners) w request refusal
 
-abbrev pub Lists : PlanData → List Seat → Request → List ℕ → Type 0
+abbrev pub Lists : PlanData → List WorkerSeat → Request → List ℕ → Type 0
 Lists plan seats request nodes = (space : SpaceState) (owners : List (Option ℕ)) →
     IsListed (core_of space plan seats owners) request nodes

@@ -1,7 +1,7 @@
 -- What a core keeps of its tables, and what it shows.
 use Rattle.std.specs.Prelude.{◌≡◌, ℕ, ◌≤◌, Some, OnErr, length, vec_len, slice_get, Result}
 use Rattle.numa_core.specs.declared.state.State.{State}
-use Rattle.numa_core.specs.declared.seat.Seat.{Seat}
+use Rattle.numa_core.specs.declared.seat.WorkerSeat.{WorkerSeat}
 use Rattle.numa_space.specs.declared.event.Event.{Event}
 use Rattle.numa_space.specs.declared.event.CoreReply.{CoreReply}
 use Rattle.numa_space.specs.declared.event.CoreRefusal.{CoreRefusal}
@@ -19,7 +19,7 @@ core_state state = core_of state.space state.plan state.seats.items state.owners
 -- there is a number below which all its frames are owned
 pub record IsKept (state : State) : Type 0 where
   pub places : state.places ≡ state.space.machine.frames
-  pub seats : (w : ℕ) (seat : Seat) → slice_get state.seats.items w ≡ Some seat →
+  pub seats : (w : ℕ) (seat : WorkerSeat) → slice_get state.seats.items w ≡ Some seat →
       SeatFits state.places seat
   pub owners : vec_len state.owners ≡ frames_before state.places (length state.places)
   pub few : vec_len state.seats ≤ 16

@@ -8,13 +8,13 @@ use Rattle.numa_space.specs.declared.event.CoreReply.{CoreReply}
 use Rattle.numa_space.specs.declared.event.CoreReply.TheVariants.{Won}
 use Rattle.numa_space.specs.declared.event.CoreRefusal.{CoreRefusal}
 use Rattle.numa_space.specs.declared.event.CoreRefusal.TheVariants.{Idle, BadTry}
-use Rattle.numa_core.specs.declared.seat.Job.{Job}
-use Rattle.numa_core.specs.declared.seat.Seat.{Seat}
-use Rattle.numa_core.specs.World.{Setup, Hunt, World, may_look, may_try, hunt_after_look, hunt_past}
+use Rattle.numa_core.specs.declared.seat.OngoingSearch.{OngoingSearch}
+use Rattle.numa_core.specs.declared.seat.WorkerSeat.{WorkerSeat}
+use Rattle.numa_core.specs.World.{Setup, FrameSearch, World, may_look, may_try, frame_search_after_look, frame_search_past}
 use Rattle.numa_core.specs.Steps.{goes_on, going_on, placement_of}
 use Rattle.numa_space.specs.Standing.{SpaceState}
 use Rattle.numa_plan.specs.Meaning.{PlanData}
-use Rattle.numa_core.specs.Standing.{Busy, CoreState, frames_before, met_at, hunt_of_busy}
+use Rattle.numa_core.specs.Standing.{Busy, CoreState, frames_before, met_at, frame_search_of_busy}
 
 -- ---- the cursor
 
@@ -42,7 +42,7 @@ IsAllMet frames nodes words = (i k : ℕ) → i < length nodes →
 -- ---- seats
 
 -- what a worker is about that has this job, list and words
-abbrev pub busy_at : Job → List ℕ → List ℕ → Busy
+abbrev pub busy_at : OngoingSearch → List ℕ → List ℕ → Busy
 busy_at job nodes words = record {
   request = job.request;
   version = job.version;
@@ -50,16 +50,16 @@ busy_at job nodes words = record {
   met = words;
 }
 
-abbrev pub busy_by : Option Job → List ℕ → List ℕ → Option Busy
+abbrev pub busy_by : Option OngoingSearch → List ℕ → List ℕ → Option Busy
 busy_by None nodes words = None
 busy_by (Some job) nodes words = Some (busy_at job nodes words)
 
 -- what the seat's worker is about
-abbrev pub busy_of : Seat → Option Busy
+abbrev pub busy_of : WorkerSeat → Option Busy
 busy_of seat = busy_by seat.job seat.nodes.items seat.met.items
 
 -- the core with this space, this plan, these seats and these owners
-abbrev pub core_of : SpaceState → PlanData → List Seat → List (Option ℕ) → CoreState
+abbrev pub core_of : SpaceState → PlanData → List WorkerSeat → List (Option ℕ) → CoreState
 core_of space plan seats owners = record {
   space = space;
   plan = plan;
@@ -67,12 +67,12 @@ core_of space plan seats owners = record {
   owners = owners;
 }
 
--- the hunt of its worker
-abbrev pub seat_hunt : List ℕ → Seat → Option Hunt
-seat_hunt frames seat = hunt_of_busy frames (busy_of seat)
+-- the frame search of its worker
+abbrev pub seat_frame_search : List ℕ → WorkerSeat → Option FrameSearch
+seat_frame_search frames seat = frame_search_of_busy frames (busy_of seat)
 
 -- a job's cursor stands right
-abbrev pub JobStands : List ℕ → Option Job → List ℕ → List ℕ → Type 0
+abbrev pub JobStands : List ℕ → Option OngoingSearch → List ℕ → List ℕ → Type 0
 JobStands frames None nodes words = Unit {0}
 JobStands frames (Some job) nodes words = IsCursor frames nodes words job.at.rank job.at.next
 
@@ -81,17 +81,17 @@ abbrev pub HasRoom : List ℕ → ℕ → Type 0
 HasRoom frames words = frames_before frames (length frames) ≤ 64 * words
 
 -- the seat has room for these frames, and while its worker is busy the cursor stands right
-pub record SeatFits (frames : List ℕ) (seat : Seat) : Type 0 where
+pub record SeatFits (frames : List ℕ) (seat : WorkerSeat) : Type 0 where
   pub room : HasRoom frames (vec_len seat.met)
   pub cursor : JobStands frames seat.job seat.nodes.items seat.met.items
 
 -- another seat whose worker is about the same, and that fits where the seat does
-pub record IsSeatCopy (seat copy : Seat) : Type 0 where
+pub record IsSeatCopy (seat copy : WorkerSeat) : Type 0 where
   pub busy : busy_of copy ≡ busy_of seat
   pub fits : (frames : List ℕ) → SeatFits frames seat → SeatFits frames copy
 
--- a hunt with no frame met
-abbrev pub fresh : Request → ℕ → List ℕ → Hunt
+-- a frame search with no frame met
+abbrev pub fresh : Request → ℕ → List ℕ → FrameSearch
 fresh request version nodes = record {
   request = request;
   version = version;
@@ -99,24 +99,24 @@ fresh request version nodes = record {
   met = λ n k. false;
 }
 
--- what the seat answers to a Look, and its hunt afterwards
-abbrev pub SeatLooks : List ℕ → Setup → World → ℕ → Seat →
-    Result CoreReply CoreRefusal → Seat → Type 0
+-- what the seat answers to a Look, and its frame search afterwards
+abbrev pub SeatLooks : List ℕ → Setup → World → ℕ → WorkerSeat →
+    Result CoreReply CoreRefusal → WorkerSeat → Type 0
 SeatLooks frames s world word old result new =
-    MatchOption (seat_hunt frames old) (result ≡ Err Idle) (λ hunt.
-    MatchBool (may_look s hunt word)
-    ((result ≡ Ok (goes_on s (hunt_after_look s world word hunt)))
-    × (seat_hunt frames new ≡ going_on s (hunt_after_look s world word hunt)))
+    MatchOption (seat_frame_search frames old) (result ≡ Err Idle) (λ frame_search.
+    MatchBool (may_look s frame_search word)
+    ((result ≡ Ok (goes_on s (frame_search_after_look s world word frame_search)))
+    × (seat_frame_search frames new ≡ going_on s (frame_search_after_look s world word frame_search)))
     (result ≡ Err BadTry))
 
--- what the seat answers to a Try of a frame that is owned or not, and its hunt afterwards
-abbrev pub SeatTries : List ℕ → Setup → Bool → Frame → Seat →
-    Result CoreReply CoreRefusal → Seat → Type 0
+-- what the seat answers to a Try of a frame that is owned or not, and its frame search afterwards
+abbrev pub SeatTries : List ℕ → Setup → Bool → Frame → WorkerSeat →
+    Result CoreReply CoreRefusal → WorkerSeat → Type 0
 SeatTries frames s owned frame old result new =
-    MatchOption (seat_hunt frames old) (result ≡ Err Idle) (λ hunt.
-    MatchBool (may_try s hunt frame)
+    MatchOption (seat_frame_search frames old) (result ≡ Err Idle) (λ frame_search.
+    MatchBool (may_try s frame_search frame)
     (MatchBool owned
-    ((result ≡ Ok (goes_on s (hunt_past frame hunt)))
-    × (seat_hunt frames new ≡ going_on s (hunt_past frame hunt)))
-    ((result ≡ Ok (Won (placement_of s hunt frame))) × (seat_hunt frames new ≡ None)))
+    ((result ≡ Ok (goes_on s (frame_search_past frame frame_search)))
+    × (seat_frame_search frames new ≡ going_on s (frame_search_past frame frame_search)))
+    ((result ≡ Ok (Won (placement_of s frame_search frame))) × (seat_frame_search frames new ≡ None)))
     (result ≡ Err BadTry))

@@ -7,9 +7,9 @@ use Rattle.numa_machine.specs.Machine.{Hardware}
 use Rattle.numa_space.specs.Standing.{SpaceState, StandsFor}
 use Rattle.numa_plan.specs.Meaning.{PlanData}
 use Rattle.numa_compile.specs.Standing.{PlanStandsFor}
-use Rattle.numa_core.specs.World.{Setup, Hunt, World, newest_published, is_published}
-use Rattle.numa_core.specs.World.{first_commands, hunt_of, last_of}
-use Rattle.numa_core.specs.Executions.{Moment, IsExecution, world_of}
+use Rattle.numa_core.specs.World.{Setup, FrameSearch, World, newest_published, is_published}
+use Rattle.numa_core.specs.World.{first_commands, frame_search_of, last_of}
+use Rattle.numa_core.specs.Executions.{CoreStep, IsExecution, world_of}
 use Rattle.numa_space.specs.declared.request.Request.{Request}
 use Rattle.numa_space.specs.declared.event.Event.{Event}
 use Rattle.numa_space.specs.declared.event.CoreReply.{CoreReply}
@@ -58,24 +58,24 @@ is_met words (Some place) = bit_at (slice_index words (place / 64)) (place % 64)
 abbrev pub met_at : List ℕ → List ℕ → ℕ → ℕ → Bool
 met_at frames words n k = is_met words (place_in frames n k)
 
--- what a busy worker's hunt is, and a worker's
-abbrev pub hunt_in : List ℕ → Busy → Hunt
-hunt_in frames busy = record {
+-- what a busy worker's frame search is, and a worker's
+abbrev pub frame_search_in : List ℕ → Busy → FrameSearch
+frame_search_in frames busy = record {
   request = busy.request;
   version = busy.version;
   nodes = busy.nodes;
   met = λ n k. met_at frames busy.met n k;
 }
 
-abbrev pub hunt_of_busy : List ℕ → Option Busy → Option Hunt
-hunt_of_busy frames None = None
-hunt_of_busy frames (Some busy) = Some (hunt_in frames busy)
+abbrev pub frame_search_of_busy : List ℕ → Option Busy → Option FrameSearch
+frame_search_of_busy frames None = None
+frame_search_of_busy frames (Some busy) = Some (frame_search_in frames busy)
 
-abbrev pub hunt_by : Hardware → Option Busy → Option Hunt
-hunt_by machine = hunt_of_busy machine.frames
+abbrev pub frame_search_by : Hardware → Option Busy → Option FrameSearch
+frame_search_by machine = frame_search_of_busy machine.frames
 
-abbrev pub shown_hunt : CoreState → ℕ → Option Hunt
-shown_hunt core w = hunt_by core.space.machine
+abbrev pub shown_frame_search : CoreState → ℕ → Option FrameSearch
+shown_frame_search core w = frame_search_by core.space.machine
     (option_and_then (λ busy. busy) (slice_get core.workers w))
 
 -- the owner in a table by place
@@ -95,38 +95,38 @@ setup_of core = record {
 }
 
 -- the core stands for the world: its space for the accepted commands, its plan for those that are
--- published, and its hunts and owners are the world's; of the published versions the newest has no
+-- published, and its frame searches and owners are the world's; of the published versions the newest has no
 -- more commands than were accepted, and no worker has taken a newer one
 pub record CoreStandsFor (core : CoreState) (world : World) : Type 0 where
   pub space : StandsFor core.space world.history
   pub plan : PlanStandsFor core.space.machine core.plan
       (first_commands (newest_published world) world.history)
-  pub hunts : (w : ℕ) → shown_hunt core w ≡ hunt_of world w
+  pub frame_searches : (w : ℕ) → shown_frame_search core w ≡ frame_search_of world w
   pub owners : (n k : ℕ) → shown_owner core n k ≡ world.owner n k
   pub published : is_published world (newest_published world) ≡ true
   pub known : newest_published world ≤ length world.history
   pub not_newer : (w : ℕ) → last_of world w ≤ newest_published world
 
--- the core shows the world's space, published plan, hunts and owners
+-- the core shows the world's space, published plan, frame searches and owners
 pub record ShowsWorld (core : CoreState) (world : World) : Type 0 where
   pub space : StandsFor core.space world.history
   pub plan : PlanStandsFor core.space.machine core.plan
       (first_commands (newest_published world) world.history)
-  pub hunts : (w : ℕ) → shown_hunt core w ≡ hunt_of world w
+  pub frame_searches : (w : ℕ) → shown_frame_search core w ≡ frame_search_of world w
   pub owners : (n k : ℕ) → shown_owner core n k ≡ world.owner n k
 
 -- the execution is legal and leads to a world that the core stands for
-pub record LeadsTo (past : List Moment) (core : CoreState) : Type 0 where
+pub record LeadsTo (past : List CoreStep) (core : CoreState) : Type 0 where
   pub legal : IsExecution (setup_of core) past
   pub stands : CoreStandsFor core (world_of (setup_of core) past)
 
 -- some execution leads to the core
 pub record HasPast (core : CoreState) : Type 0 where
-  pub past : List Moment
+  pub past : List CoreStep
   pub leads : LeadsTo past core
 
--- the moment of an event that comes after an execution and was answered so; a Begin takes the
+-- the step of an event that comes after an execution and was answered so; a Begin takes the
 -- newest published version
-abbrev pub moment_after : Setup → List Moment → Event → Result CoreReply CoreRefusal → Moment
-moment_after s past event answer =
+abbrev pub core_step_after : Setup → List CoreStep → Event → Result CoreReply CoreRefusal → CoreStep
+core_step_after s past event answer =
     record { event = event; version = newest_published (world_of s past); answer = answer }

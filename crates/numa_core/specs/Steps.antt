@@ -21,9 +21,9 @@ use Rattle.numa_space.specs.declared.event.CoreRefusal.TheVariants.{Command as B
 use Rattle.numa_space.specs.declared.event.CoreRefusal.TheVariants.{NoSuchWorker, Busy, Idle}
 use Rattle.numa_space.specs.declared.event.CoreRefusal.TheVariants.{BadTry, NotOwned, BadCpu}
 use Rattle.numa_space.specs.declared.event.CoreRefusal.TheVariants.{Unmapped, NoMemory}
-use Rattle.numa_core.specs.World.{Setup, Hunt, World, is_published, last_of, hunt_of}
+use Rattle.numa_core.specs.World.{Setup, FrameSearch, World, is_published, last_of, frame_search_of}
 use Rattle.numa_core.specs.World.{owner_of, is_frame, list_at, current_rank, may_look}
-use Rattle.numa_core.specs.World.{may_try, new_hunt, hunt_after_look, hunt_past}
+use Rattle.numa_core.specs.World.{may_try, new_frame_search, frame_search_after_look, frame_search_past}
 
 -- ---- which versions a worker may take
 
@@ -62,11 +62,11 @@ put f w x v = if w == v then x else f v
 abbrev pub put_frame : {X : Type 0} → (ℕ → ℕ → X) → Frame → X → ℕ → ℕ → X
 put_frame f frame x n k = if is_frame frame n k then x else f n k
 
-abbrev pub with_worker : World → ℕ → ℕ → Option Hunt → World
-with_worker world w last hunt = record {
+abbrev pub with_worker : World → ℕ → ℕ → Option FrameSearch → World
+with_worker world w last frame_search = record {
   history = world.history;
   published = world.published;
-  worker = put world.worker w (record { last = last; hunt = hunt });
+  worker = put world.worker w (record { last = last; frame_search = frame_search });
   owner = world.owner;
 }
 
@@ -87,56 +87,56 @@ module _ (s : Setup) where
   refusal_of world version Publish = None
   refusal_of world version (Begin w request) = first_refusal (
       (nat_le s.workers w, NoSuchWorker)
-      ∷ (is_some (hunt_of world w), Busy)
+      ∷ (is_some (frame_search_of world w), Busy)
       ∷ (nat_le s.machine.nodes request.cpu, BadCpu)
       ∷ (is_none (list_at s.machine world.history version request), Unmapped version)
       ∷ [])
   refusal_of world version (Look w word) = first_refusal (
       (nat_le s.workers w, NoSuchWorker)
-      ∷ (is_none (hunt_of world w), Idle)
-      ∷ (not (option_map_or (λ hunt. may_look s hunt word) (hunt_of world w) false), BadTry)
+      ∷ (is_none (frame_search_of world w), Idle)
+      ∷ (not (option_map_or (λ frame_search. may_look s frame_search word) (frame_search_of world w) false), BadTry)
       ∷ [])
   refusal_of world version (Try w frame) = first_refusal (
       (nat_le s.workers w, NoSuchWorker)
-      ∷ (is_none (hunt_of world w), Idle)
-      ∷ (not (option_map_or (λ hunt. may_try s hunt frame) (hunt_of world w) false), BadTry)
+      ∷ (is_none (frame_search_of world w), Idle)
+      ∷ (not (option_map_or (λ frame_search. may_try s frame_search frame) (frame_search_of world w) false), BadTry)
       ∷ [])
   refusal_of world version (Give w frame) = first_refusal (
       (nat_le s.workers w, NoSuchWorker)
-      ∷ (is_some (hunt_of world w), Busy)
+      ∷ (is_some (frame_search_of world w), Busy)
       ∷ (not (owns world w frame), NotOwned)
       ∷ [])
 
-  -- a hunt goes on while there is a current node; then it is over, and the worker is idle
-  abbrev pub goes_on : Hunt → CoreReply
-  goes_on hunt = if is_some (current_rank s hunt) then Still else Exhausted hunt.version
+  -- a frame search goes on while there is a current node; then it is over, and the worker is idle
+  abbrev pub goes_on : FrameSearch → CoreReply
+  goes_on frame_search = if is_some (current_rank s frame_search) then Still else Exhausted frame_search.version
 
-  abbrev pub going_on : Hunt → Option Hunt
-  going_on hunt = if is_some (current_rank s hunt) then Some hunt else None
+  abbrev pub going_on : FrameSearch → Option FrameSearch
+  going_on frame_search = if is_some (current_rank s frame_search) then Some frame_search else None
 
-  -- the placement of the hunt's page in the frame
-  abbrev pub placement_of : Hunt → Frame → Placement
-  placement_of hunt frame = record {
-    version = hunt.version;
-    task = hunt.request.task;
-    page = hunt.request.page;
+  -- the placement of the frame search's page in the frame
+  abbrev pub placement_of : FrameSearch → Frame → Placement
+  placement_of frame_search frame = record {
+    version = frame_search.version;
+    task = frame_search.request.task;
+    page = frame_search.request.page;
     node = frame.node;
     frame = frame;
-    rank = unwrap_or (current_rank s hunt) 0;
+    rank = unwrap_or (current_rank s frame_search) 0;
   }
 
   -- what an event answers that isn't refused
   abbrev pub reply_of : World → ℕ → Event → CoreReply
   reply_of world version (Accept command) = Accepted (length world.history + 1)
   reply_of world version Publish = Published (length world.history)
-  reply_of world version (Begin w request) = goes_on (new_hunt s world version request)
+  reply_of world version (Begin w request) = goes_on (new_frame_search s world version request)
   reply_of world version (Look w word) =
-      option_map_or (λ hunt. goes_on (hunt_after_look s world word hunt))
-      (hunt_of world w) Still
+      option_map_or (λ frame_search. goes_on (frame_search_after_look s world word frame_search))
+      (frame_search_of world w) Still
   reply_of world version (Try w frame) =
       if is_some (owner_of world frame)
-      then option_map_or (λ hunt. goes_on (hunt_past frame hunt)) (hunt_of world w) Still
-      else option_map_or (λ hunt. Won (placement_of hunt frame)) (hunt_of world w) Still
+      then option_map_or (λ frame_search. goes_on (frame_search_past frame frame_search)) (frame_search_of world w) Still
+      else option_map_or (λ frame_search. Won (placement_of frame_search frame)) (frame_search_of world w) Still
   reply_of world version (Give w frame) = Given
 
   -- what an event does that isn't refused
@@ -156,14 +156,14 @@ module _ (s : Setup) where
         owner = world.owner;
       }
   effect_of world version (Begin w request) =
-      with_worker world w version (going_on (new_hunt s world version request))
+      with_worker world w version (going_on (new_frame_search s world version request))
   effect_of world version (Look w word) =
       with_worker world w (last_of world w)
-      (option_map_or (λ hunt. going_on (hunt_after_look s world word hunt)) (hunt_of world w) None)
+      (option_map_or (λ frame_search. going_on (frame_search_after_look s world word frame_search)) (frame_search_of world w) None)
   effect_of world version (Try w frame) =
       if is_some (owner_of world frame)
       then with_worker world w (last_of world w)
-      (option_map_or (λ hunt. going_on (hunt_past frame hunt)) (hunt_of world w) None)
+      (option_map_or (λ frame_search. going_on (frame_search_past frame frame_search)) (frame_search_of world w) None)
       else with_worker (with_owner world frame (Some w)) w (last_of world w) None
   effect_of world version (Give w frame) = with_owner world frame None
 

@@ -14,11 +14,11 @@ use Rattle.numa_space.specs.declared.event.Event.TheVariants.{Begin, Try}
 use Rattle.numa_space.specs.declared.event.CoreReply.{CoreReply}
 use Rattle.numa_space.specs.declared.event.CoreReply.TheVariants.{Exhausted, Won}
 use Rattle.numa_space.specs.declared.event.CoreRefusal.{CoreRefusal}
-use Rattle.numa_core.specs.World.{Setup, Hunt, World, newest_published}
-use Rattle.numa_core.specs.World.{hunt_of, current_rank, new_hunt}
+use Rattle.numa_core.specs.World.{Setup, FrameSearch, World, newest_published}
+use Rattle.numa_core.specs.World.{frame_search_of, current_rank, new_frame_search}
 use Rattle.numa_core.specs.Steps.{refusal_of, refused_or, answer_of, world_after}
 use Rattle.numa_core.specs.Steps.{with_worker, with_owner}
-use Rattle.numa_core.specs.Executions.{Moment}
+use Rattle.numa_core.specs.Executions.{CoreStep}
 use Rattle.numa_core.specs.Standing.{owner_at, place_in}
 
 -- the lowest number below the count that passes the test
@@ -32,19 +32,19 @@ pub record Answered : Type 0 where
   pub world : World
 
 module _ (s : Setup) where
-  -- the lowest frame of a node that the hunt has not met
-  abbrev pub lowest_unmet : Hunt → ℕ → Option Frame
-  lowest_unmet hunt n = option_map (λ k. record { node = n; number = k })
-      (lowest_below (λ k. not (hunt.met n k)) (frames_of s.machine n))
+  -- the lowest frame of a node that the frame search has not met
+  abbrev pub lowest_unmet : FrameSearch → ℕ → Option Frame
+  lowest_unmet frame_search n = option_map (λ k. record { node = n; number = k })
+      (lowest_below (λ k. not (frame_search.met n k)) (frames_of s.machine n))
 
   -- the frame that a touch tries next: the lowest unmet one of the current node
-  abbrev pub next_frame : Hunt → Option Frame
-  next_frame hunt = option_and_then (λ rank. lowest_unmet hunt (slice_index hunt.nodes rank))
-      (current_rank s hunt)
+  abbrev pub next_frame : FrameSearch → Option Frame
+  next_frame frame_search = option_and_then (λ rank. lowest_unmet frame_search (slice_index frame_search.nodes rank))
+      (current_rank s frame_search)
 
   -- the Try of it, while the worker is busy
   abbrev pub next_try : World → ℕ → Option Event
-  next_try world w = option_map (Try w) (option_and_then next_frame (hunt_of world w))
+  next_try world w = option_map (Try w) (option_and_then next_frame (frame_search_of world w))
 
   -- an event with ample memory; a Begin takes the newest published version
   abbrev pub answered_with : World → Event → Answered
@@ -90,7 +90,7 @@ module _ (s : Setup) where
   -- the first free frame of the request's list in the newest published version
   abbrev pub free_for : World → Request → Option Spot
   free_for world request =
-      first_free world (new_hunt s world (newest_published world) request).nodes
+      first_free world (new_frame_search s world (newest_published world) request).nodes
 
   -- the worker wins the spot; without one its list is exhausted
   abbrev pub touch_reply : World → Request → Option Spot → CoreReply
@@ -125,17 +125,17 @@ module _ (s : Setup) where
   touch_world world w request = if is_none (touch_refusal world w request)
       then touch_effect world w (free_for world request) else world
 
--- ---- the moments of a touch
+-- ---- the steps of a touch
 
--- the last event of a touch and the moments before it, the newest first: Trys of the worker, and
+-- the last event of a touch and the steps before it, the newest first: Trys of the worker, and
 -- the first is its Begin of the request
-abbrev pub AreSteps : ℕ → Request → Event → List Moment → Type 0
+abbrev pub AreSteps : ℕ → Request → Event → List CoreStep → Type 0
 AreSteps w request event [] = event ≡ Begin w request
 AreSteps w request event (m ∷ earlier) = ((frame : Frame) × (event ≡ Try w frame))
     × AreSteps w request m.event earlier
 
--- the moments, the newest first, are a touch of the worker that is answered so
-abbrev pub IsTouch : ℕ → Request → Result CoreReply CoreRefusal → List Moment → Type 0
+-- the steps, the newest first, are a touch of the worker that is answered so
+abbrev pub IsTouch : ℕ → Request → Result CoreReply CoreRefusal → List CoreStep → Type 0
 IsTouch w request answer [] = ⊥
 IsTouch w request answer (m ∷ earlier) = (m.answer ≡ answer) × AreSteps w request m.event earlier
 

@@ -18,19 +18,19 @@ pub record Setup : Type 0 where
   pub bounds : Bounds
   pub workers : ℕ
 
--- a worker's hunt for a frame: its request, the version and the node list that it took, and the
+-- a worker's frame search for a frame: its request, the version and the node list that it took, and the
 -- frames that it met, by node and number
-pub record Hunt : Type 0 where
+pub record FrameSearch : Type 0 where
   pub request : Request
   pub version : ℕ
   pub nodes : List ℕ
   pub met : ℕ → ℕ → Bool
 
--- the last version that the worker took, and its hunt: it is busy while it has one, and idle while
+-- the last version that the worker took, and its frame search: it is busy while it has one, and idle while
 -- it has none
 pub record Worker : Type 0 where
   pub last : ℕ
-  pub hunt : Option Hunt
+  pub frame_search : Option FrameSearch
 
 -- the accepted commands and the published versions, the newest first in both; the workers; who owns
 -- a frame, by node and number
@@ -45,7 +45,7 @@ abbrev pub opening : World
 opening = record {
   history = [];
   published = 0 ∷ [];
-  worker = λ w. record { last = 0; hunt = None };
+  worker = λ w. record { last = 0; frame_search = None };
   owner = λ n k. None;
 }
 
@@ -59,8 +59,8 @@ newest_published world = slice_index world.published 0
 abbrev pub last_of : World → ℕ → ℕ
 last_of world w = (world.worker w).last
 
-abbrev pub hunt_of : World → ℕ → Option Hunt
-hunt_of world w = (world.worker w).hunt
+abbrev pub frame_search_of : World → ℕ → Option FrameSearch
+frame_search_of world w = (world.worker w).frame_search
 
 abbrev pub owner_of : World → Frame → Option ℕ
 owner_of world frame = world.owner frame.node frame.number
@@ -100,32 +100,32 @@ first_place test [] = None
 first_place test (n ∷ ns) = if test n then Some 0 else one_further (first_place test ns)
 
 module _ (s : Setup) where
-  -- the node has a frame that the hunt has not met
-  abbrev pub has_unmet : Hunt → ℕ → Bool
-  has_unmet hunt n = any_below (λ k. not (hunt.met n k)) (frames_of s.machine n)
+  -- the node has a frame that the frame search has not met
+  abbrev pub has_unmet : FrameSearch → ℕ → Bool
+  has_unmet frame_search n = any_below (λ k. not (frame_search.met n k)) (frames_of s.machine n)
 
   -- the current node is the first listed one with an unmet frame, and this is its place in the
   -- list: listed nodes without frames count too
-  abbrev pub current_rank : Hunt → Option ℕ
-  current_rank hunt = first_place (has_unmet hunt) hunt.nodes
+  abbrev pub current_rank : FrameSearch → Option ℕ
+  current_rank frame_search = first_place (has_unmet frame_search) frame_search.nodes
 
   -- there is a current node, and it passes the test
-  abbrev pub at_current : Hunt → (ℕ → Bool) → Bool
-  at_current hunt test = option_map_or (λ rank. test (slice_index hunt.nodes rank))
-      (current_rank hunt) false
+  abbrev pub at_current : FrameSearch → (ℕ → Bool) → Bool
+  at_current frame_search test = option_map_or (λ rank. test (slice_index frame_search.nodes rank))
+      (current_rank frame_search) false
 
   -- the current node has this word of 64 frames
-  abbrev pub may_look : Hunt → ℕ → Bool
-  may_look hunt word = at_current hunt (λ n. nat_lt (64 * word) (frames_of s.machine n))
+  abbrev pub may_look : FrameSearch → ℕ → Bool
+  may_look frame_search word = at_current frame_search (λ n. nat_lt (64 * word) (frames_of s.machine n))
 
   -- the frame is an unmet one of the current node
-  abbrev pub may_try : Hunt → Frame → Bool
-  may_try hunt frame = at_current hunt (λ n. (n == frame.node)
-      && (nat_lt frame.number (frames_of s.machine n) && not (hunt.met n frame.number)))
+  abbrev pub may_try : FrameSearch → Frame → Bool
+  may_try frame_search frame = at_current frame_search (λ n. (n == frame.node)
+      && (nat_lt frame.number (frames_of s.machine n) && not (frame_search.met n frame.number)))
 
-  -- a hunt that begins: it has the list of its version, and has met no frame
-  abbrev pub new_hunt : World → ℕ → Request → Hunt
-  new_hunt world version request =
+  -- a frame search that begins: it has the list of its version, and has met no frame
+  abbrev pub new_frame_search : World → ℕ → Request → FrameSearch
+  new_frame_search world version request =
       record {
         request = request;
         version = version;
@@ -133,25 +133,25 @@ module _ (s : Setup) where
         met = λ n k. false;
       }
 
-  -- a look at this word of the hunt's current node finds the frame owned
-  abbrev pub look_finds : World → ℕ → Hunt → ℕ → ℕ → Bool
-  look_finds world word hunt n k = at_current hunt (λ m. n == m)
+  -- a look at this word of the frame search's current node finds the frame owned
+  abbrev pub look_finds : World → ℕ → FrameSearch → ℕ → ℕ → Bool
+  look_finds world word frame_search n k = at_current frame_search (λ m. n == m)
       && ((k / 64 == word) && is_some (world.owner n k))
 
-  -- the hunt, once it met each frame that the look finds owned
-  abbrev pub hunt_after_look : World → ℕ → Hunt → Hunt
-  hunt_after_look world word hunt = record {
-    request = hunt.request;
-    version = hunt.version;
-    nodes = hunt.nodes;
-    met = λ n k. look_finds world word hunt n k || hunt.met n k;
+  -- the frame search, once it met each frame that the look finds owned
+  abbrev pub frame_search_after_look : World → ℕ → FrameSearch → FrameSearch
+  frame_search_after_look world word frame_search = record {
+    request = frame_search.request;
+    version = frame_search.version;
+    nodes = frame_search.nodes;
+    met = λ n k. look_finds world word frame_search n k || frame_search.met n k;
   }
 
--- the hunt, once it met the frame
-abbrev pub hunt_past : Frame → Hunt → Hunt
-hunt_past frame hunt = record {
-  request = hunt.request;
-  version = hunt.version;
-  nodes = hunt.nodes;
-  met = λ n k. is_frame frame n k || hunt.met n k;
+-- the frame search, once it met the frame
+abbrev pub frame_search_past : Frame → FrameSearch → FrameSearch
+frame_search_past frame frame_search = record {
+  request = frame_search.request;
+  version = frame_search.version;
+  nodes = frame_search.nodes;
+  met = λ n k. is_frame frame n k || frame_search.met n k;
 }

@@ -2,13 +2,13 @@
 ghost use Rattle.std.specs.Prelude.{◌≡◌, ◌<◌, ◌≤◌, None, Some, IfOk, IfErr, OnOk, length, vec_len};
 ghost use Rattle.numa_core.specs.Judging.{Judges, Lists, cause_at};
 
-use crate::seat::Seat;
+use crate::seat::WorkerSeat;
 use numa_plan::{Plan, Steps};
 use numa_space::event::CoreRefusal;
 use numa_space::{PlaceRefusal, Request};
 
 /// That a worker is one of those with these seats.
-pub(crate) fn seated(seats: &Vec<Seat>, worker: u32) -> Result<(), CoreRefusal>
+pub(crate) fn seated(seats: &Vec<WorkerSeat>, worker: u32) -> Result<(), CoreRefusal>
     ensures ok { OnOk result (worker < vec_len seats.now) }
     ensures err { IfErr result (λ refusal. (refusal ≡ CoreRefusal.NoSuchWorker)
         × (vec_len seats.now ≤ worker)) }
@@ -33,7 +33,7 @@ pub fn cause_at(version: u64, refusal: PlaceRefusal) -> CoreRefusal
 /// by the plan. Or the refusal of the worker's Begin.
 pub(crate) fn row_for<'a>(
     plan: &'a Plan,
-    seats: &Vec<Seat>,
+    seats: &Vec<WorkerSeat>,
     worker: u32,
     request: Request,
 ) -> Result<&'a [u8], CoreRefusal>

@@ -9,7 +9,7 @@ ghost use Rattle.numa_core.specs.World.{Setup, first_commands, is_published};
 ghost use Rattle.numa_core.specs.World.{list_at, newest_published};
 ghost use Rattle.numa_core.specs.Standing.{CoreState, CoreStandsFor, ShowsWorld, setup_of};
 ghost use Rattle.numa_space.specs.declared.request.Request.{Request};
-ghost use Rattle.numa_core.specs.Executions.{Moment, accepts, world_of, next_moment, IsExecution};
+ghost use Rattle.numa_core.specs.Executions.{CoreStep, accepts, world_of, next_core_step, IsExecution};
 ghost use Rattle.numa_core.specs.Executions.{IsRightPlacement, IsExhausted, IsWin, worker_of};
 ghost use Rattle.numa_core.specs.Executions.{gives_back, version_told};
 ghost use Rattle.numa_space.specs.declared.event.Event.{Event};
@@ -23,19 +23,19 @@ ghost use Rattle.numa_space.specs.declared.placement.Placement.{Placement};
 /// the frame back; and the versions that the replies Won and Exhausted to one worker carry never
 /// fall.
 pub fn every_execution()
-    ensures right { (s : Setup) (later earlier : List Moment) (m : Moment) (placement : Placement) →
+    ensures right { (s : Setup) (later earlier : List CoreStep) (m : CoreStep) (placement : Placement) →
         IsExecution s (later ++ m ∷ earlier) → m.answer ≡ Ok (CoreReply.Won placement) →
         (w : ℕ) × (m.event ≡ Event.Try w placement.frame) × IsRightPlacement s w placement earlier }
-    ensures exhausted { (s : Setup) (later earlier : List Moment) (m : Moment) (version : ℕ) →
+    ensures exhausted { (s : Setup) (later earlier : List CoreStep) (m : CoreStep) (version : ℕ) →
         IsExecution s (later ++ m ∷ earlier) → m.answer ≡ Ok (CoreReply.Exhausted version) →
         (w : ℕ) × (worker_of m.event ≡ Some w) × IsExhausted s w version (m ∷ earlier) }
-    ensures given_back { (s : Setup) (later between earlier : List Moment) (first second : Moment)
+    ensures given_back { (s : Setup) (later between earlier : List CoreStep) (first second : CoreStep)
         (v w : ℕ) (frame : Frame) →
         IsExecution s (later ++ second ∷ (between ++ first ∷ earlier)) → IsWin v frame first →
         IsWin w frame second →
         list_any (gives_back v frame) between ≡ true }
-    ensures never_falls { (s : Setup) (later between earlier : List Moment)
-        (old new : Moment) (w a b : ℕ) →
+    ensures never_falls { (s : Setup) (later between earlier : List CoreStep)
+        (old new : CoreStep) (w a b : ℕ) →
         IsExecution s (later ++ new ∷ (between ++ old ∷ earlier)) → worker_of old.event ≡ Some w →
         worker_of new.event ≡ Some w →
         version_told old.answer ≡ Some a → version_told new.answer ≡ Some b → a ≤ b }
@@ -45,9 +45,9 @@ pub fn every_execution()
 /// memory, where a Begin takes the newest published version. No published version is above that
 /// one.
 pub fn every_execution_goes_on()
-    ensures goes_on { (s : Setup) (past : List Moment) (event : Event) → IsExecution s past →
-        IsExecution s (next_moment s past event ∷ past) }
-    ensures newest { (s : Setup) (past : List Moment) (version : ℕ) → IsExecution s past →
+    ensures goes_on { (s : Setup) (past : List CoreStep) (event : Event) → IsExecution s past →
+        IsExecution s (next_core_step s past event ∷ past) }
+    ensures newest { (s : Setup) (past : List CoreStep) (version : ℕ) → IsExecution s past →
         is_published (world_of s past) version ≡ true
         → version ≤ newest_published (world_of s past) }
 {}
@@ -56,16 +56,16 @@ pub fn every_execution_goes_on()
 /// are as many as Ok answers to Accept. A published version means the same commands for ever, and
 /// the newest one never falls.
 pub fn every_execution_has_commands()
-    ensures accepted { (s : Setup) (past : List Moment) → IsExecution s past →
+    ensures accepted { (s : Setup) (past : List CoreStep) → IsExecution s past →
         IsAccepted s.machine s.bounds (world_of s past).history }
-    ensures counted { (s : Setup) (past : List Moment) → length (world_of s past).history
+    ensures counted { (s : Setup) (past : List CoreStep) → length (world_of s past).history
         ≡ count_by accepts past }
-    ensures same { (s : Setup) (later earlier : List Moment) (version : ℕ) →
+    ensures same { (s : Setup) (later earlier : List CoreStep) (version : ℕ) →
         IsExecution s (later ++ earlier) →
         is_published (world_of s earlier) version ≡ true →
         first_commands version (world_of s (later ++ earlier)).history
         ≡ first_commands version (world_of s earlier).history }
-    ensures rises { (s : Setup) (later earlier : List Moment) → IsExecution s (later ++ earlier) →
+    ensures rises { (s : Setup) (later earlier : List CoreStep) → IsExecution s (later ++ earlier) →
         newest_published (world_of s earlier) ≤ newest_published (world_of s (later ++ earlier)) }
 {}
 
@@ -73,13 +73,13 @@ pub fn every_execution_has_commands()
 /// a node, each once, and only nodes that are allowed at that version; so the node of each won
 /// frame is one of these.
 pub fn every_list()
-    ensures sound { (s : Setup) (past : List Moment) (version : ℕ) (request : Request)
+    ensures sound { (s : Setup) (past : List CoreStep) (version : ℕ) (request : Request)
         (nodes : List ℕ) →
         s.machine.memory ≢ 0 → s.machine.memory < 2 ^ 256 → IsExecution s past →
         list_at s.machine (world_of s past).history version request ≡ Some nodes →
         IsNodeList (allowed_nodes s.machine (first_commands version (world_of s past).history))
         nodes }
-    ensures allowed { (s : Setup) (later earlier : List Moment) (m : Moment)
+    ensures allowed { (s : Setup) (later earlier : List CoreStep) (m : CoreStep)
         (placement : Placement) →
         s.machine.memory ≢ 0 → s.machine.memory < 2 ^ 256 → IsExecution s (later ++ m ∷ earlier) →
         m.answer ≡ Ok (CoreReply.Won placement) →
@@ -90,7 +90,7 @@ pub fn every_list()
 /// A core that shows the world of an execution stands for it: that the newest published version is
 /// of accepted commands, and that no worker took a newer one, follows.
 pub fn every_core()
-    ensures stands { (past : List Moment) (core : CoreState) → IsExecution (setup_of core) past →
+    ensures stands { (past : List CoreStep) (core : CoreState) → IsExecution (setup_of core) past →
         ShowsWorld core (world_of (setup_of core) past) →
         CoreStandsFor core (world_of (setup_of core) past) }
 {}

@@ -9,9 +9,9 @@ ghost use Rattle.numa_space.specs.Standing.{StandsFor};
 ghost use Rattle.numa_compile.specs.Standing.{IsPlanOf, PlanStandsFor};
 ghost use Rattle.numa_core.specs.World.{World, first_commands, newest_published};
 ghost use Rattle.numa_core.specs.Steps.{IsAnswer, world_after};
-ghost use Rattle.numa_core.specs.Executions.{Moment};
+ghost use Rattle.numa_core.specs.Executions.{CoreStep};
 ghost use Rattle.numa_core.specs.Standing.{CoreState, CoreStandsFor, HasPast};
-ghost use Rattle.numa_core.specs.Standing.{LeadsTo, moment_after, setup_of};
+ghost use Rattle.numa_core.specs.Standing.{LeadsTo, core_step_after, setup_of};
 ghost use Rattle.numa_core.specs.Touching.{result_of_touch, IsTouch};
 
 mod free_frames;
@@ -89,7 +89,7 @@ impl Core {
         ensures same { IfOk result (λ copy. copy ≡ self.now) }
         ensures stands { (world : World) → CoreStandsFor self.now world →
             IfOk result (λ copy. CoreStandsFor copy world) }
-        ensures executions { (past : List Moment) → LeadsTo past self.now →
+        ensures executions { (past : List CoreStep) → LeadsTo past self.now →
             IfOk result (λ copy. LeadsTo past copy) }
     {
         let state = self.state.copy()?;
@@ -112,8 +112,8 @@ impl Core {
             IsAnswer (setup_of self.old) world (newest_published world) event result
             × CoreStandsFor self.new (world_after (setup_of self.old) world (newest_published world)
             event result) }
-        ensures executions { (past : List Moment) → LeadsTo past self.old →
-            LeadsTo (moment_after (setup_of self.old) past event result ∷ past) self.new }
+        ensures executions { (past : List CoreStep) → LeadsTo past self.old →
+            LeadsTo (core_step_after (setup_of self.old) past event result ∷ past) self.new }
         ensures unchanged { OnErr result (self.new ≡ self.old) }
         ensures setup { setup_of self.new ≡ setup_of self.old }
     {
@@ -138,8 +138,8 @@ impl Core {
             (result ≡ (result_of_touch (setup_of self.old) world worker request).answer)
             × CoreStandsFor self.new
             (result_of_touch (setup_of self.old) world worker request).world }
-        ensures executions { (past : List Moment) → LeadsTo past self.old → (moments : List Moment)
-            × IsTouch worker request result moments × LeadsTo (moments ++ past) self.new }
+        ensures executions { (past : List CoreStep) → LeadsTo past self.old → (core_steps : List CoreStep)
+            × IsTouch worker request result core_steps × LeadsTo (core_steps ++ past) self.new }
         ensures unchanged { OnErr result (self.new ≡ self.old) }
         ensures setup { setup_of self.new ≡ setup_of self.old }
     {

@@ -6,11 +6,11 @@ ghost use Rattle.std.specs.Prelude.{slice_index};
 ghost use Rattle.numa_core.specs.World.{Setup, World};
 ghost use Rattle.numa_core.specs.Steps.{goes_on, going_on};
 ghost use Rattle.numa_core.specs.Standing.{frames_before, owner_at, place_in, is_met, met_at};
-ghost use Rattle.numa_core.specs.Standing.{hunt_in};
-ghost use Rattle.numa_core.specs.Seats.{busy_at, busy_of, seat_hunt, fresh, HasRoom, IsPassed};
+ghost use Rattle.numa_core.specs.Standing.{frame_search_in};
+ghost use Rattle.numa_core.specs.Seats.{busy_at, busy_of, seat_frame_search, fresh, HasRoom, IsPassed};
 ghost use Rattle.numa_core.specs.Seats.{IsCursor, IsAllMet, IsSeatCopy};
 ghost use Rattle.numa_core.specs.Seats.{SeatFits, SeatLooks, SeatTries};
-ghost use Rattle.numa_core.specs.declared.seat.Job.{Job};
+ghost use Rattle.numa_core.specs.declared.seat.OngoingSearch.{OngoingSearch};
 
 use crate::places::Places;
 use crate::tables::{clear, is_met, meet, meet_owned, none_met};
@@ -30,7 +30,7 @@ pub(crate) struct Cursor {
 /// What a busy worker asked, the version that it took, and where it is: at the lowest unmet frame
 /// of its current node.
 #[derive(Clone, Copy, Debug, PartialEq, Eq)]
-pub(crate) struct Job {
+pub(crate) struct OngoingSearch {
     pub request: Request,
     pub version: u64,
     pub at: Cursor,
@@ -38,8 +38,8 @@ pub(crate) struct Job {
 
 /// A worker, with room for a list and for a bit for each frame of the machine.
 #[derive(Drop)]
-pub(crate) struct Seat {
-    pub job: Option<Job>,
+pub(crate) struct WorkerSeat {
+    pub job: Option<OngoingSearch>,
     pub nodes: ArrayVec<u8, 256>,
     pub met: Vec<u64>,
 }
@@ -96,14 +96,14 @@ fn take_row(nodes: &mut ArrayVec<u8, 256>, row: &[u8])
     };
 }
 
-impl Seat {
+impl WorkerSeat {
     /// An idle worker, with room for these frames.
-    pub(crate) fn new(alloc: Global, places: &Places) -> Result<Seat, AllocError>
+    pub(crate) fn new(alloc: Global, places: &Places) -> Result<WorkerSeat, AllocError>
         ensures idle { IfOk result (λ seat. seat.job ≡ None) }
         ensures fits { IfOk result (λ seat. SeatFits places.now seat) }
     {
         let met = none_met(alloc, places.total())?;
-        Ok(Seat {
+        Ok(WorkerSeat {
             job: None,
             nodes: ArrayVec::new(),
             met,
@@ -111,13 +111,13 @@ impl Seat {
     }
 
     /// The same seat once more, with room for as many frames.
-    pub(crate) fn copy(&self, alloc: Global) -> Result<Seat, AllocError>
+    pub(crate) fn copy(&self, alloc: Global) -> Result<WorkerSeat, AllocError>
         ensures { IfOk result (IsSeatCopy self.now) }
     {
         let mut nodes = ArrayVec::new();
         take_row(&mut nodes, self.nodes.as_slice());
         let met = Vec::from_slice(alloc, &self.met)?;
-        Ok(Seat {
+        Ok(WorkerSeat {
             job: self.job,
             nodes,
             met,
@@ -126,15 +126,15 @@ impl Seat {
 
     /// Goes on with the job while a listed node has an unmet frame, and else is idle. All before
     /// the job's cursor is met.
-    fn settle(&mut self, places: &Places, job: Job) -> CoreReply
+    fn settle(&mut self, places: &Places, job: OngoingSearch) -> CoreReply
         requires room { HasRoom places.now (vec_len self.old.met) }
         requires passed { IsPassed places.now self.old.nodes.items self.old.met.items
             job.at.rank job.at.next }
         ensures reply { (s : Setup) → places.now ≡ s.machine.frames →
-            result ≡ goes_on s (hunt_in places.now
+            result ≡ goes_on s (frame_search_in places.now
             (busy_at job self.old.nodes.items self.old.met.items)) }
-        ensures hunt { (s : Setup) → places.now ≡ s.machine.frames → seat_hunt places.now self.new
-            ≡ going_on s (hunt_in places.now
+        ensures frame_search { (s : Setup) → places.now ≡ s.machine.frames → seat_frame_search places.now self.new
+            ≡ going_on s (frame_search_in places.now
             (busy_at job self.old.nodes.items self.old.met.items)) }
         ensures fits { SeatFits places.now self.new }
     {
@@ -142,7 +142,7 @@ impl Seat {
             self.job = None;
             return CoreReply::Exhausted(job.version);
         };
-        self.job = Some(Job {
+        self.job = Some(OngoingSearch {
             request: job.request,
             version: job.version,
             at,
@@ -162,7 +162,7 @@ impl Seat {
         requires fits { SeatFits places.now self.old }
         ensures reply { (s : Setup) → places.now ≡ s.machine.frames →
             result ≡ goes_on s (fresh request version row.now) }
-        ensures hunt { (s : Setup) → places.now ≡ s.machine.frames → seat_hunt places.now self.new
+        ensures frame_search { (s : Setup) → places.now ≡ s.machine.frames → seat_frame_search places.now self.new
             ≡ going_on s (fresh request version row.now) }
         ensures fits { SeatFits places.now self.new }
     {
@@ -171,7 +171,7 @@ impl Seat {
         let at = Cursor { rank: 0, next: 0 };
         self.settle(
             places,
-            Job {
+            OngoingSearch {
                 request,
                 version,
                 at,
@@ -183,8 +183,8 @@ impl Seat {
     ///
     /// # Errors
     /// `Idle`, where it is about nothing.
-    fn current(&self) -> Result<(Job, u8), CoreRefusal>
-        requires listed { (job : Job) → self.now.job ≡ Some job →
+    fn current(&self) -> Result<(OngoingSearch, u8), CoreRefusal>
+        requires listed { (job : OngoingSearch) → self.now.job ≡ Some job →
             job.at.rank < length self.now.nodes.items }
         ensures busy { IfOk result (λ at. (self.now.job ≡ Some at.0)
             × (at.1 ≡ slice_index self.now.nodes.items at.0.at.rank)) }

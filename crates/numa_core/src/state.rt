@@ -8,13 +8,13 @@ ghost use Rattle.numa_core.specs.Kept.{core_state, IsKept, Performs};
 ghost use Rattle.numa_core.specs.Hints.{IsLow};
 ghost use Rattle.numa_core.specs.Seats.{SeatFits, IsSeatCopy};
 ghost use Rattle.numa_core.specs.Touching.{touch_answer, touch_world};
-ghost use Rattle.numa_core.specs.declared.seat.Seat.{Seat};
+ghost use Rattle.numa_core.specs.declared.seat.WorkerSeat.{WorkerSeat};
 ghost use Rattle.numa_space.specs.declared.event.Event.{Event};
 
 use crate::free_frames::{first_free, lower, none_taken};
 use crate::judging::{row_for, seated};
 use crate::places::Places;
-use crate::seat::Seat;
+use crate::seat::WorkerSeat;
 use crate::tables::none_owned;
 use numa_compile::{PlannedSpace, compile};
 use numa_machine::{Frame, Machine, NoMemory};
@@ -32,27 +32,27 @@ pub(crate) struct State {
     pub space: PlannedSpace,
     pub plan: Plan,
     pub places: Places,
-    pub seats: Vec<Seat>,
+    pub seats: Vec<WorkerSeat>,
     pub owners: Vec<Option<u8>>,
     pub taken: Vec<u32>,
 }
 
 /// Idle seats, this many.
-fn idle_seats(alloc: Global, places: &Places, workers: u32) -> Result<Vec<Seat>, NoMemory>
+fn idle_seats(alloc: Global, places: &Places, workers: u32) -> Result<Vec<WorkerSeat>, NoMemory>
     ensures count { IfOk result (λ seats. vec_len seats ≡ workers) }
-    ensures idle { IfOk result (λ seats. (w : ℕ) (seat : Seat) → slice_get seats.items w
+    ensures idle { IfOk result (λ seats. (w : ℕ) (seat : WorkerSeat) → slice_get seats.items w
         ≡ Some seat → (seat.job ≡ None) × SeatFits places.now seat) }
 {
     let mut seats = Vec::new(alloc);
     for _ in 0..workers {
-        let seat = Seat::new(alloc, places)?;
+        let seat = WorkerSeat::new(alloc, places)?;
         seats.push(seat)?;
     }
     Ok(seats)
 }
 
 /// These seats once more.
-fn seat_copies(alloc: Global, seats: &[Seat]) -> Result<Vec<Seat>, NoMemory>
+fn seat_copies(alloc: Global, seats: &[WorkerSeat]) -> Result<Vec<WorkerSeat>, NoMemory>
     ensures { IfOk result (λ others. AllZip IsSeatCopy seats.now others.items) }
 {
     let mut others = Vec::with_capacity(alloc, seats.len())?;

@@ -8,14 +8,13 @@ ghost use Rattle.numa_pool.specs.declared.view.Entry.{Entry};
 ghost use Rattle.numa_space.specs.Policies.{allowed_nodes};
 ghost use Rattle.numa_space.specs.Standing.{IsNodeList};
 ghost use Rattle.numa_fault.specs.Fault.{list_of, refusal_of, FindsNone, Places};
-ghost use Rattle.numa_seat.specs.Seated.{frame_in};
+ghost use Rattle.numa_pool.specs.Seated.{frame_in};
 
 use numa_machine::Frame;
 use numa_plan::Steps;
 use numa_pool::laws::{walk_is_sparing, walks_compose};
-use numa_pool::{PoolSeat, Pools};
+use numa_pool::{PoolSeat, Pools, take_along};
 use numa_publish::PlanView;
-use numa_seat::take_along;
 use numa_space::{Placement, Request};
 
 /// Where a frame that was taken puts the page of a request.

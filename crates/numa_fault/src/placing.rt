@@ -6,9 +6,8 @@ use crate::page::placement_of;
 use crate::refusal::FaultRefusal;
 use numa_plan::Steps;
 use numa_pool::laws::{walk_is_sparing, walks_compose};
-use numa_pool::{PoolSeat, Pools};
+use numa_pool::{PoolSeat, Pools, take_along};
 use numa_publish::{PlanReader, PlanView};
-use numa_seat::take_along;
 use numa_space::{PlaceRefusal, Placement, Request};
 
 /// Serves a request by the view: takes a frame of the first node of the page's list that has one.

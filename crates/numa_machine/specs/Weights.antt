@@ -3,8 +3,8 @@ use Rattle.std.specs.Prelude.{◌≡◌, ℕ, ◌+◌, ◌-◌, ◌%◌, ◌<◌
 use Rattle.std.specs.Prelude.{◌==◌, if◌then◌else◌, slice_index, slice_index_or, sum_by, filter}
 use Rattle.std.specs.Prelude.{flat_map, replicate, length, All, Contains, Option, Some, None}
 use Rattle.numa_mask.specs.NodeSet.{members, weight_of, ordinal_of}
-use Rattle.numa_machine.specs.declared.fault.WeightFault.{WeightFault}
-use Rattle.numa_machine.specs.declared.fault.WeightFault.TheVariants.{NoSuchNode, BadWeight}
+use Rattle.numa_machine.specs.declared.fault.WeightError.{WeightError}
+use Rattle.numa_machine.specs.declared.fault.WeightError.TheVariants.{NoSuchNode, BadWeight}
 
 -- how many nodes there are, and the weight of each
 pub record NodeWeights : Type 0 where
@@ -22,7 +22,7 @@ abbrev pub weight_at : NodeWeights → ℕ → ℕ
 weight_at weights node = slice_index_or weights.weights node 1
 
 -- why a weight is refused
-abbrev pub weight_fault : ℕ → ℕ → ℕ → Option WeightFault
+abbrev pub weight_fault : ℕ → ℕ → ℕ → Option WeightError
 weight_fault nodes node weight =
     if nat_le nodes node then Some NoSuchNode
     else if weight == 0 || nat_lt 255 weight then Some BadWeight

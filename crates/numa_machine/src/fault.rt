@@ -33,7 +33,7 @@ impl From<AllocError> for MachineFault {
 
 /// Why the weight of a node is refused. Of two reasons the first is given.
 #[derive(Clone, Copy, Debug, PartialEq, Eq)]
-pub enum WeightFault {
+pub enum WeightError {
     /// The node is none of the machine's.
     NoSuchNode,
     /// The weight is 0 or above 255.

@@ -17,7 +17,7 @@ pub mod rules;
 pub mod weights;
 
 pub use fallback::Fallback;
-pub use fault::{MachineFault, WeightFault};
+pub use fault::{MachineFault, WeightError};
 pub use frame::Frame;
 pub use machine::Machine;
 pub use no_memory::NoMemory;

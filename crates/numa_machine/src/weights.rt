@@ -3,7 +3,7 @@ ghost use Rattle.std.specs.Prelude.{◌≡◌, ◌≢◌, ◌==◌, ◌<◌, ◌
 ghost use Rattle.std.specs.Prelude.{if◌then◌else◌, min, replicate, slice_index, vec_len};
 ghost use Rattle.std.specs.Result.{result_err};
 
-use crate::fault::WeightFault;
+use crate::fault::WeightError;
 use numa_mask::NodeMask;
 use std::alloc::{AllocError, Global};
 use std::marker::Model;
@@ -61,7 +61,7 @@ impl Weights {
 
     /// Sets the weight of a node. Refusals, the first that applies: `NoSuchNode` for a node that
     /// the machine lacks, `BadWeight` for a weight of 0 or above 255. A refusal changes nothing.
-    pub fn set(&mut self, node: u32, weight: u32) -> Result<(), WeightFault>
+    pub fn set(&mut self, node: u32, weight: u32) -> Result<(), WeightError>
         ensures fault { result_err result ≡ weight_fault self.old.nodes node weight }
         ensures nodes { self.new.nodes ≡ self.old.nodes }
         ensures weights { OnOk result ((other : ℕ) → weight_at self.new other
@@ -69,10 +69,10 @@ impl Weights {
         ensures unchanged { OnErr result (self.new ≡ self.old) }
     {
         if node >= self.nodes {
-            return Err(WeightFault::NoSuchNode);
+            return Err(WeightError::NoSuchNode);
         }
         if weight == 0 || weight > GREATEST_WEIGHT {
-            return Err(WeightFault::BadWeight);
+            return Err(WeightError::BadWeight);
         }
         self.weights[node as usize] = weight as u8;
         Ok(())

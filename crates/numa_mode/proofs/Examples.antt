@@ -5,7 +5,7 @@ use Rattle.numa_machine.specs.declared.rules.Rules.TheVariants.{Document}
 use Rattle.numa_mode.specs.Policy.{Specification, effect_when_set, effect_after, raw_specification}
 use Rattle.numa_mode.specs.declared.modes.Mode.TheVariants.{Default, Bind, Interleave}
 use Rattle.numa_mode.specs.declared.modes.NodeFlag.TheVariants.{Plain, Static, Relative}
-use Rattle.numa_mode.specs.declared.specification.SpecFault.TheVariants.{UnknownMode, BothFlags, FlagsForbidden, NodesMissing}
+use Rattle.numa_mode.specs.declared.specification.SpecError.TheVariants.{UnknownMode, BothFlags, FlagsForbidden, NodesMissing}
 
 -- relative nodes 2-5
 abbrev relative : Specification

@@ -51,11 +51,11 @@ use Rattle.numa_mode.specs.declared.modes.Mode.TheVariants.{Local, PreferredMany
 use Rattle.numa_mode.specs.declared.modes.Mode.TheVariants.{WeightedInterleave}
 use Rattle.numa_mode.specs.declared.modes.NodeFlag.{NodeFlag}
 use Rattle.numa_mode.specs.declared.modes.NodeFlag.TheVariants.{Plain, Static, Relative}
-use Rattle.numa_mode.specs.declared.specification.SpecFault.{SpecFault}
-use Rattle.numa_mode.specs.declared.specification.SpecFault.TheVariants.{UnknownMode, BothFlags}
-use Rattle.numa_mode.specs.declared.specification.SpecFault.TheVariants.{NodesForbidden}
-use Rattle.numa_mode.specs.declared.specification.SpecFault.TheVariants.{FlagsForbidden}
-use Rattle.numa_mode.specs.declared.specification.SpecFault.TheVariants.{NodesMissing}
+use Rattle.numa_mode.specs.declared.specification.SpecError.{SpecError}
+use Rattle.numa_mode.specs.declared.specification.SpecError.TheVariants.{UnknownMode, BothFlags}
+use Rattle.numa_mode.specs.declared.specification.SpecError.TheVariants.{NodesForbidden}
+use Rattle.numa_mode.specs.declared.specification.SpecError.TheVariants.{FlagsForbidden}
+use Rattle.numa_mode.specs.declared.specification.SpecError.TheVariants.{NodesMissing}
 
 -- a policy as it is asked for
 pub record Specification : Type 0 where
@@ -90,7 +90,7 @@ needs_nodes WeightedInterleave = true
 needs_nodes _ = false
 
 -- the first fault of a mode, its two flags and its mask
-abbrev pub fault_of : Mode → Bool → Bool → ℕ → Option SpecFault
+abbrev pub fault_of : Mode → Bool → Bool → ℕ → Option SpecError
 fault_of mode static relative mask =
     if static && relative then Some BothFlags
     else if takes_no_nodes mode && not (mask == 0) then Some NodesForbidden
@@ -125,12 +125,12 @@ asked_for Preferred flag mask = record {
 }
 asked_for mode flag mask = record { mode = mode; flag = flag; mask = mask }
 
-abbrev pub unless_fault : Option SpecFault → Specification → Result Specification SpecFault
+abbrev pub unless_fault : Option SpecError → Specification → Result Specification SpecError
 unless_fault None spec = Ok spec
 unless_fault (Some fault) spec = Err fault
 
 -- the answer to a mode, whether STATIC_NODES and RELATIVE_NODES are given, and a mask
-abbrev pub specification_of : Mode → Bool → Bool → ℕ → Result Specification SpecFault
+abbrev pub specification_of : Mode → Bool → Bool → ℕ → Result Specification SpecError
 specification_of mode static relative mask =
     unless_fault (fault_of mode static relative mask)
     (asked_for mode (flag_of static relative) mask)
@@ -164,12 +164,12 @@ word_of mode static relative = number_of mode + (if static then 0x8000 else 0) +
 abbrev pub without_flags : ℕ → ℕ
 without_flags word = bit_and word (bit_not w32 0xc000)
 
-abbrev pub specification_if : Option Mode → Bool → Bool → ℕ → Result Specification SpecFault
+abbrev pub specification_if : Option Mode → Bool → Bool → ℕ → Result Specification SpecError
 specification_if None static relative mask = Err UnknownMode
 specification_if (Some mode) static relative mask = specification_of mode static relative mask
 
 -- the answer to a mode word, with STATIC_NODES at bit 15 and RELATIVE_NODES at bit 14, and a mask
-abbrev pub raw_specification : ℕ → ℕ → Result Specification SpecFault
+abbrev pub raw_specification : ℕ → ℕ → Result Specification SpecError
 raw_specification word mask = specification_if (mode_numbered (without_flags word))
     (bit_at word 15 == 1) (bit_at word 14 == 1) mask
 

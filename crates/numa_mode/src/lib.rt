@@ -40,4 +40,4 @@ pub mod specification;
 pub use flags::PolicyFlags;
 pub use modes::{Mode, NodeFlag};
 pub use records::{NodesNotAllowed, Record};
-pub use specification::{PolicySpec, SpecFault};
+pub use specification::{PolicySpec, SpecError};

@@ -13,7 +13,7 @@ use std::marker::Model;
 /// Why a mode, flags and nodes are no specification; set_mempolicy(2) answers `EINVAL` to each.
 /// Where several hold, the first of this order is the answer.
 #[derive(Clone, Copy, Debug, PartialEq, Eq)]
-pub enum SpecFault {
+pub enum SpecError {
     /// No mode has the number that is left of a mode word without the two flags.
     UnknownMode,
     /// `STATIC_NODES` and `RELATIVE_NODES` together.
@@ -48,14 +48,14 @@ impl Model for PolicySpec {
 
 impl PolicySpec {
     /// The policy that a mode, flags and nodes ask for, by the rules of set_mempolicy(2), or the
-    /// first [`SpecFault`] of them; never `UnknownMode`. `Default` drops a flag, `Preferred`
+    /// first [`SpecError`] of them; never `UnknownMode`. `Default` drops a flag, `Preferred`
     /// without nodes becomes `Local`, and bits of `flags` other than the two are left out. Nodes
     /// may be named that a machine lacks.
-    pub fn new(mode: Mode, flags: PolicyFlags, mask: NodeMask) -> Result<PolicySpec, SpecFault>
+    pub fn new(mode: Mode, flags: PolicyFlags, mask: NodeMask) -> Result<PolicySpec, SpecError>
         ensures { result ≡ specification_of mode (has_static flags) (has_relative flags) mask }
     {
         let flag = match (flags.is_static(), flags.is_relative()) {
-            (true, true) => return Err(SpecFault::BothFlags),
+            (true, true) => return Err(SpecError::BothFlags),
             (true, false) => NodeFlag::Static,
             (false, true) => NodeFlag::Relative,
             (false, false) => NodeFlag::Plain,
@@ -64,17 +64,17 @@ impl PolicySpec {
     }
 
     /// The policy that a mode, at most one flag and nodes ask for.
-    fn with_flag(mode: Mode, flag: NodeFlag, mask: NodeMask) -> Result<PolicySpec, SpecFault>
+    fn with_flag(mode: Mode, flag: NodeFlag, mask: NodeMask) -> Result<PolicySpec, SpecError>
         ensures { result ≡ specification_of mode (is_static flag) (is_relative flag) mask }
     {
         let is_empty = mask.is_empty();
         let has_flag = flag != NodeFlag::Plain;
         match mode {
-            Mode::Default | Mode::Local if !is_empty => Err(SpecFault::NodesForbidden),
-            Mode::Local if has_flag => Err(SpecFault::FlagsForbidden),
-            Mode::Preferred if is_empty && has_flag => Err(SpecFault::FlagsForbidden),
+            Mode::Default | Mode::Local if !is_empty => Err(SpecError::NodesForbidden),
+            Mode::Local if has_flag => Err(SpecError::FlagsForbidden),
+            Mode::Preferred if is_empty && has_flag => Err(SpecError::FlagsForbidden),
             Mode::Bind | Mode::Interleave | Mode::PreferredMany | Mode::WeightedInterleave
-                if is_empty => { Err(SpecFault::NodesMissing) }
+                if is_empty => { Err(SpecError::NodesMissing) }
             Mode::Default => Ok(PolicySpec {
                 mode,
                 flag: NodeFlag::Plain,
@@ -92,13 +92,13 @@ impl PolicySpec {
     /// The policy that a mode word of set_mempolicy(2) and nodes ask for: `STATIC_NODES` is bit 15
     /// of the word, `RELATIVE_NODES` bit 14, and the rest is the mode's number. `UnknownMode` where
     /// that is above 6, and else the answer of [`PolicySpec::new`].
-    pub fn from_raw(word: u32, mask: NodeMask) -> Result<PolicySpec, SpecFault>
+    pub fn from_raw(word: u32, mask: NodeMask) -> Result<PolicySpec, SpecError>
         ensures { result ≡ raw_specification word mask }
     {
         let flags = PolicyFlags::of_word(word);
         match Mode::numbered(word & !MODE_FLAGS) {
             Some(mode) => PolicySpec::new(mode, flags, mask),
-            None => Err(SpecFault::UnknownMode),
+            None => Err(SpecError::UnknownMode),
         }
     }
 

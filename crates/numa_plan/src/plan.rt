@@ -17,7 +17,7 @@ mod uncounted;
 use crate::numbers::Numbers;
 use crate::plan::uncounted::{covers, found_next, walk_from};
 use crate::rule::Rule;
-use crate::runs::Runs;
+use crate::runs::PlanRuns;
 use crate::slots::{Slot, copies};
 use crate::steps::Steps;
 use crate::tally::Tally;
@@ -40,7 +40,7 @@ pub struct Plan {
     alloc: Global,
     version: u64,
     nodes: u32,
-    runs: Runs,
+    runs: PlanRuns,
     slots: Vec<Slot>,
     lowest_free: usize,
     tasks: BTreeMap<u32, u32>,
@@ -229,7 +229,7 @@ impl Plan {
             return Err(PlaceRefusal::BadCpu);
         }
         let mut counts = [0u64; 256];
-        let mut seen = Runs::seen();
+        let mut seen = PlanRuns::seen();
         let mut page = first;
         let mut todo = pages;
         while todo > 0 {

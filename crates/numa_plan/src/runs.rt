@@ -37,11 +37,11 @@ pub(crate) struct Beside {
 /// Runs of pages, in rising order and apart, each with the number of its rule or none. They stand
 /// in chunks, which copies share.
 #[derive(Drop)]
-pub(crate) struct Runs {
+pub(crate) struct PlanRuns {
     items: SharedRows<Run<Option<u32>>>,
 }
 
-impl Model for Runs {
+impl Model for PlanRuns {
     ghost use Rattle.std.specs.Prelude.{List, ℕ, Option};
     ghost use Rattle.numa_ranges.specs.declared.run.Run.{Run};
     ghost use Rattle.numa_ranges.specs.Runs.{AreApart};
@@ -53,22 +53,22 @@ impl Model for Runs {
     ghost invariant = { λ a. AreApart 0 a.items };
 }
 
-impl Runs {
+impl PlanRuns {
     /// No runs.
-    pub(crate) fn new(alloc: Global) -> Runs
+    pub(crate) fn new(alloc: Global) -> PlanRuns
         ensures { result ≡ [] }
     {
-        Runs {
+        PlanRuns {
             items: SharedRows::new(alloc),
         }
     }
 
     /// The same runs once more, in the same chunks.
-    pub(crate) fn copy(&self) -> Result<Runs, AllocError>
+    pub(crate) fn copy(&self) -> Result<PlanRuns, AllocError>
         ensures { IfOk result (λ copy. copy ≡ self.now) }
     {
         let items = self.items.copy()?;
-        Ok(Runs { items })
+        Ok(PlanRuns { items })
     }
 
     /// How many runs there are, and in how many chunks they stand.

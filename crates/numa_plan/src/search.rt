@@ -12,7 +12,7 @@ ghost use Rattle.numa_plan.specs.Counted.{FindsQuickly, FindsTwice, LooksOnce};
 ghost use Rattle.numa_plan.specs.Found.{IsAt, IsFound, IsPartOf, IsMapped, IsSplit, HasHole};
 
 use crate::guess::{LOOKED_AT, chunk_of, start_before};
-use crate::runs::{Beside, Found, Runs};
+use crate::runs::{Beside, Found, PlanRuns};
 use crate::steps::Steps;
 use numa_ranges::Run;
 use numa_rows::Part;
@@ -50,7 +50,7 @@ fn seen_window(start: usize, from: usize, to: usize, near: usize) -> Option<Besi
     Some(Beside { from, to, near })
 }
 
-impl Runs {
+impl PlanRuns {
     /// The place behind the last run that begins at a page or before it, how far the page lies
     /// behind the first page of that run, and the runs among which the search ended.
     #[inline]
@@ -111,7 +111,7 @@ impl Runs {
         ensures found { IsFound self.now page result }
         ensures quick { FindsQuickly steps.old steps.new (length self.now) }
     {
-        self.find_first(page, &mut Runs::seen(), steps)
+        self.find_first(page, &mut PlanRuns::seen(), steps)
     }
 
     /// Where a walk along the pages begins.

@@ -3,7 +3,7 @@ ghost use Rattle.std.specs.Prelude.{◌≡◌};
 ghost use Rattle.numa_plan.specs.Counted.{no_steps, one_comparison, one_run, more_runs};
 ghost use Rattle.numa_plan.specs.Counted.{one_rule};
 
-use numa_count::Count;
+use numa_ghost::Count;
 
 /// A counter of steps: comparisons of a page with the first page of a run, runs that were written,
 /// and rules that were written. It has no bytes, and nothing but a contract can read it.

@@ -7,3 +7,4 @@ pub mod Sparing
 pub mod Ruling
 pub mod Winning
 pub mod Closing
+pub mod Walking

@@ -4,3 +4,4 @@ pub mod Rule
 pub mod Walk
 pub mod Search
 pub mod Seats
+pub mod Seated

@@ -2,7 +2,7 @@
 ghost use Rattle.std.specs.Prelude.{◌≡◌, ◌∷◌, []};
 
 use logbook::{Opening, Seen, Start};
-use numa_count::GhostList;
+use numa_ghost::GhostList;
 use numa_machine::Machine;
 use std::marker::Model;
 

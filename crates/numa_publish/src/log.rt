@@ -6,7 +6,7 @@ ghost use Rattle.numa_publish.specs.Batches.{history_of, not_logged};
 ghost use Rattle.numa_publish.specs.LogRule.{count_word};
 
 use logbook::{Gain, Offer, Plain, Play, Seen, Start, Word};
-use numa_count::{BareRule, Holding};
+use numa_ghost::{BareRule, Holding};
 use numa_space::Command;
 use std::collections::LinkedList;
 

@@ -3,7 +3,7 @@ ghost use Rattle.std.specs.Prelude.{◌≡◌, []};
 
 use crate::ghosts::Versions;
 use crate::log::Front;
-use numa_count::Count;
+use numa_ghost::Count;
 
 /// What a reader takes along, whether it looks or not: the beginning of the log that it has seen or
 /// learnt, the versions published up to the one that it saw last, the version of that beginning, how many enters it made, and how many of them were refused.

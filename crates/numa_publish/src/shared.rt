@@ -37,12 +37,12 @@ pub enum SubmitRefusal {
 }
 
 /// The desk that K names, as the lock has it.
-struct Named<K: DeskName> {
+struct NamedDesk<K: DeskName> {
     desk: Desk,
     of: PhantomData<K>,
 }
 
-impl<K: DeskName> Model for Named<K> {
+impl<K: DeskName> Model for NamedDesk<K> {
     ghost use Rattle.std.specs.Prelude.{◌≡◌};
     ghost use Rattle.numa_publish.specs.Shown.{DeskState};
 
@@ -53,7 +53,7 @@ impl<K: DeskName> Model for Named<K> {
     ghost invariant = { λ n. n.desk.desk ≡ K.desk };
 }
 
-impl<K: DeskName> Named<K> {
+impl<K: DeskName> NamedDesk<K> {
     /// `Desk::submit`.
     fn submit<R: Wait>(&mut self, rt: &R, command: &Command) -> Result<Receipt, SubmitRefusal>
         ensures desk { IfOk result (λ r. r.desk ≡ K.desk) }
@@ -74,7 +74,7 @@ impl<K: DeskName> Named<K> {
 /// A desk under a lock, by which threads submit commands and take readers. Readers look beside it
 /// without the lock.
 pub struct SharedDesk<K: DeskName> {
-    lock: Mutex<ManuallyDrop<Named<K>>>,
+    lock: Mutex<ManuallyDrop<NamedDesk<K>>>,
 }
 
 impl<K: DeskName> SharedDesk<K> {
@@ -84,7 +84,7 @@ impl<K: DeskName> SharedDesk<K> {
     {
         SharedDesk {
             lock: Mutex::new(unsafe {
-                ManuallyDrop::new_unchecked(Named {
+                ManuallyDrop::new_unchecked(NamedDesk {
                     desk,
                     of: PhantomData,
                 })
@@ -120,7 +120,7 @@ impl<K: DeskName> SharedDesk<K> {
         ensures { result.desk ≡ K.desk }
     {
         let SharedDesk { lock } = self;
-        let Named { desk, of: _ } = ManuallyDrop::into_inner(lock.into_inner());
+        let NamedDesk { desk, of: _ } = ManuallyDrop::into_inner(lock.into_inner());
         desk
     }
 }

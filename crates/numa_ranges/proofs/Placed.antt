@@ -8,8 +8,8 @@ use Rattle.numa_ranges.specs.Edits.{Each, HasRoom, maximal_runs}
 use Rattle.numa_ranges.specs.Gathered.{Gathered}
 use Rattle.numa_ranges.specs.declared.run.Run.{Run}
 use Rattle.numa_ranges.specs.declared.pieces.Pieces.{Pieces}
-use Rattle.numa_ranges.specs.declared.fault.RangeFault.{RangeFault}
-use Rattle.numa_ranges.specs.declared.fault.RangeFault.TheVariants.{TooManyRanges, NoMemory}
+use Rattle.numa_ranges.specs.declared.fault.RangeError.{RangeError}
+use Rattle.numa_ranges.specs.declared.fault.RangeError.TheVariants.{TooManyRanges, NoMemory}
 use Rattle.numa_ranges.specs.Edits.{runs_with}
 use Rattle.numa_ranges.specs.Maps.{IsRefusal, count_refusal}
 use Rattle.numa_ranges.proofs.Spans.{Stands, stands-joined, refused-joined}
@@ -40,7 +40,7 @@ module _ {T : Type 0} (same : T → T → Bool) (exact : (a b : T) → same a b 
       rw (a, e, f) (inserted-window same exact itself run now place room.maximal room.within) in
       stands-joined same exact itself now (runs_with place run now) new (with_span run.first run.pages run.index run.value (page_at now)) limit (apart-placed now place run room some top index) (page_at-placed now place run room) (done.0 ∙ here) (omega (arith, done.1, ap length done.0))
 
-  pub placed-refused : (now inside : List (Run T)) (pieces : Pieces T) (run : Run T) (place from to limit : ℕ) (refusal : RangeFault) → inside ≡ now → from ≡ place - 1 → to ≡ min (length now) (place + 1)
+  pub placed-refused : (now inside : List (Run T)) (pieces : Pieces T) (run : Run T) (place from to limit : ℕ) (refusal : RangeError) → inside ≡ now → from ≡ place - 1 → to ≡ min (length now) (place + 1)
       → HasRoom now place run.first (run.first + (run.pages - 1)) → 0 < run.pages → end_of run ≤ 2 ^ 35 → run.index < 2 ^ 35
       → Gathered same pieces ((slice_range inside from place ++ run ∷ []) ++ slice_range inside place to)
       → ((added : List (Run T)) → Gathered same pieces added → refusal ≡ (if nat_lt limit (length (splice inside from to (maximal_runs same added))) then TooManyRanges else NoMemory))

@@ -4,8 +4,8 @@ use Rattle.std.specs.Prelude.{All, nat_lt, if◌then◌else◌, false, OnOk, Res
 use Rattle.std.proofs.lemmas.Bool.{le-ltb, lt-ltb}
 use Rattle.numa_ranges.specs.Gathered.{Gathered}
 use Rattle.numa_ranges.specs.declared.pieces.Pieces.{Pieces}
-use Rattle.numa_ranges.specs.declared.fault.RangeFault.{RangeFault}
-use Rattle.numa_ranges.specs.declared.fault.RangeFault.TheVariants.{TooManyRanges, NoMemory}
+use Rattle.numa_ranges.specs.declared.fault.RangeError.{RangeError}
+use Rattle.numa_ranges.specs.declared.fault.RangeError.TheVariants.{TooManyRanges, NoMemory}
 use Rattle.std.specs.List.{slice_range, splice}
 use Rattle.std.proofs.lemmas.List.{get_or-drop, get_or-take}
 use Rattle.numa_ranges.specs.Runs.{in_pages, page_at, AreApart, AreMaximal}
@@ -64,7 +64,7 @@ module _ {T : Type 0} (same : T → T → Bool) (exact : (a b : T) → same a b 
         accepted = rw few refl;
       }
 
-  pub refused-joined : (edited_runs whole : List (Run T)) (at : ℕ → Option (ℕ × T)) (limit : ℕ) (refusal : RangeFault) → AreApart 0 edited_runs → ((page : ℕ) → page_at edited_runs page ≡ at page) → whole ≡ maximal_runs same edited_runs
+  pub refused-joined : (edited_runs whole : List (Run T)) (at : ℕ → Option (ℕ × T)) (limit : ℕ) (refusal : RangeError) → AreApart 0 edited_runs → ((page : ℕ) → page_at edited_runs page ≡ at page) → whole ≡ maximal_runs same edited_runs
       → refusal ≡ (if nat_lt limit (length whole) then TooManyRanges else NoMemory) → IsRefusal (count_refusal same limit at) refusal
   refused-joined edited_runs whole at limit refusal apart says is cause =
       let count : length whole ≡ range_count same at = ap length is ∙ sym (count-joined edited_runs at apart says) in
@@ -87,7 +87,7 @@ module _ {T : Type 0} (same : T → T → Bool) (exact : (a b : T) → same a b 
       let done = put W (subst (Gathered same pieces) here gathered) in
       (done.0 ∙ ap (λ l. splice l from to (maximal_runs same W)) a ∙ whole, omega (arith, done.1, ap length done.0))
 
-  pub window-refused : (now inside seen : List (Run T)) (pieces : Pieces T) (from to first end limit : ℕ) (refusal : RangeFault) (edit : T → Option T) → inside ≡ now → seen ≡ inside
+  pub window-refused : (now inside seen : List (Run T)) (pieces : Pieces T) (from to first end limit : ℕ) (refusal : RangeError) (edit : T → Option T) → inside ≡ now → seen ≡ inside
       → Gathered same pieces (edit_of first end edit (slice_range seen from to))
       → splice now from to (maximal_runs same (edit_of first end edit (slice_range now from to))) ≡ maximal_runs same (edit_of first end edit now)
       → ((added : List (Run T)) → Gathered same pieces added → refusal ≡ (if nat_lt limit (length (splice inside from to (maximal_runs same added))) then TooManyRanges else NoMemory))

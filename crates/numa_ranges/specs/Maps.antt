@@ -2,9 +2,9 @@
 use Rattle.std.specs.Prelude.{◌≡◌, ℕ, ◌+◌, ◌-◌, ◌^◌, ◌<◌, ◌≤◌, Bool, not, is_some, Option, Some}
 use Rattle.std.specs.Prelude.{None, List, nat_lt, if◌then◌else◌}
 use Rattle.std.specs.List.{list_any, range_with_len}
-use Rattle.numa_ranges.specs.declared.fault.RangeFault.{RangeFault}
-use Rattle.numa_ranges.specs.declared.fault.RangeFault.TheVariants.{Hole, Overlap, TooManyRanges}
-use Rattle.numa_ranges.specs.declared.fault.RangeFault.TheVariants.{NoMemory}
+use Rattle.numa_ranges.specs.declared.fault.RangeError.{RangeError}
+use Rattle.numa_ranges.specs.declared.fault.RangeError.TheVariants.{Hole, Overlap, TooManyRanges}
+use Rattle.numa_ranges.specs.declared.fault.RangeError.TheVariants.{NoMemory}
 use Rattle.numa_ranges.specs.declared.run.Run.{Run}
 use Rattle.numa_ranges.specs.Runs.{in_pages, page_at}
 use Rattle.numa_ranges.specs.Counts.{range_count}
@@ -43,25 +43,25 @@ any_page test first pages = list_any test (range_with_len first pages)
 
 -- why such a map may not stand
 abbrev pub count_refusal : {T : Type 0} → (T → T → Bool) → ℕ → (ℕ → Option (ℕ × T))
-    → Option RangeFault
+    → Option RangeError
 count_refusal same max_ranges at = if nat_lt max_ranges (range_count same at)
     then Some TooManyRanges else None
 
 -- why a span may not be mapped
 abbrev pub map_refusal : {T : Type 0} → (T → T → Bool) → ℕ → (ℕ → Option (ℕ × T)) → ℕ → ℕ → ℕ → T
-    → Option RangeFault
+    → Option RangeError
 map_refusal same max_ranges at first pages index value =
     if any_page (λ page. is_some (at page)) first pages then Some Overlap
     else count_refusal same max_ranges (with_span first pages index value at)
 
 -- why a span may not have another value
 abbrev pub set_refusal : {T : Type 0} → (T → T → Bool) → ℕ → (ℕ → Option (ℕ × T)) → ℕ → ℕ → T
-    → Option RangeFault
+    → Option RangeError
 set_refusal same max_ranges at first pages value =
     if any_page (λ page. not (is_some (at page))) first pages then Some Hole
     else count_refusal same max_ranges (changed_span first pages (λ old. value) at)
 
 -- how a call is refused: by the first cause that holds, or for lack of memory where none does
-abbrev pub IsRefusal : Option RangeFault → RangeFault → Type 0
+abbrev pub IsRefusal : Option RangeError → RangeError → Type 0
 IsRefusal None refusal = refusal ≡ NoMemory
 IsRefusal (Some cause) refusal = refusal ≡ cause

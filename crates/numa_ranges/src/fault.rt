@@ -2,7 +2,7 @@
 
 /// Why a call was refused; the map is as it was.
 #[derive(Clone, Copy, Debug, PartialEq, Eq)]
-pub enum RangeFault {
+pub enum RangeError {
     /// A page of the span that was to get another value is not mapped.
     Hole,
     /// A page of the span that was to be mapped is mapped already.

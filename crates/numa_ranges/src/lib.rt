@@ -27,7 +27,7 @@ mod values;
 mod walk;
 
 pub use exact::Exact;
-pub use fault::RangeFault;
+pub use fault::RangeError;
 pub use range_iter::RangeIter;
 pub use range_map::RangeMap;
 pub use row::Row;

@@ -4,7 +4,7 @@ ghost use Rattle.std.specs.Option.{ForSome};
 ghost use Rattle.numa_ranges.specs.Edits.{IsInRange};
 
 use crate::exact::Exact;
-use crate::fault::RangeFault;
+use crate::fault::RangeError;
 use crate::run::{Run, continues};
 use crate::runs::Runs;
 use std::alloc::Global;
@@ -27,8 +27,8 @@ impl<T: Exact> Pieces<T> {
     ghost use Rattle.numa_ranges.specs.Edits.{IsInRange, maximal_runs};
     ghost use Rattle.numa_ranges.specs.Gathered.{Gathered};
     ghost use Rattle.std.specs.List.{splice};
-    ghost use Rattle.numa_ranges.specs.declared.fault.RangeFault.TheVariants.{TooManyRanges};
-    ghost use Rattle.numa_ranges.specs.declared.fault.RangeFault.TheVariants.{NoMemory};
+    ghost use Rattle.numa_ranges.specs.declared.fault.RangeError.TheVariants.{TooManyRanges};
+    ghost use Rattle.numa_ranges.specs.declared.fault.RangeError.TheVariants.{NoMemory};
 
     /// No runs, with room for so many where there is memory for it.
     pub(crate) fn new(alloc: Global, room: usize) -> Pieces<T>
@@ -93,7 +93,7 @@ impl<T: Exact> Pieces<T> {
         to: usize,
         limit: u32,
         near: usize,
-    ) -> Result<(), RangeFault>
+    ) -> Result<(), RangeError>
         requires window { (from ≤ to) × (to ≤ length runs.old) }
         requires room { self.count < 2 ^ 62 }
         ensures ok { (added : List (Run T)) → Gathered T.eq self added
@@ -114,14 +114,14 @@ impl<T: Exact> Pieces<T> {
         } = self;
         let others = runs.len() - (to - from);
         if others as u64 + count > u64::from(limit) {
-            return Err(RangeFault::TooManyRanges);
+            return Err(RangeError::TooManyRanges);
         }
         if is_refused {
-            return Err(RangeFault::NoMemory);
+            return Err(RangeError::NoMemory);
         }
         runs.tidy();
         let Ok(()) = runs.splice_near(from, to, near, &closed) else {
-            return Err(RangeFault::NoMemory);
+            return Err(RangeError::NoMemory);
         };
         Ok(())
     }

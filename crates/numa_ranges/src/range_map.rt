@@ -16,7 +16,7 @@ ghost use Rattle.numa_ranges.specs.Numbered.{AreRowsOf};
 
 use crate::edit::{gather_edited, gather_with};
 use crate::exact::Exact;
-use crate::fault::RangeFault;
+use crate::fault::RangeError;
 use crate::pieces::Pieces;
 use crate::range_iter::RangeIter;
 use crate::row::Row;
@@ -180,7 +180,7 @@ impl<T: Exact> RangeMap<T> {
         pages: u64,
         index: u64,
         value: T,
-    ) -> Result<(), RangeFault>
+    ) -> Result<(), RangeError>
         requires span { IsSpan first pages }
         requires index { index < 2 ^ 35 }
         ensures ok { OnOk result (Shows self.new.runs
@@ -194,7 +194,7 @@ impl<T: Exact> RangeMap<T> {
     {
         let mut near = self.near;
         let Some(place) = self.place_between(first, pages, &mut near) else {
-            return Err(RangeFault::Overlap);
+            return Err(RangeError::Overlap);
         };
         let run = Run {
             first,
@@ -207,7 +207,7 @@ impl<T: Exact> RangeMap<T> {
 
     /// Puts a run in at its place among the runs, joined to its neighbours where they go on from
     /// one another. `near` is a guess at the chunk of the place, kept for the next edit.
-    fn insert_run(&mut self, place: usize, run: Run<T>, near: usize) -> Result<(), RangeFault>
+    fn insert_run(&mut self, place: usize, run: Run<T>, near: usize) -> Result<(), RangeError>
         requires span { IsSpan run.first run.pages }
         requires room { HasRoom self.old.runs place run.first (run.first + (run.pages - 1)) }
         requires index { run.index < 2 ^ 35 }
@@ -256,7 +256,7 @@ impl<T: Exact> RangeMap<T> {
     /// - `Hole`: a page of the span is not mapped, which mbind(2) answers with EFAULT.
     /// - `TooManyRanges`: there would be more than `max_ranges` ranges.
     /// - `NoMemory`: there was none for the ranges that the call makes.
-    pub fn set_span(&mut self, first: u64, pages: u64, value: T) -> Result<(), RangeFault>
+    pub fn set_span(&mut self, first: u64, pages: u64, value: T) -> Result<(), RangeError>
         requires span { IsSpan first pages }
         ensures ok { OnOk result (Shows self.new.runs
             (changed_span first pages (λ old. value) (page_at self.old.runs))) }
@@ -270,7 +270,7 @@ impl<T: Exact> RangeMap<T> {
         let mut near = self.near;
         let place = self.starts_near(first, &mut near);
         if lacks_page(&self.runs, place, first, pages, near) {
-            return Err(RangeFault::Hole);
+            return Err(RangeError::Hole);
         }
         self.edit_span(place, first, pages, &|_: &T| Some(value), near)
     }
@@ -281,7 +281,7 @@ impl<T: Exact> RangeMap<T> {
     /// Refusals, in this order, after which the map is as it was:
     /// - `TooManyRanges`: a range that is split would make more than `max_ranges` ranges.
     /// - `NoMemory`: the parts that stay could not be gathered, also where the map shrinks.
-    pub fn unmap_span(&mut self, first: u64, pages: u64) -> Result<(), RangeFault>
+    pub fn unmap_span(&mut self, first: u64, pages: u64) -> Result<(), RangeError>
         requires span { IsSpan first pages }
         ensures ok { OnOk result (Shows self.new.runs
             (without_span first pages (page_at self.old.runs))) }
@@ -309,7 +309,7 @@ impl<T: Exact> RangeMap<T> {
         first: u64,
         pages: u64,
         f: F,
-    ) -> Result<(), RangeFault>
+    ) -> Result<(), RangeError>
         requires span { IsSpan first pages }
         requires callable { F.IsAlwaysCallable f }
         requires function { (change : T → T) × Makes F.Fn f change }
@@ -359,7 +359,7 @@ impl<T: Exact> RangeMap<T> {
         pages: u64,
         edit: &F,
         near: usize,
-    ) -> Result<(), RangeFault>
+    ) -> Result<(), RangeError>
         requires within { place ≤ length self.old.runs }
         requires parts { StartsAround self.old.runs place first }
         requires span { first + pages ≤ 2 ^ 35 }

@@ -20,8 +20,8 @@ use Rattle.numa_reports.specs.Common.{AreCommon, AreRising, has_page, span_end}
 use Rattle.numa_reports.specs.Failing.{FailsBy, MayFail, MayRefuse, MovesMayFail}
 use Rattle.numa_reports.specs.Mapped.{IsOutlook, span_of}
 use Rattle.numa_reports.specs.Turns.{HasPages}
-use Rattle.numa_reports.specs.declared.fault.ReportFault.{ReportFault}
-use Rattle.numa_reports.specs.declared.fault.ReportFault.TheVariants.{Memory, Refused}
+use Rattle.numa_reports.specs.declared.fault.ReportError.{ReportError}
+use Rattle.numa_reports.specs.declared.fault.ReportError.TheVariants.{Memory, Refused}
 use Rattle.numa_reports.specs.declared.outlook.Outlook.{Outlook}
 use Rattle.numa_reports.specs.declared.outlook.PageSpan.{PageSpan}
 
@@ -146,12 +146,12 @@ module _ (machine : Hardware) (plan : PlanData) (history : List Command) (planne
       let none : is_some (page_at plan.runs hole.0) ≡ false = ap (λ (o : Option (ℕ × Option ℕ)). is_some o) hole.3 in
       cc
 
-  pub mapped-fails : (first pages cpu : ℕ) (fault : ReportFault) → ((page : ℕ) → first ≤ page → page < first + pages → is_mapped history page ≡ true) → FailsBy (RefusesSpan plan first pages cpu) fault → MayFail machine.nodes cpu fault
+  pub mapped-fails : (first pages cpu : ℕ) (fault : ReportError) → ((page : ℕ) → first ≤ page → page < first + pages → is_mapped history page ≡ true) → FailsBy (RefusesSpan plan first pages cpu) fault → MayFail machine.nodes cpu fault
   mapped-fails first pages cpu (Refused refusal) mapped fails = mapped-refuses first pages cpu refusal mapped fails
   mapped-fails first pages cpu Memory mapped fails = tt
 
 -- a report on the next range fails only for its node, or for memory
-pub range-fails : (space : SpaceState) (plan : PlanData) (history : List Command) (left rest : List (Run (Option PolicyRecord))) (range : Run (Option PolicyRecord)) (cpu : ℕ) (fault : ReportFault) → StandsFor space history → PlanStandsFor space.machine plan history
+pub range-fails : (space : SpaceState) (plan : PlanData) (history : List Command) (left rest : List (Run (Option PolicyRecord))) (range : Run (Option PolicyRecord)) (cpu : ℕ) (fault : ReportError) → StandsFor space history → PlanStandsFor space.machine plan history
     → AreLeft left space.ranges → left ≡ range ∷ rest → FailsBy (RefusesSpan plan range.first range.pages cpu) fault → MayFail space.machine.nodes cpu fault
 range-fails space plan history left rest range cpu fault stands planned has is =
     mapped-fails space.machine plan history planned range.first range.pages cpu fault
@@ -183,7 +183,7 @@ moves-refused machine old new first pages cpu Unmapped mapped (inr one) =
     let none = one.1.3 in
     cc
 
-pub moves-fail : (machine : Hardware) (old new : List Command) (first pages cpu : ℕ) (fault : ReportFault) → ((page : ℕ) → first ≤ page → page < first + pages → (is_mapped old page ≡ true) × (is_mapped new page ≡ true))
+pub moves-fail : (machine : Hardware) (old new : List Command) (first pages cpu : ℕ) (fault : ReportError) → ((page : ℕ) → first ≤ page → page < first + pages → (is_mapped old page ≡ true) × (is_mapped new page ≡ true))
     → MovesMayFail machine old new first pages cpu fault → MayFail machine.nodes cpu fault
 moves-fail machine old new first pages cpu (Refused refusal) mapped fails = moves-refused machine old new first pages cpu refusal mapped fails
 moves-fail machine old new first pages cpu Memory mapped fails = tt

@@ -8,11 +8,11 @@ use Rattle.numa_space.specs.declared.refusal.PlaceRefusal.TheVariants.{BadCpu, U
 use Rattle.numa_plan.specs.Meaning.{PlanData, RefusesSpan}
 use Rattle.numa_compile.specs.Spans.{SpanIsRefused}
 use Rattle.numa_compile.specs.Standing.{PlanStandsFor}
-use Rattle.numa_reports.specs.declared.fault.ReportFault.{ReportFault}
-use Rattle.numa_reports.specs.declared.fault.ReportFault.TheVariants.{Memory, Refused}
+use Rattle.numa_reports.specs.declared.fault.ReportError.{ReportError}
+use Rattle.numa_reports.specs.declared.fault.ReportError.TheVariants.{Memory, Refused}
 
 -- there was no memory, or there is a refusal of this kind
-abbrev pub FailsBy : (PlaceRefusal → Type 0) → ReportFault → Type 0
+abbrev pub FailsBy : (PlaceRefusal → Type 0) → ReportError → Type 0
 FailsBy refuses (Refused refusal) = refuses refusal
 FailsBy refuses Memory = Unit {0}
 
@@ -22,11 +22,11 @@ MayRefuse nodes cpu BadCpu = nodes ≤ cpu
 MayRefuse nodes cpu Unmapped = ⊥
 
 -- why there is no report on all mapped pages
-abbrev pub MayFail : ℕ → ℕ → ReportFault → Type 0
+abbrev pub MayFail : ℕ → ℕ → ReportError → Type 0
 MayFail nodes cpu = FailsBy (MayRefuse nodes cpu)
 
 -- by a plan of the space, a report on all mapped pages fails for its node alone, or for memory
-abbrev pub FailsForNode : {T : Type 0} → SpaceState → PlanData → ℕ → Result T ReportFault → Type 0
+abbrev pub FailsForNode : {T : Type 0} → SpaceState → PlanData → ℕ → Result T ReportError → Type 0
 FailsForNode space plan cpu result = (history : List Command) → StandsFor space history
     → PlanStandsFor space.machine plan history → IfErr result (MayFail space.machine.nodes cpu)
 
@@ -36,7 +36,7 @@ RefusesEither before after first pages cpu refusal =
     RefusesSpan before first pages cpu refusal ⊎ RefusesSpan after first pages cpu refusal
 
 -- why there is none on how a span's pages move: it is refused before or after
-abbrev pub MovesMayFail : Hardware → List Command → List Command → ℕ → ℕ → ℕ → ReportFault → Type 0
+abbrev pub MovesMayFail : Hardware → List Command → List Command → ℕ → ℕ → ℕ → ReportError → Type 0
 MovesMayFail machine before after first pages cpu = FailsBy (λ refusal.
     SpanIsRefused machine before first pages cpu refusal
     ⊎ SpanIsRefused machine after first pages cpu refusal)

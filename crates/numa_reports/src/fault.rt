@@ -1,6 +1,6 @@
 //! Why there is no report.
 ghost use Rattle.std.specs.Prelude.{◌≡◌};
-ghost use Rattle.numa_reports.specs.declared.fault.ReportFault.TheVariants as fault;
+ghost use Rattle.numa_reports.specs.declared.fault.ReportError.TheVariants as fault;
 
 use numa_plan::NoMemory;
 use numa_space::PlaceRefusal;
@@ -8,33 +8,33 @@ use std::alloc::AllocError;
 
 /// Why there is no report.
 #[derive(Clone, Copy)]
-pub enum ReportFault {
+pub enum ReportError {
     /// The question was refused: the machine has no such node.
     Refused(PlaceRefusal),
     /// There was no memory for the report.
     Memory,
 }
 
-impl From<AllocError> for ReportFault {
+impl From<AllocError> for ReportError {
     ghost from_gives = { λ _ given. given ≡ fault.Memory };
 
-    fn from(_error: AllocError) -> ReportFault {
-        ReportFault::Memory
+    fn from(_error: AllocError) -> ReportError {
+        ReportError::Memory
     }
 }
 
-impl From<PlaceRefusal> for ReportFault {
+impl From<PlaceRefusal> for ReportError {
     ghost from_gives = { λ refusal given. given ≡ fault.Refused refusal };
 
-    fn from(refusal: PlaceRefusal) -> ReportFault {
-        ReportFault::Refused(refusal)
+    fn from(refusal: PlaceRefusal) -> ReportError {
+        ReportError::Refused(refusal)
     }
 }
 
-impl From<NoMemory> for ReportFault {
+impl From<NoMemory> for ReportError {
     ghost from_gives = { λ _ given. given ≡ fault.Memory };
 
-    fn from(_error: NoMemory) -> ReportFault {
-        ReportFault::Memory
+    fn from(_error: NoMemory) -> ReportError {
+        ReportError::Memory
     }
 }

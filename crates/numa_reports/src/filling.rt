@@ -7,14 +7,14 @@ ghost use Rattle.numa_ranges.specs.Runs.{page_at};
 ghost use Rattle.numa_space.specs.Standing.{StandsFor};
 ghost use Rattle.numa_space.specs.declared.command.Command.{Command};
 ghost use Rattle.numa_space.specs.declared.refusal.PlaceRefusal.TheVariants.{BadCpu};
-ghost use Rattle.numa_reports.specs.declared.fault.ReportFault.TheVariants.{Memory, Refused};
+ghost use Rattle.numa_reports.specs.declared.fault.ReportError.TheVariants.{Memory, Refused};
 ghost use Rattle.numa_reports.specs.Failing.{FailsBy, FailsForNode};
 ghost use Rattle.numa_reports.specs.Filled.{first_free, one_less, free_behind};
 ghost use Rattle.numa_reports.specs.Filled.{nodes_of, planned_nodes, with_named};
 ghost use Rattle.numa_reports.specs.Told.{IsFilling, IsTaken, LacksOne, ToldEach, ToldOne};
 ghost use Rattle.numa_reports.specs.Turns.{HasPages, Repeats};
 
-use crate::fault::ReportFault;
+use crate::fault::ReportError;
 use crate::period::period_in;
 use crate::prediction::{RangePrediction, TakeRange, policy_of};
 use crate::touch::{Touch, has_node};
@@ -207,7 +207,7 @@ fn fill_next<T: TakeRange>(
     range: &Run<RangeRecord>,
     free: &mut [u64; 256],
     taker: &mut T,
-) -> Result<(), ReportFault>
+) -> Result<(), ReportError>
     requires known { touch.cpu < space.now.machine.nodes }
     requires own { option_and_then (λ at. at.1) (page_at space.now.ranges range.now.first)
         ≡ range.now.value }
@@ -252,7 +252,7 @@ pub fn fill_all<T: TakeRange>(
     cpu: u32,
     free: &mut [u64; 256],
     taker: &mut T,
-) -> Result<(), ReportFault>
+) -> Result<(), ReportError>
     ensures ok { (history : List Command) → StandsFor space.now history
         → PlanStandsFor space.now.machine plan.now history → OnOk result (free.new
         ≡ free_behind (nodes_of space.now.machine history task cpu) free.old 0 (2 ^ 35)) }
@@ -265,7 +265,7 @@ pub fn fill_all<T: TakeRange>(
     ensures bad_cpu { space.now.machine.nodes ≤ cpu → result ≡ Err (Refused BadCpu) }
 {
     if !has_node(space, cpu) {
-        return Err(ReportFault::Refused(PlaceRefusal::BadCpu));
+        return Err(ReportError::Refused(PlaceRefusal::BadCpu));
     }
     let touch = Touch { task, cpu };
     for range in space.range_iter() {

@@ -15,7 +15,7 @@ mod tally;
 mod touch;
 mod turns;
 
-pub use fault::ReportFault;
+pub use fault::ReportError;
 pub use filling::{FreePages, fill_all};
 pub use moves::span_moves;
 pub use outlook::{Outlook, PageSpan, common_spans, outlook_of};

@@ -5,12 +5,12 @@ ghost use Rattle.numa_compile.specs.Standing.{PlanStandsFor};
 ghost use Rattle.numa_machine.specs.Machine.{Hardware};
 ghost use Rattle.numa_space.specs.declared.command.Command.{Command};
 ghost use Rattle.numa_space.specs.declared.refusal.PlaceRefusal.TheVariants.{BadCpu};
-ghost use Rattle.numa_reports.specs.declared.fault.ReportFault.TheVariants.{Refused};
+ghost use Rattle.numa_reports.specs.declared.fault.ReportError.TheVariants.{Refused};
 ghost use Rattle.numa_reports.specs.Failing.{MovesMayFail, RefusesEither};
 ghost use Rattle.numa_reports.specs.Moved.{AddsMoves, AreMoves, HasRoomFor};
 ghost use Rattle.numa_reports.specs.Moved.{meant_moves, pairs, planned_moves};
 
-use crate::fault::ReportFault;
+use crate::fault::ReportError;
 use crate::outlook::PageSpan;
 use crate::touch::Touch;
 use numa_plan::Plan;
@@ -165,7 +165,7 @@ pub fn span_moves(
     cpu: u32,
     first: u64,
     pages: u64,
-) -> Result<Vec<u64>, ReportFault>
+) -> Result<Vec<u64>, ReportError>
     ensures ok { (machine : Hardware) (old new : List Command)
         → PlanStandsFor machine before.now old → PlanStandsFor machine after.now new
         → cpu < machine.nodes
@@ -177,7 +177,7 @@ pub fn span_moves(
     ensures bad_cpu { before.now.nodes ≤ cpu → result ≡ Err (Refused BadCpu) }
 {
     if !has_node(before, cpu) {
-        return Err(ReportFault::Refused(PlaceRefusal::BadCpu));
+        return Err(ReportError::Refused(PlaceRefusal::BadCpu));
     }
     let mut table = empty_table(alloc, ENTRIES)?;
     let span = PageSpan { first, pages };

@@ -5,9 +5,9 @@ ghost use Rattle.numa_space.specs.Standing.{StandsFor};
 ghost use Rattle.numa_space.specs.declared.command.Command.{Command};
 ghost use Rattle.numa_reports.specs.Common.{AreCommon, AreRising, common_of, span_end};
 ghost use Rattle.numa_reports.specs.Mapped.{IsOutlook, span_of};
-ghost use Rattle.numa_reports.specs.declared.fault.ReportFault.TheVariants as fault;
+ghost use Rattle.numa_reports.specs.declared.fault.ReportError.TheVariants as fault;
 
-use crate::fault::ReportFault;
+use crate::fault::ReportError;
 use numa_compile::compile;
 use numa_plan::Plan;
 use numa_space::Space;
@@ -46,7 +46,7 @@ fn spans_of(alloc: Global, space: &Space) -> Result<Vec<PageSpan>, AllocError>
 ///
 /// # Errors
 /// `Memory` where there was none for it.
-pub fn outlook_of(alloc: Global, space: &Space) -> Result<Outlook, ReportFault>
+pub fn outlook_of(alloc: Global, space: &Space) -> Result<Outlook, ReportError>
     ensures plan { (history : List Command) → StandsFor space.now history
         → IfOk result (λ outlook. PlanStandsFor space.now.machine outlook.plan history) }
     ensures spans { IfOk result (λ outlook.

@@ -12,12 +12,12 @@ ghost use Rattle.numa_space.specs.Pages.{resolved_policy};
 ghost use Rattle.numa_space.specs.Standing.{StandsFor};
 ghost use Rattle.numa_space.specs.declared.command.Command.{Command};
 ghost use Rattle.numa_space.specs.declared.refusal.PlaceRefusal.TheVariants.{BadCpu};
-ghost use Rattle.numa_reports.specs.declared.fault.ReportFault.TheVariants.{Memory, Refused};
+ghost use Rattle.numa_reports.specs.declared.fault.ReportError.TheVariants.{Memory, Refused};
 ghost use Rattle.numa_reports.specs.Failing.{FailsBy, FailsForNode};
 ghost use Rattle.numa_reports.specs.Predicted.{AddsSpan, AreFirsts, AreNone, IsPrediction};
 ghost use Rattle.numa_reports.specs.Told.{LacksOne, ToldEach, ToldOne};
 
-use crate::fault::ReportFault;
+use crate::fault::ReportError;
 use crate::tally::{count_range, move_counts};
 use crate::touch::{Touch, has_node};
 use numa_mode::Record;
@@ -118,7 +118,7 @@ fn predict_next<T: TakeRange>(
     taker: &mut T,
     said: &mut RangePrediction,
     all: &mut [u64; 256],
-) -> Result<(), ReportFault>
+) -> Result<(), ReportError>
     requires own { option_and_then (λ at. at.1) (page_at space.now.ranges range.now.first)
         ≡ range.now.value }
     requires known { touch.cpu < space.now.machine.nodes }
@@ -157,7 +157,7 @@ pub fn predict_all<T: TakeRange>(
     task: u32,
     cpu: u32,
     taker: &mut T,
-) -> Result<[u64; 256], ReportFault>
+) -> Result<[u64; 256], ReportError>
     ensures ok { (history : List Command) → StandsFor space.now history
         → PlanStandsFor space.now.machine plan.now history
         → IfOk result (AreFirsts space.now.machine history task cpu 0 (2 ^ 35)) }
@@ -169,7 +169,7 @@ pub fn predict_all<T: TakeRange>(
     ensures bad_cpu { space.now.machine.nodes ≤ cpu → result ≡ Err (Refused BadCpu) }
 {
     if !has_node(space, cpu) {
-        return Err(ReportFault::Refused(PlaceRefusal::BadCpu));
+        return Err(ReportError::Refused(PlaceRefusal::BadCpu));
     }
     let mut said = RangePrediction {
         policy: None,

@@ -9,7 +9,7 @@ use Rattle.numa_machine.specs.declared.fault.MachineFault.TheVariants as machine
 use Rattle.numa_machine.specs.declared.rules.Rules.{Rules}
 use Rattle.numa_core.specs.World.{Setup, opening}
 use Rattle.numa_core.specs.Standing.{LeadsTo, setup_of}
-use Rattle.numa_script.specs.declared.policy.WordFault.TheVariants as word_fault
+use Rattle.numa_script.specs.declared.policy.WordError.TheVariants as word_fault
 use Rattle.numa_script.specs.declared.line.MachineLine.{MachineLine}
 use Rattle.numa_script.specs.declared.line.Question.{Question}
 use Rattle.numa_script.specs.declared.line.Line.{Line}

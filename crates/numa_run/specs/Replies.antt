@@ -7,8 +7,8 @@ use Rattle.numa_machine.specs.declared.fault.MachineFault.{MachineFault}
 use Rattle.numa_space.specs.declared.command.Command.{Command}
 use Rattle.numa_core.specs.World.{opening}
 use Rattle.numa_space.specs.declared.event.Event.TheVariants.{Accept}
-use Rattle.numa_script.specs.declared.policy.WordFault.{WordFault}
-use Rattle.numa_script.specs.declared.policy.WordFault.TheVariants as word_fault
+use Rattle.numa_script.specs.declared.policy.WordError.{WordError}
+use Rattle.numa_script.specs.declared.policy.WordError.TheVariants as word_fault
 use Rattle.numa_script.specs.declared.line.MachineLine.{MachineLine}
 use Rattle.numa_script.specs.declared.line.Line.{Line}
 use Rattle.numa_script.specs.declared.line.Line.TheVariants as line
@@ -108,7 +108,7 @@ with_outcome state outcome =
 
 -- map, unmap, mbind, home, task, weight, mems: a fault of a list or a policy comes before every
 -- refusal
-abbrev pub command_outcome : Bool → Hardware → State → Result Command WordFault → Served
+abbrev pub command_outcome : Bool → Hardware → State → Result Command WordError → Served
 command_outcome refused machine state (Err fault) = with_reply (reply.BadWord fault) state
 command_outcome refused machine state (Ok command) =
     with_outcome state (event_outcome refused (setup_with machine state.bounds) state.world

@@ -18,7 +18,7 @@ use numa_maps::Resident;
 use numa_mask::{ListFault, NodeMask};
 use numa_script::line::parse;
 use numa_script::tell::say_reply;
-use numa_script::{Line, MachineLine, Reply, WordFault};
+use numa_script::{Line, MachineLine, Reply, WordError};
 use numa_space::Limits;
 use std::alloc::Global;
 use std::io::Write;
@@ -127,7 +127,7 @@ impl Script {
                 self.settings.cpus = Some(*cpus);
                 Reply::CpusOk
             }
-            Err(fault) => Reply::BadWord(WordFault::List(*fault)),
+            Err(fault) => Reply::BadWord(WordError::List(*fault)),
         }
     }
 
@@ -140,7 +140,7 @@ impl Script {
         let MachineLine { memory, .. } = said;
         let memory = match memory {
             Ok(memory) => *memory,
-            Err(fault) => return Reply::BadWord(WordFault::List(*fault)),
+            Err(fault) => return Reply::BadWord(WordError::List(*fault)),
         };
         let Settings { rules, cpus, .. } = self.settings;
         let machine = match build(alloc, said, memory, rules, cpus) {

@@ -26,7 +26,7 @@ use Rattle.numa_script.specs.declared.line.Question.TheVariants as question
 use Rattle.numa_script.specs.declared.malformed.Malformed.{Malformed}
 use Rattle.numa_script.specs.declared.parameter.Misfit.{Misfit}
 use Rattle.numa_script.specs.declared.parameter.Parameter.{Parameter}
-use Rattle.numa_script.specs.declared.policy.WordFault.{WordFault}
+use Rattle.numa_script.specs.declared.policy.WordError.{WordError}
 use Rattle.numa_script.specs.declared.work.Work.TheVariants as work
 use Rattle.numa_script.proofs.Columns.{width_of_words}
 use Rattle.numa_script.proofs.Misfits.{small, span_pages, node_number, frame_number, any_number, page, readable}
@@ -151,7 +151,7 @@ none_second : {A B C : Type 0} (h : C → Line) (g : A → B → C) (x : Option 
 none_second h g None = refl
 none_second h g (Some x) = refl
 
-policy_said : (f : Specification → Command) (r : Result Specification WordFault) → is_malformed (with_policy f r) ≡ false
+policy_said : (f : Specification → Command) (r : Result Specification WordError) → is_malformed (with_policy f r) ≡ false
 policy_said f (Ok spec) = refl
 policy_said f (Err fault) = refl
 

@@ -18,8 +18,8 @@ use Rattle.numa_script.specs.Machines.{frames_of, distances_of, rules_of, has_ke
 use Rattle.numa_script.specs.Policies.{policy_of}
 use Rattle.numa_script.specs.Workers.{publish_work, begin_work, look_work, try_work, give_work}
 use Rattle.numa_script.specs.Workers.{touch_work, release_work}
-use Rattle.numa_script.specs.declared.policy.WordFault.{WordFault}
-use Rattle.numa_script.specs.declared.policy.WordFault.TheVariants as fault
+use Rattle.numa_script.specs.declared.policy.WordError.{WordError}
+use Rattle.numa_script.specs.declared.policy.WordError.TheVariants as fault
 use Rattle.numa_script.specs.declared.keyword.Keyword.{Keyword}
 use Rattle.numa_script.specs.declared.keyword.Keyword.TheVariants as keyword
 use Rattle.numa_script.specs.declared.line.Line.{Line}
@@ -82,7 +82,7 @@ keyword_of first = keyword_among (keywords_of (length first)) first
 -- ---- the words after the first
 
 -- a command that needs a policy, or a list of nodes
-abbrev pub with_policy : (Specification → Command) → Result Specification WordFault → Line
+abbrev pub with_policy : (Specification → Command) → Result Specification WordError → Line
 with_policy f (Ok spec) = line.Command (Ok (f spec))
 with_policy f (Err wrong) = line.Command (Err wrong)
 

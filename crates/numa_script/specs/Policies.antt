@@ -9,13 +9,13 @@ use Rattle.numa_mask.specs.declared.list.ListFault.{ListFault}
 use Rattle.numa_mode.specs.Policy.{Specification, specification_of}
 use Rattle.numa_mode.specs.declared.modes.Mode.{Mode}
 use Rattle.numa_mode.specs.declared.modes.Mode.TheVariants as mode
-use Rattle.numa_mode.specs.declared.specification.SpecFault.{SpecFault}
-use Rattle.numa_mode.specs.declared.specification.SpecFault.TheVariants.{UnknownMode}
+use Rattle.numa_mode.specs.declared.specification.SpecError.{SpecError}
+use Rattle.numa_mode.specs.declared.specification.SpecError.TheVariants.{UnknownMode}
 use Rattle.numa_mask.specs.Parts.{parts_of}
 use Rattle.numa_script.specs.Tables.{meaning_of}
 use Rattle.numa_script.specs.declared.policy.PolicyForm.{PolicyForm}
-use Rattle.numa_script.specs.declared.policy.WordFault.{WordFault}
-use Rattle.numa_script.specs.declared.policy.WordFault.TheVariants as fault
+use Rattle.numa_script.specs.declared.policy.WordError.{WordError}
+use Rattle.numa_script.specs.declared.policy.WordError.TheVariants as fault
 
 -- the names of the modes
 abbrev pub mode_names : List (List ℕ × Mode)
@@ -62,23 +62,23 @@ form_of_parts _ = None
 abbrev pub form_of : List ℕ → Option PolicyForm
 form_of text = form_of_parts (parts_of 61 text)
 
-abbrev pub spec_or_fault : Result Specification SpecFault → Result Specification WordFault
+abbrev pub spec_or_fault : Result Specification SpecError → Result Specification WordError
 spec_or_fault (Ok spec) = Ok spec
 spec_or_fault (Err f) = Err (fault.Policy f)
 
 -- the form is judged first, then the list, then the two together
-abbrev pub policy_from : Option PolicyForm → Result ℕ ListFault → Result Specification WordFault
+abbrev pub policy_from : Option PolicyForm → Result ℕ ListFault → Result Specification WordError
 policy_from None nodes = Err (fault.Policy UnknownMode)
 policy_from (Some form) (Err f) = Err (fault.List f)
 policy_from (Some form) (Ok mask) =
     spec_or_fault (specification_of form.mode form.is_static form.is_relative mask)
 
 -- a word without a colon names no nodes
-abbrev pub policy_cut : List ℕ → Option ℕ → Result Specification WordFault
+abbrev pub policy_cut : List ℕ → Option ℕ → Result Specification WordError
 policy_cut word None = policy_from (form_of word) (Ok 0)
 policy_cut word (Some colon) =
     policy_from (form_of (take colon word)) (list_of (drop (colon + 1) word))
 
 -- the policy of a word, which is cut at its first colon
-unfoldable pub policy_of : List ℕ → Result Specification WordFault
+unfoldable pub policy_of : List ℕ → Result Specification WordError
 policy_of word = policy_cut word (position (λ b. b == 58) word)

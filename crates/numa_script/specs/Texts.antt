@@ -2,8 +2,8 @@
 use Rattle.std.specs.Prelude.{ℕ, List, [], ◌∷◌, ◌++◌, codes, decimal, flat_map}
 use Rattle.numa_mask.specs.declared.list.ListFault.{ListFault}
 use Rattle.numa_mask.specs.declared.list.ListFault.TheVariants as list
-use Rattle.numa_mode.specs.declared.specification.SpecFault.{SpecFault}
-use Rattle.numa_mode.specs.declared.specification.SpecFault.TheVariants as policy
+use Rattle.numa_mode.specs.declared.specification.SpecError.{SpecError}
+use Rattle.numa_mode.specs.declared.specification.SpecError.TheVariants as policy
 use Rattle.numa_machine.specs.declared.fault.MachineFault.{MachineFault}
 use Rattle.numa_machine.specs.declared.fault.MachineFault.TheVariants as machine
 use Rattle.numa_space.specs.Errors.{errno_of}
@@ -18,8 +18,8 @@ use Rattle.numa_space.specs.declared.event.CoreRefusal.TheVariants as core
 use Rattle.numa_maps.specs.Listing.{nodes_text as counts_text}
 use Rattle.numa_script.specs.declared.names.Named.{Named}
 use Rattle.numa_script.specs.declared.names.Named.TheVariants as named
-use Rattle.numa_script.specs.declared.policy.WordFault.{WordFault}
-use Rattle.numa_script.specs.declared.policy.WordFault.TheVariants as word
+use Rattle.numa_script.specs.declared.policy.WordError.{WordError}
+use Rattle.numa_script.specs.declared.policy.WordError.TheVariants as word
 use Rattle.numa_script.specs.declared.reply.Win.{Win}
 use Rattle.numa_script.specs.declared.reply.Reply.{Reply}
 use Rattle.numa_script.specs.declared.reply.Reply.TheVariants as reply
@@ -32,7 +32,7 @@ list_name list.BadDigit = codes "BadDigit"
 list_name list.BackRange = codes "BackRange"
 list_name list.NodeTooHigh = codes "NodeTooHigh"
 
-abbrev pub policy_name : SpecFault → List ℕ
+abbrev pub policy_name : SpecError → List ℕ
 policy_name policy.UnknownMode = codes "UnknownMode"
 policy_name policy.BothFlags = codes "BothFlags"
 policy_name policy.NodesForbidden = codes "NodesForbidden"
@@ -99,7 +99,7 @@ cause_name core.NoMemory = codes "NoMemory"
 
 -- ---- answers
 
-abbrev pub word_text : WordFault → List ℕ
+abbrev pub word_text : WordError → List ℕ
 word_text (word.List fault) = codes "bad list " ++ list_name fault
 word_text (word.Policy fault) = codes "bad policy " ++ policy_name fault
 

@@ -22,6 +22,6 @@ pub use line::{Line, MachineLine, Question};
 pub use line_server::{CallFailed, RunFault, Serve, Watched, run, serve, serve_script};
 pub use malformed::{Cause, Malformed, why_malformed};
 pub use parameter::{Form, Misfit, Parameter};
-pub use policy::WordFault;
+pub use policy::WordError;
 pub use reply::{Reply, Win};
 pub use work::Work;

@@ -11,7 +11,7 @@ use crate::keyword::{Keyword, read_keyword};
 use crate::machine::{Distances, Frames, has_kernel_orders};
 use crate::number::{few_pages, number, small};
 use crate::parts::{Parts, words};
-use crate::policy::{WordFault, read_policy};
+use crate::policy::{WordError, read_policy};
 use crate::reading::{four, four_words, three, three_words, two, two_words};
 use crate::rules::read_rules;
 use crate::work::{Work, begin, give, look, publish, release, touch, try_frame};
@@ -92,7 +92,7 @@ pub enum Line<'a> {
     /// A machine.
     Machine(MachineLine<'a>),
     /// A command, or the fault of its list or policy, which counts once a machine is ready.
-    Command(Result<Command, WordFault>),
+    Command(Result<Command, WordError>),
     /// A question.
     Question(Question),
     /// The ranges, with their policies for the task and the pages that are placed.
@@ -186,7 +186,7 @@ fn mems(words: Parts) -> Option<Line>
 {
     match read_list(words.only()?) {
         Ok(mask) => Some(Line::Command(Ok(Command::SetMems { mask }))),
-        Err(fault) => Some(Line::Command(Err(WordFault::List(fault)))),
+        Err(fault) => Some(Line::Command(Err(WordError::List(fault)))),
     }
 }
 

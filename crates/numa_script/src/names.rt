@@ -4,7 +4,7 @@ ghost use Rattle.numa_script.specs.Texts.{name_of};
 
 use numa_machine::MachineFault;
 use numa_mask::ListFault;
-use numa_mode::SpecFault;
+use numa_mode::SpecError;
 use numa_space::{Errno, PlaceRefusal, Refusal};
 
 /// What answers give by its name.
@@ -13,7 +13,7 @@ pub enum Named {
     /// A fault of a list of nodes.
     List(ListFault),
     /// A fault of a policy.
-    Policy(SpecFault),
+    Policy(SpecError),
     /// A fault of a machine.
     Machine(MachineFault),
     /// A command's refusal.

@@ -9,15 +9,15 @@ use crate::table::meaning;
 use bitflags::Flags;
 use numa_mask::parts::first_place;
 use numa_mask::{ListFault, NodeMask, read_list};
-use numa_mode::{Mode, PolicyFlags, PolicySpec, SpecFault};
+use numa_mode::{Mode, PolicyFlags, PolicySpec, SpecError};
 
 /// What is wrong with a word for nodes or for a policy.
 #[derive(Clone, Copy, Debug, PartialEq, Eq)]
-pub enum WordFault {
+pub enum WordError {
     /// The list of nodes is faulty.
     List(ListFault),
     /// There is no such policy.
-    Policy(SpecFault),
+    Policy(SpecError),
 }
 
 /// What a policy word says before its first colon.
@@ -120,19 +120,19 @@ fn flags(is_static: bool, is_relative: bool) -> PolicyFlags
 fn policy(
     form: Option<PolicyForm>,
     nodes: Result<NodeMask, ListFault>,
-) -> Result<PolicySpec, WordFault>
+) -> Result<PolicySpec, WordError>
     ensures { result ≡ policy_from form nodes }
 {
     let Some(form) = form else {
-        return Err(WordFault::Policy(SpecFault::UnknownMode));
+        return Err(WordError::Policy(SpecError::UnknownMode));
     };
     let mask = match nodes {
         Ok(mask) => mask,
-        Err(fault) => return Err(WordFault::List(fault)),
+        Err(fault) => return Err(WordError::List(fault)),
     };
     match PolicySpec::new(form.mode, flags(form.is_static, form.is_relative), mask) {
         Ok(spec) => Ok(spec),
-        Err(fault) => Err(WordFault::Policy(fault)),
+        Err(fault) => Err(WordError::Policy(fault)),
     }
 }
 
@@ -140,7 +140,7 @@ fn policy(
 /// is `UnknownMode`; then a fault of the list is answered; then those of [`PolicySpec::new`].
 /// Without a colon there are no nodes.
 #[tactic(auto, unfolding(crate::specs::Policies::policy_of))]
-pub fn read_policy(word: &[u8]) -> Result<PolicySpec, WordFault>
+pub fn read_policy(word: &[u8]) -> Result<PolicySpec, WordError>
     ensures { result ≡ policy_of word.now }
 {
     match first_place(word, b':') {

@@ -2,7 +2,7 @@
 ghost use Rattle.std.specs.Prelude.{◌≡◌};
 ghost use Rattle.numa_script.specs.Replies.{done_reply, reply_to, win_of};
 
-use crate::policy::WordFault;
+use crate::policy::WordError;
 use numa_machine::{Frame, MachineFault};
 use numa_space::{CoreRefusal, CoreReply, Placement};
 
@@ -52,7 +52,7 @@ pub enum Reply {
     /// The machine is refused.
     BadMachine(MachineFault),
     /// A list of nodes or a policy is faulty.
-    BadWord(WordFault),
+    BadWord(WordError),
     /// The command is accepted: how many are now.
     Accepted(u64),
     /// The commands are published: how many.

@@ -11,7 +11,7 @@ ghost use Rattle.numa_script.specs.Texts.{refused_text, text_of, win_answer, wor
 
 use crate::names::Named;
 use crate::nodes::{FEW, say_each_node, say_few};
-use crate::policy::WordFault;
+use crate::policy::WordError;
 use crate::reply::{Reply, Win};
 use line_server::Watched;
 use numa_machine::Frame;
@@ -45,12 +45,12 @@ fn say_count<W: Write>(output: &mut Watched<W>, text: &[u8], count: u64)
 }
 
 /// Says what is wrong with a list of nodes or a policy.
-fn say_word_fault<W: Write>(output: &mut Watched<W>, fault: WordFault)
+fn say_word_fault<W: Write>(output: &mut Watched<W>, fault: WordError)
     ensures { Said W.contents output.old output.new (word_text fault ++ codes "\n") }
 {
     match fault {
-        WordFault::List(fault) => say_line(output, b"bad list ", Named::List(fault).name()),
-        WordFault::Policy(fault) => say_line(output, b"bad policy ", Named::Policy(fault).name()),
+        WordError::List(fault) => say_line(output, b"bad list ", Named::List(fault).name()),
+        WordError::Policy(fault) => say_line(output, b"bad policy ", Named::Policy(fault).name()),
     }
 }
 

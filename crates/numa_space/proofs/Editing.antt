@@ -8,8 +8,8 @@ use Rattle.numa_ranges.specs.Runs.{page_at}
 use Rattle.numa_ranges.specs.Counts.{range_count}
 use Rattle.numa_ranges.specs.Maps.{IsRefusal, count_refusal, map_refusal, set_refusal, with_span, changed_span}
 use Rattle.numa_ranges.specs.Ranges.{Ranges}
-use Rattle.numa_ranges.specs.declared.fault.RangeFault.{RangeFault}
-use Rattle.numa_ranges.specs.declared.fault.RangeFault.TheVariants as fault
+use Rattle.numa_ranges.specs.declared.fault.RangeError.{RangeError}
+use Rattle.numa_ranges.specs.declared.fault.RangeError.TheVariants as fault
 use Rattle.numa_space.specs.declared.refusal.Refusal.{Refusal}
 use Rattle.numa_space.specs.declared.refusal.Refusal.TheVariants.{Overlap, Hole, TooManyRanges}
 use Rattle.numa_space.specs.Edits.{PageRanges, IsEdit, too_many, overlap_cause, hole_cause, refusal_from}
@@ -41,7 +41,7 @@ set-cause same e limit at first pages value =
     ]
 
 -- an edit, from what the map answered
-pub edit-from : (cause : Option RangeFault) (named : Option Refusal) (after : PageMap) (old new : PageRanges) (inner : Result (Unit {0}) RangeFault) (outer : Result (Unit {0}) Refusal)
+pub edit-from : (cause : Option RangeError) (named : Option Refusal) (after : PageMap) (old new : PageRanges) (inner : Result (Unit {0}) RangeError) (outer : Result (Unit {0}) Refusal)
     → option_map refusal_from cause ≡ named
     → OnOk inner ((page : ℕ) → page_at new.runs page ≡ after page)
     → OnOk inner (cause ≡ None)
@@ -53,7 +53,7 @@ edit-from cause named after old new inner outer same done free err kept answered
     let P : Option Refusal → Type 0 = λ n. IsEdit n after old outer new in
     subst P same (by_inner cause inner done free err kept answered)
   where
-    by_inner : (c : Option RangeFault) (inner : Result (Unit {0}) RangeFault)
+    by_inner : (c : Option RangeError) (inner : Result (Unit {0}) RangeError)
         → OnOk inner ((page : ℕ) → page_at new.runs page ≡ after page)
         → OnOk inner (c ≡ None)
         → IfErr inner (IsRefusal c)
@@ -69,11 +69,11 @@ edit-from cause named after old new inner outer same done free err kept answered
 abbrev pub shown : Ranges (Option PolicyRecord) → PageRanges
 shown map = record { runs = map.runs; limit = map.max_ranges }
 
-kept_shown : (inner : Result (Unit {0}) RangeFault) (old new : Ranges (Option PolicyRecord)) → OnErr inner (new ≡ old) → OnErr inner (shown new ≡ shown old)
+kept_shown : (inner : Result (Unit {0}) RangeError) (old new : Ranges (Option PolicyRecord)) → OnErr inner (new ≡ old) → OnErr inner (shown new ≡ shown old)
 kept_shown (Ok u) old new h = tt
 kept_shown (Err f) old new h = ap shown h
 
-module _ (same : Test) (e : same ≡ same_record) (old new : Ranges (Option PolicyRecord)) (now : PageRanges) (view_is : shown old ≡ now) (first pages : ℕ) (inner : Result (Unit {0}) RangeFault) (outer : Result (Unit {0}) Refusal) (answered : MatchResult inner (λ done. outer ≡ Ok done) (λ f. outer ≡ Err (refusal_from f))) (unchanged : OnErr inner (new ≡ old)) where
+module _ (same : Test) (e : same ≡ same_record) (old new : Ranges (Option PolicyRecord)) (now : PageRanges) (view_is : shown old ≡ now) (first pages : ℕ) (inner : Result (Unit {0}) RangeError) (outer : Result (Unit {0}) Refusal) (answered : MatchResult inner (λ done. outer ≡ Ok done) (λ f. outer ≡ Err (refusal_from f))) (unchanged : OnErr inner (new ≡ old)) where
   pub map-edit : (index : ℕ) (value wanted : Option PolicyRecord) → value ≡ wanted
       → OnOk inner ((page : ℕ) → page_at new.runs page ≡ with_span first pages index value (page_at old.runs) page)
       → OnOk inner (map_refusal same old.max_ranges (page_at old.runs) first pages index value ≡ None)

@@ -6,7 +6,7 @@ use Rattle.numa_machine.specs.declared.rules.Rules.TheVariants.{Linux}
 use Rattle.numa_mode.specs.Policy.{specification_of}
 use Rattle.numa_mode.specs.declared.modes.Mode.TheVariants.{Default, Preferred, Bind, Interleave, Local}
 use Rattle.numa_mode.specs.declared.modes.NodeFlag.TheVariants.{Plain, Relative}
-use Rattle.numa_mode.specs.declared.specification.SpecFault.TheVariants.{BothFlags, NodesForbidden, FlagsForbidden, NodesMissing}
+use Rattle.numa_mode.specs.declared.specification.SpecError.TheVariants.{BothFlags, NodesForbidden, FlagsForbidden, NodesMissing}
 use Rattle.numa_ranges.specs.Maps.{any_page}
 use Rattle.numa_space.specs.Policies.{mems_of}
 use Rattle.numa_space.specs.Refusals.{lacks_mems}

@@ -6,8 +6,8 @@ use Rattle.numa_ranges.specs.Maps.{any_page}
 use Rattle.numa_ranges.specs.Runs.{page_at}
 use Rattle.numa_ranges.specs.Counts.{range_count}
 use Rattle.numa_ranges.specs.declared.run.Run.{Run}
-use Rattle.numa_ranges.specs.declared.fault.RangeFault.{RangeFault}
-use Rattle.numa_ranges.specs.declared.fault.RangeFault.TheVariants as fault
+use Rattle.numa_ranges.specs.declared.fault.RangeError.{RangeError}
+use Rattle.numa_ranges.specs.declared.fault.RangeError.TheVariants as fault
 use Rattle.numa_space.specs.declared.refusal.Refusal.{Refusal}
 use Rattle.numa_space.specs.declared.refusal.Refusal.TheVariants.{Overlap, Hole, TooManyRanges}
 use Rattle.numa_space.specs.declared.refusal.Refusal.TheVariants.{NoMemory}
@@ -23,7 +23,7 @@ pub record PageRanges : Type 0 where
   pub limit : ℕ
 
 -- a map's fault, as a refusal
-abbrev pub refusal_from : RangeFault → Refusal
+abbrev pub refusal_from : RangeError → Refusal
 refusal_from fault.Hole = Hole
 refusal_from fault.Overlap = Overlap
 refusal_from fault.TooManyRanges = TooManyRanges

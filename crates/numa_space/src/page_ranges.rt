@@ -20,7 +20,7 @@ use crate::refusal::Refusal;
 use numa_machine::Rules;
 use numa_mask::NodeMask;
 use numa_mode::Record;
-use numa_ranges::{RangeFault, RangeIter, RangeMap, Row, Run};
+use numa_ranges::{RangeError, RangeIter, RangeMap, Row, Run};
 use numa_rows::{Iter, Owned};
 use std::alloc::{AllocError, Global};
 use std::marker::Model;
@@ -267,15 +267,15 @@ fn reaches(test: PageTest, run: &Run<RangeRecord>, first: u64, end: u64) -> bool
 }
 
 /// A map's answer, as a space's.
-fn answered(outcome: Result<(), RangeFault>) -> Result<(), Refusal>
+fn answered(outcome: Result<(), RangeError>) -> Result<(), Refusal>
     ensures { MatchResult outcome (λ done. result ≡ Ok done)
         (λ fault. result ≡ Err (refusal_from fault)) }
 {
     match outcome {
         Ok(()) => Ok(()),
-        Err(RangeFault::Hole) => Err(Refusal::Hole),
-        Err(RangeFault::Overlap) => Err(Refusal::Overlap),
-        Err(RangeFault::TooManyRanges) => Err(Refusal::TooManyRanges),
-        Err(RangeFault::NoMemory) => Err(Refusal::NoMemory),
+        Err(RangeError::Hole) => Err(Refusal::Hole),
+        Err(RangeError::Overlap) => Err(Refusal::Overlap),
+        Err(RangeError::TooManyRanges) => Err(Refusal::TooManyRanges),
+        Err(RangeError::NoMemory) => Err(Refusal::NoMemory),
     }
 }

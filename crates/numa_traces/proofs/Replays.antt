@@ -11,8 +11,8 @@ use Rattle.numa_traces.specs.Placing.{Frames, node_of, frames_with_page}
 use Rattle.numa_traces.specs.Replaying.{EndsReplay, Replayed, IsReplay, frames_after, is_first, way_from}
 use Rattle.numa_traces.specs.Tallies.{Counts, IsFull, IsRoomFault, Way, is_way, with_accesses}
 use Rattle.numa_traces.specs.declared.access.Access.{Access}
-use Rattle.numa_traces.specs.declared.fault.ReplayFault.{ReplayFault}
-use Rattle.numa_traces.specs.declared.fault.ReplayFault.TheVariants.{Malformed, Refused, TooMany, NoMemory}
+use Rattle.numa_traces.specs.declared.fault.ReplayError.{ReplayError}
+use Rattle.numa_traces.specs.declared.fault.ReplayError.TheVariants.{Malformed, Refused, TooMany, NoMemory}
 
 pub on-ok : {A E : Type 0} {P Q : Type 0} (result : Result A E) → (P → Q) → OnOk result P → OnOk result Q
 on-ok (Ok a) from p = from p
@@ -27,7 +27,7 @@ none-refused plan task page cpu nodes lt planned = rw (lt-leb plan.nodes cpu lt)
     go f (Some at) e = refl
 
 -- why accesses that go a way can't be counted
-pub room-ends : {A : Type 0} (plan : PlanData) (met : Replayed) (access : Access) (way : Way) (first : Bool) (result : Result A ReplayFault) → place_refusal plan access.page access.cpu ≡ None
+pub room-ends : {A : Type 0} (plan : PlanData) (met : Replayed) (access : Access) (way : Way) (first : Bool) (result : Result A ReplayError) → place_refusal plan access.page access.cpu ≡ None
     → way_from plan met.frames access ≡ way → is_first met.frames access ≡ first
     → IfErr result IsRoomFault → IfErr result (λ why. why ≡ TooMany → IsFull met.tallies way access.count first)
     → IfErr result (EndsReplay plan met access)

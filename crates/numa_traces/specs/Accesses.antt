@@ -5,30 +5,30 @@ use Rattle.numa_script.specs.Lines.{is_silent}
 use Rattle.numa_script.specs.Numbers.{page_of, small_of}
 use Rattle.numa_script.specs.Parts.{words_of}
 use Rattle.numa_traces.specs.declared.access.Access.{Access}
-use Rattle.numa_traces.specs.declared.fault.AccessFault.{AccessFault}
-use Rattle.numa_traces.specs.declared.fault.AccessFault.TheVariants as fault
+use Rattle.numa_traces.specs.declared.fault.AccessError.{AccessError}
+use Rattle.numa_traces.specs.declared.fault.AccessError.TheVariants as fault
 
 -- The access by its four numbers, or the first of them that is none.
 
-abbrev pub with_count : ℕ → ℕ → ℕ → Option ℕ → Result Access AccessFault
+abbrev pub with_count : ℕ → ℕ → ℕ → Option ℕ → Result Access AccessError
 with_count task page cpu None = Err fault.BadCount
 with_count task page cpu (Some count) =
     Ok (record { task = task; page = page; cpu = cpu; count = count })
 
-abbrev pub with_cpu : ℕ → ℕ → Option ℕ → Option ℕ → Result Access AccessFault
+abbrev pub with_cpu : ℕ → ℕ → Option ℕ → Option ℕ → Result Access AccessError
 with_cpu task page None count = Err fault.BadCpu
 with_cpu task page (Some cpu) count = with_count task page cpu count
 
-abbrev pub with_page : ℕ → Option ℕ → Option ℕ → Option ℕ → Result Access AccessFault
+abbrev pub with_page : ℕ → Option ℕ → Option ℕ → Option ℕ → Result Access AccessError
 with_page task None cpu count = Err fault.BadAddress
 with_page task (Some page) cpu count = with_cpu task page cpu count
 
-abbrev pub with_task : Option ℕ → Option ℕ → Option ℕ → Option ℕ → Result Access AccessFault
+abbrev pub with_task : Option ℕ → Option ℕ → Option ℕ → Option ℕ → Result Access AccessError
 with_task None page cpu count = Err fault.BadTask
 with_task (Some task) page cpu count = with_page task page cpu count
 
 -- the access of three words or four; without COUNT it is one
-abbrev pub access_by : List (List ℕ) → Result Access AccessFault
+abbrev pub access_by : List (List ℕ) → Result Access AccessError
 access_by (task ∷ address ∷ cpu ∷ []) =
     with_task (small_of task) (page_of address) (small_of cpu) (Some 1)
 access_by (task ∷ address ∷ cpu ∷ count ∷ []) =
@@ -36,10 +36,10 @@ access_by (task ∷ address ∷ cpu ∷ count ∷ []) =
 access_by words = Err fault.WordCount
 
 -- an access, if there is one
-abbrev pub said_by : Result Access AccessFault → Result (Option Access) AccessFault
+abbrev pub said_by : Result Access AccessError → Result (Option Access) AccessError
 said_by (Ok access) = Ok (Some access)
 said_by (Err why) = Err why
 
 -- what a line says: nothing where it is empty or a comment
-abbrev pub access_of : List ℕ → Result (Option Access) AccessFault
+abbrev pub access_of : List ℕ → Result (Option Access) AccessError
 access_of line = if is_silent line then Ok None else said_by (access_by (words_of line))

@@ -8,9 +8,9 @@ use Rattle.numa_traces.specs.Placing.{Frames, node_of, frames_with_page}
 use Rattle.numa_traces.specs.Tallies.{IsFull, Tallied, Way, is_way, no_accesses, tally_at}
 use Rattle.numa_traces.specs.Tallies.{with_accesses}
 use Rattle.numa_traces.specs.declared.access.Access.{Access}
-use Rattle.numa_traces.specs.declared.fault.ReplayFault.{ReplayFault}
-use Rattle.numa_traces.specs.declared.fault.ReplayFault.TheVariants.{Malformed, Refused}
-use Rattle.numa_traces.specs.declared.fault.ReplayFault.TheVariants.{TooMany, NoMemory}
+use Rattle.numa_traces.specs.declared.fault.ReplayError.{ReplayError}
+use Rattle.numa_traces.specs.declared.fault.ReplayError.TheVariants.{Malformed, Refused}
+use Rattle.numa_traces.specs.declared.fault.ReplayError.TheVariants.{TooMany, NoMemory}
 use Rattle.numa_traces.specs.declared.tallies.Tally.{Tally}
 
 -- no page is placed, and every frame is free
@@ -70,7 +70,7 @@ pub record IsReplay (machine : Hardware) (plan : PlanData) (trace : List Access)
 
 -- why an access that was read can't be replayed: the plan refuses it, for this cause; else a number
 -- of its way would pass 2^64 - 1, or there was no memory
-abbrev pub EndsReplay : PlanData → Replayed → Access → ReplayFault → Type 0
+abbrev pub EndsReplay : PlanData → Replayed → Access → ReplayError → Type 0
 EndsReplay plan met access (Malformed fault) = ⊥
 EndsReplay plan met access (Refused refusal) =
     place_refusal plan access.page access.cpu ≡ Some refusal

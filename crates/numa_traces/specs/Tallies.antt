@@ -6,8 +6,8 @@ use Rattle.std.specs.Map.{lookup}
 use Rattle.std.specs.Option.{option_cmp}
 use Rattle.std.specs.Ordering.{nat_cmp, ordering_then}
 use Rattle.std.specs.declared.cmp.Ordering.{Ordering}
-use Rattle.numa_traces.specs.declared.fault.ReplayFault.{ReplayFault}
-use Rattle.numa_traces.specs.declared.fault.ReplayFault.TheVariants.{TooMany, NoMemory}
+use Rattle.numa_traces.specs.declared.fault.ReplayError.{ReplayError}
+use Rattle.numa_traces.specs.declared.fault.ReplayError.TheVariants.{TooMany, NoMemory}
 use Rattle.numa_traces.specs.declared.tallies.Tally.{Tally}
 
 -- a task, the node of its CPU and the node of the page, if it has a frame
@@ -47,7 +47,7 @@ Counts old way count is_fault new = (other : Way) → tally_at new other
     else tally_at old other
 
 -- there was no room for a number, or no memory
-abbrev pub IsRoomFault : ReplayFault → Type 0
+abbrev pub IsRoomFault : ReplayError → Type 0
 IsRoomFault TooMany = ⊤
 IsRoomFault NoMemory = ⊤
 IsRoomFault _ = ⊥

@@ -3,7 +3,7 @@ ghost use Rattle.std.specs.Prelude.{◌≡◌};
 ghost use Rattle.numa_script.specs.Lines.{is_silent};
 ghost use Rattle.numa_traces.specs.Accesses.{access_by, access_of, with_task};
 
-use crate::fault::AccessFault;
+use crate::fault::AccessError;
 use numa_script::number::{page, small};
 use numa_script::parts::{Parts, words};
 
@@ -28,20 +28,20 @@ fn access_with(
     page: Option<u64>,
     cpu: Option<u32>,
     count: Option<u32>,
-) -> Result<Access, AccessFault>
+) -> Result<Access, AccessError>
     ensures { result ≡ with_task task page cpu count }
 {
     let Some(task) = task else {
-        return Err(AccessFault::BadTask);
+        return Err(AccessError::BadTask);
     };
     let Some(page) = page else {
-        return Err(AccessFault::BadAddress);
+        return Err(AccessError::BadAddress);
     };
     let Some(cpu) = cpu else {
-        return Err(AccessFault::BadCpu);
+        return Err(AccessError::BadCpu);
     };
     let Some(count) = count else {
-        return Err(AccessFault::BadCount);
+        return Err(AccessError::BadCount);
     };
     Ok(Access {
         task,
@@ -52,23 +52,23 @@ fn access_with(
 }
 
 /// The access of three words or four.
-fn read_words(mut words: Parts<'_>) -> Result<Access, AccessFault>
+fn read_words(mut words: Parts<'_>) -> Result<Access, AccessError>
     ensures { result ≡ access_by words.entry }
 {
     let Some(task) = words.next() else {
-        return Err(AccessFault::WordCount);
+        return Err(AccessError::WordCount);
     };
     let Some(address) = words.next() else {
-        return Err(AccessFault::WordCount);
+        return Err(AccessError::WordCount);
     };
     let Some(cpu) = words.next() else {
-        return Err(AccessFault::WordCount);
+        return Err(AccessError::WordCount);
     };
     let Some(count) = words.next() else {
         return access_with(small(task), page(address), small(cpu), Some(1));
     };
     let None = words.next() else {
-        return Err(AccessFault::WordCount);
+        return Err(AccessError::WordCount);
     };
     access_with(small(task), page(address), small(cpu), small(count))
 }
@@ -89,7 +89,7 @@ fn is_silent(line: &[u8]) -> bool
 ///
 /// # Errors
 /// The first word that isn't what it has to be; `WordCount` before it.
-pub fn read_access(line: &[u8]) -> Result<Option<Access>, AccessFault>
+pub fn read_access(line: &[u8]) -> Result<Option<Access>, AccessError>
     ensures { result ≡ access_of line.now }
 {
     if is_silent(line) {

@@ -4,7 +4,7 @@ use numa_space::PlaceRefusal;
 
 /// Why a line says no access.
 #[derive(Clone, Copy, Debug)]
-pub enum AccessFault {
+pub enum AccessError {
     /// There are fewer than three words, or more than four.
     WordCount,
     /// The task is no number below 2^32.
@@ -19,9 +19,9 @@ pub enum AccessFault {
 
 /// Why a trace can't be replayed.
 #[derive(Clone, Copy, Debug)]
-pub enum ReplayFault {
+pub enum ReplayError {
     /// The line says no access.
-    Malformed(AccessFault),
+    Malformed(AccessError),
     /// The machine has no such node, or the page isn't mapped.
     Refused(PlaceRefusal),
     /// There are 2^64 accesses or more of one kind.
@@ -30,32 +30,32 @@ pub enum ReplayFault {
     NoMemory,
 }
 
-impl AccessFault {
+impl AccessError {
     /// What is wrong with the line, in a few words.
     pub fn text(self) -> &'static str {
         match self {
-            AccessFault::WordCount => "bad words: a line of a trace is TASK ADDRESS CPU [COUNT]",
-            AccessFault::BadTask => "bad words: TASK is no number below 2^32",
-            AccessFault::BadAddress => "bad words: ADDRESS is no number below 2^64",
-            AccessFault::BadCpu => "bad words: CPU is no number below 2^32",
-            AccessFault::BadCount => "bad words: COUNT is no number below 2^32",
+            AccessError::WordCount => "bad words: a line of a trace is TASK ADDRESS CPU [COUNT]",
+            AccessError::BadTask => "bad words: TASK is no number below 2^32",
+            AccessError::BadAddress => "bad words: ADDRESS is no number below 2^64",
+            AccessError::BadCpu => "bad words: CPU is no number below 2^32",
+            AccessError::BadCount => "bad words: COUNT is no number below 2^32",
         }
     }
 }
 
-impl ReplayFault {
+impl ReplayError {
     /// Why the line can't be replayed, in a few words.
     pub fn text(self) -> &'static str {
         match self {
-            ReplayFault::Malformed(fault) => fault.text(),
-            ReplayFault::Refused(PlaceRefusal::BadCpu) => {
+            ReplayError::Malformed(fault) => fault.text(),
+            ReplayError::Refused(PlaceRefusal::BadCpu) => {
                 "refused BadCpu: the machine lacks the node of CPU"
             }
-            ReplayFault::Refused(PlaceRefusal::Unmapped) => {
+            ReplayError::Refused(PlaceRefusal::Unmapped) => {
                 "refused Unmapped: the page isn't mapped after the scripts"
             }
-            ReplayFault::TooMany => "too many accesses: 2^64 or more of one kind",
-            ReplayFault::NoMemory => "out of memory",
+            ReplayError::TooMany => "too many accesses: 2^64 or more of one kind",
+            ReplayError::NoMemory => "out of memory",
         }
     }
 }

@@ -17,7 +17,7 @@ mod summary;
 mod tallies;
 
 pub use access::{Access, read_access};
-pub use fault::{AccessFault, ReplayFault};
+pub use fault::{AccessError, ReplayError};
 pub use memory::Memory;
 pub use reading::{Replaying, replay_lines};
 pub use replay::Replay;

@@ -3,10 +3,10 @@ ghost use Rattle.std.specs.Prelude.{◌≡◌, None, IfOk, IfErr, IsSome, OnOk};
 ghost use Rattle.numa_files.specs.declared.reading.Stop.TheVariants as stop;
 ghost use Rattle.numa_traces.specs.Accesses.{access_of};
 ghost use Rattle.numa_traces.specs.Reading.{EndsAtLine, IsBegun, ReplaysLine, TakesLine};
-ghost use Rattle.numa_traces.specs.declared.fault.ReplayFault.TheVariants as fault;
+ghost use Rattle.numa_traces.specs.declared.fault.ReplayError.TheVariants as fault;
 
 use crate::access::read_access;
-use crate::fault::ReplayFault;
+use crate::fault::ReplayError;
 use crate::replay::Replay;
 use numa_files::{Lines, Stop, TakeLine, read_all};
 use numa_machine::Machine;
@@ -20,7 +20,7 @@ pub struct Replaying<'a> {
     plan: &'a Plan,
     replay: Replay,
     // The first line that can't be replayed, and why.
-    fault: Option<(u64, ReplayFault)>,
+    fault: Option<(u64, ReplayError)>,
 }
 
 impl<'a> Replaying<'a> {
@@ -53,19 +53,19 @@ impl<'a> Replaying<'a> {
     }
 
     /// The first line that can't be replayed, from 1, and why.
-    pub fn fault(&self) -> Option<(u64, ReplayFault)>
+    pub fn fault(&self) -> Option<(u64, ReplayError)>
         ensures { result ≡ self.now.fault }
     {
         self.fault
     }
 
     /// Takes the access of a line.
-    fn take_access(&mut self, line: &[u8]) -> Result<(), ReplayFault>
+    fn take_access(&mut self, line: &[u8]) -> Result<(), ReplayError>
         ensures ok { OnOk result (ReplaysLine (access_of line.now) self.old self.new) }
         ensures err { IfErr result (EndsAtLine (access_of line.now) self.old) }
     {
         match read_access(line) {
-            Err(fault) => Err(ReplayFault::Malformed(fault)),
+            Err(fault) => Err(ReplayError::Malformed(fault)),
             Ok(None) => Ok(()),
             Ok(Some(access)) => self.replay.take(self.plan, access),
         }
@@ -85,7 +85,7 @@ impl TakeLine for Replaying<'_> {
         }
         match self.take_access(line) {
             Ok(()) => Ok(()),
-            Err(ReplayFault::NoMemory) => Err(Stop::Memory),
+            Err(ReplayError::NoMemory) => Err(Stop::Memory),
             Err(fault) => {
                 self.fault = Some((place, fault));
                 Ok(())

@@ -6,7 +6,7 @@ ghost use Rattle.numa_traces.specs.Replaying.{EndsReplay, IsReplay};
 ghost use Rattle.numa_traces.specs.declared.access.Access.{Access};
 
 use crate::access::Access;
-use crate::fault::ReplayFault;
+use crate::fault::ReplayError;
 use crate::memory::Memory;
 use crate::tallies::Tallies;
 use numa_machine::Machine;
@@ -68,7 +68,7 @@ impl Replay {
     /// `Refused` where the plan has no such node, else where the page isn't mapped; else `TooMany`
     /// where a count would pass 2^64 - 1, `NoMemory` where there was none. The replay has ended
     /// then.
-    pub fn take(&mut self, plan: &Plan, access: Access) -> Result<(), ReplayFault>
+    pub fn take(&mut self, plan: &Plan, access: Access) -> Result<(), ReplayError>
         ensures ok { (machine : Hardware) (trace : List Access)
             → IsReplay machine plan.now trace self.old
             → OnOk result (IsReplay machine plan.now (access ∷ trace) self.new) }
@@ -77,7 +77,7 @@ impl Replay {
         let (task, page, cpu) = (access.task, access.page, access.cpu);
         let list = match nodes_for(plan, access) {
             Ok(list) => list,
-            Err(refusal) => return Err(ReplayFault::Refused(refusal)),
+            Err(refusal) => return Err(ReplayError::Refused(refusal)),
         };
         if let Some(node) = self.memory.node_of(page) {
             return self
@@ -85,7 +85,7 @@ impl Replay {
                 .add((task, cpu, Some(node)), access.count, false);
         }
         let Ok(node) = self.memory.place(page, list) else {
-            return Err(ReplayFault::NoMemory);
+            return Err(ReplayError::NoMemory);
         };
         self.tallies.add((task, cpu, node), access.count, true)
     }

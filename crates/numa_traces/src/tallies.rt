@@ -1,9 +1,9 @@
 //! How many accesses went which way.
 ghost use Rattle.std.specs.Prelude.{◌≡◌, [], IfErr, OnOk, OnErr, if◌then◌else◌};
 ghost use Rattle.numa_traces.specs.Tallies.{Counts, IsFull, IsRoomFault, tally_at};
-ghost use Rattle.numa_traces.specs.declared.fault.ReplayFault.TheVariants as fault;
+ghost use Rattle.numa_traces.specs.declared.fault.ReplayError.TheVariants as fault;
 
-use crate::fault::ReplayFault;
+use crate::fault::ReplayError;
 use std::alloc::Global;
 use std::collections::BTreeMap;
 use std::collections::btree_map::Iter;
@@ -81,7 +81,7 @@ impl Tallies {
     /// # Errors
     /// `TooMany` where a number would pass 2^64 - 1, else `NoMemory` where there was none; nothing
     /// has changed.
-    pub fn add(&mut self, way: Way, count: u32, is_fault: bool) -> Result<(), ReplayFault>
+    pub fn add(&mut self, way: Way, count: u32, is_fault: bool) -> Result<(), ReplayError>
         ensures counts { OnOk result (Counts self.old way count is_fault self.new) }
         ensures err { IfErr result IsRoomFault }
         ensures full { IfErr result (λ why. why ≡ fault.TooMany
@@ -90,13 +90,13 @@ impl Tallies {
     {
         let tally = self.get(way);
         let Some(accesses) = tally.accesses.checked_add(u64::from(count)) else {
-            return Err(ReplayFault::TooMany);
+            return Err(ReplayError::TooMany);
         };
         let Some(faults) = tally.faults.checked_add(fault_count(is_fault)) else {
-            return Err(ReplayFault::TooMany);
+            return Err(ReplayError::TooMany);
         };
         if let Err(_) = self.tallies.insert(way, Tally { accesses, faults }) {
-            return Err(ReplayFault::NoMemory);
+            return Err(ReplayError::NoMemory);
         }
         Ok(())
     }

@@ -1,9 +1,9 @@
 //! A script that is answered line by line, into texts.
 use numa_files::Respond;
 use numa_machine::Rules;
-use numa_play::tells_lack;
 use numa_run::Script;
 use numa_script::{Serve, Watched};
+use numa_words::tells_lack;
 use std::alloc::{AllocError, Global};
 use std::io::Write;
 use std::mem;
@@ -35,7 +35,7 @@ fn serve<S: Serve, W: Write>(server: &mut S, alloc: Global, line: &[u8], output:
 }
 
 impl Respond for Answering {
-    ghost use Rattle.numa_play.specs.Faults.{tells_fault as says_fault};
+    ghost use Rattle.numa_words.specs.Faults.{tells_fault as says_fault};
 
     ghost is_fault = { says_fault };
 
@@ -55,6 +55,6 @@ impl Respond for Answering {
     }
 
     fn tells_fault(&self, answer: &[u8]) -> bool {
-        numa_play::tells_fault(answer)
+        numa_words::tells_fault(answer)
     }
 }

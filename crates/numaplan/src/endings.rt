@@ -1,10 +1,10 @@
 //! How the program ends.
 use numa_command_line::JobFault;
 use numa_files::Stop;
-use numa_play::{Ended, Halt};
 use numa_reports::Touch;
 use numa_script::RunFault;
 use numa_sources::Outlet;
+use numa_words::{Ended, Halt};
 use std::io;
 use std::io::{ErrorKind, Write};
 use std::process::ExitCode;
@@ -21,11 +21,11 @@ const NO_PAGE: &str = "error: the page of '<ADDRESS>' isn't mapped after the scr
 
 /// Standard error, as a writer of UTF-8.
 #[derive(Drop)]
-pub struct Told<'a, R> {
+pub struct StandardError<'a, R> {
     pub rt: &'a R,
 }
 
-impl<R: Eprint> Write for Told<'_, R> {
+impl<R: Eprint> Write for StandardError<'_, R> {
     fn write(&mut self, bytes: &[u8]) -> io::Result<usize> {
         let Ok(text) = str::from_utf8(bytes) else {
             return Err(io::Error::from(ErrorKind::InvalidData));

@@ -13,10 +13,10 @@ mod terminal;
 mod words;
 
 use endings::tell_fault;
-use numa_command_line::{Job, JobFault, Work, job};
+use numa_command_line::{Job, JobFault, ScriptJob, job};
 use numa_machine::Rules;
-use numa_play::Scripts;
 use numa_sources::{open_all, open_worked};
+use numa_words::Scripts;
 use std::env::Env;
 use std::io::{IsTerminal, Read};
 use std::process::ExitCode;
@@ -50,22 +50,22 @@ fn asked_job<R: Env + AllocGlobal>(rt: &R) -> Result<Job, JobFault>
 }
 
 /// Does work with scripts.
-fn work_done<R, S>(rt: &R, scripts: Scripts<S>, work: &Work) -> Result<ExitCode, JobFault>
+fn work_done<R, S>(rt: &R, scripts: Scripts<S>, work: &ScriptJob) -> Result<ExitCode, JobFault>
 where
     R: Files + Input + Print + Eprint + AllocGlobal,
     R::Reader: IsTerminal,
     S: Read + Drop,
 {
     match work {
-        Work::Run { echo } => Ok(run::answer(rt, scripts, *echo)),
-        Work::Check => Ok(check::check(rt, scripts)),
-        Work::Expect => Ok(expect::check(rt, scripts)),
-        Work::Ask {
+        ScriptJob::Run { echo } => Ok(run::answer(rt, scripts, *echo)),
+        ScriptJob::Check => Ok(check::check(rt, scripts)),
+        ScriptJob::Expect => Ok(expect::check(rt, scripts)),
+        ScriptJob::Ask {
             asked,
             question,
             lenient,
         } => Ok(asked::answer(rt, scripts, *asked, question, *lenient)),
-        Work::Replay {
+        ScriptJob::Replay {
             trace,
             format,
             lenient,
@@ -74,12 +74,12 @@ where
 }
 
 /// Whether a script is to be answered that is typed.
-fn is_typed<R: Input>(rt: &R, names: &[String], work: &Work) -> bool
+fn is_typed<R: Input>(rt: &R, names: &[String], work: &ScriptJob) -> bool
 where
     R::Reader: IsTerminal,
 {
     match (work, names) {
-        (Work::Run { echo: false }, []) => rt.reader().is_terminal(),
+        (ScriptJob::Run { echo: false }, []) => rt.reader().is_terminal(),
         _ => false,
     }
 }
@@ -88,7 +88,7 @@ where
 fn scripts_done<R, S>(
     rt: &R,
     scripts: Scripts<S>,
-    work: &Work,
+    work: &ScriptJob,
     has_prompt: bool,
 ) -> Result<ExitCode, JobFault>
 where
@@ -109,7 +109,7 @@ fn files_done<R>(
     rt: &R,
     names: &[String],
     rules: Rules,
-    work: &Work,
+    work: &ScriptJob,
     is_terminal: bool,
 ) -> Result<ExitCode, JobFault>
 where
@@ -118,7 +118,7 @@ where
 {
     let has_prompt = is_terminal && is_typed(rt, names, work);
     let texts = match work {
-        Work::Expect => open_worked(rt, names),
+        ScriptJob::Expect => open_worked(rt, names),
         _ => open_all(rt, names),
     };
     match texts {

@@ -1,9 +1,9 @@
 //! A script that is typed at a terminal.
 use crate::answering::Answering;
-use crate::endings::{Told, stop};
+use crate::endings::{StandardError, stop};
+use numa_diagnose::{judge, say_line};
 use numa_files::{Lines, Respond, Stop, TakeLine, read_all};
 use numa_machine::Rules;
-use numa_reasons::{judge, say_line};
 use numa_run::Script;
 use std::alloc::Global;
 use std::io;
@@ -134,7 +134,7 @@ where
         judged: Script::by(rules),
         text: Vec::new(alloc),
         output,
-        told: Told { rt },
+        told: StandardError { rt },
     };
     let mut lines = Lines::new(alloc, typed);
     let read = read_all(texts, &mut lines);

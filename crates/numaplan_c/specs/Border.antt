@@ -17,7 +17,7 @@ use Rattle.numa_space.specs.Limited.{Bounds}
 use Rattle.numa_space.specs.declared.request.Request.{Request}
 use Rattle.numa_space.specs.declared.event.CoreReply.TheVariants as reply
 use Rattle.numa_plan.specs.Meaning.{PlanData}
-use Rattle.numa_handle.specs.Steps.{Steps, Touches, Compiles, Publishes}
+use Rattle.numaplan_handles.specs.Steps.{Steps, Touches, Compiles, Publishes}
 use Rattle.numaplan_c.specs.declared.opening.NpLimits.{NpLimits}
 use Rattle.numaplan_c.specs.declared.options.Options.{Options}
 use Rattle.numaplan_c.specs.declared.plans.Commands.{Commands}

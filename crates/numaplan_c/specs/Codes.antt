@@ -14,9 +14,9 @@
 use Rattle.std.specs.Prelude.{ℕ, Option, Some, None, Result, Ok, Err}
 use Rattle.numa_mask.specs.declared.list.ListFault.{ListFault}
 use Rattle.numa_mask.specs.declared.list.ListFault.TheVariants as list
-use Rattle.numa_mode.specs.declared.specification.SpecFault.TheVariants as spec
-use Rattle.numa_script.specs.declared.policy.WordFault.{WordFault}
-use Rattle.numa_script.specs.declared.policy.WordFault.TheVariants as word
+use Rattle.numa_mode.specs.declared.specification.SpecError.TheVariants as spec
+use Rattle.numa_script.specs.declared.policy.WordError.{WordError}
+use Rattle.numa_script.specs.declared.policy.WordError.TheVariants as word
 use Rattle.numa_machine.specs.declared.fault.MachineFault.{MachineFault}
 use Rattle.numa_machine.specs.declared.fault.MachineFault.TheVariants as machine
 use Rattle.numa_space.specs.declared.refusal.Refusal.{Refusal}
@@ -82,7 +82,7 @@ list_code list.BadDigit = 61
 list_code list.BackRange = 62
 list_code list.NodeTooHigh = 63
 
-abbrev pub word_code : WordFault → ℕ
+abbrev pub word_code : WordError → ℕ
 word_code (word.List f) = list_code f
 word_code (word.Policy spec.UnknownMode) = 70
 word_code (word.Policy spec.BothFlags) = 71

@@ -7,7 +7,7 @@ use Rattle.numa_mask.specs.declared.list.ListFault.{ListFault}
 use Rattle.numa_mode.specs.Policy.{PolicyRecord, Specification, is_default, is_live}
 use Rattle.numa_mode.specs.Policy.{record_when_set, record_after}
 use Rattle.numa_script.specs.Policies.{policy_of}
-use Rattle.numa_script.specs.declared.policy.WordFault.{WordFault}
+use Rattle.numa_script.specs.declared.policy.WordError.{WordError}
 use Rattle.numaplan_c.specs.Codes.{list_code, word_code}
 use Rattle.numaplan_c.specs.declared.nodes.NpNodes.{NpNodes}
 
@@ -19,7 +19,7 @@ record_of spec allowed =
     else if is_live (record_when_set spec allowed) then Ok (record_when_set spec allowed)
     else Err 19
 
-abbrev pub record_from : Result Specification WordFault → Result ℕ ListFault → Result PolicyRecord ℕ
+abbrev pub record_from : Result Specification WordError → Result ℕ ListFault → Result PolicyRecord ℕ
 record_from (Err fault) allowed = Err (word_code fault)
 record_from (Ok spec) (Err fault) = Err (list_code fault)
 record_from (Ok spec) (Ok allowed) = record_of spec allowed

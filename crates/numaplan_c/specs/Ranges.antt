@@ -2,7 +2,7 @@
 use Rattle.std.specs.Prelude.{◌≡◌, ℕ, ◌*◌, ◌==◌, ◌≤◌, Option, Some, None, List, []}
 use Rattle.std.specs.Prelude.{◌∷◌, Result, Ok, Err, filter, length, map}
 use Rattle.numa_core.specs.Standing.{CoreState}
-use Rattle.numa_handle.specs.Asked.{HasListing}
+use Rattle.numaplan_handles.specs.Asked.{HasListing}
 use Rattle.numa_mode.specs.Policy.{PolicyRecord, policy_text}
 use Rattle.numa_ranges.specs.declared.run.Run.{Run}
 use Rattle.numa_space.specs.declared.placement.Placement.{Placement}

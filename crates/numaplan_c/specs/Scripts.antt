@@ -2,8 +2,8 @@
 use Rattle.std.specs.Prelude.{◌≡◌, ℕ, Bool, List, Result, Ok, Err}
 use Rattle.line_server.specs.Output.{output_of}
 use Rattle.numa_run.specs.Answers.{start, answer_to, after_bytes}
-use Rattle.numa_handle.specs.declared.dialog.LineRefusal.{LineRefusal}
-use Rattle.numa_handle.specs.declared.dialog.LineRefusal.TheVariants as refused
+use Rattle.numaplan_handles.specs.declared.dialog.LineRefusal.{LineRefusal}
+use Rattle.numaplan_handles.specs.declared.dialog.LineRefusal.TheVariants as refused
 
 -- the answers to a whole script, where some of its lines were refused a growth
 abbrev pub AreAnswers : List ℕ → List ℕ → Type 0

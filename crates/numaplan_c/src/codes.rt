@@ -6,7 +6,7 @@ ghost use Rattle.numaplan_c.specs.Codes.{list_code, word_code, place_code};
 use numa_core::{CoreRefusal, CoreReply};
 use numa_machine::MachineFault;
 use numa_mask::ListFault;
-use numa_script::WordFault;
+use numa_script::WordError;
 use numa_space::{PlaceRefusal, Refusal};
 
 /// The answers that have a name here, by the numbers that the header gives them. The refusals of
@@ -136,12 +136,12 @@ pub(crate) fn machine_code(fault: MachineFault) -> u32
 }
 
 /// The number of a policy word's fault: a policy's stand in order from 70.
-pub(crate) fn word_code(fault: WordFault) -> u32
+pub(crate) fn word_code(fault: WordError) -> u32
     ensures code { result ≡ word_code fault }
     ensures refused { result ≢ 0 }
 {
     match fault {
-        WordFault::List(fault) => list_code(fault),
-        WordFault::Policy(fault) => 70 + fault as u32,
+        WordError::List(fault) => list_code(fault),
+        WordError::Policy(fault) => 70 + fault as u32,
     }
 }

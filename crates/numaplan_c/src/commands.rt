@@ -5,14 +5,14 @@ ghost use Rattle.numa_space.specs.declared.event.Event.{Event};
 ghost use Rattle.numa_space.specs.declared.command.Command.{Command};
 ghost use Rattle.numaplan_c.specs.Border.{Answers, AnswersRead};
 ghost use Rattle.numaplan_c.specs.Codes.{word_code, list_code};
-ghost use Rattle.numa_handle.specs.Handles.{core_in};
+ghost use Rattle.numaplan_handles.specs.Handles.{core_in};
 
 use crate::codes::{Code, answer_code, list_code, word_code};
 use numa_core::Event;
-use numa_handle::CoreHandle;
 use numa_mask::read_list;
 use numa_script::policy::read_policy;
 use numa_space::Command;
+use numaplan_handles::CoreHandle;
 use std::alloc::Global;
 
 /// An event of the kept core, by the number of its answer.

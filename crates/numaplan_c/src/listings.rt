@@ -2,8 +2,8 @@
 ghost use Rattle.std.specs.Prelude.{◌≡◌, ◌≢◌, Some, None, is_some, true, Result, List, ℕ};
 ghost use Rattle.std.specs.Prelude.{IfOk, IfErr, OnOk, OnErr, IsSome};
 ghost use Rattle.numa_core.specs.Standing.{CoreState};
-ghost use Rattle.numa_handle.specs.Handles.{core_in};
-ghost use Rattle.numa_handle.specs.Asked.{HasListing};
+ghost use Rattle.numaplan_handles.specs.Handles.{core_in};
+ghost use Rattle.numaplan_handles.specs.Asked.{HasListing};
 ghost use Rattle.numa_maps.specs.Residents.{IsRising, placed_at};
 ghost use Rattle.numaplan_c.specs.Ranges.{ArePlaced, Lists, RefusesPlaced, TellsListing};
 ghost use Rattle.numaplan_c.specs.Border.{Asked};
@@ -13,8 +13,8 @@ use crate::codes::Code;
 use crate::texts::write;
 use crate::workers::NpPlacement;
 use numa_core::{Frame, Placement};
-use numa_handle::CoreHandle;
 use numa_maps::{RecordRefusal, Resident};
+use numaplan_handles::CoreHandle;
 use std::alloc::Global;
 
 /// Why there is no listing.

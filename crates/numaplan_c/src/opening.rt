@@ -1,7 +1,7 @@
 //! Opening and closing of cores, their versions, and their copies.
 ghost use Rattle.std.specs.Prelude.{◌≡◌, ◌≢◌, ◌≤◌, [], Some, None, true, is_some};
 ghost use Rattle.std.specs.Prelude.{IfOk, IfErr, IfSome, MatchOption, MatchResult, is_ok};
-ghost use Rattle.numa_handle.specs.Handles.{core_in};
+ghost use Rattle.numaplan_handles.specs.Handles.{core_in};
 ghost use Rattle.numa_core.specs.Standing.{LeadsTo, setup_of};
 ghost use Rattle.numa_mask.specs.Lists.{list_of};
 ghost use Rattle.numaplan_c.specs.Border.{Asked, IsSetUp, Opens, Shares, bounds_of, limits_cause};
@@ -14,8 +14,8 @@ use crate::keeping::{ensure_closed, kept_code, memory_code};
 use crate::machines::machine_of;
 use crate::options::{NpOptions, Options, documents, options_of};
 use numa_core::Core;
-use numa_handle::CoreHandle;
 use numa_space::Limits;
+use numaplan_handles::CoreHandle;
 use std::alloc::Global;
 
 /// How large a core may grow: ranges, tasks with a policy, accepted commands.

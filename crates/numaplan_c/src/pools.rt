@@ -4,10 +4,10 @@ ghost use Rattle.std.specs.Prelude.{IfOk, IfErr, IfSome, MatchOption};
 ghost use Rattle.numa_machine.specs.declared.fallback.Fallback.{Fallback};
 ghost use Rattle.numa_machine.specs.declared.frame.Frame.{Frame};
 ghost use Rattle.numa_mask.specs.Lists.{list_of};
-ghost use Rattle.numa_seat.specs.Seated.{Seated, at_first};
-ghost use Rattle.numa_handle.specs.Handles.{seat_in};
-ghost use Rattle.numa_handle.specs.Seats.{Takes, Returns, Splits, Stays, Joins};
-ghost use Rattle.numa_handle.specs.Seats.{AreTogether};
+ghost use Rattle.numa_pool.specs.Seated.{Seated, at_first};
+ghost use Rattle.numaplan_handles.specs.Handles.{seat_in};
+ghost use Rattle.numaplan_handles.specs.Seats.{Takes, Returns, Splits, Stays, Joins};
+ghost use Rattle.numaplan_handles.specs.Seats.{AreTogether};
 ghost use Rattle.numaplan_c.specs.Border.{AnswersKeeping, Opens, described_cause};
 ghost use Rattle.numaplan_c.specs.Pools.{found_code, returned_code, Tells};
 
@@ -15,9 +15,9 @@ use crate::codes::Code;
 use crate::keeping::{ensure_closed, kept_code, memory_code};
 use crate::machines::machine_of;
 use crate::options::documents;
-use numa_handle::SeatHandle;
 use numa_machine::Frame;
-use numa_seat::Seat;
+use numa_pool::OwnedSeat;
+use numaplan_handles::SeatHandle;
 use std::alloc::Global;
 
 /// A frame of a node.
@@ -32,7 +32,7 @@ const _: () = prove!(size_of::<NpFrame>() == 4);
 
 /// The first seat at new pools of the frames of a described machine, or the number of what is wrong
 /// with the description.
-fn make(alloc: Global, memory: &[u8], frames: &[u32], distances: &[u8]) -> Result<Seat, u32>
+fn make(alloc: Global, memory: &[u8], frames: &[u32], distances: &[u8]) -> Result<OwnedSeat, u32>
     ensures first { IfOk result (λ seat. seat ≡ at_first frames.now seat.seat.table) }
     ensures cause { IfErr result (λ code. MatchOption (described_cause (list_of memory.now)
         frames.now distances.now None Fallback.Nearest) (code ≡ 3) (λ first. code ≡ first)) }
@@ -44,7 +44,7 @@ fn make(alloc: Global, memory: &[u8], frames: &[u32], distances: &[u8]) -> Resul
         Ok(machine) => machine,
         Err(code) => return Err(code),
     };
-    let opened = Seat::open(alloc, &machine);
+    let opened = OwnedSeat::open(alloc, &machine);
     drop(machine);
     match opened {
         Ok(seat) => Ok(seat),

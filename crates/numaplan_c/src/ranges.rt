@@ -2,8 +2,8 @@
 ghost use Rattle.std.specs.Prelude.{◌≡◌, ◌≢◌, ◌≤◌, ◌^◌, Some, None, is_some, true, List, ℕ, length};
 ghost use Rattle.std.specs.Prelude.{slice_get};
 ghost use Rattle.numa_core.specs.Standing.{CoreState};
-ghost use Rattle.numa_handle.specs.Handles.{core_in};
-ghost use Rattle.numa_handle.specs.Asked.{HasRanges};
+ghost use Rattle.numaplan_handles.specs.Handles.{core_in};
+ghost use Rattle.numaplan_handles.specs.Asked.{HasRanges};
 ghost use Rattle.numa_maps.specs.Listing.{AreRangesOf};
 ghost use Rattle.numa_ranges.specs.Runs.{end_of};
 ghost use Rattle.numa_space.specs.Standing.{StandsFor};
@@ -14,9 +14,9 @@ ghost use Rattle.numaplan_c.specs.Texts.{IsWritten};
 
 use crate::codes::Code;
 use crate::texts::write;
-use numa_handle::CoreHandle;
 use numa_mode::Record;
 use numa_space::{PAGE_BYTES, RangeRecord, Run};
+use numaplan_handles::CoreHandle;
 use std::alloc::Global;
 
 /// How many ranges of pages there are.

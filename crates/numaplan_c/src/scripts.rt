@@ -1,10 +1,10 @@
 //! Scripts: whole ones, and those that are given line by line.
 ghost use Rattle.std.specs.Prelude.{◌≡◌, ◌≢◌, ℕ, Bool, List, None, Some, true, Result};
 ghost use Rattle.std.specs.Prelude.{is_some, IfSome, MatchOption};
-ghost use Rattle.numa_handle.specs.Handles.{dialog_in};
-ghost use Rattle.numa_handle.specs.Dialogs.{IsFresh, ServesKept};
-ghost use Rattle.numa_handle.specs.declared.dialog.Dialog.{Dialog};
-ghost use Rattle.numa_handle.specs.declared.dialog.LineRefusal.{LineRefusal};
+ghost use Rattle.numaplan_handles.specs.Handles.{dialog_in};
+ghost use Rattle.numaplan_handles.specs.Dialogs.{IsFresh, ServesKept};
+ghost use Rattle.numaplan_handles.specs.declared.dialog.Dialog.{Dialog};
+ghost use Rattle.numaplan_handles.specs.declared.dialog.LineRefusal.{LineRefusal};
 ghost use Rattle.numaplan_c.specs.Border.{Asked, Opens, is_done};
 ghost use Rattle.numaplan_c.specs.Options.{rules_of};
 ghost use Rattle.numaplan_c.specs.Scripts.{AreAnswers, line_code, length_told};
@@ -15,9 +15,9 @@ use crate::keeping::{ensure_closed, memory_code};
 use crate::options::rules_of;
 use crate::texts::{copy_code, length_copied, write};
 use line_server::Watched;
-use numa_handle::{LineRefusal, ScriptHandle};
 use numa_machine::Rules;
 use numa_run::run;
+use numaplan_handles::{LineRefusal, ScriptHandle};
 use std::alloc::Global;
 
 /// The answers to a whole script, where there is memory for them.

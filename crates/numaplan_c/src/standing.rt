@@ -1,8 +1,8 @@
 //! Policies as they stand, of ranges and of tasks, and the range of an address.
 ghost use Rattle.std.specs.Prelude.{◌≡◌, Option, Some, None, List, slice_get};
 ghost use Rattle.numa_core.specs.Standing.{CoreState};
-ghost use Rattle.numa_handle.specs.Handles.{core_in};
-ghost use Rattle.numa_handle.specs.Asked.{HasPlaceOf, HasTaskPolicy};
+ghost use Rattle.numaplan_handles.specs.Handles.{core_in};
+ghost use Rattle.numaplan_handles.specs.Asked.{HasPlaceOf, HasTaskPolicy};
 ghost use Rattle.numa_maps.specs.Listing.{AreRangesOf};
 ghost use Rattle.numa_mask.specs.Words.{number_of};
 ghost use Rattle.numa_mode.specs.Policy.{PolicyRecord};
@@ -14,10 +14,10 @@ ghost use Rattle.numaplan_c.specs.Standing.{TellsPolicy, TellsRangePolicy, home_
 
 use crate::codes::Code;
 use crate::nodes::NpNodes;
-use numa_handle::CoreHandle;
 use numa_mask::NodeMask;
 use numa_mode::Record;
 use numa_space::PAGE_BYTES;
+use numaplan_handles::CoreHandle;
 use std::alloc::Global;
 
 /// A policy as it stands: its mode with its flag, its home node, the nodes that were asked for, and

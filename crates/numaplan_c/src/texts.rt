@@ -3,7 +3,7 @@ ghost use Rattle.std.specs.Prelude.{◌≡◌};
 ghost use Rattle.numaplan_c.specs.Texts.{IsWritten, copy_code, length_copied};
 
 use crate::codes::Code;
-use numa_handle::copy_bytes;
+use numaplan_handles::copy_bytes;
 
 /// The number of an answer to a copy.
 pub(crate) fn copy_code(told: Result<usize, usize>) -> u32

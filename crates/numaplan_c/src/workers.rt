@@ -1,6 +1,6 @@
 //! Workers that look for frames.
 ghost use Rattle.std.specs.Prelude.{◌≡◌, MatchOption};
-ghost use Rattle.numa_handle.specs.Handles.{core_in};
+ghost use Rattle.numaplan_handles.specs.Handles.{core_in};
 ghost use Rattle.numa_space.specs.declared.event.Event.{Event};
 ghost use Rattle.numaplan_c.specs.Border.{Answers, Places, Touched, Tried};
 ghost use Rattle.numaplan_c.specs.Codes.{answer_code};
@@ -8,7 +8,7 @@ ghost use Rattle.numaplan_c.specs.Codes.{answer_code};
 use crate::codes::{Code, answer_code};
 use crate::commands::answer;
 use numa_core::{CoreRefusal, CoreReply, Event, Frame, Request};
-use numa_handle::CoreHandle;
+use numaplan_handles::CoreHandle;
 use std::alloc::Global;
 
 /// Where a page was placed.

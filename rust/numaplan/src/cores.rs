@@ -71,7 +71,7 @@ impl Iterator for Ranges<'_> {
 #[must_use]
 pub struct Core(Handle);
 
-// SAFETY: what a handle keeps is proved `Send` (numa_handle, `Held`), and `&mut` gives it to one call
+// SAFETY: what a handle keeps is proved `Send` (numaplan_handles, `Held`), and `&mut` gives it to one call
 // at a time.
 unsafe impl Send for Core {}
 

@@ -6,7 +6,7 @@ ghost use Rattle.numa_command_line.specs.Values.{touch_in};
 ghost use Rattle.clap.specs.Words.{found_of, rows_of};
 
 use crate::found::{is_on, small_at};
-use crate::jobs::{JobFault, Question, Work};
+use crate::jobs::{JobFault, PageQuestion, ScriptJob};
 use crate::usage::{Argument, Takes};
 use clap::ArgMatches;
 use numa_reports::Touch;
@@ -47,12 +47,16 @@ fn asked(alloc: Global, matches: &ArgMatches<'_>) -> Result<Touch, JobFault>
 ///
 /// # Errors
 /// `Usage` where `--task` or `--node` has no number; `NoMemory`.
-pub fn work(alloc: Global, matches: &ArgMatches<'_>, question: Question) -> Result<Work, JobFault>
+pub fn work(
+    alloc: Global,
+    matches: &ArgMatches<'_>,
+    question: PageQuestion,
+) -> Result<ScriptJob, JobFault>
     ensures { IsMade work_of
         (asked_in (rows_of (found_of matches.now)) (Some (question_of question))) result }
 {
     match asked(alloc, matches) {
-        Ok(asked) => Ok(Work::Ask {
+        Ok(asked) => Ok(ScriptJob::Ask {
             asked,
             question,
             lenient: is_on(matches, "lenient"),

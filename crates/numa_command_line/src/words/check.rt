@@ -2,10 +2,10 @@
 ghost use Rattle.std.specs.Prelude.{codes, true};
 ghost use Rattle.numa_command_line.specs.Grammar.{IsWord, check_arguments};
 
-use crate::usage::{FILES, Word};
+use crate::usage::{FILES, SubcommandHelp};
 
 /// What is said of the word.
-static WORD: Word = Word {
+static WORD: SubcommandHelp = SubcommandHelp {
     name: "check",
     line: "Tells what is wrong with scripts, and what to do about it",
     about: "Tells what is wrong with scripts, and writes no answers. For each line that `run` \
@@ -19,7 +19,7 @@ examples/why-refused.numaplan",
 };
 
 /// The word.
-pub fn word() -> &'static Word
+pub fn word() -> &'static SubcommandHelp
     ensures { IsWord (codes "check") check_arguments true result.now }
 {
     &WORD

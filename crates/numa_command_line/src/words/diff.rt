@@ -4,11 +4,11 @@ ghost use Rattle.numa_command_line.specs.Grammar.{IsWord, diff_arguments};
 ghost use Rattle.clap.specs.Words.{found_of, rows_of};
 ghost use Rattle.numa_command_line.specs.Asked.{work_asked};
 ghost use Rattle.numa_command_line.specs.Jobs.{IsMade, work_of};
-ghost use Rattle.numa_command_line.specs.declared.command.Word.TheVariants as word;
+ghost use Rattle.numa_command_line.specs.declared.command.Subcommand.TheVariants as word;
 
 use crate::found::texts_at;
-use crate::jobs::{JobFault, Question, Work};
-use crate::usage::{Argument, FILES, Takes, Word};
+use crate::jobs::{JobFault, PageQuestion, ScriptJob};
+use crate::usage::{Argument, FILES, SubcommandHelp, Takes};
 use crate::words::asked;
 use crate::words::asked::{NODE, TASK};
 use crate::words::lenient::LENIENT;
@@ -25,7 +25,7 @@ const THEN: Argument = Argument {
 };
 
 /// What is said of the word.
-static WORD: Word = Word {
+static WORD: SubcommandHelp = SubcommandHelp {
     name: "diff",
     line: "Tells which pages would go elsewhere if lines were added to scripts",
     about: "Tells which pages would go to another node if script lines were added to the scripts, \
@@ -41,7 +41,7 @@ ready after the scripts.",
 };
 
 /// The word.
-pub fn word() -> &'static Word
+pub fn word() -> &'static SubcommandHelp
     ensures { IsWord (codes "diff") diff_arguments true result.now }
 {
     &WORD
@@ -51,9 +51,9 @@ pub fn word() -> &'static Word
 ///
 /// # Errors
 /// `Usage` where `--task` or `--node` has no number; `NoMemory`.
-pub fn work(alloc: Global, matches: &ArgMatches<'_>) -> Result<Work, JobFault>
+pub fn work(alloc: Global, matches: &ArgMatches<'_>) -> Result<ScriptJob, JobFault>
     ensures { IsMade work_of (work_asked word.Diff (rows_of (found_of matches.now))) result }
 {
     let lines = texts_at(alloc, matches, "then")?;
-    asked::work(alloc, matches, Question::Diff(lines))
+    asked::work(alloc, matches, PageQuestion::Diff(lines))
 }

@@ -2,7 +2,7 @@
 ghost use Rattle.std.specs.Prelude.{codes, true};
 ghost use Rattle.numa_command_line.specs.Grammar.{IsWord, expect_arguments};
 
-use crate::usage::{Argument, Takes, Word};
+use crate::usage::{Argument, SubcommandHelp, Takes};
 
 /// The argument `FILE..`.
 const WORKED: Argument = Argument {
@@ -14,7 +14,7 @@ const WORKED: Argument = Argument {
 };
 
 /// What is said of the word.
-static WORD: Word = Word {
+static WORD: SubcommandHelp = SubcommandHelp {
     name: "expect",
     line: "Compares the answers that scripts hold with those that they get",
     about: "Answers worked scripts, which hold the answers that are wanted as `run --echo` writes \
@@ -32,7 +32,7 @@ repository:\n  ./numaplan expect examples/*.answers",
 };
 
 /// The word.
-pub fn word() -> &'static Word
+pub fn word() -> &'static SubcommandHelp
     ensures { IsWord (codes "expect") expect_arguments true result.now }
 {
     &WORD

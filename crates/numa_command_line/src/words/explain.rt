@@ -4,11 +4,11 @@ ghost use Rattle.numa_command_line.specs.Grammar.{IsWord, explain_arguments};
 ghost use Rattle.clap.specs.Words.{found_of, rows_of};
 ghost use Rattle.numa_command_line.specs.Asked.{work_asked};
 ghost use Rattle.numa_command_line.specs.Jobs.{IsMade, work_of};
-ghost use Rattle.numa_command_line.specs.declared.command.Word.TheVariants as word;
+ghost use Rattle.numa_command_line.specs.declared.command.Subcommand.TheVariants as word;
 
 use crate::found::text_at;
-use crate::jobs::{JobFault, Question, Work};
-use crate::usage::{Argument, FILES, Takes, Word};
+use crate::jobs::{JobFault, PageQuestion, ScriptJob};
+use crate::usage::{Argument, FILES, SubcommandHelp, Takes};
 use crate::words::asked;
 use crate::words::asked::{NODE, TASK};
 use crate::words::lenient::LENIENT;
@@ -31,7 +31,7 @@ const ADDRESS: Argument = Argument {
 };
 
 /// What is said of the word.
-static WORD: Word = Word {
+static WORD: SubcommandHelp = SubcommandHelp {
     name: "explain",
     line: "Tells why a page goes where it goes",
     about: "Tells why memory for a page is looked for on its nodes, if a task touched the page \
@@ -47,7 +47,7 @@ are, unless --lenient is given, and where no machine is ready after the scripts.
 };
 
 /// The word.
-pub fn word() -> &'static Word
+pub fn word() -> &'static SubcommandHelp
     ensures { IsWord (codes "explain") explain_arguments true result.now }
 {
     &WORD
@@ -57,12 +57,12 @@ pub fn word() -> &'static Word
 ///
 /// # Errors
 /// `Usage` where the address is faulty, or an option has no number; `NoMemory`.
-pub fn work(alloc: Global, matches: &ArgMatches<'_>) -> Result<Work, JobFault>
+pub fn work(alloc: Global, matches: &ArgMatches<'_>) -> Result<ScriptJob, JobFault>
     ensures { IsMade work_of (work_asked word.Explain (rows_of (found_of matches.now))) result }
 {
     let word = text_at(matches, "ADDRESS").unwrap_or("");
     match number(word.as_bytes()) {
-        Some(address) => asked::work(alloc, matches, Question::Explain(address / 4096)),
+        Some(address) => asked::work(alloc, matches, PageQuestion::Explain(address / 4096)),
         None => Err(JobFault::usage(alloc, BAD_ADDRESS)),
     }
 }

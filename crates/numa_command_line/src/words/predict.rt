@@ -7,12 +7,12 @@ ghost use Rattle.numa_command_line.specs.Usage.{Names};
 ghost use Rattle.clap.specs.Words.{found_of, rows_of};
 ghost use Rattle.numa_command_line.specs.Asked.{work_asked};
 ghost use Rattle.numa_command_line.specs.Jobs.{IsMade, work_of};
-ghost use Rattle.numa_command_line.specs.declared.command.Word.TheVariants as word;
+ghost use Rattle.numa_command_line.specs.declared.command.Subcommand.TheVariants as word;
 ghost use Rattle.numa_command_line.specs.Values.{format_in, format_named};
 
 use crate::found::text_at;
-use crate::jobs::{JobFault, Question, Work};
-use crate::usage::{Argument, FILES, Takes, Word};
+use crate::jobs::{JobFault, PageQuestion, ScriptJob};
+use crate::usage::{Argument, FILES, SubcommandHelp, Takes};
 use crate::words::asked::{NODE, TASK};
 use crate::words::free::FREE;
 use crate::words::lenient::LENIENT;
@@ -31,7 +31,7 @@ const FORMAT: Argument = Argument {
 };
 
 /// What is said of the word.
-static WORD: Word = Word {
+static WORD: SubcommandHelp = SubcommandHelp {
     name: "predict",
     line: "Tells where pages would go after scripts, if a task touched them",
     about: "Tells where all mapped pages would go after the scripts, if a task touched each of \
@@ -48,7 +48,7 @@ examples/interleaved-range.numaplan",
 };
 
 /// The word.
-pub fn word() -> &'static Word
+pub fn word() -> &'static SubcommandHelp
     ensures { (formats : Names) × AreNames format_names formats
         × IsWord (codes "predict") (predict_arguments formats) true result.now }
 {
@@ -81,10 +81,10 @@ fn format_in(matches: &ArgMatches<'_>) -> Format
 ///
 /// # Errors
 /// `Usage` where an option has no number, or `--free` is faulty; `NoMemory`.
-pub fn work(alloc: Global, matches: &ArgMatches<'_>) -> Result<Work, JobFault>
+pub fn work(alloc: Global, matches: &ArgMatches<'_>) -> Result<ScriptJob, JobFault>
     ensures { IsMade work_of (work_asked word.Predict (rows_of (found_of matches.now))) result }
 {
     let format = format_in(matches);
     let free = free::named(alloc, matches)?;
-    asked::work(alloc, matches, Question::Predict { format, free })
+    asked::work(alloc, matches, PageQuestion::Predict { format, free })
 }

@@ -5,12 +5,12 @@ ghost use Rattle.numa_command_line.specs.Usage.{Names};
 ghost use Rattle.clap.specs.Words.{found_of, rows_of};
 ghost use Rattle.numa_command_line.specs.Asked.{work_asked};
 ghost use Rattle.numa_command_line.specs.Jobs.{IsMade, work_of};
-ghost use Rattle.numa_command_line.specs.declared.command.Word.TheVariants as word;
+ghost use Rattle.numa_command_line.specs.declared.command.Subcommand.TheVariants as word;
 ghost use Rattle.numa_command_line.specs.Values.{shape_in, shape_named};
 
 use crate::found::{is_on, text_at, texts_at};
-use crate::jobs::{JobFault, Work};
-use crate::usage::{Argument, FILES, Takes, Word};
+use crate::jobs::{JobFault, ScriptJob};
+use crate::usage::{Argument, FILES, SubcommandHelp, Takes};
 use crate::words::lenient::LENIENT;
 use clap::ArgMatches;
 use numa_traces::Shape;
@@ -35,7 +35,7 @@ const FORMAT: Argument = Argument {
 };
 
 /// What is said of the word.
-static WORD: Word = Word {
+static WORD: SubcommandHelp = SubcommandHelp {
     name: "replay",
     line: "Tells what a trace of accesses meets after scripts",
     about: "Replays a trace of accesses after the scripts, on the frames of their machine, where \
@@ -54,7 +54,7 @@ examples/replayed.trace examples/interleaved-range.numaplan",
 };
 
 /// The word.
-pub fn word() -> &'static Word
+pub fn word() -> &'static SubcommandHelp
     ensures { (shapes : Names) × AreNames shape_names shapes
         × IsWord (codes "replay") (replay_arguments shapes) true result.now }
 {
@@ -85,11 +85,11 @@ fn shape_in(matches: &ArgMatches<'_>) -> Shape
 ///
 /// # Errors
 /// `NoMemory`.
-pub fn work(alloc: Global, matches: &ArgMatches<'_>) -> Result<Work, JobFault>
+pub fn work(alloc: Global, matches: &ArgMatches<'_>) -> Result<ScriptJob, JobFault>
     ensures { IsMade work_of (work_asked word.Replay (rows_of (found_of matches.now))) result }
 {
     let trace = texts_at(alloc, matches, "trace")?;
-    Ok(Work::Replay {
+    Ok(ScriptJob::Replay {
         trace,
         format: shape_in(matches),
         lenient: is_on(matches, "lenient"),

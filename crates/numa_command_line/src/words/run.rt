@@ -2,7 +2,7 @@
 ghost use Rattle.std.specs.Prelude.{codes, true};
 ghost use Rattle.numa_command_line.specs.Grammar.{IsWord, run_arguments};
 
-use crate::usage::{Argument, FILES, Takes, Word};
+use crate::usage::{Argument, FILES, SubcommandHelp, Takes};
 
 /// The option `--echo`.
 const ECHO: Argument = Argument {
@@ -14,7 +14,7 @@ const ECHO: Argument = Argument {
 };
 
 /// What is said of the word.
-static WORD: Word = Word {
+static WORD: SubcommandHelp = SubcommandHelp {
     name: "run",
     line: "Answers the scripts of files, or of standard input",
     about: "Answers a script. The script is read from the files in turn, or from standard input, \
@@ -29,7 +29,7 @@ repository.",
 };
 
 /// The word.
-pub fn word() -> &'static Word
+pub fn word() -> &'static SubcommandHelp
     ensures { IsWord (codes "run") run_arguments true result.now }
 {
     &WORD

@@ -7,7 +7,7 @@ ghost use Rattle.numa_command_line.specs.Values.{workers_in};
 
 use crate::found::small_at;
 use crate::jobs::{Job, JobFault};
-use crate::usage::{Argument, Takes, Word};
+use crate::usage::{Argument, SubcommandHelp, Takes};
 use clap::ArgMatches;
 use std::alloc::Global;
 
@@ -25,7 +25,7 @@ const WORKERS: Argument = Argument {
 };
 
 /// What is said of the word.
-static WORD: Word = Word {
+static WORD: SubcommandHelp = SubcommandHelp {
     name: "storm",
     line: "Lets workers place pages while policies change, and compares each placement",
     about: "Lets K workers, each in a thread of its own, place 320 pages on a machine of 4 nodes \
@@ -40,7 +40,7 @@ status is 0 where all is as it must be whichever thread is first, and else 1.",
 };
 
 /// The word.
-pub fn word() -> &'static Word
+pub fn word() -> &'static SubcommandHelp
     ensures { IsWord (codes "storm") storm_arguments false result.now }
 {
     &WORD

@@ -12,7 +12,7 @@ ghost use Rattle.numa_plan.specs.Building.{empty_plan, with_rule, with_run, with
 use crate::numbers::Numbers;
 use crate::plan::Plan;
 use crate::rule::Rule;
-use crate::runs::Runs;
+use crate::runs::PlanRuns;
 use crate::slots::{leave_named, put_lowest, use_named, use_rule, uses_at};
 use crate::steps::Steps;
 use numa_machine::NoMemory;
@@ -32,7 +32,7 @@ impl Plan {
             alloc,
             version: 0,
             nodes,
-            runs: Runs::new(alloc),
+            runs: PlanRuns::new(alloc),
             slots: Vec::new(alloc),
             lowest_free: 0,
             tasks: BTreeMap::new(alloc),

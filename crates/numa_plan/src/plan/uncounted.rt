@@ -9,58 +9,58 @@ ghost use Rattle.numa_ranges.specs.Windows.{IsWindow};
 ghost use Rattle.numa_plan.specs.Counted.{more_runs};
 ghost use Rattle.numa_plan.specs.Found.{IsFound, IsMapped, HasHole};
 
-use crate::runs::{Beside, Found, Runs};
+use crate::runs::{Beside, Found, PlanRuns};
 use crate::search::Seen;
 use crate::steps::Steps;
 use numa_machine::NoMemory;
 use numa_ranges::Run;
 use std::alloc::Global;
 
-/// `Runs::walk_from`.
-pub(super) fn walk_from(runs: &Runs, page: u64) -> Seen {
+/// `PlanRuns::walk_from`.
+pub(super) fn walk_from(runs: &PlanRuns, page: u64) -> Seen {
     runs.walk_from(page, &mut Steps::new())
 }
 
-/// `Runs::covers`.
-pub(super) fn covers(runs: &Runs, first: u64, pages: u64, start: Seen) -> bool
+/// `PlanRuns::covers`.
+pub(super) fn covers(runs: &PlanRuns, first: u64, pages: u64, start: Seen) -> bool
     ensures all { OnTrue result (IsMapped runs.now first pages) }
     ensures hole { OnFalse result (HasHole runs.now first pages) }
 {
     runs.covers(first, pages, start, &mut Steps::new())
 }
 
-/// `Runs::find_next`.
+/// `PlanRuns::find_next`.
 #[inline(always)]
-pub(super) fn found_next(runs: &Runs, page: u64, seen: &mut Seen) -> Option<Found>
+pub(super) fn found_next(runs: &PlanRuns, page: u64, seen: &mut Seen) -> Option<Found>
     ensures found { IsFound runs.now page result }
 {
     runs.find_next(page, seen, &mut Steps::new())
 }
 
-/// `Runs::find_near`.
-pub(super) fn found_near(runs: &Runs, page: u64, place: usize, near: usize) -> Option<Found>
+/// `PlanRuns::find_near`.
+pub(super) fn found_near(runs: &PlanRuns, page: u64, place: usize, near: usize) -> Option<Found>
     ensures found { IsFound runs.now page result }
 {
     runs.find_near(page, place, near, &mut Steps::new())
 }
 
-/// `Runs::window_near`.
-pub(super) fn window_near(runs: &Runs, first: u64, end: u64, guess: usize) -> Beside
+/// `PlanRuns::window_near`.
+pub(super) fn window_near(runs: &PlanRuns, first: u64, end: u64, guess: usize) -> Beside
     ensures { first ≤ end → IsWindow runs.now first end result.from result.to }
 {
     runs.window_near(first, end, guess, &mut Steps::new())
 }
 
-/// `Runs::at`.
-pub(super) fn run_at(runs: &Runs, place: usize) -> Option<Run<Option<u32>>>
+/// `PlanRuns::at`.
+pub(super) fn run_at(runs: &PlanRuns, place: usize) -> Option<Run<Option<u32>>>
     ensures { result ≡ slice_get runs.now place }
 {
     runs.at(place, &mut Steps::new())
 }
 
-/// `Runs::splice`; `steps` counts the runs that are written.
+/// `PlanRuns::splice`; `steps` counts the runs that are written.
 pub(super) fn spliced(
-    runs: &mut Runs,
+    runs: &mut PlanRuns,
     alloc: Global,
     window: Beside,
     written: &[Run<Option<u32>>],

@@ -4,7 +4,7 @@ ghost use Rattle.std.specs.Prelude.{◌+◌, ◌<◌, ◌^◌, IfErr};
 ghost use Rattle.numa_plan.specs.Meaning.{RefusesSpan};
 ghost use Rattle.numa_reports.specs.Failing.{FailsForNode};
 
-use crate::fault::ReportFault;
+use crate::fault::ReportError;
 use crate::filling::{FreePages, fill_few, fill_span, free_of};
 use crate::period::period_in;
 use crate::sheet::written::Written;
@@ -66,7 +66,7 @@ pub(crate) fn first_cells(
     plan: &Plan,
     touch: Touch,
     named: &[FreePages],
-) -> Result<Vec<u8>, ReportFault>
+) -> Result<Vec<u8>, ReportError>
     ensures err { FailsForNode space.now plan.now touch.cpu result }
 {
     let mut left = free_where_named(named);

@@ -4,12 +4,12 @@ ghost use Rattle.numa_compile.specs.Standing.{PlanStandsFor};
 ghost use Rattle.numa_machine.specs.Machine.{Hardware};
 ghost use Rattle.numa_space.specs.declared.command.Command.{Command};
 ghost use Rattle.numa_space.specs.declared.refusal.PlaceRefusal.TheVariants.{BadCpu};
-ghost use Rattle.numa_reports.specs.declared.fault.ReportFault.TheVariants.{Refused};
+ghost use Rattle.numa_reports.specs.declared.fault.ReportError.TheVariants.{Refused};
 ghost use Rattle.numa_reports.specs.Failing.{MayFail, MovesMayFail};
 ghost use Rattle.numa_reports.specs.Mapped.{IsOutlook};
 ghost use Rattle.numa_reports.specs.Moved.{HasRoomFor};
 
-use crate::fault::ReportFault;
+use crate::fault::ReportError;
 use crate::moves::{BLOCK, ENTRIES, add_moves, empty_table, has_node};
 use crate::outlook::{Outlook, PageSpan, common_spans};
 use crate::sheet::fields::bytes;
@@ -194,7 +194,7 @@ fn count_span(
     touch: Touch,
     span: PageSpan,
     difference: &mut Difference,
-) -> Result<(), ReportFault>
+) -> Result<(), ReportError>
     requires { HasRoomFor difference.old.total.items difference.old.left }
     ensures room { OnOk result (HasRoomFor difference.new.total.items difference.new.left) }
     ensures err { (machine : Hardware) (old new : List Command)
@@ -202,10 +202,10 @@ fn count_span(
         → IfErr result (MovesMayFail machine old new span.first span.pages touch.cpu) }
 {
     if !has_node(before, touch.cpu) {
-        return Err(ReportFault::Refused(PlaceRefusal::BadCpu));
+        return Err(ReportError::Refused(PlaceRefusal::BadCpu));
     }
     let Some(left) = difference.left.checked_sub(span.pages) else {
-        return Err(ReportFault::Memory);
+        return Err(ReportError::Memory);
     };
     add_moves(before, after, touch, span, &mut difference.total)?;
     difference.left = left;
@@ -220,7 +220,7 @@ fn push_span(
     touch: Touch,
     span: PageSpan,
     difference: &mut Difference,
-) -> Result<(), ReportFault>
+) -> Result<(), ReportError>
     requires { HasRoomFor difference.old.total.items difference.old.left }
     ensures room { OnOk result (HasRoomFor difference.new.total.items difference.new.left) }
     ensures err { (machine : Hardware) (old new : List Command)
@@ -249,14 +249,14 @@ pub fn difference_text(
     nodes: u32,
     task: u32,
     cpu: u32,
-) -> Result<Vec<u8>, ReportFault>
+) -> Result<Vec<u8>, ReportError>
     ensures err { (machine : Hardware) (old new : List Command) → nodes ≡ machine.nodes
         → IsOutlook machine old before.now → IsOutlook machine new after.now
         → IfErr result (MayFail nodes cpu) }
     ensures bad_cpu { nodes ≤ cpu → result ≡ Err (Refused BadCpu) }
 {
     if cpu >= nodes {
-        return Err(ReportFault::Refused(PlaceRefusal::BadCpu));
+        return Err(ReportError::Refused(PlaceRefusal::BadCpu));
     }
     let spans = common_spans(alloc, before.spans.as_slice(), after.spans.as_slice())?;
     let mut difference = Difference::new(alloc)?;

@@ -59,7 +59,7 @@ impl Placed<'_> {
 
 /// What is said of a range.
 #[derive(Clone, Copy)]
-pub(crate) struct Row<'a> {
+pub(crate) struct RangeRow<'a> {
     /// The address of its first byte.
     pub(crate) start: u64,
     /// The address behind its last byte.

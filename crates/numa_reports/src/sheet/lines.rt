@@ -1,6 +1,6 @@
 //! Reports as lines in the form of numa_maps.
 
-use crate::sheet::fields::{Placed, Row};
+use crate::sheet::fields::{Placed, RangeRow};
 use crate::sheet::nodes::{NodePages, put_nodes};
 use crate::sheet::written::Written;
 
@@ -22,7 +22,7 @@ fn put_pages(text: &mut Written, placed: Placed<'_>) {
 
 /// The line of a range: its first address and the one behind its last, the policy, and its pages by
 /// node.
-pub(crate) fn put_range(text: &mut Written, row: Row<'_>) {
+pub(crate) fn put_range(text: &mut Written, row: RangeRow<'_>) {
     text.put_addresses(row.start, row.end);
     text.put(b" ");
     text.put(row.policy.as_bytes());

@@ -1,7 +1,7 @@
 //! Reports as JSON, whose objects are serde_json's: their members stand in the order of their
 //! names. The pages that find no node stand behind them.
 
-use crate::sheet::fields::{Placed, Row};
+use crate::sheet::fields::{Placed, RangeRow};
 use crate::sheet::nodes::NodePages;
 use crate::sheet::object::Object;
 use crate::sheet::written::Written;
@@ -63,7 +63,7 @@ fn put_made(text: &mut Written, made: Result<Value, AllocError>, exhausted: Opti
 }
 
 /// The object of a range, but for the pages that find no node.
-fn range_object(alloc: Global, row: Row<'_>) -> Result<Value, AllocError> {
+fn range_object(alloc: Global, row: RangeRow<'_>) -> Result<Value, AllocError> {
     let mut object = Object::new(alloc);
     put_placed(&mut object, row.placed);
     object.put("policy", row.policy.to_value(alloc));
@@ -80,7 +80,7 @@ fn total_object(alloc: Global, placed: Placed<'_>) -> Result<Value, AllocError> 
 }
 
 /// The object of a range.
-pub(crate) fn put_range(text: &mut Written, row: Row<'_>, is_first: bool) {
+pub(crate) fn put_range(text: &mut Written, row: RangeRow<'_>, is_first: bool) {
     let before = if is_first { "\n" } else { ",\n" };
     text.put(before.as_bytes());
     put_made(text, range_object(text.alloc(), row), row.placed.exhausted);

@@ -1,14 +1,14 @@
 //! A prediction, part by part, in the format that was asked for.
 ghost use Rattle.std.specs.Prelude.{◌≡◌, ◌≤◌, Err};
 ghost use Rattle.numa_space.specs.declared.refusal.PlaceRefusal.TheVariants.{BadCpu};
-ghost use Rattle.numa_reports.specs.declared.fault.ReportFault.TheVariants.{Refused};
+ghost use Rattle.numa_reports.specs.declared.fault.ReportError.TheVariants.{Refused};
 ghost use Rattle.numa_reports.specs.Failing.{FailsForNode};
 
-use crate::fault::ReportFault;
+use crate::fault::ReportError;
 use crate::filling::{FreePages, fill_all, free_of, taken};
 use crate::prediction::{RangePrediction, TakeRange, predict_all};
 use crate::sheet::cells::{CELLS, first_cells};
-use crate::sheet::fields::{Row, bytes, placed_of};
+use crate::sheet::fields::{RangeRow, bytes, placed_of};
 use crate::sheet::nodes::{NodePages, list_nodes};
 use crate::sheet::policies::PolicyTexts;
 use crate::sheet::written::Written;
@@ -20,7 +20,7 @@ use std::alloc::{AllocError, Global};
 
 /// A prediction that is written range by range.
 #[derive(Drop)]
-struct Parts {
+struct PredictionWriter {
     format: Format,
     // How many nodes the machine has.
     nodes: usize,
@@ -49,7 +49,7 @@ fn cells_of(cells: &[u8], ranges: usize, pages: u64) -> &[u8] {
     cells.get(first..end).unwrap_or(&[])
 }
 
-impl Parts {
+impl PredictionWriter {
     /// Writes what stands behind the last range: how many pages each node gets in all, and what is
     /// left on those that are named.
     fn put_total(&mut self, counts: &[u64; 256], left: &[NodePages]) {
@@ -70,7 +70,7 @@ impl Parts {
 }
 
 /// Writes what is said of a range, with so many before it; the cells are those of all ranges.
-fn put_range(text: &mut Written, format: Format, row: Row<'_>, before: usize, cells: &[u8]) {
+fn put_range(text: &mut Written, format: Format, row: RangeRow<'_>, before: usize, cells: &[u8]) {
     match format {
         Format::Text => lines::put_range(text, row),
         Format::Json => objects::put_range(text, row, before == 0),
@@ -82,10 +82,10 @@ fn put_range(text: &mut Written, format: Format, row: Row<'_>, before: usize, ce
     }
 }
 
-impl TakeRange for Parts {
+impl TakeRange for PredictionWriter {
     fn take(&mut self, range: &Run<RangeRecord>, said: &RangePrediction) -> Result<(), AllocError> {
         list_nodes(&mut self.listed, shown(&said.counts, self.nodes))?;
-        let row = Row {
+        let row = RangeRow {
             start: bytes(range.first),
             end: bytes(range.first.saturating_add(range.pages)),
             policy: self.policies.text(said.policy)?,
@@ -101,7 +101,7 @@ impl TakeRange for Parts {
 /// What is asked: where the pages of a space go by a plan, if they are touched so, and the named
 /// nodes have so many free pages.
 #[derive(Clone, Copy)]
-struct Question<'a> {
+struct PredictionRequest<'a> {
     space: &'a Space,
     plan: &'a Plan,
     touch: Touch,
@@ -109,7 +109,7 @@ struct Question<'a> {
 }
 
 /// What stands before the first range.
-fn head(alloc: Global, asked: Question<'_>, format: Format) -> Written {
+fn head(alloc: Global, asked: PredictionRequest<'_>, format: Format) -> Written {
     let mut text = Written::new(alloc);
     let (space, touch) = (asked.space, asked.touch);
     let version = asked.plan.version();
@@ -124,7 +124,11 @@ fn head(alloc: Global, asked: Question<'_>, format: Format) -> Written {
 }
 
 /// Before the first range.
-fn begin(alloc: Global, asked: Question<'_>, format: Format) -> Result<Parts, ReportFault>
+fn begin(
+    alloc: Global,
+    asked: PredictionRequest<'_>,
+    format: Format,
+) -> Result<PredictionWriter, ReportError>
     ensures err { FailsForNode asked.entry.space.now asked.entry.plan.now
         asked.entry.touch.cpu result }
 {
@@ -132,7 +136,7 @@ fn begin(alloc: Global, asked: Question<'_>, format: Format) -> Result<Parts, Re
         Format::Svg => first_cells(alloc, asked.space, asked.plan, asked.touch, asked.free)?,
         _ => Vec::new(alloc),
     };
-    Ok(Parts {
+    Ok(PredictionWriter {
         format,
         nodes: asked.space.machine().nodes() as usize,
         policies: PolicyTexts::new(alloc),
@@ -162,7 +166,10 @@ fn left_on(
 }
 
 /// Writes what is said of each range, and of all, where some nodes are named.
-fn write_filled(parts: &mut Parts, asked: Question<'_>) -> Result<(), ReportFault>
+fn write_filled(
+    parts: &mut PredictionWriter,
+    asked: PredictionRequest<'_>,
+) -> Result<(), ReportError>
     ensures err { FailsForNode asked.entry.space.now asked.entry.plan.now
         asked.entry.touch.cpu result }
 {
@@ -176,7 +183,10 @@ fn write_filled(parts: &mut Parts, asked: Question<'_>) -> Result<(), ReportFaul
 }
 
 /// Writes what is said of each range, and of all, and gives the text.
-fn write_all(parts: &mut Parts, asked: Question<'_>) -> Result<Vec<u8>, ReportFault>
+fn write_all(
+    parts: &mut PredictionWriter,
+    asked: PredictionRequest<'_>,
+) -> Result<Vec<u8>, ReportError>
     ensures err { FailsForNode asked.entry.space.now asked.entry.plan.now
         asked.entry.touch.cpu result }
 {
@@ -206,14 +216,14 @@ pub fn filling_text(
     touch: Touch,
     format: Format,
     free: &[FreePages],
-) -> Result<Vec<u8>, ReportFault>
+) -> Result<Vec<u8>, ReportError>
     ensures err { FailsForNode space.now plan.now touch.cpu result }
     ensures bad_cpu { space.now.machine.nodes ≤ touch.cpu → result ≡ Err (Refused BadCpu) }
 {
     if !has_node(space, touch.cpu) {
-        return Err(ReportFault::Refused(PlaceRefusal::BadCpu));
+        return Err(ReportError::Refused(PlaceRefusal::BadCpu));
     }
-    let asked = Question {
+    let asked = PredictionRequest {
         space,
         plan,
         touch,
@@ -238,7 +248,7 @@ pub fn prediction_text(
     task: u32,
     cpu: u32,
     format: Format,
-) -> Result<Vec<u8>, ReportFault>
+) -> Result<Vec<u8>, ReportError>
     ensures err { FailsForNode space.now plan.now cpu result }
     ensures bad_cpu { space.now.machine.nodes ≤ cpu → result ≡ Err (Refused BadCpu) }
 {

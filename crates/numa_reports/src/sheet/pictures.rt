@@ -3,7 +3,7 @@
 //! A range is a line of text and a bar with a cell for each page, in which the node's number
 //! stands; below the ranges stand the nodes with what they get. So nothing hangs on the colours.
 
-use crate::sheet::fields::{Placed, Row, bytes};
+use crate::sheet::fields::{Placed, RangeRow, bytes};
 use crate::sheet::lines::put_lacking;
 use crate::sheet::nodes::{NodePages, put_nodes};
 use crate::sheet::written::Written;
@@ -116,7 +116,7 @@ fn below(ranges: usize) -> u64 {
 }
 
 /// The range with so many before it: its line and its bar.
-pub(crate) fn put_range(text: &mut Written, before: usize, row: Row<'_>, cells: &[u8]) {
+pub(crate) fn put_range(text: &mut Written, before: usize, row: RangeRow<'_>, cells: &[u8]) {
     text.put_form(
         b"<g class=\"range\" transform=\"translate(16,$)\"><text y=\"11\">",
         &[below(before)],

@@ -1,7 +1,7 @@
 //! Reports as CSV: one record for each node of each range, and one for each node of all. Pages that
 //! find no node with a free page have a record without a node.
 
-use crate::sheet::fields::{Placed, Row, placed_of};
+use crate::sheet::fields::{Placed, RangeRow, placed_of};
 use crate::sheet::nodes::NodePages;
 use crate::sheet::written::Written;
 use csv::{Writer, WriterBuilder};
@@ -15,7 +15,7 @@ pub(crate) fn put_head(text: &mut Written) {
 
 /// What all records of a range begin with.
 #[derive(Clone, Copy)]
-struct Front<'a> {
+struct RowPrefix<'a> {
     start: &'a str,
     end: &'a str,
     policy: &'a str,
@@ -46,7 +46,7 @@ impl Records {
     }
 
     /// Writes the record of a node.
-    fn put(&mut self, front: &Front<'_>, node: &str, pages: u64) {
+    fn put(&mut self, front: &RowPrefix<'_>, node: &str, pages: u64) {
         let mut count = Buffer::new();
         self.put_record(&[
             front.start.as_bytes(),
@@ -59,7 +59,7 @@ impl Records {
     }
 
     /// Writes the records of nodes.
-    fn put_nodes(&mut self, front: &Front<'_>, nodes: &[NodePages]) {
+    fn put_nodes(&mut self, front: &RowPrefix<'_>, nodes: &[NodePages]) {
         for one in nodes {
             let mut number = Buffer::new();
             self.put(front, number.format(one.node), one.pages);
@@ -67,7 +67,7 @@ impl Records {
     }
 
     /// Writes the records of pages.
-    fn put_placed(&mut self, front: &Front<'_>, placed: Placed<'_>) {
+    fn put_placed(&mut self, front: &RowPrefix<'_>, placed: Placed<'_>) {
         self.put_nodes(front, placed.nodes);
         if let Some(pages) = placed.lacking() {
             self.put(front, "", pages);
@@ -84,18 +84,18 @@ impl Records {
 }
 
 /// Writes the records of pages.
-fn put_all(text: &mut Written, front: &Front<'_>, placed: Placed<'_>) {
+fn put_all(text: &mut Written, front: &RowPrefix<'_>, placed: Placed<'_>) {
     let mut records = Records::new(text.alloc());
     records.put_placed(front, placed);
     records.end(text);
 }
 
 /// The records of a range.
-pub(crate) fn put_range(text: &mut Written, row: Row<'_>) {
+pub(crate) fn put_range(text: &mut Written, row: RangeRow<'_>) {
     let mut first = Buffer::new();
     let mut last = Buffer::new();
     let mut all = Buffer::new();
-    let front = Front {
+    let front = RowPrefix {
         start: first.format(row.start),
         end: last.format(row.end),
         policy: row.policy,
@@ -108,7 +108,7 @@ pub(crate) fn put_range(text: &mut Written, row: Row<'_>) {
 /// addresses.
 fn put_apart(text: &mut Written, policy: &str, placed: Placed<'_>) {
     let mut all = Buffer::new();
-    let front = Front {
+    let front = RowPrefix {
         start: "",
         end: "",
         policy,

@@ -23,7 +23,7 @@ use crate::command::{Command, PAGE_BYTES};
 use crate::page_ranges::PageTest;
 use crate::refusal::Refusal;
 use crate::space::Space;
-use numa_machine::{Rules, WeightFault};
+use numa_machine::{Rules, WeightError};
 use numa_mask::NodeMask;
 use numa_mode::{Mode, PolicySpec, Record};
 
@@ -292,8 +292,8 @@ impl Space {
         let meant = self.weight_meant(weight);
         match self.weights.set(node, meant) {
             Ok(()) => {}
-            Err(WeightFault::NoSuchNode) => return Err(Refusal::NoSuchNode),
-            Err(WeightFault::BadWeight) => return Err(Refusal::BadWeight),
+            Err(WeightError::NoSuchNode) => return Err(Refusal::NoSuchNode),
+            Err(WeightError::BadWeight) => return Err(Refusal::BadWeight),
         }
         self.version += 1;
         Ok(())

@@ -1,9 +1,9 @@
 //! Words that ask about pages that a task would touch.
-use crate::endings::{Told, answered};
-use numa_command_line::Question;
-use numa_play::{Ended, Halt, Scripts};
+use crate::endings::{StandardError, answered};
+use numa_command_line::PageQuestion;
 use numa_reports::Touch;
 use numa_sources::Outlet;
+use numa_words::{Ended, Halt, Scripts};
 use std::io;
 use std::io::Read;
 use std::process::ExitCode;
@@ -13,7 +13,7 @@ fn ask<R, S>(
     rt: &R,
     scripts: Scripts<S>,
     asked: Touch,
-    question: &Question,
+    question: &PageQuestion,
     outlet: &Outlet,
 ) -> Result<Ended, Halt>
 where
@@ -22,14 +22,21 @@ where
 {
     let alloc = rt.alloc();
     let mut output = outlet.writer(io::writer(rt));
-    let told = Told { rt };
+    let told = StandardError { rt };
     match question {
-        Question::Predict { format, free } => {
-            numa_play::predict(alloc, scripts, asked, *format, free, &mut output, told)
+        PageQuestion::Predict { format, free } => {
+            numa_words::predict(alloc, scripts, asked, *format, free, &mut output, told)
         }
-        Question::Diff(lines) => numa_play::diff(alloc, scripts, lines, asked, &mut output, told),
-        Question::Explain(page) => {
-            numa_play::explain(alloc, scripts, asked, *page, &mut output, told)
+        PageQuestion::Diff(lines) => numa_words::diff(
+            alloc,
+            scripts,
+            lines,
+            asked,
+            &mut output,
+            told,
+        ),
+        PageQuestion::Explain(page) => {
+            numa_words::explain(alloc, scripts, asked, *page, &mut output, told)
         }
     }
 }
@@ -39,7 +46,7 @@ pub fn answer<R, S>(
     rt: &R,
     scripts: Scripts<S>,
     asked: Touch,
-    question: &Question,
+    question: &PageQuestion,
     lenient: bool,
 ) -> ExitCode
 where

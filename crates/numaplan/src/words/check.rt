@@ -1,7 +1,7 @@
 //! Tells what is wrong with scripts.
 use crate::endings::{status_of, stop_quietly};
-use numa_play::Scripts;
 use numa_sources::Outlet;
+use numa_words::Scripts;
 use std::io;
 use std::io::Read;
 use std::process::ExitCode;
@@ -13,7 +13,7 @@ where
     S: Read + Drop,
 {
     let outlet = Outlet::new();
-    match numa_play::check(rt.alloc(), scripts, outlet.writer(io::writer(rt))) {
+    match numa_words::check(rt.alloc(), scripts, outlet.writer(io::writer(rt))) {
         Ok(ended) => status_of(ended, false),
         Err(why) => stop_quietly(rt, why, &outlet),
     }

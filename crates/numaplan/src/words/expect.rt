@@ -2,8 +2,8 @@
 use crate::answering::Answering;
 use crate::endings::stop_quietly;
 use numa_files::{Expect, Stop, read_all};
-use numa_play::Scripts;
 use numa_sources::Outlet;
+use numa_words::Scripts;
 use std::io;
 use std::io::{Read, Write};
 use std::process::ExitCode;

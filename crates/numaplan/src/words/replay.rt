@@ -1,9 +1,9 @@
 //! Tells what a trace of accesses meets.
-use crate::endings::{Told, ended};
+use crate::endings::{StandardError, ended};
 use numa_command_line::JobFault;
-use numa_play::Scripts;
 use numa_sources::{Outlet, open_all};
 use numa_traces::Shape;
+use numa_words::Scripts;
 use std::io;
 use std::io::{IsTerminal, Read};
 use std::process::ExitCode;
@@ -25,13 +25,13 @@ where
 {
     let outlet = Outlet::new();
     let mut output = outlet.writer(io::writer(rt));
-    let answer = numa_play::replay(
+    let answer = numa_words::replay(
         rt.alloc(),
         scripts,
         traces,
         format,
         &mut output,
-        Told { rt },
+        StandardError { rt },
     );
     ended(rt, name, answer, lenient, &outlet)
 }

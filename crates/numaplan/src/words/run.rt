@@ -3,9 +3,9 @@ use crate::answering::Answering;
 use crate::endings::{fail, stop};
 use numa_files::{Echo, Joined, Lines, Stop, read_all};
 use numa_machine::Rules;
-use numa_play::Scripts;
 use numa_script::{RunFault, Watched};
 use numa_sources::without_names;
+use numa_words::Scripts;
 use std::io;
 use std::io::Read;
 use std::process::ExitCode;
@@ -18,7 +18,7 @@ where
 {
     let mut input = Watched::new(Joined::new(sources));
     let mut output = Watched::new(io::writer(rt));
-    let run = numa_play::run(rt.alloc(), rules, &mut input, &mut output);
+    let run = numa_words::run(rt.alloc(), rules, &mut input, &mut output);
     drop(output);
     drop(input);
     run

@@ -1,5 +1,5 @@
 //! Workers place pages while policies change.
-ghost use Rattle.numa_storm.specs.Crew.{IsCrew};
+ghost use Rattle.numa_stress.specs.Crew.{IsCrew};
 
 use crate::endings::fail;
 use numa_script::Watched;
@@ -16,7 +16,7 @@ pub fn show<R: Threads + Wait + Sync + Print + Eprint + AllocGlobal>(
     requires { IsCrew workers }
 {
     let mut output = Watched::new(io::writer(rt));
-    let storm = numa_storm::storm(rt, rt.alloc(), workers, &mut output);
+    let storm = numa_stress::storm(rt, rt.alloc(), workers, &mut output);
     drop(output);
     match storm {
         Ok(status) => ExitCode::from(status),

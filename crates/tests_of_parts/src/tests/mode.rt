@@ -2,10 +2,10 @@
 //! linux/mempolicy.h: the modes count from 0, and STATIC_NODES is bit 15, RELATIVE_NODES bit 14.
 use crate::tests::same::same;
 use numa_examples::set_of;
-use numa_mode::{Mode, NodeFlag, PolicySpec, SpecFault};
+use numa_mode::{Mode, NodeFlag, PolicySpec, SpecError};
 
 /// What a word and nodes ask for, or why they ask for nothing.
-type Asked = Result<(Mode, NodeFlag), SpecFault>;
+type Asked = Result<(Mode, NodeFlag), SpecError>;
 
 static WORDS: [(u32, &[u8], Asked); 19] = [
     (0, &[], Ok((Mode::Default, NodeFlag::Plain))),
@@ -19,14 +19,14 @@ static WORDS: [(u32, &[u8], Asked); 19] = [
     (0x8002, &[1], Ok((Mode::Bind, NodeFlag::Static))),
     (0x4003, &[2], Ok((Mode::Interleave, NodeFlag::Relative))),
     (0x8000, &[], Ok((Mode::Default, NodeFlag::Plain))),
-    (0xc002, &[5], Err(SpecFault::BothFlags)),
-    (7, &[], Err(SpecFault::UnknownMode)),
-    (0x2002, &[5], Err(SpecFault::UnknownMode)),
-    (0x10002, &[5], Err(SpecFault::UnknownMode)),
-    (0x8001, &[], Err(SpecFault::FlagsForbidden)),
-    (4, &[5], Err(SpecFault::NodesForbidden)),
-    (0, &[5], Err(SpecFault::NodesForbidden)),
-    (3, &[], Err(SpecFault::NodesMissing)),
+    (0xc002, &[5], Err(SpecError::BothFlags)),
+    (7, &[], Err(SpecError::UnknownMode)),
+    (0x2002, &[5], Err(SpecError::UnknownMode)),
+    (0x10002, &[5], Err(SpecError::UnknownMode)),
+    (0x8001, &[], Err(SpecError::FlagsForbidden)),
+    (4, &[5], Err(SpecError::NodesForbidden)),
+    (0, &[5], Err(SpecError::NodesForbidden)),
+    (3, &[], Err(SpecError::NodesMissing)),
 ];
 
 /// What a word and nodes ask for.

@@ -60,8 +60,8 @@ fn accept(rt: &impl Abort, core: &mut Core, command: &Command) {
     step(rt, core, &Event::Publish);
 }
 
-/// Worker 0 hunts for a frame for page 0x10 of task 2, and gives it back.
-fn hunt(rt: &impl Abort, core: &mut Core) {
+/// Worker 0 frame searches for a frame for page 0x10 of task 2, and gives it back.
+fn frame_search(rt: &impl Abort, core: &mut Core) {
     let request = Request {
         task: 2,
         page: 0x10,
@@ -79,7 +79,7 @@ fn step_all(rt: &impl Abort, alloc: Global, core: &mut Core, commands: &[Command
     for command in commands {
         accept(rt, core, command);
     }
-    hunt(rt, core);
+    frame_search(rt, core);
     mark(rt, alloc);
 }
 

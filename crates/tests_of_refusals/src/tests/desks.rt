@@ -1,9 +1,9 @@
-//! The calls of a desk as numa_hunts hands them on.
+//! The calls of a desk as numa_refinement hands them on.
 use crate::tests::same::{mark, same};
 use crate::tests::shown::summed;
 use crate::tests::spaces::COMMANDS;
 use numa_examples::{commands_of, flat_machine, limits};
-use numa_hunts::desk;
+use numa_refinement::desk;
 use numa_machine::NoMemory;
 use numa_publish::Desk;
 use numa_space::{Command, Refusal};

@@ -3,7 +3,7 @@ ghost use Rattle.std.specs.Prelude.{◌≡◌, ◌<◌};
 
 use crate::tests::same::{mark, same};
 use crate::tests::shown::mixed;
-use numa_ranges::{RangeFault, RangeMap};
+use numa_ranges::{RangeError, RangeMap};
 use std::alloc::Global;
 use std::process::Abort;
 
@@ -29,7 +29,7 @@ fn shown(map: &RangeMap<u32>) -> (usize, u64) {
 }
 
 /// Gives the second half of a span's pages the value 9.
-fn update(map: &mut RangeMap<u32>, first: u64) -> Result<(), RangeFault>
+fn update(map: &mut RangeMap<u32>, first: u64) -> Result<(), RangeError>
     requires { first < 2560 }
 {
     let nine = |_: &u32| -> u32
@@ -39,7 +39,7 @@ fn update(map: &mut RangeMap<u32>, first: u64) -> Result<(), RangeFault>
 }
 
 /// A step for one span: of eight pages, each 16 behind the last.
-fn take(map: &mut RangeMap<u32>, step: Step, place: u64) -> Result<(), RangeFault>
+fn take(map: &mut RangeMap<u32>, step: Step, place: u64) -> Result<(), RangeError>
     requires { place < 160 }
 {
     match step {
@@ -57,7 +57,7 @@ fn take_twice(rt: &impl Abort, map: &mut RangeMap<u32>, step: Step, place: u64)
     let Err(fault) = take(map, step, place) else {
         return;
     };
-    same(rt, &(fault, shown(map)), &(RangeFault::NoMemory, before));
+    same(rt, &(fault, shown(map)), &(RangeError::NoMemory, before));
     same(rt, &take(map, step, place), &Ok(()));
 }
 

@@ -4,16 +4,16 @@ use Rattle.clap.specs.Words.{App, Rule, Shape, Text, app_of, with_subcommand}
 use Rattle.numa_command_line.specs.Grammar.{IsWord, check_arguments, diff_arguments, expect_arguments, explain_arguments, predict_arguments, reader, replay_arguments, rules, run_arguments, storm_arguments, word}
 use Rattle.numa_command_line.specs.Usage.{Names, rule_said, shape_said}
 use Rattle.numa_command_line.specs.declared.usage.Argument.{Argument}
-use Rattle.numa_command_line.specs.declared.usage.Word.{Word}
+use Rattle.numa_command_line.specs.declared.usage.SubcommandHelp.{SubcommandHelp}
 use Rattle.numa_command_line.proofs.program.program.Goals as goal
 
 -- what is said of a word that reads lines
-reader_is : (said : Word) (option : Argument) (names : Names) (name : Text) (arguments : List Rule)
+reader_is : (said : SubcommandHelp) (option : Argument) (names : Names) (name : Text) (arguments : List Rule)
     → IsWord name arguments true said → rule_said option ≡ rules names → shape_said said option ≡ reader names name arguments
 reader_is said option names name arguments is same = rw (is.2, is.0, is.1, same) refl
 
 -- and of one that doesn't
-word_is : (said : Word) (option : Argument) (name : Text) (arguments : List Rule)
+word_is : (said : SubcommandHelp) (option : Argument) (name : Text) (arguments : List Rule)
     → IsWord name arguments false said → shape_said said option ≡ word name arguments
 word_is said option name arguments is = rw (is.2, is.0, is.1) refl
 

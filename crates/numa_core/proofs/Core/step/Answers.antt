@@ -1,6 +1,6 @@
 use Rattle.std.proofs.Common.{◌∷◌, List, sym, subst}
-use Rattle.numa_core.specs.Executions.{Moment}
-use Rattle.numa_core.specs.Standing.{CoreState, HasPast, LeadsTo, setup_of, moment_after}
+use Rattle.numa_core.specs.Executions.{CoreStep}
+use Rattle.numa_core.specs.Standing.{CoreState, HasPast, LeadsTo, setup_of, core_step_after}
 use Rattle.numa_space.specs.declared.event.Event.{Event}
 use Rattle.numa_space.specs.declared.event.CoreReply.{CoreReply}
 use Rattle.numa_space.specs.declared.event.CoreRefusal.{CoreRefusal}
@@ -12,7 +12,7 @@ use Rattle.numa_core.proofs.Core.step.Goals as goal
 
 ran : (old new : CoreState) (event : Event) (answer : Result CoreReply CoreRefusal) → setup_of new ≡ setup_of old → Follows old event answer new → HasPast old → HasPast new
 ran old new event answer same follows had = record {
-  past = moment_after (setup_of old) had.past event answer ∷ had.past;
+  past = core_step_after (setup_of old) had.past event answer ∷ had.past;
   leads = leads_on old new event answer same follows had.past had.leads;
 }
 
@@ -36,10 +36,10 @@ invariant_of-self-in-Give c = (c.give.ensures.kept, ran (core_state c.self.insid
 
 pub returns-in-Accept-clause-executions : goal.returns-in-Accept-clause-executions
 returns-in-Accept-clause-executions c =
-    let P : CoreState → Type 0 = λ old. (past : List Moment) → LeadsTo past old → LeadsTo (moment_after (setup_of old) past c.args.event c.accept.result ∷ past) (core_state c.accept.new.self) in
+    let P : CoreState → Type 0 = λ old. (past : List CoreStep) → LeadsTo past old → LeadsTo (core_step_after (setup_of old) past c.args.event c.accept.result ∷ past) (core_state c.accept.new.self) in
     subst P c.self.view_is (leads_on (core_state c.self.inside.state) (core_state c.accept.new.self) c.args.event c.accept.result c.accept.ensures.setup (subst (λ e. Follows (core_state c.self.inside.state) e c.accept.result (core_state c.accept.new.self)) (sym c.in-Accept.is) c.accept.ensures.follows))
 
 pub returns-in-Begin-clause-executions : goal.returns-in-Begin-clause-executions
 returns-in-Begin-clause-executions c =
-    let P : CoreState → Type 0 = λ old. (past : List Moment) → LeadsTo past old → LeadsTo (moment_after (setup_of old) past c.args.event c.begin.result ∷ past) (core_state c.begin.new.self) in
+    let P : CoreState → Type 0 = λ old. (past : List CoreStep) → LeadsTo past old → LeadsTo (core_step_after (setup_of old) past c.args.event c.begin.result ∷ past) (core_state c.begin.new.self) in
     subst P c.self.view_is (leads_on (core_state c.self.inside.state) (core_state c.begin.new.self) c.args.event c.begin.result c.begin.ensures.setup (subst (λ e. Follows (core_state c.self.inside.state) e c.begin.result (core_state c.begin.new.self)) (sym c.in-Begin.is) c.begin.ensures.follows))

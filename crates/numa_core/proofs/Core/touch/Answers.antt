@@ -30,10 +30,10 @@ invariant_of-self c =
     let same = c.touch.ensures.setup ∙ ap setup_of c.self.view_is in (
       c.touch.ensures.kept,
       record {
-        past = steps.moments ++ had.past;
+        past = steps.core_steps ++ had.past;
         leads = record {
-          legal = subst (λ s. IsExecution s (steps.moments ++ had.past)) (sym same) steps.legal;
-          stands = subst (λ s. CoreStandsFor new (world_of s (steps.moments ++ had.past))) (sym same) (subst (λ w. CoreStandsFor new w) (sym steps.world) last.1);
+          legal = subst (λ s. IsExecution s (steps.core_steps ++ had.past)) (sym same) steps.legal;
+          stands = subst (λ s. CoreStandsFor new (world_of s (steps.core_steps ++ had.past))) (sym same) (subst (λ w. CoreStandsFor new w) (sym steps.world) last.1);
         };
       },
     )
@@ -45,10 +45,10 @@ returns-clause-executions c past leads =
     let last = ends c (world_of old past) leads.stands in
     let steps = touches old past c.args.worker c.args.request leads.legal in
     let same = c.touch.ensures.setup ∙ ap setup_of c.self.view_is in (
-      steps.moments,
-      subst (λ answer. IsTouch c.args.worker c.args.request answer steps.moments) (sym last.0) steps.touch,
+      steps.core_steps,
+      subst (λ answer. IsTouch c.args.worker c.args.request answer steps.core_steps) (sym last.0) steps.touch,
       record {
-        legal = subst (λ s. IsExecution s (steps.moments ++ past)) (sym same) steps.legal;
-        stands = subst (λ s. CoreStandsFor new (world_of s (steps.moments ++ past))) (sym same) (subst (λ w. CoreStandsFor new w) (sym steps.world) last.1);
+        legal = subst (λ s. IsExecution s (steps.core_steps ++ past)) (sym same) steps.legal;
+        stands = subst (λ s. CoreStandsFor new (world_of s (steps.core_steps ++ past))) (sym same) (subst (λ w. CoreStandsFor new w) (sym steps.world) last.1);
       },
     )

@@ -10,7 +10,7 @@ returns c = record {
       record {
         space = shows.space;
         plan = shows.plan;
-        hunts = shows.hunts;
+        frame_searches = shows.frame_searches;
         owners = shows.owners;
         published = latest.there;
         known = newest-known (setup_of core) past legal;

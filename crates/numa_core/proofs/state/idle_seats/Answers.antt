@@ -1,5 +1,5 @@
 use Rattle.std.proofs.Common.{◌≡◌, ◌⊎◌, inl, inr, ℕ, None, Some, List, [], ◌∷◌, ◌++◌, slice_get, arith, ap, sym, subst, ◌∙◌, zero, suc}
-use Rattle.numa_core.specs.declared.seat.Seat.{Seat}
+use Rattle.numa_core.specs.declared.seat.WorkerSeat.{WorkerSeat}
 use Rattle.numa_core.specs.Seats.{SeatFits}
 use Rattle.numa_core.proofs.state.idle_seats.Goals as goal
 
@@ -16,6 +16,6 @@ loop-preserved c = record {
   idle = λ w seat at. go seat (slice_get-push c.loop.seats.items c.in_ok-seat.seat w seat (sym (ap (λ xs. slice_get xs w) c.in_ok-push.ensures.items) ∙ at)) (c.loop.invariant.idle w seat);
 }
   where
-    go : (seat : Seat) {P : Type 0} → P ⊎ (c.in_ok-seat.seat ≡ seat) → (P → (seat.job ≡ None) × SeatFits c.args.places.now seat) → (seat.job ≡ None) × SeatFits c.args.places.now seat
+    go : (seat : WorkerSeat) {P : Type 0} → P ⊎ (c.in_ok-seat.seat ≡ seat) → (P → (seat.job ≡ None) × SeatFits c.args.places.now seat) → (seat.job ≡ None) × SeatFits c.args.places.now seat
     go seat (inl at) before = before at
-    go seat (inr is) before = subst (λ (s : Seat). (s.job ≡ None) × SeatFits c.args.places.now s) is (c.in_ok-seat.ensures.idle, c.in_ok-seat.ensures.fits)
+    go seat (inr is) before = subst (λ (s : WorkerSeat). (s.job ≡ None) × SeatFits c.args.places.now s) is (c.in_ok-seat.ensures.idle, c.in_ok-seat.ensures.fits)

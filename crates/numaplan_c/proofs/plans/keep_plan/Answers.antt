@@ -1,5 +1,5 @@
 use Rattle.std.proofs.Common.{◌≡◌, None}
-use Rattle.numa_handle.specs.Handles.{core_in, plan_in}
+use Rattle.numaplan_handles.specs.Handles.{core_in, plan_in}
 use Rattle.numaplan_c.specs.Border.{IsPlanBy}
 use Rattle.numaplan_c.proofs.Made.{kept-made}
 use Rattle.numaplan_c.proofs.plans.keep_plan.Goals as goal

@@ -29,7 +29,7 @@ returns c = record {
   follows = λ world stands. let low : c.args.worker < length c.args.self.now.seats.items = omega (arith, c.in_ok-row.ensures.seated, c.args.self.now.seats.ok.0) in
       let there = there_at c.args.self.now.seats.items c.args.worker c.index_mut.result.now low c.index_mut.ensures.value in
       begin-follows c.args.self.now.space c.args.self.now.plan c.args.self.now.places c.args.self.now.seats.items c.args.self.now.owners.items world c.requires.kept.places stands c.args.worker c.index_mut.result.now low there c.args.request c.in_ok-row.row.now c.version-version.result c.begin.new.self c.begin.result c.version-version.ensures
-      (c.in_ok-row.ensures.allowed c.args.self.now.space c.args.self.now.owners.items) (c.in_ok-row.ensures.listed c.args.self.now.space c.args.self.now.owners.items) c.begin.ensures.reply c.begin.ensures.hunt;
+      (c.in_ok-row.ensures.allowed c.args.self.now.space c.args.self.now.owners.items) (c.in_ok-row.ensures.listed c.args.self.now.space c.args.self.now.owners.items) c.begin.ensures.reply c.begin.ensures.frame_search;
   unchanged = search rules;
   setup = setup-set c.args.self.now.space c.args.self.now.plan c.args.self.now.seats.items c.args.self.now.owners.items c.args.worker c.begin.new.self;
 }

@@ -1,6 +1,6 @@
 use Rattle.std.proofs.Common.{◌∙◌, arith}
 use Rattle.std.proofs.lemmas.Result.{err_from_is_err_and}
-use Rattle.numa_reports.specs.declared.fault.ReportFault.TheVariants.{Refused}
+use Rattle.numa_reports.specs.declared.fault.ReportError.TheVariants.{Refused}
 use Rattle.numa_reports.proofs.Refusing.{left-all, left-end, left-next, range-fails}
 use Rattle.numa_reports.proofs.sheet.cells.first_cells.Goals as goal
 

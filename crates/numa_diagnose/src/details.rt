@@ -1,0 +1,230 @@
+//! What is known of a fault or a refusal beyond its name.
+use crate::finding::Detail;
+use crate::pages::{first_mapped, first_unmapped, first_without_home, is_mapped};
+use numa_core::{Core, CoreRefusal, Event};
+use numa_mask::ListFault;
+use numa_mask::parts::first_place;
+use numa_run::{Reply, Script};
+use numa_script::parts::{items, words};
+use numa_script::{Line, Question, WordError, Work, why_malformed};
+use numa_space::{Command, Refusal, Space};
+
+/// How many bytes a page has.
+const PAGE: u64 = 4096;
+
+/// A span of pages, the last of them apart.
+#[derive(Clone, Copy)]
+struct PageInterval {
+    first: u64,
+    end: u64,
+}
+
+/// So many pages from that of an address on.
+fn pages_from(address: u64, count: u64) -> PageInterval {
+    let first = address / PAGE;
+    PageInterval {
+        first,
+        end: first.saturating_add(count),
+    }
+}
+
+/// How many pages so many bytes need.
+fn page_count(length: u64) -> u64 {
+    if length.is_multiple_of(PAGE) {
+        return length / PAGE;
+    }
+    length / PAGE + 1
+}
+
+/// The span of a command that has one.
+fn span_of(command: &Command) -> Option<PageInterval> {
+    match *command {
+        Command::Map { start, length, .. }
+        | Command::Unmap { start, length }
+        | Command::Mbind { start, length, .. }
+        | Command::SetHome { start, length, .. } => Some(pages_from(start, page_count(length))),
+        _ => None,
+    }
+}
+
+/// A page, where there is one.
+fn page_detail(page: Option<u64>) -> Detail {
+    match page {
+        Some(page) => Detail::Page(page),
+        None => Detail::None,
+    }
+}
+
+/// The page of a span that makes a command's refusal.
+fn span_detail(space: &Space, pages: PageInterval, refusal: Refusal) -> Detail {
+    match refusal {
+        Refusal::Unaligned => Detail::Page(pages.first),
+        Refusal::Overlap => page_detail(first_mapped(space, pages.first, pages.end)),
+        Refusal::Hole => page_detail(first_unmapped(space, pages.first, pages.end)),
+        Refusal::NotSupported => page_detail(first_without_home(space, pages.first, pages.end)),
+        _ => Detail::None,
+    }
+}
+
+/// What is known of a command's refusal.
+fn command_detail(space: &Space, command: &Command, refusal: Refusal) -> Detail {
+    match refusal {
+        Refusal::NoSuchNode => return last_node(space),
+        Refusal::CommandsSpent => return Detail::Count(space.version()),
+        Refusal::TooManyTasks => return Detail::Count(space.task_count() as u64),
+        Refusal::TooManyRanges => return Detail::Count(space.ranges() as u64),
+        _ => {}
+    }
+    if let Command::SetMems { .. } = command {
+        return Detail::Mems;
+    }
+    match span_of(command) {
+        Some(pages) => span_detail(space, pages, refusal),
+        None => Detail::None,
+    }
+}
+
+/// The highest node of the machine.
+fn last_node(space: &Space) -> Detail {
+    Detail::LastNode(space.machine().nodes().saturating_sub(1))
+}
+
+/// The pages that a question asks of.
+fn asked_pages(question: &Question) -> Option<PageInterval> {
+    match *question {
+        Question::Place { address, .. } => Some(pages_from(address, 1)),
+        Question::Span { address, pages, .. } => Some(pages_from(address, pages as u64)),
+        Question::Counts { address, pages, .. } => Some(pages_from(address, pages)),
+        Question::Ranges => None,
+    }
+}
+
+/// The page that a worker is to find a frame for.
+fn touched_page(work: &Work) -> Option<u64> {
+    match work {
+        Work::Event(Event::Begin(_, request)) => Some(request.page),
+        Work::Touch(_, request) => Some(request.page),
+        _ => None,
+    }
+}
+
+/// The page that isn't mapped, or isn't yet in what is published.
+fn unmapped_detail(space: &Space, said: &Line<'_>) -> Detail {
+    match said {
+        Line::Question(question) => match asked_pages(question) {
+            Some(pages) => page_detail(first_unmapped(space, pages.first, pages.end)),
+            None => Detail::None,
+        },
+        Line::Work(work) => match touched_page(work) {
+            Some(page) if is_mapped(space, page) => Detail::Unpublished(page),
+            page => page_detail(page),
+        },
+        _ => Detail::None,
+    }
+}
+
+/// What is known of a refusal.
+fn refusal_detail(core: &Core, said: &Line<'_>, cause: CoreRefusal) -> Detail {
+    let space = core.space();
+    match cause {
+        CoreRefusal::Command(refusal) => match said {
+            Line::Command(Ok(command)) => command_detail(space, command, refusal),
+            _ => Detail::None,
+        },
+        CoreRefusal::BadCpu => last_node(space),
+        CoreRefusal::Unmapped(_) => unmapped_detail(space, said),
+        _ => Detail::None,
+    }
+}
+
+/// Whether the line ends with a carriage return.
+fn ends_with_return(line: &[u8]) -> bool {
+    line.last() == Some(&b'\r')
+}
+
+/// Whether `all` is an item of a list, which stands behind a mode or alone.
+fn has_all(word: &[u8]) -> bool {
+    let list = match first_place(word, b':') {
+        Some(place) => &word[place + 1..],
+        None => word,
+    };
+    for item in items(list) {
+        if item == b"all".as_slice() {
+            return true;
+        }
+    }
+    false
+}
+
+/// Whether `all` stands in a line where nodes should.
+fn names_all(line: &[u8]) -> bool {
+    for word in words(line) {
+        if has_all(word) {
+            return true;
+        }
+    }
+    false
+}
+
+/// Whether the second word of a line begins with 0, and has more digits, but no `0x`.
+fn is_decimal_start(line: &[u8]) -> bool {
+    let mut words = words(line);
+    let Some(_) = words.next() else {
+        return false;
+    };
+    match words.next() {
+        Some(word) => word.len() > 1 && word.starts_with(b"0") && !word.starts_with(b"0x"),
+        None => false,
+    }
+}
+
+/// What to write for all nodes, where so many are there.
+fn all_nodes(nodes: u32) -> Detail {
+    Detail::AllNodes(nodes.saturating_sub(1))
+}
+
+/// All nodes of the machine that is ready, or that the line describes.
+fn all_detail(script: &Script, said: &Line<'_>) -> Detail {
+    if let Some(core) = script.core() {
+        return all_nodes(core.space().machine().nodes());
+    }
+    match said {
+        Line::Machine(machine) => all_nodes(machine.nodes),
+        _ => Detail::None,
+    }
+}
+
+/// What is known of a fault of a list or a policy.
+fn word_detail(script: &Script, line: &[u8], said: &Line<'_>, fault: WordError) -> Detail {
+    if ends_with_return(line) {
+        return Detail::CarriageReturn;
+    }
+    if line.contains(&b'\t') {
+        return Detail::Tab;
+    }
+    match fault {
+        WordError::List(ListFault::BadDigit) if names_all(line) => all_detail(script, said),
+        _ => Detail::None,
+    }
+}
+
+/// What is known of a fault or a refusal of a line, by the script after it.
+pub(crate) fn detail_of(script: &Script, line: &[u8], said: &Line<'_>, fault: Reply) -> Detail {
+    match fault {
+        Reply::BadWords => match why_malformed(line) {
+            Some(malformed) => Detail::Malformed(malformed),
+            None => Detail::None,
+        },
+        Reply::BadState if script.core().is_some() => Detail::MachineReady,
+        Reply::BadState => Detail::NoMachine,
+        Reply::BadWord(fault) => word_detail(script, line, said, fault),
+        Reply::Refused(CoreRefusal::Command(Refusal::Unaligned)) if is_decimal_start(line) => {
+            Detail::DecimalStart
+        }
+        Reply::Refused(cause) => match script.core() {
+            Some(core) => refusal_detail(core, said, cause),
+            None => Detail::None,
+        },
+        _ => Detail::None,
+    }
+}

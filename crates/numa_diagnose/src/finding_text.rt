@@ -1,0 +1,320 @@
+//! Findings as texts.
+use crate::finding::{Detail, Finding};
+use crate::text::Text;
+use crate::words::{list_words, machine_words, policy_words, worker_words};
+use numa_core::CoreRefusal;
+use numa_run::Reply;
+use numa_run::names::Named;
+use numa_script::keyword::Keyword;
+use numa_script::parameter::parameters;
+use numa_script::{Cause, Form, Misfit, Parameter, WordError};
+use numa_space::Refusal;
+use std::alloc::AllocError;
+
+/// What RULES isn't.
+const RULES_FORM: &str = " is neither document nor linux";
+
+/// What FRAMES isn't.
+const FRAMES_FORM: &str = " are no decimal numbers below 2^32 with commas between them";
+
+/// What DIST isn't.
+const DISTANCES_FORM: &str = " is neither flat nor decimal numbers of at most 255 with commas \
+and semicolons; either may stand behind kernel:";
+
+/// What is told of a carriage return.
+const RETURN: &str =
+    "a carriage return; lines end with a line feed alone: take it out, as tr -d '\\r' does";
+
+/// What is told of a tab.
+const TAB: &str =
+    "a tab; words stand between single spaces: write one, or nothing at the end of a line";
+
+/// What is told of a START that is decimal and looks like another.
+const DECIMAL_START: &str = "START begins with 0 and has no 0x, so it is decimal, and no multiple \
+of 4096; write 0x before hexadecimal digits";
+
+/// What stands behind a page that is mapped and isn't published.
+const UNPUBLISHED: &str = " is mapped, but not published yet; publish first";
+
+/// Appends how a keyword's lines are written, behind a semicolon.
+fn put_usage(text: &mut Text, keyword: Keyword) {
+    text.put("; ");
+    text.put(keyword.name());
+    let wanted = parameters(keyword);
+    text.put(if wanted.is_empty() {
+        " stands alone"
+    } else {
+        " wants"
+    });
+    for parameter in wanted {
+        text.put(" ");
+        text.put(parameter.name());
+    }
+}
+
+/// Appends what a word has to be.
+fn put_form(text: &mut Text, parameter: Parameter) {
+    text.put(parameter.name());
+    match parameter.form() {
+        Form::Number(greatest) => {
+            text.put_number(" is no number from 0 to ", greatest);
+            text.put(", decimal or hexadecimal behind 0x");
+        }
+        Form::Rules => text.put(RULES_FORM),
+        Form::Frames => text.put(FRAMES_FORM),
+        Form::Distances => text.put(DISTANCES_FORM),
+        Form::Any => {}
+    }
+}
+
+/// Appends what is wrong with a word.
+fn put_misfit(text: &mut Text, parameter: Parameter, misfit: Misfit) {
+    match (misfit, parameter.form()) {
+        (Misfit::TooGreat, Form::Number(greatest)) => {
+            text.put(parameter.name());
+            text.put_number(" is above ", greatest);
+        }
+        _ => put_form(text, parameter),
+    }
+}
+
+/// Appends a byte that no word has.
+fn put_byte(text: &mut Text, byte: u8) {
+    match byte {
+        b'\r' => text.put(RETURN),
+        b'\t' => text.put(TAB),
+        _ => {
+            text.put_hex("the byte ", byte as u64);
+            text.put(", which no word has");
+        }
+    }
+}
+
+/// What is wrong with a malformed line, where more words follow: those before them.
+fn cause_words(cause: Cause) -> &'static str {
+    match cause {
+        Cause::TooLong => "the line has more than 4096 bytes",
+        Cause::LeadingSpace => "a space at the beginning of the line; take it out",
+        Cause::TrailingSpace => "a space at the end of the line; take it out",
+        Cause::TwoSpaces => "two spaces in a row; write one",
+        Cause::UnknownWord => "no line begins with this word",
+        Cause::TooFewWords(_) => "too few words",
+        Cause::TooManyWords(_) => "too many words",
+        Cause::StrayByte(_) | Cause::BadWord(..) => "",
+    }
+}
+
+/// Appends why a line is malformed.
+fn put_cause(text: &mut Text, cause: Cause) {
+    text.put(cause_words(cause));
+    match cause {
+        Cause::StrayByte(byte) => put_byte(text, byte),
+        Cause::TooFewWords(keyword) => put_usage(text, keyword),
+        Cause::TooManyWords(keyword) => put_usage(text, keyword),
+        Cause::BadWord(keyword, parameter, misfit) => {
+            put_misfit(text, parameter, misfit);
+            put_usage(text, keyword);
+        }
+        _ => {}
+    }
+}
+
+/// Appends a fault by its head, its name and why.
+fn put_fault(text: &mut Text, head: &str, fault: Named, words: &str) {
+    text.put(head);
+    text.put_bytes(fault.name());
+    text.put(": ");
+    text.put(words);
+}
+
+/// Appends a fault of a node list or a policy: its name, and why.
+fn put_word_fault(text: &mut Text, fault: WordError) {
+    match fault {
+        WordError::List(fault) => {
+            put_fault(text, "bad list ", Named::List(fault), list_words(fault));
+        }
+        WordError::Policy(fault) => {
+            let named = Named::Policy(fault);
+            put_fault(text, "bad policy ", named, policy_words(fault));
+        }
+    }
+}
+
+/// The name of a refusal; that of a command has its error number behind it.
+fn name_of(cause: CoreRefusal) -> &'static [u8] {
+    match cause {
+        CoreRefusal::Command(refusal) => Named::Refusal(refusal).name(),
+        CoreRefusal::NoSuchWorker => b"NoSuchWorker",
+        CoreRefusal::Busy => b"Busy",
+        CoreRefusal::Idle => b"Idle",
+        CoreRefusal::BadTry => b"BadTry",
+        CoreRefusal::NotOwned => b"NotOwned",
+        CoreRefusal::BadCpu => b"BadCpu",
+        CoreRefusal::Unmapped(_) => b"Unmapped",
+        CoreRefusal::NoMemory => b"NoMemory",
+    }
+}
+
+/// Appends the name of a refusal.
+fn put_refusal_name(text: &mut Text, cause: CoreRefusal) {
+    text.put("refused ");
+    text.put_bytes(name_of(cause));
+    if let CoreRefusal::Command(refusal) = cause {
+        text.put(" ");
+        text.put_bytes(Named::Errno(refusal.errno()).name());
+    }
+}
+
+/// What stands behind the address of a page in the way.
+fn page_words(cause: CoreRefusal) -> &'static str {
+    match cause {
+        CoreRefusal::Command(refusal) => match refusal {
+            Refusal::Overlap => " is mapped already; unmap it first",
+            Refusal::NotSupported => " has a policy that takes no home; leave it out",
+            Refusal::Unaligned => " begins lower than START; round START down, and LENGTH up",
+            _ => " isn't mapped; map it first, or bind each mapped part by itself",
+        },
+        _ => " isn't mapped; map it, or look at the address, which is in bytes",
+    }
+}
+
+/// Appends why a line is refused for a page, and what stands behind the page's address.
+fn put_page(text: &mut Text, page: u64, words: &str) {
+    text.put_hex("page ", page.saturating_mul(4096));
+    text.put(words);
+}
+
+/// Appends why a line is refused, and a number with words before and behind it.
+fn put_counted(text: &mut Text, cause: CoreRefusal, words: &str, number: u64, behind: &str) {
+    text.put(worker_words(cause));
+    text.put_number(words, number);
+    text.put(behind);
+}
+
+/// Appends why a line is refused.
+fn put_refusal(text: &mut Text, cause: CoreRefusal, detail: Detail) {
+    match detail {
+        Detail::Page(page) => put_page(text, page, page_words(cause)),
+        Detail::Unpublished(page) => put_page(text, page, UNPUBLISHED),
+        Detail::LastNode(node) => {
+            put_counted(text, cause, "; its nodes are 0 to ", node as u64, "");
+        }
+        Detail::Count(count) => put_counted(text, cause, " (now ", count, ")"),
+        Detail::Mems => text.put("none of these nodes has memory; name one that has"),
+        Detail::DecimalStart => text.put(DECIMAL_START),
+        _ => text.put(worker_words(cause)),
+    }
+}
+
+/// Appends a refusal: its name, and why.
+fn put_refused(text: &mut Text, cause: CoreRefusal, detail: Detail) {
+    put_refusal_name(text, cause);
+    text.put(": ");
+    put_refusal(text, cause, detail);
+}
+
+/// Appends the fault or the refusal that a line is answered, and why.
+fn put_answer(text: &mut Text, fault: Reply, detail: Detail) {
+    match fault {
+        Reply::BadWords => text.put("bad words"),
+        Reply::BadState => text.put("bad state"),
+        Reply::BadLimits => text.put("bad limits: R is above 65536 or T above 1024; use less"),
+        Reply::BadMachine(fault) => {
+            let named = Named::Machine(fault);
+            put_fault(text, "bad machine ", named, machine_words(fault));
+        }
+        Reply::BadWord(fault) => put_word_fault(text, fault),
+        Reply::Refused(cause) => put_refused(text, cause, detail),
+        _ => {}
+    }
+}
+
+/// What is known of a fault of words or of the state.
+fn detail_words(detail: Detail) -> &'static str {
+    match detail {
+        Detail::Malformed(_) => ": ",
+        Detail::NoMachine => ": no machine is ready; limits and machine come first",
+        Detail::MachineReady => {
+            ": a machine is ready already; limits, rules, cpus and machine come before it"
+        }
+        Detail::CarriageReturn => "; the line ends with ",
+        Detail::Tab => "; the line has ",
+        _ => "",
+    }
+}
+
+/// Appends what to write in place of `all`, on a machine with this highest node.
+fn put_all(text: &mut Text, last: u32) {
+    text.put("; in place of all write 0");
+    if last > 0 {
+        text.put_number("-", last as u64);
+    }
+}
+
+/// Appends what else is known of a fault of words or of the state.
+fn put_detail(text: &mut Text, detail: Detail) {
+    text.put(detail_words(detail));
+    match detail {
+        Detail::Malformed(malformed) => put_cause(text, malformed.cause),
+        Detail::CarriageReturn => text.put(RETURN),
+        Detail::Tab => text.put(TAB),
+        Detail::AllNodes(last) => put_all(text, last),
+        _ => {}
+    }
+}
+
+/// Appends what is wrong with a line.
+fn put_finding(text: &mut Text, finding: &Finding) {
+    put_answer(text, finding.fault, finding.detail);
+    put_detail(text, finding.detail);
+}
+
+/// Appends what is wrong with a line: its answer, and why, with what to do, where there is
+/// something.
+///
+/// # Errors
+/// `AllocError`: out of memory. The text may then have a part of it.
+pub fn say_finding(text: &mut Vec<u8>, finding: &Finding) -> Result<(), AllocError> {
+    let mut written = Text::of(text);
+    put_finding(&mut written, finding);
+    written.end(text)
+}
+
+/// Appends where a finding stands: the name of the text, the line, and for bad words the column.
+fn put_place(text: &mut Text, name: &str, place: u64, detail: Detail) {
+    text.put(name);
+    text.put_number(":", place);
+    if let Detail::Malformed(malformed) = detail {
+        text.put_number(":", malformed.column as u64);
+    }
+    text.put(": ");
+}
+
+/// Appends a line about a line: where it stands, by the name of its text and its place there from
+/// 1, and what is wrong with it.
+///
+/// # Errors
+/// `AllocError`: out of memory. The text may then have a part of it.
+pub fn say_line(
+    text: &mut Vec<u8>,
+    name: &str,
+    place: u64,
+    finding: &Finding,
+) -> Result<(), AllocError> {
+    let mut written = Text::of(text);
+    put_place(&mut written, name, place, finding.detail);
+    put_finding(&mut written, finding);
+    written.put("\n");
+    written.end(text)
+}
+
+/// Appends a line about so many lines that weren't judged.
+///
+/// # Errors
+/// `AllocError`: out of memory. The text may then have a part of it.
+pub fn say_unjudged(text: &mut Vec<u8>, count: u64) -> Result<(), AllocError> {
+    let mut written = Text::of(text);
+    written.put_number("not judged, since no machine was ready: ", count);
+    written.put("\n");
+    written.end(text)
+}

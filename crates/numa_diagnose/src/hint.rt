@@ -1,0 +1,37 @@
+//! What a running kernel would do otherwise with a line, and the lines of a script as its twin has
+//! them, which goes by the other rules.
+ghost use Rattle.std.specs.Prelude.{◌≡◌, Option};
+ghost use Rattle.numa_script.specs.Lines.{line_of};
+ghost use Rattle.numa_run.specs.Scripts.{ScriptReplies};
+ghost use Rattle.numa_diagnose.specs.Hints.{hint_for, turned};
+
+use numa_rules::{Otherwise, other_rules, otherwise_of};
+use numa_run::{Reply, Script};
+use numa_script::Line;
+use numa_script::line::parse;
+use numa_space::Space;
+use std::alloc::Global;
+
+/// What a running kernel would do otherwise with a line, without its line feed, where a space that
+/// goes by the documents' rules is as its script so far has left it. Something only where the line
+/// says a command.
+pub fn hint_of(space: &Space, line: &[u8]) -> Option<Otherwise>
+    ensures { result ≡ hint_for space.now (line_of line.now) }
+{
+    match parse(line) {
+        Line::Command(Ok(command)) => otherwise_of(space, &command),
+        _ => None,
+    }
+}
+
+/// Does what a line says, without its line feed, but for a line `rules`: that is taken for one with
+/// the other rules. So two scripts, of which one begins by the rules that the other doesn't, and
+/// that are handed the same lines, one by `judge` and one by this, go by the two sets of rules.
+pub fn reply_by_other(alloc: Global, script: &mut Script, line: &[u8]) -> Option<Reply>
+    ensures { ScriptReplies script.old (turned (line_of line.now)) result script.new }
+{
+    match parse(line) {
+        Line::Rules(rules) => script.reply(alloc, &Line::Rules(other_rules(rules))),
+        said => script.reply(alloc, &said),
+    }
+}

@@ -1,0 +1,38 @@
+//! What a space holds of a page and of a task.
+ghost use Rattle.std.specs.Prelude.{◌≡◌, ◌+◌, ◌≤◌, ◌^◌, IfSome};
+ghost use Rattle.numa_ranges.specs.Counts.{IsRange};
+ghost use Rattle.numa_ranges.specs.Runs.{in_pages, page_at};
+ghost use Rattle.numa_space.specs.Same.{same_record};
+ghost use Rattle.numa_space.specs.Standing.{record_of};
+ghost use Rattle.numa_diagnose.specs.Reasons.{run_with};
+
+use numa_mode::Record;
+use numa_space::{RangeRecord, Run, Space};
+
+/// Whether a run has a page.
+fn has_page(run: &Run<RangeRecord>, page: u64) -> bool
+    ensures { result ≡ in_pages run.now.first run.now.pages page }
+{
+    run.first <= page && page - run.first < run.pages
+}
+
+/// The range of a space that has a page, where one has it.
+pub fn range_of(space: &Space, page: u64) -> Option<Run<RangeRecord>>
+    ensures run { result ≡ run_with space.now.ranges page }
+    ensures range { IfSome result (λ run. IsRange same_record (page_at space.now.ranges) run) }
+    ensures small { IfSome result (λ run. run.index + run.pages ≤ 2 ^ 36) }
+{
+    for range in space.range_iter() {
+        if has_page(&range, page) {
+            return Some(range);
+        }
+    }
+    None
+}
+
+/// The policy of a task, where it has one.
+pub fn task_policy(space: &Space, task: u32) -> Option<Record>
+    ensures { result ≡ record_of space.now.tasks task }
+{
+    space.task_policy(task)
+}

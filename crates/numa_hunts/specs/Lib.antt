@@ -1,4 +1,0 @@
-pub mod Moments
-pub mod Desks
-pub mod Faults
-pub mod Interleaved

@@ -1,6 +1,0 @@
-use Rattle.std.proofs.Common.{◌≡◌}
-use Rattle.std.specs.List.{slice_range}
-use Rattle.numa_plan.proofs.runs.Runs.gathered.Given as goal
-
-abbrev pub invariant-loop-place : goal.invariant-loop-place
-invariant-loop-place l = l.runs.items ≡ slice_range l.self l.from l.place

@@ -1,9 +1,0 @@
-use Rattle.std.proofs.Common.{◌-◌, length}
-use Rattle.numa_plan.proofs.NearWindows.{IsLookedAt}
-use Rattle.numa_plan.proofs.runs.Runs.window_from.Given as goal
-
-abbrev pub invariant-loop-to : goal.invariant-loop-to
-invariant-loop-to l = IsLookedAt l.self l.first l.end l.start l.from l.to
-
-abbrev pub decreases-loop-to : goal.decreases-loop-to
-decreases-loop-to l = length l.self - l.to

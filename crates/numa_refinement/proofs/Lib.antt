@@ -1,0 +1,16 @@
+pub mod Current
+pub mod Meeting
+pub mod Owning
+pub mod Moving
+pub mod Allowed
+pub mod Keeping
+pub mod Handing
+pub mod FrameSearching
+pub mod Playing
+pub mod Rightly
+pub mod Desking
+pub mod Begins
+pub mod Falling
+pub mod Beside
+pub mod Among
+pub mod Calling

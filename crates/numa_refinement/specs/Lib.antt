@@ -1,0 +1,9 @@
+pub mod Tie
+pub mod Moves
+pub mod WalkSteps
+pub mod FrameSearches
+pub mod Plays
+pub mod LegalSteps
+pub mod Desks
+pub mod Faults
+pub mod Interleaved

@@ -1,0 +1,178 @@
+//! The storm itself: a desk, a crew and a thread of policies beside it, and what is written of
+//! them.
+ghost use Rattle.std.specs.Prelude.{◌≡◌, false, true, IfOk, IfSome, IsErrOf};
+ghost use Rattle.std.specs.Io.KnownBytes.{Keeps};
+ghost use Rattle.std.specs.List.{All};
+ghost use Rattle.numa_fault.specs.Crew.{IsCrew};
+ghost use Rattle.numa_fault.specs.declared.worker.FaultWorker.{FaultWorker};
+ghost use Rattle.line_server.specs.Watching.{has_failed};
+ghost use Rattle.line_server.specs.Written.{Wrote, WroteFront};
+ghost use Rattle.numa_stress.specs.Storm.{status_of, text_of};
+ghost use Rattle.numa_stress.specs.declared.report.Report.{Report};
+
+use crate::compare::{all_listed, exhausted, placed, spaces};
+use crate::crew::{joined, serve, workers};
+use crate::gate::Together;
+use crate::report::{Report, say_report};
+use crate::setting::{FIRST_COMMANDS, POLICIES, command, limits, machine, requests};
+use line_server::{RunFault, Watched};
+use numa_fault::{Answer, FaultWorker};
+use numa_pool::{Closed, Pools};
+use numa_publish::{Desk, DeskName, Receipt, SharedDesk};
+use numa_space::Request;
+use std::alloc::Global;
+use std::io::Write;
+use std::marker::Brand;
+use std::sync::Wait;
+use std::thread::{Threads, join};
+
+/// Submits the command with this place. `None` where it is not published.
+fn submit<K: DeskName, R: Wait>(rt: &R, desk: &SharedDesk<K>, place: u32) -> Option<Receipt>
+    ensures { IfSome result (λ receipt. receipt.desk ≡ K.desk) }
+{
+    desk.submit(rt, &command(place)?).ok()
+}
+
+/// Submits the policies that come beside the workers. Whether each was published.
+fn change_policies<K: DeskName, R: Wait>(rt: &R, desk: &SharedDesk<K>, gate: &Together) -> bool {
+    let mut all = true;
+    for place in 0..POLICIES {
+        gate.begin_policy(place);
+        all = all && submit(rt, desk, FIRST_COMMANDS + place).is_some();
+    }
+    all
+}
+
+/// How many frames were taken.
+fn taken(closed: &Closed) -> u64 {
+    closed
+        .taken
+        .iter()
+        .fold(0u64, |sum, frames| sum.wrapping_add(u64::from(*frames)))
+}
+
+/// The map and the first policy are published, and then eight policies by a thread of their own,
+/// while the crew serves the requests. The answers, and how the pools were closed.
+fn play<K: DeskName + Send + Sync, R: Threads + Wait + Sync>(
+    rt: &R,
+    alloc: Global,
+    desk: &SharedDesk<K>,
+    count: u32,
+    requests: &[Request],
+    gate: &Together,
+) -> Option<(Vec<Answer>, Closed)> {
+    submit(rt, desk, 0)?;
+    let receipt = submit(rt, desk, 1)?;
+    let (pools, seat) = Pools::open(alloc, &machine(alloc)?).ok()?;
+    let crew = workers(rt, alloc, desk, &receipt, &pools, seat, count)?;
+    let lent = &pools;
+    let (all_published, (crew, answers)) = join(
+        rt,
+        move || change_policies(rt, desk, gate),
+        move || -> (Vec<FaultWorker>, Option<Vec<Answer>>)
+            requires { All (λ (w : FaultWorker). w.seat.table ≡ lent.now.table) crew.items }
+            ensures { All (λ (w : FaultWorker). w.seat.table ≡ lent.entry.now.table)
+                result.0.items }
+        { serve(rt, alloc, crew, lent, requests, gate) },
+    );
+    if !all_published {
+        return None;
+    }
+    let answers = answers?;
+    let seat = joined(&pools, crew)?;
+    Some((answers, pools.close(seat)))
+}
+
+/// A storm on this desk. `None` where a call is refused.
+fn play_on<K: DeskName + Send + Sync, R: Threads + Wait + Sync>(
+    rt: &R,
+    alloc: Global,
+    desk: &SharedDesk<K>,
+    count: u32,
+) -> Option<Report>
+    ensures { IfSome result (λ report. report.workers ≡ count) }
+{
+    let requests = requests(alloc)?;
+    let spaces = spaces(alloc)?;
+    let gate = Together::new(count);
+    let (answers, closed) = play(rt, alloc, desk, count, &requests, &gate)?;
+    Some(Report {
+        workers: count,
+        placed: placed(&answers),
+        exhausted: exhausted(&answers),
+        plans_match: all_listed(&spaces, &requests, &answers),
+        held: taken(&closed),
+        is_sound: closed.alone && gate.is_sound(),
+    })
+}
+
+/// A storm on this desk, which is ended in each case.
+fn play_to_the_end<K: DeskName + Send + Sync, R: Threads + Wait + Sync>(
+    rt: &R,
+    alloc: Global,
+    desk: Desk,
+    count: u32,
+) -> Option<Report>
+    requires { desk.desk ≡ K.desk }
+    ensures { IfSome result (λ report. report.workers ≡ count) }
+{
+    let shared = SharedDesk::<K>::new(desk);
+    let report = play_on(rt, alloc, &shared, count);
+    shared.into_desk().end(rt);
+    report
+}
+
+/// A storm on a desk of its own. `None` where a call is refused.
+fn storm_once<R: Threads + Wait + Sync>(rt: &R, alloc: Global, count: u32) -> Option<Report>
+    requires { IsCrew count }
+    ensures { IfSome result (λ report. report.workers ≡ count) }
+{
+    let machine = machine(alloc)?;
+    let desk = Desk::new(rt, alloc, machine, limits()?, count).ok()?;
+    play_to_the_end::<Brand, R>(rt, alloc, desk, count)
+}
+
+/// So many workers place 320 pages while eight policies are published, and each placement is
+/// compared with the slow resolution of its version. The five lines of what came of it go to the
+/// writer, on which no call may have failed before. The status with which the program ends: 0 where
+/// all went as it must on any schedule, else 1.
+///
+/// # Errors
+/// `Write` where a write failed or took no byte, after which nothing more is written; `Memory`
+/// where there was none, or another call was refused, before anything is written.
+pub fn storm<R: Threads + Wait + Sync, W: Write>(
+    rt: &R,
+    alloc: Global,
+    count: u32,
+    output: &mut Watched<W>,
+) -> Result<u8, RunFault>
+    requires crew { IsCrew count }
+    requires writer { has_failed output.old ≡ false }
+
+    // The five lines were written.
+    ensures ok { IfOk result (λ status. (report : Report) × (report.workers ≡ count)
+        × (status ≡ status_of report) × (has_failed output.new ≡ false)
+        × Wrote W.contents output.old output.new (text_of report)) }
+
+    // The first part of them was written, and nothing more.
+    ensures write { IsErrOf result RunFault.Write → (report : Report)
+        × (report.workers ≡ count) × (has_failed output.new ≡ true)
+        × WroteFront W.contents output.old output.new (text_of report) }
+
+    // Nothing was written.
+    ensures memory { IsErrOf result RunFault.Memory → (has_failed output.new ≡ false)
+        × Keeps (W.contents output.old.inner) (W.contents output.new.inner) }
+    ensures read { IsErrOf result RunFault.Read → ⊥ }
+{
+    let Ok(()) = output.gather(alloc) else {
+        return Err(RunFault::Memory);
+    };
+    let Some(report) = storm_once(rt, alloc, count) else {
+        return Err(RunFault::Memory);
+    };
+    say_report(output, &report);
+    let Ok(()) = output.hand_over() else {
+        return Err(RunFault::Write);
+    };
+    Ok(report.status())
+}

@@ -1,0 +1,80 @@
+//! What a storm tells.
+ghost use Rattle.std.specs.Prelude.{◌≡◌, ◌++◌, codes};
+ghost use Rattle.line_server.specs.Written.{Said};
+ghost use Rattle.numa_stress.specs.Storm.{line_of, match_line, status_of, text_of};
+
+use line_server::Watched;
+use std::io::Write;
+
+/// What came of a storm.
+#[derive(Clone, Copy, PartialEq, Eq, Debug, Drop)]
+pub struct Report {
+    /// How many workers there were.
+    pub workers: u32,
+    /// How many requests were answered by a placement.
+    pub placed: usize,
+    /// How many were answered by `Exhausted`.
+    pub exhausted: usize,
+    /// Whether each placement is where the space of its version has it.
+    pub plans_match: bool,
+    /// How many frames were taken at the end.
+    pub held: u64,
+    /// Whether one seat held them all, and the workers began together.
+    pub is_sound: bool,
+}
+
+impl Report {
+    /// The status with which the program ends: 0 where all went as it must on any schedule, else 1.
+    pub fn status(&self) -> u8
+        ensures { result ≡ status_of self.now }
+    {
+        let counts = self.placed == 256 && self.exhausted == 64 && self.held == 256;
+        if counts && self.plans_match && self.is_sound {
+            0
+        } else {
+            1
+        }
+    }
+}
+
+/// Says a name and a number as a line.
+#[tactic(auto, unfolding(crate::specs::Storm::line_of))]
+fn say_line<W: Write>(output: &mut Watched<W>, name: &[u8], number: u64)
+    ensures { Said W.contents output.old output.new (line_of name.now number) }
+{
+    output.say(name);
+    output.say(b" ");
+    output.say_number(number);
+    output.say(b"\n");
+}
+
+/// Says whether each placement is where the space of its version has it.
+#[tactic(auto, unfolding(crate::specs::Storm::match_line))]
+fn say_match<W: Write>(output: &mut Watched<W>, plans_match: bool)
+    ensures { Said W.contents output.old output.new (match_line plans_match) }
+{
+    match plans_match {
+        true => output.say(b"plans match yes\n"),
+        false => output.say(b"plans match no\n"),
+    }
+}
+
+/// Says how many workers there were, and how their requests were answered.
+fn say_answers<W: Write>(output: &mut Watched<W>, report: &Report)
+    ensures { Said W.contents output.old output.new (line_of (codes "workers") report.now.workers
+        ++ line_of (codes "placed") report.now.placed
+        ++ line_of (codes "exhausted") report.now.exhausted) }
+{
+    say_line(output, b"workers", u64::from(report.workers));
+    say_line(output, b"placed", report.placed as u64);
+    say_line(output, b"exhausted", report.exhausted as u64);
+}
+
+/// Says the five lines.
+pub fn say_report<W: Write>(output: &mut Watched<W>, report: &Report)
+    ensures { Said W.contents output.old output.new (text_of report.now) }
+{
+    say_answers(output, report);
+    say_match(output, report.plans_match);
+    say_line(output, b"frames held", report.held);
+}

@@ -1,5 +1,0 @@
-pub mod Tie
-pub mod Moves
-pub mod Moments
-pub mod Hunts
-pub mod Plays

@@ -1,0 +1,184 @@
+//! Where pages would go after scripts.
+use crate::findings::{Ended, Findings};
+use crate::halt::{Halt, halt_of};
+use crate::playing::{Scripts, play};
+use crate::question::{SpaceQuestion, ask, space_of, write};
+use numa_compile::compile;
+use numa_files::{Stop, TakeLine};
+use numa_reports::{Format, FreePages, Outlook, Touch, difference_text, filling_text, outlook_of};
+use numa_run::Script;
+use numa_space::Space;
+use std::alloc::Global;
+use std::io::{Read, Write};
+
+/// What added lines are told by.
+const ADDED: &str = "--then";
+
+/// What stands in the space that a script has led to.
+fn outlook_in(alloc: Global, script: &Script) -> Result<Outlook, Halt> {
+    let space = match space_of(script) {
+        Ok(space) => space,
+        Err(halt) => return Err(halt),
+    };
+    match outlook_of(alloc, space) {
+        Ok(outlook) => Ok(outlook),
+        Err(fault) => Err(halt_of(fault, space.machine().nodes())),
+    }
+}
+
+/// The first node of free pages that a machine of so many nodes lacks.
+fn lacking_node(free: &[FreePages], nodes: u32) -> Option<u8> {
+    match free.iter().find(|one| one.node as u32 >= nodes) {
+        Some(lacking) => Some(lacking.node),
+        None => None,
+    }
+}
+
+/// Where all mapped pages would go, if they were touched now.
+#[derive(Drop)]
+struct Prediction<'a> {
+    asked: Touch,
+    format: Format,
+    free: &'a [FreePages],
+}
+
+impl SpaceQuestion for Prediction<'_> {
+    fn answer(self, alloc: Global, space: &Space) -> Result<Vec<u8>, Halt> {
+        let nodes = space.machine().nodes();
+        if let Some(node) = lacking_node(self.free, nodes) {
+            return Err(Halt::NoFreeNode(node, nodes));
+        }
+        let Ok(plan) = compile(alloc, space) else {
+            return Err(Halt::Stopped(Stop::Memory));
+        };
+        let text = filling_text(alloc, space, &plan, self.asked, self.format, self.free);
+        drop(plan);
+        match text {
+            Ok(text) => Ok(text),
+            Err(fault) => Err(halt_of(fault, nodes)),
+        }
+    }
+}
+
+/// Plays the scripts, and writes where all mapped pages would go, if they were touched
+/// now; where nodes are named in `free`, those have so many free pages, and the text tells what is
+/// left on them. What is wrong with a line is told to `told`, and the line passed over, which the
+/// result says too. The answer is whole before its first byte is written.
+///
+/// # Errors
+/// Where there is no answer; what was told by then stays.
+pub fn predict<R: Read + Drop, W: Write, T: Write + Drop>(
+    alloc: Global,
+    scripts: Scripts<R>,
+    asked: Touch,
+    format: Format,
+    free: &[FreePages],
+    output: &mut W,
+    told: T,
+) -> Result<Ended, Halt> {
+    let question = Prediction {
+        asked,
+        format,
+        free,
+    };
+    ask(alloc, scripts, question, output, told)
+}
+
+/// Plays the added lines, and ends what is told.
+fn play_lines<T: Write>(findings: &mut Findings<T>, lines: &[String]) -> Result<(), Stop> {
+    let mut place = 1u64;
+    for line in lines {
+        if let Err(why) = findings.take(ADDED, place, line.as_str().as_bytes()) {
+            return Err(why);
+        }
+        place = place.saturating_add(1);
+    }
+    findings.end()
+}
+
+/// Which pages go elsewhere from one outlook to another, as a text.
+fn difference_of(
+    alloc: Global,
+    before: &Outlook,
+    script: &Script,
+    asked: Touch,
+) -> Result<Vec<u8>, Halt> {
+    let nodes = match space_of(script) {
+        Ok(space) => space.machine().nodes(),
+        Err(halt) => return Err(halt),
+    };
+    let after = match outlook_in(alloc, script) {
+        Ok(after) => after,
+        Err(halt) => return Err(halt),
+    };
+    let text = difference_text(alloc, before, &after, nodes, asked.task, asked.cpu);
+    drop(after);
+    match text {
+        Ok(text) => Ok(text),
+        Err(fault) => Err(halt_of(fault, nodes)),
+    }
+}
+
+/// What stands in the space that the script has led to. Where no machine does, what is wrong with
+/// the script is told first.
+fn outlook_before<T: Write>(alloc: Global, findings: &mut Findings<T>) -> Result<Outlook, Halt> {
+    match outlook_in(alloc, findings.script()) {
+        Ok(outlook) => Ok(outlook),
+        Err(halt) => match findings.end() {
+            Ok(()) => Err(halt),
+            Err(why) => Err(Halt::Stopped(why)),
+        },
+    }
+}
+
+/// Plays the lines, and tells which pages go elsewhere by them than before, as a text.
+fn difference_from<T: Write>(
+    alloc: Global,
+    before: &Outlook,
+    findings: &mut Findings<T>,
+    lines: &[String],
+    asked: Touch,
+) -> Result<Vec<u8>, Halt> {
+    match play_lines(findings, lines) {
+        Ok(()) => difference_of(alloc, before, findings.script(), asked),
+        Err(why) => Err(Halt::Stopped(why)),
+    }
+}
+
+/// Which pages go elsewhere once the lines are played, as a text.
+fn difference<T: Write>(
+    alloc: Global,
+    findings: &mut Findings<T>,
+    lines: &[String],
+    asked: Touch,
+) -> Result<Vec<u8>, Halt> {
+    let before = match outlook_before(alloc, findings) {
+        Ok(before) => before,
+        Err(halt) => return Err(halt),
+    };
+    let text = difference_from(alloc, &before, findings, lines, asked);
+    drop(before);
+    text
+}
+
+/// Plays the scripts, and then the lines, and writes which pages would go to another
+/// node after the lines than before, if they were touched. What is wrong with a line is told to
+/// `told`, and the line passed over; the added lines have the name `--then` and are numbered from
+/// 1. The answer is whole before its first byte is written.
+///
+/// # Errors
+/// Where there is no answer; what was told by then stays.
+pub fn diff<R: Read + Drop, W: Write, T: Write + Drop>(
+    alloc: Global,
+    scripts: Scripts<R>,
+    lines: &[String],
+    asked: Touch,
+    output: &mut W,
+    told: T,
+) -> Result<Ended, Halt> {
+    let mut findings = play(alloc, scripts, told)?;
+    let text = difference(alloc, &mut findings, lines, asked);
+    let ended = findings.ended();
+    drop(findings);
+    write(text, ended, output)
+}

@@ -1,0 +1,51 @@
+//! Why a question about played scripts has no answer.
+ghost use Rattle.std.specs.Prelude.{◌≡◌};
+ghost use Rattle.numa_files.specs.declared.reading.Stop.TheVariants as stop;
+ghost use Rattle.numa_words.specs.declared.halt.Halt.TheVariants as halt;
+
+use numa_files::Stop;
+use numa_reports::ReportError;
+use numa_traces::ReplayError;
+use std::alloc::AllocError;
+
+/// Why a question about played scripts has no answer. Then nothing of one was written, but for
+/// `Stopped(Write)`.
+#[derive(Clone, Copy, Debug)]
+pub enum Halt {
+    /// A read or a write failed, or there was no memory.
+    Stopped(Stop),
+    /// No line of the scripts made a machine.
+    NoMachine,
+    /// The machine has so many nodes, and not the one that is asked of.
+    NoNode(u32),
+    /// Free pages are given to this node, and the machine has so many nodes, and not this one.
+    NoFreeNode(u8, u32),
+    /// The page that is asked of isn't mapped.
+    Unmapped,
+    /// A line of the trace, from 1, can't be replayed.
+    BadAccess(u64, ReplayError),
+}
+
+impl From<Stop> for Halt {
+    fn from(why: Stop) -> Halt
+        ensures { result ≡ halt.Stopped why }
+    {
+        Halt::Stopped(why)
+    }
+}
+
+impl From<AllocError> for Halt {
+    fn from(_error: AllocError) -> Halt
+        ensures { result ≡ halt.Stopped stop.Memory }
+    {
+        Halt::Stopped(Stop::Memory)
+    }
+}
+
+/// Why there is no report on a machine of so many nodes.
+pub(crate) fn halt_of(fault: ReportError, nodes: u32) -> Halt {
+    match fault {
+        ReportError::Refused(_) => Halt::NoNode(nodes),
+        ReportError::Memory => Halt::Stopped(Stop::Memory),
+    }
+}

@@ -1,0 +1,92 @@
+//! Traces that are replayed after scripts.
+use crate::findings::Ended;
+use crate::halt::Halt;
+use crate::playing::Scripts;
+use crate::question::{SpaceQuestion, ask};
+use numa_compile::compile;
+use numa_files::Stop;
+use numa_plan::Plan;
+use numa_space::Space;
+use numa_traces::{Replaying, Shape, replay_lines, report_text};
+use std::alloc::Global;
+use std::io::{Read, Write};
+
+/// What a trace met on the machine of a space, as a text.
+fn met(
+    alloc: Global,
+    space: &Space,
+    replaying: &Replaying<'_>,
+    format: Shape,
+) -> Result<Vec<u8>, Halt> {
+    if let Some((place, fault)) = replaying.fault() {
+        return Err(Halt::BadAccess(place, fault));
+    }
+    match report_text(alloc, space.machine(), replaying.replay(), format) {
+        Ok(text) => Ok(text),
+        Err(_) => Err(Halt::Stopped(Stop::Memory)),
+    }
+}
+
+/// Replays a trace in a space by its plan, and gives what it met as a text.
+fn replayed_by<S: Read + Drop>(
+    alloc: Global,
+    space: &Space,
+    plan: &Plan,
+    trace: Vec<(String, S)>,
+    format: Shape,
+) -> Result<Vec<u8>, Halt> {
+    let Ok(replaying) = Replaying::new(alloc, space.machine(), plan) else {
+        drop(trace);
+        return Err(Halt::Stopped(Stop::Memory));
+    };
+    match replay_lines(alloc, trace, replaying) {
+        Ok(replaying) => {
+            let text = met(alloc, space, &replaying, format);
+            drop(replaying);
+            text
+        }
+        Err(why) => Err(Halt::Stopped(why)),
+    }
+}
+
+/// A trace that is to be replayed.
+#[derive(Drop)]
+struct Trace<S> {
+    texts: Vec<(String, S)>,
+    format: Shape,
+}
+
+impl<S: Read + Drop> SpaceQuestion for Trace<S> {
+    fn answer(self, alloc: Global, space: &Space) -> Result<Vec<u8>, Halt> {
+        let Ok(plan) = compile(alloc, space) else {
+            drop(self);
+            return Err(Halt::Stopped(Stop::Memory));
+        };
+        let text = replayed_by(alloc, space, &plan, self.texts, self.format);
+        drop(plan);
+        text
+    }
+}
+
+/// Plays the scripts, and then a trace on a machine where no page is placed, by the
+/// plan of all commands that were accepted; writes what the trace met. What is wrong with a line of
+/// the scripts is told to `told`, and the line passed over. The answer is whole before its first
+/// byte is written.
+///
+/// # Errors
+/// Where there is no answer; what was told by then stays. `BadAccess` at the first line of the
+/// trace that can't be replayed.
+pub fn replay<R: Read + Drop, S: Read + Drop, W: Write, T: Write + Drop>(
+    alloc: Global,
+    scripts: Scripts<R>,
+    trace: Vec<(String, S)>,
+    format: Shape,
+    output: &mut W,
+    told: T,
+) -> Result<Ended, Halt> {
+    let question = Trace {
+        texts: trace,
+        format,
+    };
+    ask(alloc, scripts, question, output, told)
+}

@@ -1,0 +1,47 @@
+-- What a handle of a script keeps, and how lines are answered.
+use Rattle.std.specs.Prelude.{◌≡◌, ◌<◌, ℕ, Bool, List, [], length, take, drop}
+use Rattle.std.specs.Prelude.{Option, Some, None, Result, Ok, Err}
+use Rattle.numa_machine.specs.declared.rules.Rules.{Rules}
+use Rattle.numa_run.specs.Answers.{State, start_by, answer_to, after_bytes}
+use Rattle.numa_run.specs.Scripts.{ScriptStandsFor}
+use Rattle.numaplan_handles.specs.declared.dialog.Dialog.{Dialog}
+use Rattle.numaplan_handles.specs.declared.dialog.LineRefusal.{LineRefusal}
+use Rattle.numaplan_handles.specs.declared.dialog.LineRefusal.TheVariants as refused
+
+-- before the first line, where these rules count unless a line gives others
+abbrev pub IsFresh : Rules → Dialog → Type 0
+IsFresh rules dialog =
+    ScriptStandsFor dialog.script (start_by rules) × (dialog.answer.items ≡ [])
+
+-- the script stands for the state after the line, where it stood for a state before it, and `told`
+-- is what the line is answered there
+abbrev pub IsServed : Dialog → List ℕ → Dialog → (List ℕ → Type 0) → Type 0
+IsServed before line later told =
+    (state : State) → ScriptStandsFor before.script state
+    → (growth_refused : Bool) × ScriptStandsFor later.script (after_bytes growth_refused state line)
+    × told (answer_to growth_refused state line)
+
+-- the line was served, and its answer is kept, which is so long; or there was no memory for it and
+-- nothing has changed; or it was served, there was no memory for the whole answer, and none is kept
+abbrev pub Serves : Dialog → List ℕ → Result ℕ LineRefusal → Dialog → Type 0
+Serves before line (Ok count) later = (count ≡ length later.answer.items)
+    × IsServed before line later (λ answer. later.answer.items ≡ answer)
+Serves before line (Err refused.NoMemory) later = later ≡ before
+Serves before line (Err refused.AnswerLost) later = (later.answer.items ≡ [])
+    × IsServed before line later (λ answer. Unit {0})
+
+-- the same of what is kept: a script before and a script after
+abbrev pub ServesKept : List ℕ → Option Dialog → Option Dialog → Result ℕ LineRefusal → Type 0
+ServesKept line old new answer = (before : Dialog) → old ≡ Some before →
+    (later : Dialog) × (new ≡ Some later) × Serves before line answer later
+
+-- the answer stands in front of the room, which held `old`, or it is longer than the room
+abbrev pub Copies : List ℕ → Result ℕ ℕ → List ℕ → List ℕ → Type 0
+Copies answer (Ok count) old new = (count ≡ length answer) × (take count new ≡ answer)
+    × (drop count new ≡ drop count old)
+Copies answer (Err count) old new = (count ≡ length answer) × (length old < count) × (new ≡ old)
+
+-- the same of the answer that is kept
+abbrev pub CopiesKept : Option Dialog → Result ℕ ℕ → List ℕ → List ℕ → Type 0
+CopiesKept None told old new = Unit {0}
+CopiesKept (Some dialog) told old new = Copies dialog.answer.items told old new

@@ -1,0 +1,27 @@
+-- What the handle of each kind keeps.
+use Rattle.std.specs.Prelude.{Option}
+use Rattle.numa_core.specs.Standing.{CoreState}
+use Rattle.numa_plan.specs.Meaning.{PlanData}
+use Rattle.numa_pool.specs.Seated.{Seated}
+use Rattle.numaplan_handles.specs.Kinds.{core_of, plan_of, seat_of, dialog_of}
+use Rattle.numaplan_handles.specs.declared.dialog.Dialog.{Dialog}
+use Rattle.numaplan_handles.specs.declared.core_handle.CoreHandle.{CoreHandle}
+use Rattle.numaplan_handles.specs.declared.plan_handle.PlanHandle.{PlanHandle}
+use Rattle.numaplan_handles.specs.declared.seat_handle.SeatHandle.{SeatHandle}
+use Rattle.numaplan_handles.specs.declared.script_handle.ScriptHandle.{ScriptHandle}
+
+-- the core that a handle keeps
+abbrev pub core_in : CoreHandle → Option CoreState
+core_in h = core_of h.handle.held.kept
+
+-- the plan that a handle keeps
+abbrev pub plan_in : PlanHandle → Option PlanData
+plan_in h = plan_of h.handle.held.kept
+
+-- the seat that a handle keeps
+abbrev pub seat_in : SeatHandle → Option Seated
+seat_in h = seat_of h.handle.held.kept
+
+-- the script that a handle keeps, with the answer to its last line
+abbrev pub dialog_in : ScriptHandle → Option Dialog
+dialog_in h = dialog_of h.handle.held.kept

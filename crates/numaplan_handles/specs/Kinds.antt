@@ -1,0 +1,80 @@
+-- What a handle keeps, by its kind.
+use Rattle.std.specs.Prelude.{◌≡◌, Bool, true, false, Option, Some, None}
+use Rattle.std.specs.Arc.{arc_value}
+use Rattle.numa_core.specs.Standing.{CoreState}
+use Rattle.numa_plan.specs.Meaning.{PlanData}
+use Rattle.numa_pool.specs.Seated.{Seated}
+use Rattle.numaplan_handles.specs.declared.dialog.Dialog.{Dialog}
+use Rattle.numaplan_handles.specs.declared.kept.Kept.{Kept}
+use Rattle.numaplan_handles.specs.declared.kept.Kept.TheVariants as kept
+
+-- the core that is kept
+abbrev pub core_of : Option Kept → Option CoreState
+core_of None = None
+core_of (Some (kept.Core core)) = Some core
+core_of (Some (kept.Plan plan)) = None
+core_of (Some (kept.Seat seat)) = None
+core_of (Some (kept.Script dialog)) = None
+
+-- the plan that is kept
+abbrev pub plan_of : Option Kept → Option PlanData
+plan_of None = None
+plan_of (Some (kept.Core core)) = None
+plan_of (Some (kept.Plan plan)) = Some (arc_value plan)
+plan_of (Some (kept.Seat seat)) = None
+plan_of (Some (kept.Script dialog)) = None
+
+-- the seat that is kept
+abbrev pub seat_of : Option Kept → Option Seated
+seat_of None = None
+seat_of (Some (kept.Core core)) = None
+seat_of (Some (kept.Plan plan)) = None
+seat_of (Some (kept.Seat seat)) = Some seat
+seat_of (Some (kept.Script dialog)) = None
+
+-- the script that is kept, with the answer to its last line
+abbrev pub dialog_of : Option Kept → Option Dialog
+dialog_of None = None
+dialog_of (Some (kept.Core core)) = None
+dialog_of (Some (kept.Plan plan)) = None
+dialog_of (Some (kept.Seat seat)) = None
+dialog_of (Some (kept.Script dialog)) = Some dialog
+
+-- nothing but a core is kept
+abbrev pub is_core : Option Kept → Bool
+is_core None = true
+is_core (Some (kept.Core core)) = true
+is_core (Some (kept.Plan plan)) = false
+is_core (Some (kept.Seat seat)) = false
+is_core (Some (kept.Script dialog)) = false
+
+-- nothing but a plan is kept
+abbrev pub is_plan : Option Kept → Bool
+is_plan None = true
+is_plan (Some (kept.Core core)) = false
+is_plan (Some (kept.Plan plan)) = true
+is_plan (Some (kept.Seat seat)) = false
+is_plan (Some (kept.Script dialog)) = false
+
+-- nothing but a seat is kept
+abbrev pub is_seat : Option Kept → Bool
+is_seat None = true
+is_seat (Some (kept.Core core)) = false
+is_seat (Some (kept.Plan plan)) = false
+is_seat (Some (kept.Seat seat)) = true
+is_seat (Some (kept.Script dialog)) = false
+
+-- nothing but a script is kept
+abbrev pub is_script : Option Kept → Bool
+is_script None = true
+is_script (Some (kept.Core core)) = false
+is_script (Some (kept.Plan plan)) = false
+is_script (Some (kept.Seat seat)) = false
+is_script (Some (kept.Script dialog)) = true
+
+-- the same as `Calls` of a value that is kept, which stays of its kind: what `told` says is of the
+-- values of that kind
+abbrev pub CallsKept : {K A : Type 0} → (Option Kept → Bool) → (Option Kept → Option K)
+    → (Option K → Option K → A → Type 0) → Kept → A → Kept → Type 0
+CallsKept is_kind value_of told old answer new = (is_kind (Some new) ≡ true)
+    × told (value_of (Some old)) (value_of (Some new)) answer

@@ -1,0 +1,46 @@
+-- What a handle of a plan keeps, and what it answers.
+use Rattle.std.specs.Prelude.{◌≡◌, ◌+◌, ◌<◌, ℕ, List, length, take, drop}
+use Rattle.std.specs.Prelude.{Option, Some, None, Result, Ok, Err, EachIndex, slice_index}
+use Rattle.numa_plan.specs.Found.{IsMapped}
+use Rattle.numa_plan.specs.Meaning.{PlanData, planned_list, planned_first, place_refusal}
+use Rattle.numa_plan.specs.Meaning.{CountsFirsts, RefusesSpan}
+use Rattle.numa_space.specs.declared.refusal.PlaceRefusal.{PlaceRefusal}
+use Rattle.numaplan_handles.specs.declared.plan_handle.ChoiceRefusal.{ChoiceRefusal}
+use Rattle.numaplan_handles.specs.declared.plan_handle.ChoiceRefusal.TheVariants as refused
+
+-- the list of a page of the plan, for a task and a fault on the node
+abbrev pub IsListOf : Option PlanData → ℕ → ℕ → ℕ → List ℕ → Type 0
+IsListOf None task page cpu list = Unit {0}
+IsListOf (Some plan) task page cpu list =
+    (cpu < plan.nodes) × (planned_list plan task page cpu ≡ Some list)
+
+-- the plan has no list for the page, for this cause
+abbrev pub HasNoList : Option PlanData → ℕ → ℕ → PlaceRefusal → Type 0
+HasNoList None page cpu cause = Unit {0}
+HasNoList (Some plan) page cpu cause = place_refusal plan page cpu ≡ Some cause
+
+-- the answer to the question for a page's list, and what the room for it held before and after: the
+-- list stands in front, or there is no room, or no list
+abbrev pub Chooses : Option PlanData → ℕ → ℕ → ℕ → Result ℕ ChoiceRefusal → List ℕ → List ℕ → Type 0
+Chooses plan task page cpu (Ok count) old new =
+    IsListOf plan task page cpu (take count new) × (drop count new ≡ drop count old)
+Chooses plan task page cpu (Err (refused.TooShort count)) old new =
+    ((list : List ℕ) × IsListOf plan task page cpu list × (count ≡ length list)) × (new ≡ old)
+Chooses plan task page cpu (Err (refused.RawBox cause)) old new =
+    HasNoList plan page cpu cause × (new ≡ old)
+
+-- the same of the first nodes of a span
+abbrev pub Fills : Option PlanData → ℕ → ℕ → ℕ → Result (Unit {0}) PlaceRefusal → List ℕ → List ℕ
+    → Type 0
+Fills None task cpu first answer old new = Unit {0}
+Fills (Some plan) task cpu first (Ok done) old new = (cpu < plan.nodes)
+    × EachIndex new (λ k. planned_first plan task (first + k) cpu ≡ Some (slice_index new k))
+Fills (Some plan) task cpu first (Err cause) old new =
+    RefusesSpan plan first (length old) cpu cause × (new ≡ old)
+
+-- and of how many pages have each node first
+abbrev pub Counts : Option PlanData → ℕ → ℕ → ℕ → ℕ → Result (List ℕ) PlaceRefusal → Type 0
+Counts None task cpu first pages answer = Unit {0}
+Counts (Some plan) task cpu first pages (Ok counts) = (cpu < plan.nodes)
+    × IsMapped plan.runs first pages × CountsFirsts plan task cpu first pages counts
+Counts (Some plan) task cpu first pages (Err cause) = RefusesSpan plan first pages cpu cause

@@ -1,0 +1,163 @@
+//! What a handle of a core answers: a copy of the core, its ranges, and their listing.
+ghost use Rattle.std.specs.Prelude.{◌≡◌, ◌≤◌, ◌^◌, Some, None, true, IfSome, List};
+ghost use Rattle.std.specs.Prelude.{IfOk, length, slice_get};
+ghost use Rattle.numa_maps.specs.Listing.{AreRangesOf, IsListing, listing_in};
+ghost use Rattle.numa_ranges.specs.Runs.{end_of};
+ghost use Rattle.numa_space.specs.Standing.{StandsFor};
+ghost use Rattle.numa_space.specs.declared.command.Command.{Command};
+ghost use Rattle.numaplan_handles.specs.Handles.{core_in};
+ghost use Rattle.numaplan_handles.specs.Asked.{HasRanges, HasRangeAt, HasListing, HasPlaceOf};
+ghost use Rattle.numaplan_handles.specs.Asked.{HasTaskPolicy};
+ghost use Rattle.numaplan_handles.specs.Calls.{Asks, IsShared};
+ghost use Rattle.numaplan_handles.specs.Kinds.{core_of, is_core};
+ghost use Rattle.numaplan_handles.specs.Steps.{Publishes};
+
+use crate::core_handle::CoreHandle;
+use crate::kept::Kept;
+use crate::search::place_of;
+use numa_core::Core;
+use numa_machine::NoMemory;
+use numa_maps::{Resident, Watched, write_maps};
+use numa_mode::Record;
+use numa_plan::Plan;
+use numa_space::{RangeRecord, Run, Space};
+use std::alloc::{AllocError, Global};
+
+/// A core that is kept.
+pub(crate) fn core_kept(kept: &Kept) -> &Core
+    requires core { is_core (Some kept.now) ≡ true }
+    ensures core { core_of (Some kept.now) ≡ Some result.now }
+{
+    let Kept::Core(core) = kept else {
+        unreachable!()
+    };
+    core
+}
+
+/// The range at a place, the lowest being at 0.
+fn range_of(space: &Space, place: usize) -> Option<Run<RangeRecord>>
+    ensures range { result ≡ slice_get space.now.ranges place }
+    ensures end { IfSome result (λ range. end_of range ≤ 2 ^ 35) }
+    ensures meaning { (history : List Command) → StandsFor space.now history
+        → AreRangesOf space.now.machine history space.now.ranges }
+{
+    // Tells the proof what the ranges mean.
+    let _ = space.range_iter();
+    space.range_at(place)
+}
+
+/// The ranges as a text.
+fn listing_of(
+    alloc: Global,
+    space: &Space,
+    task: u32,
+    placed: &Resident,
+) -> Result<Vec<u8>, AllocError>
+    ensures text { IfOk result (λ text.
+        text.items ≡ listing_in space.now task placed.now) }
+    ensures meaning { (history : List Command) → StandsFor space.now history
+        → IsListing space.now.machine history task placed.now
+        (listing_in space.now task placed.now) }
+{
+    let mut output = Watched::new(Vec::new(alloc));
+    let Ok(()) = write_maps(space, task, placed, &mut output) else {
+        return Err(AllocError);
+    };
+    Ok(output.inner)
+}
+
+impl CoreHandle {
+    /// Keeps a copy of the core in another handle, where that keeps none; None where this keeps
+    /// none. What happens to one of the two leaves the other as it is.
+    ///
+    /// # Errors
+    /// There was no memory for it.
+    pub fn copy(&mut self, alloc: Global, other: &mut CoreHandle) -> Option<Result<(), AllocError>>
+        requires closed { core_in other.old ≡ None }
+        ensures same { core_in self.new ≡ core_in self.old }
+        ensures copied { IsShared (core_in self.old) result (core_in other.new) }
+    {
+        self.handle.share(alloc, &mut other.handle)
+    }
+
+    /// The plan of the published commands, once more; None where it keeps no core. It takes no
+    /// compiling: the copy shares the plan's runs and rules.
+    ///
+    /// # Errors
+    /// There was no memory for it.
+    pub fn published_plan(&mut self, alloc: Global) -> Option<Result<Plan, NoMemory>>
+        ensures { Asks (λ answer. IfOk answer (Publishes (core_in self.old))) (core_in self.old)
+            result (core_in self.new) }
+    {
+        let kept = self.handle.take(alloc)?;
+        let answer = core_kept(&kept).plan().copy(alloc);
+        self.handle.put(kept);
+        Some(answer)
+    }
+
+    /// How many ranges of pages there are, by all accepted commands; None where it keeps no core.
+    pub fn ranges(&mut self, alloc: Global) -> Option<usize>
+        ensures { Asks (HasRanges (core_in self.old)) (core_in self.old) result (core_in self.new) }
+    {
+        let kept = self.handle.take(alloc)?;
+        let count = core_kept(&kept).space().ranges();
+        self.handle.put(kept);
+        Some(count)
+    }
+
+    /// The range at a place, the lowest being at 0, or no range; None where it keeps no core.
+    pub fn range(&mut self, alloc: Global, place: usize) -> Option<Option<Run<RangeRecord>>>
+        ensures range { Asks (HasRangeAt (core_in self.old) place) (core_in self.old) result
+            (core_in self.new) }
+        ensures end { IfSome result (λ found. IfSome found (λ range. end_of range ≤ 2 ^ 35)) }
+    {
+        let kept = self.handle.take(alloc)?;
+        let found = range_of(core_kept(&kept).space(), place);
+        self.handle.put(kept);
+        Some(found)
+    }
+
+    /// The place of the range that has a page, or else of the next one, as many as there are ranges
+    /// where there is none; None where it keeps no core.
+    pub fn place_of(&mut self, alloc: Global, page: u64) -> Option<usize>
+        ensures { Asks (HasPlaceOf (core_in self.old) page) (core_in self.old) result
+            (core_in self.new) }
+    {
+        let kept = self.handle.take(alloc)?;
+        let place = place_of(core_kept(&kept).space(), page);
+        self.handle.put(kept);
+        Some(place)
+    }
+
+    /// The policy of a task, or none; None where it keeps no core.
+    pub fn task_policy(&mut self, alloc: Global, task: u32) -> Option<Option<Record>>
+        ensures { Asks (HasTaskPolicy (core_in self.old) task) (core_in self.old) result
+            (core_in self.new) }
+    {
+        let kept = self.handle.take(alloc)?;
+        let policy = core_kept(&kept).space().task_policy(task);
+        self.handle.put(kept);
+        Some(policy)
+    }
+
+    /// The ranges as a text, for a task and with the pages that are placed, as [`write_maps`]
+    /// writes it; None where it keeps no core.
+    ///
+    /// # Errors
+    /// There was no memory for the text.
+    pub fn listing(
+        &mut self,
+        alloc: Global,
+        task: u32,
+        placed: &Resident,
+    ) -> Option<Result<Vec<u8>, AllocError>>
+        ensures { Asks (λ answer. IfOk answer (λ text.
+            HasListing (core_in self.old) task placed.now text.items)) (core_in self.old) result
+            (core_in self.new) }
+    {
+        let kept = self.handle.take(alloc)?;
+        let answer = listing_of(alloc, core_kept(&kept).space(), task, placed);
+        self.handle.put(kept);
+        Some(answer)
+    }
+}

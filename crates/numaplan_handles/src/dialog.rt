@@ -1,0 +1,92 @@
+//! A script that is given line by line.
+ghost use Rattle.std.specs.Prelude.{◌≡◌, [], Ok, Err, Bool, MatchOption};
+ghost use Rattle.numa_run.specs.Answers.{State, answer_to, after_bytes};
+ghost use Rattle.numa_run.specs.Scripts.{ScriptStandsFor};
+ghost use Rattle.numaplan_handles.specs.Dialogs.{IsFresh, Serves, Copies};
+
+use crate::room::copy_bytes;
+use line_server::{Serve, Watched};
+use numa_machine::Rules;
+use numa_run::Script;
+use std::alloc::Global;
+
+/// How many bytes of an answer there is memory for before its line is served: more than any but
+/// the answer to a question, or to `maps`, which change nothing.
+const ROOM: usize = 4096;
+
+/// Why a line has no answer.
+#[derive(Clone, Copy, Debug, PartialEq, Eq)]
+pub enum LineRefusal {
+    /// There was no memory, and the line was not served.
+    NoMemory,
+    /// The line was served, and there was no memory for its whole answer.
+    AnswerLost,
+}
+
+/// A script, and the answer to its last line.
+#[derive(Drop)]
+pub struct Dialog {
+    pub(crate) script: Script,
+    pub(crate) answer: Vec<u8>,
+}
+
+/// Serves a line, and gives its answer, where there is memory for it.
+fn serve(script: &mut Script, alloc: Global, line: &[u8], room: Vec<u8>) -> Option<Vec<u8>>
+    requires empty { room.items ≡ [] }
+    ensures { (state : State) → ScriptStandsFor script.old state → (refused : Bool)
+        × ScriptStandsFor script.new (after_bytes refused state line.now)
+        × MatchOption result (Unit {0}) (λ answer.
+        answer.items ≡ answer_to refused state line.now) }
+{
+    let mut output = Watched::new(room);
+    script.serve(alloc, line, &mut output);
+    match output.hand_over() {
+        Ok(()) => Some(output.inner),
+        Err(_) => None,
+    }
+}
+
+impl Dialog {
+    /// Before the first line, with these rules where no line gives others.
+    pub(crate) fn new(alloc: Global, rules: Rules) -> Dialog
+        ensures { IsFresh rules result }
+    {
+        Dialog {
+            script: Script::by(rules),
+            answer: Vec::new(alloc),
+        }
+    }
+
+    /// Serves a line, keeps its answer, and tells how long that is.
+    ///
+    /// # Errors
+    /// `NoMemory` where nothing has changed, and `AnswerLost` where the line was served.
+    pub(crate) fn line(&mut self, alloc: Global, line: &[u8]) -> Result<usize, LineRefusal>
+        ensures { Serves self.old line.now result self.new }
+    {
+        let Ok(room) = Vec::with_capacity(alloc, ROOM) else {
+            return Err(LineRefusal::NoMemory);
+        };
+        match serve(&mut self.script, alloc, line, room) {
+            Some(answer) => {
+                let length = answer.len();
+                self.answer = answer;
+                Ok(length)
+            }
+            None => {
+                self.answer.clear();
+                Err(LineRefusal::AnswerLost)
+            }
+        }
+    }
+
+    /// Copies the answer to the last line, and tells how long it is.
+    ///
+    /// # Errors
+    /// How long it is, where it is longer than the room for it.
+    pub(crate) fn copy(&self, room: &mut [u8]) -> Result<usize, usize>
+        ensures { Copies self.now.answer.items result room.old room.new }
+    {
+        copy_bytes(&self.answer, room)
+    }
+}

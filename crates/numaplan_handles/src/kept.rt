@@ -1,0 +1,59 @@
+//! What a handle may keep.
+ghost use Rattle.std.specs.Prelude.{◌≡◌, Some, IfSome, true};
+
+use crate::dialog::Dialog;
+use numa_core::Core;
+use numa_plan::Plan;
+use numa_pool::OwnedSeat;
+use std::alloc::Global;
+use std::sync::Arc;
+
+/// What a handle keeps, by its kind.
+#[derive(Drop)]
+pub enum Kept {
+    /// A core, which the handle alone has.
+    Core(Core),
+    /// A plan, which handles of several threads share.
+    Plan(Arc<Plan, Global>),
+    /// A seat at pools of frames, which seats of other handles share.
+    Seat(OwnedSeat),
+    /// A script, with the answer to its last line.
+    Script(Dialog),
+}
+
+impl Kept {
+    ghost use Rattle.numaplan_handles.specs.Kinds.{core_of, is_core, is_plan, plan_of};
+
+    /// The same on the heap, where there is memory for it; else it is dropped.
+    pub(crate) fn on_heap(self, alloc: Global) -> Option<Box<Kept>>
+        ensures { IfSome result (λ kept. kept.value ≡ self) }
+    {
+        Box::new(alloc, self).ok()
+    }
+
+    /// A core or a plan once more, where there is memory for it: a copy of the core, the same plan.
+    pub(crate) fn again(&self, alloc: Global) -> Option<Box<Kept>>
+        ensures core { is_core (Some self.now) ≡ true → IfSome result (λ other.
+            (is_core (Some other.value) ≡ true)
+            × (core_of (Some other.value) ≡ core_of (Some self.now))) }
+        ensures plan { is_plan (Some self.now) ≡ true → IfSome result (λ other.
+            (is_plan (Some other.value) ≡ true)
+            × (plan_of (Some other.value) ≡ plan_of (Some self.now))) }
+    {
+        match self {
+            Kept::Core(core) => {
+                let Ok(other) = core.copy() else {
+                    return None;
+                };
+                Kept::Core(other).on_heap(alloc)
+            }
+            Kept::Plan(plan) => {
+                let Ok(other) = Arc::try_clone(plan) else {
+                    return None;
+                };
+                Kept::Plan(other).on_heap(alloc)
+            }
+            _ => None,
+        }
+    }
+}

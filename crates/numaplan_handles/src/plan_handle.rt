@@ -1,0 +1,169 @@
+//! A handle of a plan.
+ghost use Rattle.std.specs.Prelude.{◌≡◌, Some, None, IfSome, true};
+ghost use Rattle.numaplan_handles.specs.Calls.{Asks, IsShared, Keeps};
+ghost use Rattle.numaplan_handles.specs.Kinds.{plan_of, is_plan};
+ghost use Rattle.numaplan_handles.specs.Plans.{IsListOf, Chooses, Fills, Counts};
+
+use crate::handle::Handle;
+use crate::kept::Kept;
+use crate::room::copy_bytes;
+use numa_plan::{Plan, Steps};
+use numa_space::PlaceRefusal;
+use std::alloc::{AllocError, Global};
+use std::sync::Arc;
+
+/// A plan that a C caller keeps, or none. Handles of several threads may keep the same plan.
+#[repr(C)]
+pub struct PlanHandle {
+    pub handle: Handle,
+    ghost kind: { is_plan handle.held.kept ≡ true },
+}
+
+/// Why the list of a page was not copied.
+#[derive(Clone, Copy, Debug, PartialEq, Eq)]
+pub enum ChoiceRefusal {
+    /// There is no list.
+    RawBox(PlaceRefusal),
+    /// The list has so many nodes, and there is no room for them.
+    TooShort(usize),
+}
+
+/// A plan that is kept.
+fn plan_kept(kept: &Kept) -> &Plan
+    requires plan { is_plan (Some kept.now) ≡ true }
+    ensures plan { plan_of (Some kept.now) ≡ Some result.now }
+{
+    let Kept::Plan(plan) = kept else {
+        unreachable!()
+    };
+    plan
+}
+
+/// Copies the list of a page of a kept plan.
+fn choose_kept(
+    kept: &Kept,
+    task: u32,
+    page: u64,
+    cpu: u32,
+    nodes: &mut [u8],
+) -> Result<usize, ChoiceRefusal>
+    requires plan { is_plan (Some kept.now) ≡ true }
+    ensures chooses { Chooses (plan_of (Some kept.now)) task page cpu result nodes.old nodes.new }
+{
+    let list = match plan_kept(kept).choice(task, page, cpu, &mut Steps::new()) {
+        Ok(list) => list,
+        Err(refusal) => return Err(ChoiceRefusal::RawBox(refusal)),
+    };
+    copy_bytes(list, nodes).map_err(ChoiceRefusal::TooShort)
+}
+
+impl PlanHandle {
+    ghost use Rattle.numaplan_handles.specs.Handles.{plan_in};
+
+    /// Keeps a plan, where it keeps none.
+    ///
+    /// # Errors
+    /// There was no memory for it, and the plan is freed.
+    pub fn open(&mut self, alloc: Global, plan: Plan) -> Result<(), AllocError>
+        requires closed { plan_in self.old ≡ None }
+        ensures { Keeps plan result (plan_in self.new) }
+    {
+        let Some(plan) = Arc::new(alloc, plan).ok() else {
+            return Err(AllocError);
+        };
+        self.handle.keep(alloc, Kept::Plan(plan))
+    }
+
+    /// Keeps the same plan in another handle, where that keeps none; None where this keeps none.
+    ///
+    /// # Errors
+    /// There was no memory for it, or as many handles keep the plan as can.
+    pub fn share(&mut self, alloc: Global, other: &mut PlanHandle) -> Option<Result<(), AllocError>>
+        requires closed { plan_in other.old ≡ None }
+        ensures same { plan_in self.new ≡ plan_in self.old }
+        ensures shared { IsShared (plan_in self.old) result (plan_in other.new) }
+    {
+        self.handle.share(alloc, &mut other.handle)
+    }
+
+    /// The version of the plan; None where it keeps none.
+    pub fn version(&mut self, alloc: Global) -> Option<u64>
+        ensures { Asks (λ version. IfSome (plan_in self.old) (λ plan. version ≡ plan.version))
+            (plan_in self.old) result (plan_in self.new) }
+    {
+        let kept = self.handle.take(alloc)?;
+        let version = plan_kept(&kept).version();
+        self.handle.put(kept);
+        Some(version)
+    }
+
+    /// Copies the list of nodes of a page, and answers how many there are; None where it keeps no
+    /// plan.
+    ///
+    /// # Errors
+    /// As [`Plan::choice`], and `TooShort` where there is no room for the list.
+    pub fn choose(
+        &mut self,
+        alloc: Global,
+        task: u32,
+        page: u64,
+        cpu: u32,
+        nodes: &mut [u8],
+    ) -> Option<Result<usize, ChoiceRefusal>>
+        ensures chooses { Asks (λ answer.
+            Chooses (plan_in self.old) task page cpu answer nodes.old nodes.new)
+            (plan_in self.old) result (plan_in self.new) }
+        ensures closed { plan_in self.old ≡ None → nodes.new ≡ nodes.old }
+    {
+        let kept = self.handle.take(alloc)?;
+        let answer = choose_kept(&kept, task, page, cpu, nodes);
+        self.handle.put(kept);
+        Some(answer)
+    }
+
+    /// Writes the first node of each page's list, for as many pages from `first` on as there are
+    /// places; None where it keeps no plan.
+    ///
+    /// # Errors
+    /// As [`Plan::fill`].
+    pub fn fill(
+        &mut self,
+        alloc: Global,
+        task: u32,
+        cpu: u32,
+        first: u64,
+        nodes: &mut [u8],
+    ) -> Option<Result<(), PlaceRefusal>>
+        ensures fills { Asks (λ answer.
+            Fills (plan_in self.old) task cpu first answer nodes.old nodes.new)
+            (plan_in self.old) result (plan_in self.new) }
+        ensures closed { plan_in self.old ≡ None → nodes.new ≡ nodes.old }
+    {
+        let kept = self.handle.take(alloc)?;
+        let answer = plan_kept(&kept).fill(task, cpu, first, nodes);
+        self.handle.put(kept);
+        Some(answer)
+    }
+
+    /// How many pages of a span have each node as the first of their list; None where it keeps no
+    /// plan.
+    ///
+    /// # Errors
+    /// As [`Plan::counts`].
+    pub fn counts(
+        &mut self,
+        alloc: Global,
+        task: u32,
+        cpu: u32,
+        first: u64,
+        pages: u64,
+    ) -> Option<Result<[u64; 256], PlaceRefusal>>
+        ensures { Asks (Counts (plan_in self.old) task cpu first pages)
+            (plan_in self.old) result (plan_in self.new) }
+    {
+        let kept = self.handle.take(alloc)?;
+        let answer = plan_kept(&kept).counts(task, cpu, first, pages);
+        self.handle.put(kept);
+        Some(answer)
+    }
+}

@@ -1,0 +1,163 @@
+//! A handle of a seat at pools of frames.
+ghost use Rattle.std.specs.Prelude.{◌≡◌, ◌&&◌, Some, None, MatchOption, IfOk, OnOk, OnErr, is_some};
+ghost use Rattle.std.specs.Prelude.{true, false};
+ghost use Rattle.numaplan_handles.specs.Calls.{Calls, Keeps};
+ghost use Rattle.numaplan_handles.specs.Kinds.{CallsKept, seat_of, is_seat};
+ghost use Rattle.numaplan_handles.specs.Seats.{Takes, Returns, Splits, Stays, Joins};
+ghost use Rattle.numaplan_handles.specs.Seats.{AreTogether};
+
+use crate::handle::Handle;
+use crate::kept::Kept;
+use numa_machine::{Frame, NoMemory};
+use numa_pool::OwnedSeat;
+use std::alloc::{AllocError, Global};
+
+/// A seat at pools of frames that a C caller keeps, or none.
+#[repr(C)]
+pub struct SeatHandle {
+    pub handle: Handle,
+    ghost kind: { is_seat handle.held.kept ≡ true },
+}
+
+/// A frame of the first listed node that has one, for a kept seat.
+fn take_kept(kept: &mut Kept, nodes: &[u8]) -> Option<(usize, Frame)>
+    requires seat { is_seat (Some kept.old) ≡ true }
+    ensures { CallsKept is_seat seat_of (Takes nodes.now) kept.old result kept.new }
+{
+    match kept {
+        Kept::Seat(seat) => seat.take(nodes),
+        _ => unreachable!(),
+    }
+}
+
+/// A frame given back by a kept seat, where it holds it.
+fn give_kept(kept: &mut Kept, frame: Frame) -> bool
+    requires seat { is_seat (Some kept.old) ≡ true }
+    ensures { CallsKept is_seat seat_of (Returns frame) kept.old result kept.new }
+{
+    match kept {
+        Kept::Seat(seat) => seat.give(frame),
+        _ => unreachable!(),
+    }
+}
+
+/// A seat split off a kept one.
+fn split_kept(kept: &mut Kept, alloc: Global) -> Result<Box<Kept>, NoMemory>
+    requires seat { is_seat (Some kept.old) ≡ true }
+    ensures seat { is_seat (Some kept.new) ≡ true }
+    ensures other { IfOk result (λ other. is_seat (Some other.value) ≡ true) }
+    ensures ok { IfOk result (λ other. Splits (seat_of (Some kept.old))
+        (seat_of (Some kept.new)) (seat_of (Some other.value))) }
+    ensures err { OnErr result (Stays (seat_of (Some kept.old)) (seat_of (Some kept.new))) }
+{
+    let made = match kept {
+        Kept::Seat(seat) => seat.split(alloc),
+        _ => unreachable!(),
+    };
+    let Ok(made) = made else {
+        return Err(NoMemory);
+    };
+    Kept::Seat(made).on_heap(alloc).ok_or(NoMemory)
+}
+
+/// A kept seat gets what another held.
+fn join_kept(kept: &mut Kept, other: Kept)
+    requires seat { is_seat (Some kept.old) ≡ true }
+    requires other { is_seat (Some other) ≡ true }
+    requires together { AreTogether (seat_of (Some kept.old)) (seat_of (Some other)) }
+    ensures seat { is_seat (Some kept.new) ≡ true }
+    ensures joins { Joins (seat_of (Some kept.old)) (seat_of (Some other))
+        (seat_of (Some kept.new)) }
+{
+    let Kept::Seat(other) = other else {
+        unreachable!()
+    };
+    match kept {
+        Kept::Seat(seat) => seat.join(other),
+        _ => unreachable!(),
+    }
+}
+
+impl SeatHandle {
+    ghost use Rattle.numaplan_handles.specs.Handles.{seat_in};
+
+    /// Keeps a seat, where it keeps none.
+    ///
+    /// # Errors
+    /// There was no memory for it, and the seat is dropped.
+    pub fn open(&mut self, alloc: Global, seat: OwnedSeat) -> Result<(), AllocError>
+        requires closed { seat_in self.old ≡ None }
+        ensures { Keeps seat result (seat_in self.new) }
+    {
+        self.handle.keep(alloc, Kept::Seat(seat))
+    }
+
+    /// Takes a frame of the first listed node that has one, as [`Seat::take`]; None where it keeps
+    /// no seat.
+    pub fn take(&mut self, alloc: Global, nodes: &[u8]) -> Option<Option<(usize, Frame)>>
+        ensures { Calls (Takes nodes.now) (seat_in self.old) result (seat_in self.new) }
+    {
+        let mut kept = self.handle.take(alloc)?;
+        let found = take_kept(&mut kept, nodes);
+        self.handle.put(kept);
+        Some(found)
+    }
+
+    /// Gives back a frame, as [`Seat::give`], and tells whether the seat held it; None where it
+    /// keeps no seat.
+    pub fn give(&mut self, alloc: Global, frame: Frame) -> Option<bool>
+        ensures { Calls (Returns frame) (seat_in self.old) result (seat_in self.new) }
+    {
+        let mut kept = self.handle.take(alloc)?;
+        let held = give_kept(&mut kept, frame);
+        self.handle.put(kept);
+        Some(held)
+    }
+
+    /// Splits off a seat at the same pools, and keeps it in another handle, where that keeps none;
+    /// None where this keeps none.
+    ///
+    /// # Errors
+    /// There was no memory for it, or as many seats share the pools as can.
+    pub fn split(&mut self, alloc: Global, other: &mut SeatHandle) -> Option<Result<(), NoMemory>>
+        requires closed { seat_in other.old ≡ None }
+        ensures closed { seat_in self.old ≡ None →
+            (result ≡ None) × (seat_in self.new ≡ None) }
+        ensures open { MatchOption result (seat_in self.old ≡ None)
+            (λ answer. is_some (seat_in self.old) ≡ true) }
+        ensures split { MatchOption result (seat_in other.new ≡ None) (λ answer.
+            (OnOk answer (Splits (seat_in self.old) (seat_in self.new) (seat_in other.new)))
+            × (OnErr answer (Stays (seat_in self.old) (seat_in self.new)
+            × (seat_in other.new ≡ None)))) }
+    {
+        let mut kept = self.handle.take(alloc)?;
+        let made = split_kept(&mut kept, alloc);
+        self.handle.put(kept);
+        Some(other.handle.put_made(made))
+    }
+
+    /// Gets the frames that the seat of another handle holds, which is closed, and tells so; where
+    /// either keeps no seat nothing is done. Seats of both are of the same pools.
+    pub fn join(&mut self, alloc: Global, other: &mut SeatHandle) -> bool
+        requires together { AreTogether (seat_in self.old) (seat_in other.old) }
+        ensures told { result ≡ (is_some (seat_in self.old) && is_some (seat_in other.old)) }
+        ensures joins { result ≡ true →
+            Joins (seat_in self.old) (seat_in other.old) (seat_in self.new)
+            × (seat_in other.new ≡ None) }
+        ensures same { result ≡ false → (seat_in self.new ≡ seat_in self.old)
+            × (seat_in other.new ≡ seat_in other.old) }
+    {
+        if !self.handle.is_open() || !other.handle.is_open() {
+            return false;
+        }
+        let Some(mut kept) = self.handle.take(alloc) else {
+            unreachable!()
+        };
+        let Some(spent) = other.handle.take(alloc) else {
+            unreachable!()
+        };
+        join_kept(&mut kept, Box::into_inner(spent));
+        self.handle.put(kept);
+        true
+    }
+}
