@@ -269,6 +269,9 @@ uint32_t np_core_mbind(np_core *core, uint64_t start, uint64_t length, const uin
 uint32_t np_core_set_task(np_core *core, uint32_t task, const uint8_t *policy,
                           size_t policy_length);
 
+/* Gives a task the policy that another has, or none, as a new thread has its maker's (clone(2)). */
+uint32_t np_core_inherit(np_core *core, uint32_t task, uint32_t from);
+
 /* Gives the policies of a span's pages a home node (set_mempolicy_home_node(2)). */
 uint32_t np_core_set_home(np_core *core, uint64_t start, uint64_t length, uint32_t node);
 

@@ -94,6 +94,10 @@ class Core(Owner):
         """Gives a task its policy."""
         call("core_set_task", self._at, u32("task", task), *encoded(policy))
 
+    def inherit(self, task: int, from_task: int) -> None:
+        """Gives a task the policy that another has, or none, as a new thread has its maker's."""
+        call("core_inherit", self._at, u32("task", task), u32("from_task", from_task))
+
     def set_home(self, start: int, length: int, node: int) -> None:
         """Gives the policies of a span's pages a home node."""
         call("core_set_home", self._at, u64("start", start), u64("length", length),

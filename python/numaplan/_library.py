@@ -77,6 +77,7 @@ _SIGNATURES = {
     "core_unmap": [_HANDLE, _U64, _U64],
     "core_mbind": [_HANDLE, _U64, _U64, _TEXT, c_size_t],
     "core_set_task": [_HANDLE, _U32, _TEXT, c_size_t],
+    "core_inherit": [_HANDLE, _U32, _U32],
     "core_set_home": [_HANDLE, _U64, _U64, _U32],
     "core_set_weight": [_HANDLE, _U32, _U32],
     "core_set_mems": [_HANDLE, _TEXT, c_size_t],

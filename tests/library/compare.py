@@ -32,7 +32,7 @@ def step(dice, nodes):
     start = 4096 * dice.randrange(24) + dice.choice([0, 0, 0, 0, 0, 0, 0, 1])
     length, task = 4096 * dice.randrange(9), dice.randrange(3)
     node, word = dice.randrange(nodes + 1), policy(dice, nodes)
-    kind = dice.randrange(10)
+    kind = dice.randrange(11)
     if kind < 3:
         offset = dice.choice([start // 4096, 0, 7, 2**35])
         return f"map {start} {length} {offset}", lambda core: core.map(start, length, offset)
@@ -44,6 +44,9 @@ def step(dice, nodes):
         return f"task {task} {word}", lambda core: core.set_task(task, word)
     if kind == 8:
         return f"home {start} {length} {node}", lambda core: core.set_home(start, length, node)
+    if kind == 9:
+        other = dice.randrange(1, 5)
+        return f"inherit {task} {other}", lambda core: core.inherit(task, other)
     weight = dice.choice([0, 1, 2, 3, 255, 256])
     return f"weight {node} {weight}", lambda core: core.set_weight(node, weight)
 

@@ -119,6 +119,18 @@ def task(space, number, asked):
     return None
 
 
+def inherit(space, number, maker):
+    """`inherit`: the task has the policy that its maker has, effective nodes and all; or none."""
+    record = space.tasks.get(maker)
+    if record is None:
+        space.tasks.pop(number, None)
+        return None
+    if number not in space.tasks and len(space.tasks) >= space.limits[1]:
+        return "TooManyTasks"
+    space.tasks[number] = record
+    return None
+
+
 def weight(space, node, value):
     """`weight`: a node of the machine has a weight of 1 to 255; 0 puts back the first, in sysfs."""
     if node >= space.machine.nodes:
@@ -149,7 +161,7 @@ def mems(space, nodes):
 
 
 COMMANDS = {"map": map_span, "unmap": unmap, "mbind": mbind, "home": home, "task": task,
-            "weight": weight, "mems": mems}
+            "inherit": inherit, "weight": weight, "mems": mems}
 
 
 def accept(space, name, arguments):

@@ -130,6 +130,9 @@ class Script(Words):
     def task(self):
         self.say("task", self.task_number(), self.policy())
 
+    def inherit(self):
+        self.say("inherit", self.task_number(), self.task_number())
+
     def weight(self):
         value = self.dice.choice([1, 2, 2, 3, 3, 4, 5, 7, 100, 254, 255])
         if self.likely(0.1):
@@ -284,7 +287,7 @@ class Script(Words):
         """The script as bytes; at times its last line lacks a line feed."""
         length = self.dice.randint(20, 80)
         self.opening()
-        commands = [self.map] * 3 + [self.mbind] * 6 + [self.task] * 4 + [self.mems] * 5
+        commands = [self.map] * 3 + [self.mbind] * 6 + [self.task] * 4 + [self.inherit] + [self.mems] * 5
         commands += [self.unmap] * 2 + [self.home] * 2 + [self.weight] * 3
         asked = [self.place] * 5 + [self.question] * 4 + [self.ranges] * 2 + [self.maps] * 3
         work = [self.publish] * 3 + [self.begin] * 2 + [self.step] * 2 + [self.touch] * 4

@@ -197,6 +197,7 @@ FORMS = {
     "mbind": [number, number, policy],
     "home": [number, number, small],
     "task": [small, policy],
+    "inherit": [small, small],
     "weight": [small, small],
     "mems": [node_list],
     "place": [small, number, small],

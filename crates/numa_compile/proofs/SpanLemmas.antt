@@ -12,7 +12,7 @@ use Rattle.numa_ranges.proofs.Fewer.{count-cons}
 use Rattle.numa_ranges.proofs.Found.{window-carried}
 use Rattle.numa_ranges.proofs.Moves.{moved-splice}
 use Rattle.numa_space.specs.declared.command.Command.{Command}
-use Rattle.numa_space.specs.declared.command.Command.TheVariants.{Map, Unmap, Mbind, SetTask, SetHome, SetWeight, SetMems}
+use Rattle.numa_space.specs.declared.command.Command.TheVariants.{Map, Unmap, Mbind, SetTask, Inherit, SetHome, SetWeight, SetMems}
 use Rattle.numa_space.specs.Policies.{where_live}
 use Rattle.numa_space.specs.Spans.{span_first, span_pages, span_end, StaysInSpan, EditsSpan}
 use Rattle.numa_space.specs.Standing.{SpaceState, record_of}
@@ -43,6 +43,7 @@ span-rest old new (Map start bytes offset) of_span next = record { machine = nex
 span-rest old new (Unmap start bytes) of_span next = record { machine = next.machine; allowed = next.allowed; weights = next.weights; tasks = next.tasks }
 span-rest old new (Mbind start bytes spec) of_span next = record { machine = next.machine; allowed = next.allowed; weights = next.weights; tasks = next.tasks }
 span-rest old new (SetTask task spec) of_span next = absurd of_span
+span-rest old new (Inherit heir from) of_span next = absurd of_span
 span-rest old new (SetHome start bytes node) of_span next = record { machine = next.machine; allowed = next.allowed; weights = next.weights; tasks = next.tasks }
 span-rest old new (SetWeight node weight) of_span next = absurd of_span
 span-rest old new (SetMems mask) of_span next = absurd of_span
@@ -52,6 +53,7 @@ span-stays (Map start bytes offset) of_span = tt
 span-stays (Unmap start bytes) of_span = tt
 span-stays (Mbind start bytes spec) of_span = tt
 span-stays (SetTask task spec) of_span = absurd of_span
+span-stays (Inherit heir from) of_span = absurd of_span
 span-stays (SetHome start bytes node) of_span = tt
 span-stays (SetWeight node weight) of_span = absurd of_span
 span-stays (SetMems mask) of_span = absurd of_span
@@ -61,6 +63,7 @@ edits-of_span (Map start bytes offset) edits = absurd edits
 edits-of_span (Unmap start bytes) edits = tt
 edits-of_span (Mbind start bytes spec) edits = tt
 edits-of_span (SetTask task spec) edits = absurd edits
+edits-of_span (Inherit heir from) edits = absurd edits
 edits-of_span (SetHome start bytes node) edits = tt
 edits-of_span (SetWeight node weight) edits = absurd edits
 edits-of_span (SetMems mask) edits = absurd edits

@@ -1,13 +1,15 @@
 -- A plan once a task has the rule of its new policy.
 use Rattle.std.proofs.Common.{◌≡◌, ◌≢◌, ℕ, ◌==◌, false, cond, Option, Some, None, List, refl, sym, ap, subst, ◌∙◌, inl, inr}
 use Rattle.std.proofs.lemmas.Bool.{ne_eqb}
-use Rattle.numa_mode.specs.Policy.{PolicyRecord, Specification}
-use Rattle.numa_ranges.specs.Runs.{AreApart, AreMaximal}
+use Rattle.numa_machine.specs.Weights.{weight_at}
+use Rattle.numa_mode.specs.Policy.{PolicyRecord}
+use Rattle.numa_ranges.specs.Runs.{AreApart, AreMaximal, page_at}
 use Rattle.numa_ranges.specs.declared.run.Run.{Run}
-use Rattle.numa_space.specs.declared.command.Command.TheVariants.{SetTask}
+use Rattle.numa_space.specs.declared.command.Command.{Command}
+use Rattle.numa_space.specs.declared.command.Command.TheVariants.{SetTask, Inherit, Map, Unmap, Mbind, SetHome, SetWeight, SetMems}
 use Rattle.numa_space.specs.Policies.{where_live}
 use Rattle.numa_space.specs.Standing.{SpaceState, record_of, setting_in}
-use Rattle.numa_space.specs.Steps.{record_now}
+use Rattle.numa_space.specs.Steps.{IsNext, record_now}
 use Rattle.numa_plan.specs.Building.{with_task}
 use Rattle.numa_plan.specs.Meaning.{PlanData, number_of}
 use Rattle.numa_plan.specs.Rows.{RuleData}
@@ -15,7 +17,7 @@ use Rattle.numa_plan.specs.Slots.{kept_in, policy_in}
 use Rattle.numa_plan.proofs.SlotLemmas.{same_or_not, kept_in-changed}
 use Rattle.numa_compile.specs.Copies.{IsNumber, AreCopies}
 use Rattle.numa_compile.specs.Follows.{Follows, IsBehind}
-use Rattle.numa_compile.specs.Recompiling.{WasAdded, KeepsRuns}
+use Rattle.numa_compile.specs.Recompiling.{GivesTask, WasAdded, KeepsRuns}
 use Rattle.numa_compile.specs.Rules.{IsRuleOf}
 use Rattle.numa_compile.specs.Sharing.{AreServing}
 use Rattle.numa_compile.proofs.AddedLemmas.{added-kept, added-rest, added-serving, copies-named, number-kept, policies-kept}
@@ -25,16 +27,49 @@ use Rattle.numa_compile.proofs.StepLemmas.{local-same, ranges-same, serving-same
 task-other : (old : ℕ → Option PolicyRecord) (task other : ℕ) (policy : Option PolicyRecord) → other ≢ task → cond (task == other) policy (old other) ≡ old other
 task-other old task other policy ne = let no : (task == other) ≡ false = ne_eqb task other (λ same. ne (sym same)) in rw no refl
 
-module _ (space : SpaceState) (task : ℕ) (spec : Specification) (plan middle new : PlanData) (number added : Option ℕ) (behind : IsBehind space (SetTask task spec) plan) (rising : AreApart 0 space.ranges) (maximal : AreMaximal space.ranges)
+-- what a command leaves as it was that gives one task another policy
+pub record KeepsAllBut (task : ℕ) (old new : SpaceState) : Type 0 where
+  pub machine : new.machine ≡ old.machine
+  pub allowed : new.allowed ≡ old.allowed
+  pub weights : (node : ℕ) → weight_at new.weights node ≡ weight_at old.weights node
+  pub pages : (page : ℕ) → page_at new.ranges page ≡ page_at old.ranges page
+  pub tasks : (other : ℕ) → other ≢ task → record_of new.tasks other ≡ record_of old.tasks other
+
+pub given : (task : ℕ) (old new : SpaceState) (command : Command) → GivesTask task command → IsNext old command new → KeepsAllBut task old new
+given task old new (Map start bytes offset) gives next = absurd gives
+given task old new (Unmap start bytes) gives next = absurd gives
+given task old new (Mbind start bytes spec) gives next = absurd gives
+given task old new (SetTask other spec) gives next = record {
+  machine = next.machine;
+  allowed = next.allowed;
+  weights = next.weights;
+  pages = next.pages;
+  tasks = λ one ne. next.tasks one ∙ task-other (record_of old.tasks) other one (record_now old.allowed spec) (λ same. ne (same ∙ gives));
+}
+given task old new (Inherit other from) gives next = record {
+  machine = next.machine;
+  allowed = next.allowed;
+  weights = next.weights;
+  pages = next.pages;
+  tasks = λ one ne. next.tasks one ∙ task-other (record_of old.tasks) other one (record_of old.tasks from) (λ same. ne (same ∙ gives));
+}
+given task old new (SetHome start bytes node) gives next = absurd gives
+given task old new (SetWeight node weight) gives next = absurd gives
+given task old new (SetMems mask) gives next = absurd gives
+
+module _ (space : SpaceState) (task : ℕ) (command : Command) (gives : GivesTask task command) (plan middle new : PlanData) (number added : Option ℕ) (behind : IsBehind space command plan) (rising : AreApart 0 space.ranges) (maximal : AreMaximal space.ranges)
     (was : WasAdded space plan added middle) (numbered : IsNumber (policy_in middle.slots) (where_live (record_of space.tasks task)) number) (is : new ≡ with_task middle task number)
     (here : number_of new.tasks task ≡ number) (others : (other : ℕ) → other ≢ task → number_of new.tasks other ≡ number_of middle.tasks other) where
+  stays : KeepsAllBut task behind.before space
+  stays = given task behind.before space command gives behind.step.next
+
   rest : middle ≡ record plan { slots = middle.slots }
   rest = added-rest space plan middle added was
 
   serving : AreServing space new.slots
   serving n kept there =
       added-serving space plan middle added was
-      (serving-same behind.before space behind.step.next.machine behind.step.next.allowed behind.step.next.weights plan.slots behind.follows.rules)
+      (serving-same behind.before space stays.machine stays.allowed stays.weights plan.slots behind.follows.rules)
       n kept (sym (ap (λ (p : PlanData). kept_in p.slots n) is ∙ kept_in-changed middle.slots number (number_of middle.tasks task) n) ∙ there)
 
   -- what a slot of the plan keeps is kept
@@ -54,7 +89,7 @@ module _ (space : SpaceState) (task : ℕ) (spec : Specification) (plan middle n
   same_runs = ap (λ (p : PlanData). p.runs) is ∙ ap (λ (p : PlanData). p.runs) rest
 
   same_ranges : space.ranges ≡ behind.before.ranges
-  same_ranges = ranges-same behind.before.ranges space.ranges behind.step.rising behind.step.maximal rising maximal behind.step.next.pages
+  same_ranges = ranges-same behind.before.ranges space.ranges behind.step.rising behind.step.maximal rising maximal stays.pages
 
   tasks : (other : ℕ) → IsNumber (policy_in new.slots) (where_live (record_of space.tasks other)) (number_of new.tasks other)
   tasks other =
@@ -64,7 +99,7 @@ module _ (space : SpaceState) (task : ℕ) (spec : Specification) (plan middle n
             (subst (λ (n : Option ℕ). IsNumber (policy_in new.slots) (where_live (record_of space.tasks task)) n) (sym here)
             (number-kept (policy_in middle.slots) (policy_in new.slots) (where_live (record_of space.tasks task)) number (λ place r named. middle_policies place r) numbered))
         | inr ne ↦
-            let same : record_of space.tasks other ≡ record_of behind.before.tasks other = behind.step.next.tasks other ∙ task-other (record_of behind.before.tasks) task other (record_now behind.before.allowed spec) ne in
+            let same : record_of space.tasks other ≡ record_of behind.before.tasks other = stays.tasks other ne in
             let kept : number_of new.tasks other ≡ number_of plan.tasks other = others other ne ∙ ap (λ (p : PlanData). number_of p.tasks other) rest in
             subst (λ (policy : Option PolicyRecord). IsNumber (policy_in new.slots) (where_live policy) (number_of new.tasks other)) (sym same)
             (subst (λ (n : Option ℕ). IsNumber (policy_in new.slots) (where_live (record_of behind.before.tasks other)) n) (sym kept)
@@ -75,9 +110,9 @@ module _ (space : SpaceState) (task : ℕ) (spec : Specification) (plan middle n
   pub task-follows : (final : PlanData) → final ≡ record new { version = space.version } → Follows space final
   task-follows final done = subst (λ (p : PlanData). Follows space p) (sym done) (record {
     version = refl;
-    nodes = ap (λ (p : PlanData). p.nodes) is ∙ ap (λ (p : PlanData). p.nodes) rest ∙ behind.follows.nodes ∙ sym (ap (λ machine. machine.nodes) behind.step.next.machine);
+    nodes = ap (λ (p : PlanData). p.nodes) is ∙ ap (λ (p : PlanData). p.nodes) rest ∙ behind.follows.nodes ∙ sym (ap (λ machine. machine.nodes) stays.machine);
     local = subst (λ (rule : RuleData). IsRuleOf (setting_in space) rule None) (sym (ap (λ (p : PlanData). p.local) is ∙ ap (λ (p : PlanData). p.local) rest))
-        (local-same behind.before space behind.step.next.machine behind.step.next.allowed behind.step.next.weights plan.local behind.follows.local);
+        (local-same behind.before space stays.machine stays.allowed stays.weights plan.local behind.follows.local);
     rules = serving;
     copies = subst (λ (ranges : List (Run (Option PolicyRecord))). AreCopies (policy_in new.slots) ranges new.runs) (sym same_ranges)
         (subst (λ (runs : List (Run (Option ℕ))). AreCopies (policy_in new.slots) behind.before.ranges runs) (sym same_runs)

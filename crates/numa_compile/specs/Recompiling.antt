@@ -1,5 +1,5 @@
 -- What recompiling for a command writes into a plan, and what it leaves there as it was.
-use Rattle.std.specs.Prelude.{◌≡◌, ◌≢◌, ℕ, ◌+◌, ◌≤◌, ◌⊎◌, Bool, true, false, Option, Some, None}
+use Rattle.std.specs.Prelude.{◌≡◌, ◌≢◌, ⊥, ℕ, ◌+◌, ◌≤◌, ◌⊎◌, Bool, true, false, Option, Some, None}
 use Rattle.std.specs.Prelude.{◌==◌, List, count_by, slice_get, if◌then◌else◌}
 use Rattle.std.specs.Option.{ForSome}
 use Rattle.numa_mode.specs.Policy.{PolicyRecord}
@@ -8,7 +8,7 @@ use Rattle.numa_mode.specs.declared.modes.Mode.TheVariants.{WeightedInterleave}
 use Rattle.numa_ranges.specs.Windows.{met}
 use Rattle.numa_ranges.specs.declared.run.Run.{Run}
 use Rattle.numa_space.specs.declared.command.Command.{Command}
-use Rattle.numa_space.specs.declared.command.Command.TheVariants.{Map, Unmap, Mbind, SetTask}
+use Rattle.numa_space.specs.declared.command.Command.TheVariants.{Map, Unmap, Mbind, SetTask, Inherit}
 use Rattle.numa_space.specs.declared.command.Command.TheVariants.{SetHome, SetWeight, SetMems}
 use Rattle.numa_space.specs.History.{page_of, page_count}
 use Rattle.numa_space.specs.Standing.{SpaceState}
@@ -71,11 +71,18 @@ WritesFew (Mbind start bytes spec) plan old new = WritesBoth (met_by start bytes
 WritesFew (SetHome start bytes node) plan old new =
     WritesBoth (met_by start bytes plan + 2) (met_by start bytes plan) old new
 WritesFew (SetTask task spec) plan old new = WritesRules 1 old new
+WritesFew (Inherit task from) plan old new = WritesRules 1 old new
 WritesFew (SetWeight node weight) plan old new =
     WritesRules (count_by holds_weighted plan.slots) old new
 WritesFew (SetMems mask) plan old new = Unit {0}
 
 -- ---- what stays
+
+-- the command gives this task another policy
+abbrev pub GivesTask : ℕ → Command → Type 0
+GivesTask task (SetTask other spec) = other ≡ task
+GivesTask task (Inherit other from) = other ≡ task
+GivesTask task _ = ⊥
 
 -- the runs stay, and each other task keeps its rule's number
 pub record KeepsRuns (task : ℕ) (old new : PlanData) : Type 0 where
@@ -96,6 +103,7 @@ KeepsOthers (Unmap start bytes) old new = new.tasks ≡ old.tasks
 KeepsOthers (Mbind start bytes spec) old new = new.tasks ≡ old.tasks
 KeepsOthers (SetHome start bytes node) old new = new.tasks ≡ old.tasks
 KeepsOthers (SetTask task spec) old new = KeepsRuns task old new
+KeepsOthers (Inherit task from) old new = KeepsRuns task old new
 KeepsOthers (SetWeight node weight) old new = KeepsUnweighted old new
 KeepsOthers (SetMems mask) old new = Unit {0}
 

@@ -7,7 +7,7 @@ use Rattle.numa_ranges.specs.Runs.{end_of, page_at}
 use Rattle.numa_ranges.specs.Windows.{begins_in, to_now, Moves}
 use Rattle.numa_ranges.specs.declared.run.Run.{Run}
 use Rattle.numa_space.specs.declared.command.Command.{Command}
-use Rattle.numa_space.specs.declared.command.Command.TheVariants.{Map, Unmap, Mbind, SetTask}
+use Rattle.numa_space.specs.declared.command.Command.TheVariants.{Map, Unmap, Mbind, SetTask, Inherit}
 use Rattle.numa_space.specs.declared.command.Command.TheVariants.{SetHome, SetWeight, SetMems}
 use Rattle.numa_space.specs.Policies.{where_live}
 use Rattle.numa_space.specs.History.{page_of, page_count}
@@ -26,6 +26,7 @@ IsOfSpan (Map start bytes offset) = Unit {0}
 IsOfSpan (Unmap start bytes) = Unit {0}
 IsOfSpan (Mbind start bytes spec) = Unit {0}
 IsOfSpan (SetTask task spec) = ⊥
+IsOfSpan (Inherit heir from) = ⊥
 IsOfSpan (SetHome start bytes node) = Unit {0}
 IsOfSpan (SetWeight node weight) = ⊥
 IsOfSpan (SetMems mask) = ⊥

@@ -85,6 +85,7 @@ fn edit(
             rewrite_homes(alloc, plan, space, &window, steps)
         }
         Command::SetTask { task, .. } => recompile_task(alloc, plan, space, task, steps),
+        Command::Inherit { task, .. } => recompile_task(alloc, plan, space, task, steps),
         Command::SetWeight { .. } => recompile_weight(alloc, plan, space, steps),
         Command::SetMems { .. } => recompile_mems(alloc, plan, space, steps),
     }

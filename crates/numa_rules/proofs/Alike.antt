@@ -151,6 +151,7 @@ module _ (space : SpaceState) (after : PageMap) where
       (any_page (λ page. is_some (pages page)) first count) _
       (λ some whole. whole-mapped pages first count (has-page bytes some) whole) alike
   causes (command.SetTask task spec) alike = refl
+  causes (command.Inherit task from) alike = refl
   causes (command.SetHome start bytes node) alike =
       home-alike (bad_span start bytes) (nat_le space.machine.nodes node) (bytes == 0) _
       (any_page (λ page. has_policy (page_at space.ranges page)) (page_of start)

@@ -127,6 +127,7 @@ with_command space (command.Map start bytes offset) = with_map start bytes
 with_command space (command.Unmap start bytes) = with_unmap start bytes
 with_command space (command.Mbind start bytes spec) = with_bind space start bytes spec
 with_command space (command.SetTask task spec) = None
+with_command space (command.Inherit task from) = None
 with_command space (command.SetHome start bytes node) = with_home space start bytes node
 with_command space (command.SetWeight node weight) = with_weight space node weight
 with_command space (command.SetMems mask) = with_mems space mask

@@ -158,6 +158,7 @@ fn with_command(space: &Space, command: &Command) -> Option<Otherwise>
             spec,
         } => with_bind(space, start, length, spec),
         Command::SetTask { .. } => None,
+        Command::Inherit { .. } => None,
         Command::SetHome {
             start,
             length,

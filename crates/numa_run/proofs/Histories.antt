@@ -4,7 +4,7 @@ use Rattle.std.proofs.lemmas.Bool.{ne_eqb}
 use Rattle.std.specs.Prelude.{not, if◌then◌else◌}
 use Rattle.numa_space.specs.Steps.{MayNeedRoom}
 use Rattle.numa_space.specs.declared.command.Command.{Command}
-use Rattle.numa_space.specs.declared.command.Command.TheVariants.{Map, Unmap, Mbind, SetTask, SetHome, SetWeight, SetMems}
+use Rattle.numa_space.specs.declared.command.Command.TheVariants.{Map, Unmap, Mbind, SetTask, Inherit, SetHome, SetWeight, SetMems}
 use Rattle.numa_space.specs.declared.refusal.Refusal.TheVariants.{NoMemory as NoRoom}
 use Rattle.numa_core.specs.World.{Setup, World, newest_published}
 use Rattle.numa_core.specs.Steps.{refusal_of, reply_of, refused_or, IsAnswer}
@@ -23,6 +23,7 @@ room-needed (Unmap start bytes) room = ap not (ne_eqb bytes 0 room)
 room-needed (Mbind start bytes spec) room = ap not (ne_eqb bytes 0 room)
 room-needed (SetHome start bytes node) room = ap not (ne_eqb bytes 0 room)
 room-needed (SetTask task spec) room = ap not room
+room-needed (Inherit task from) room = refl
 room-needed (SetWeight node weight) room = absurd room
 room-needed (SetMems mask) room = absurd room
 

@@ -11,7 +11,7 @@ use Rattle.numa_space.specs.declared.event.Event.TheVariants as event
 use Rattle.numa_space.specs.declared.command.Command.{Command}
 use Rattle.numa_space.specs.declared.command.Command.TheVariants as command
 use Rattle.numa_script.specs.Causes.{parameters_of, form_of, misfit_of, misfit_else, fault_behind, first_misfit, keyword_fault, words_fault, width_of, empty_word, empty_else, is_stray, stray_else, fault_of, is_malformed}
-use Rattle.numa_script.specs.Lines.{keyword_of, line_after, limits_line, rules_line, cpus_line, machine_line, map_line, unmap_line, mbind_line, home_line, task_line, weight_line, mems_line, place_line, span_line, counts_line, ranges_line, maps_line, words_line, with_policy, with_nodes, is_silent, has_empty_word, line_of}
+use Rattle.numa_script.specs.Lines.{keyword_of, line_after, limits_line, rules_line, cpus_line, machine_line, map_line, unmap_line, mbind_line, home_line, task_line, inherit_line, weight_line, mems_line, place_line, span_line, counts_line, ranges_line, maps_line, words_line, with_policy, with_nodes, is_silent, has_empty_word, line_of}
 use Rattle.numa_script.specs.Machines.{frames_of, distances_of, rules_of, has_kernel_orders}
 use Rattle.numa_script.specs.Numbers.{below, few_of, number_of, small_of, page_of, node_of, frame_number_of}
 use Rattle.numa_script.specs.Parts.{words_of}
@@ -281,6 +281,15 @@ says_task c (a ∷ b ∷ []) =
     (small a)
 says_task c (a ∷ b ∷ d ∷ words) = too_many keyword.Task c (a ∷ b ∷ d ∷ words) (omega arith)
 
+says_inherit : (c : ℕ) (words : List (List ℕ)) → is_some (fault_behind keyword.Inherit c words) ≡ said (inherit_line words)
+says_inherit c [] = too_few keyword.Inherit c [] (omega arith)
+says_inherit c (a ∷ []) = too_few keyword.Inherit c (a ∷ []) (omega arith)
+says_inherit c (a ∷ b ∷ []) =
+    enough keyword.Inherit c (a ∷ b ∷ []) refl
+    ∙ pair (λ v. line.Command (Ok (command.Inherit v.0 v.1))) _ _ (small_of a) (small_of b) (λ v. refl)
+    (small a) (small b)
+says_inherit c (a ∷ b ∷ d ∷ words) = too_many keyword.Inherit c (a ∷ b ∷ d ∷ words) (omega arith)
+
 says_weight : (c : ℕ) (words : List (List ℕ)) → is_some (fault_behind keyword.Weight c words) ≡ said (weight_line words)
 says_weight c [] = too_few keyword.Weight c [] (omega arith)
 says_weight c (a ∷ []) = too_few keyword.Weight c (a ∷ []) (omega arith)
@@ -420,6 +429,7 @@ says keyword.Unmap c words = says_unmap c words
 says keyword.Mbind c words = says_mbind c words
 says keyword.Home c words = says_home c words
 says keyword.Task c words = says_task c words
+says keyword.Inherit c words = says_inherit c words
 says keyword.Weight c words = says_weight c words
 says keyword.Mems c words = says_mems c words
 says keyword.Place c words = says_place c words

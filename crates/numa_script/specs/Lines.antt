@@ -39,6 +39,7 @@ first_word_of keyword.Unmap = codes "unmap"
 first_word_of keyword.Mbind = codes "mbind"
 first_word_of keyword.Home = codes "home"
 first_word_of keyword.Task = codes "task"
+first_word_of keyword.Inherit = codes "inherit"
 first_word_of keyword.Weight = codes "weight"
 first_word_of keyword.Mems = codes "mems"
 first_word_of keyword.Place = codes "place"
@@ -66,7 +67,8 @@ keywords_of letters =
     ∷ keyword.Rules ∷ []
     else if letters == 6 then
     keyword.Counts ∷ keyword.Ranges ∷ keyword.Weight ∷ keyword.Limits ∷ []
-    else if letters == 7 then keyword.Publish ∷ keyword.Release ∷ keyword.Machine ∷ []
+    else if letters == 7 then
+    keyword.Publish ∷ keyword.Release ∷ keyword.Machine ∷ keyword.Inherit ∷ []
     else []
 
 -- the first of the keywords whose first word this is
@@ -145,6 +147,11 @@ task_line words =
     option_and_then (λ v. option_map (λ t. with_policy (command.SetTask t) (policy_of v.1))
     (small_of v.0)) (two_words words)
 
+-- inherit TASK FROM
+abbrev pub inherit_line : List (List ℕ) → Option Line
+inherit_line words =
+    option_map (λ v. line.Command (Ok (command.Inherit v.0 v.1))) (two_of small_of small_of words)
+
 -- weight NODE W
 abbrev pub weight_line : List (List ℕ) → Option Line
 weight_line words =
@@ -193,6 +200,7 @@ line_after keyword.Unmap words = unmap_line words
 line_after keyword.Mbind words = mbind_line words
 line_after keyword.Home words = home_line words
 line_after keyword.Task words = task_line words
+line_after keyword.Inherit words = inherit_line words
 line_after keyword.Weight words = weight_line words
 line_after keyword.Mems words = mems_line words
 line_after keyword.Place words = place_line words

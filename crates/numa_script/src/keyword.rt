@@ -25,6 +25,8 @@ pub enum Keyword {
     Home,
     /// `task`
     Task,
+    /// `inherit`
+    Inherit,
     /// `weight`
     Weight,
     /// `mems`
@@ -56,10 +58,10 @@ pub enum Keyword {
 }
 
 /// The first words of lines, in the order of the keywords.
-static NAMES: [&str; 23] = [
-    "limits", "rules", "cpus", "machine", "map", "unmap", "mbind", "home", "task", "weight",
-    "mems", "place", "span", "counts", "ranges", "maps", "publish", "begin", "look", "try", "give",
-    "touch", "release",
+static NAMES: [&str; 24] = [
+    "limits", "rules", "cpus", "machine", "map", "unmap", "mbind", "home", "task", "inherit",
+    "weight", "mems", "place", "span", "counts", "ranges", "maps", "publish", "begin", "look", "try",
+    "give", "touch", "release",
 ];
 
 impl Keyword {
@@ -82,7 +84,7 @@ fn keywords(letters: usize) -> &'static [Keyword]
         4 => &[Span, Look, Give, Maps, Home, Task, Mems, Cpus],
         5 => &[Place, Begin, Touch, Mbind, Unmap, Rules],
         6 => &[Counts, Ranges, Weight, Limits],
-        7 => &[Publish, Release, Machine],
+        7 => &[Publish, Release, Machine, Inherit],
         _ => &[],
     }
 }

@@ -18,7 +18,7 @@ use crate::work::{Work, begin, give, look, publish, release, touch, try_frame};
 use numa_machine::Rules;
 use numa_mask::{ListFault, NodeMask, read_list};
 use numa_space::Command;
-use numa_space::Command::{Map, SetHome, SetWeight, Unmap};
+use numa_space::Command::{Inherit, Map, SetHome, SetWeight, Unmap};
 
 /// The most bytes that a line may have, its line feed apart.
 pub const LIMIT: usize = 4096;
@@ -278,6 +278,7 @@ fn line_after(keyword: Keyword, words: Parts) -> Option<Line>
             node,
         })),
         Keyword::Task => task(words),
+        Keyword::Inherit => command_line(two(words).map(|(task, from)| Inherit { task, from })),
         Keyword::Weight => command_line(two(words).map(|(node, weight)| SetWeight {
             node,
             weight,

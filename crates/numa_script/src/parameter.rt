@@ -43,6 +43,8 @@ pub enum Parameter {
     List,
     /// TASK, the number of a task.
     Task,
+    /// FROM, the number of the task whose policy another takes.
+    From,
     /// ADDR, any address of a page, in bytes.
     Address,
     /// CPU, the number of the node of a CPU.
@@ -104,6 +106,7 @@ impl Parameter {
             | Parameter::Node
             | Parameter::Weight
             | Parameter::Task
+            | Parameter::From
             | Parameter::Cpu
             | Parameter::Worker
             | Parameter::Word => Form::Number(u32::MAX as u64),
@@ -136,6 +139,7 @@ impl Parameter {
             Parameter::Weight => "WEIGHT",
             Parameter::List => "LIST",
             Parameter::Task => "TASK",
+            Parameter::From => "FROM",
             Parameter::Address => "ADDR",
             Parameter::Cpu => "CPU",
             Parameter::Pages | Parameter::SpanPages => "PAGES",
@@ -184,6 +188,7 @@ pub fn parameters(keyword: Keyword) -> &'static [Parameter]
         Keyword::Mbind => &[Start, Length, Policy],
         Keyword::Home => &[Start, Length, Node],
         Keyword::Task => &[Task, Policy],
+        Keyword::Inherit => &[Task, From],
         Keyword::Weight => &[Node, Weight],
         Keyword::Mems => &[List],
         Keyword::Place => &[Task, Address, Cpu],

@@ -1,5 +1,5 @@
 -- What the changes of a space's parts make of the space.
-use Rattle.std.proofs.Common.{◌≡◌, ◌<◌, ◌+◌, ◌-◌, ℕ, Bool, true, false, not, ◌&&◌, Option, Some, None, is_some, Result, Ok, Err, List, [], ◌∷◌, length, refl, ap, ◌∙◌, subst, arith}
+use Rattle.std.proofs.Common.{sym, ◌≡◌, ◌<◌, ◌+◌, ◌-◌, ℕ, Bool, true, false, not, ◌&&◌, Option, Some, None, is_some, Result, Ok, Err, List, [], ◌∷◌, length, refl, ap, ◌∙◌, subst, arith}
 use Rattle.std.specs.Prelude.{if◌then◌else◌, nat_le, ◌==◌}
 use Rattle.std.proofs.lemmas.Bool.{lt-leb}
 use Rattle.numa_machine.specs.declared.rules.Rules.{Rules}
@@ -8,7 +8,7 @@ use Rattle.numa_mode.specs.Policy.{Specification, PolicyRecord, is_default, reco
 use Rattle.numa_ranges.specs.Runs.{page_at}
 use Rattle.numa_ranges.specs.Maps.{any_page, changed_span}
 use Rattle.numa_ranges.specs.declared.run.Run.{Run}
-use Rattle.numa_space.specs.declared.command.Command.TheVariants.{Mbind, SetTask}
+use Rattle.numa_space.specs.declared.command.Command.TheVariants.{Mbind, SetTask, Inherit}
 use Rattle.numa_space.specs.declared.refusal.Refusal.{Refusal}
 use Rattle.numa_space.specs.declared.refusal.Refusal.TheVariants.{Hole, NodesNotAllowed}
 use Rattle.numa_space.specs.Edits.{PageRanges, IsEdit, hole_cause, too_many}
@@ -140,5 +140,52 @@ module _ (old : SpaceState) (task : ℕ) (spec : Specification) (room : old.vers
       held (one ∷ tasks) h = omega arith
 
       counted : (r : Option PolicyRecord) → record_of old.tasks task ≡ r → length old.tasks + (if is_some r then 0 else 1) ≡ (length old.tasks - (if is_some r then 1 else 0)) + 1
+      counted None e = omega arith
+      counted (Some r) e = omega (arith, held old.tasks (ap is_some e))
+
+-- ---- a policy that is inherited
+
+module _ (old : SpaceState) (heir from : ℕ) (room : old.version < old.bounds.max_commands) where
+  pub inherit-clear : (tasks : List (ℕ × PolicyRecord)) → record_of old.tasks from ≡ None
+      → ((other : ℕ) → record_of tasks other ≡ if heir == other then None else record_of old.tasks other)
+      → length tasks + (if is_some (record_of old.tasks heir) then 1 else 0) ≡ length old.tasks
+      → IsAnswer old (Inherit heir from) (Ok tt) (record old { tasks = tasks; version = old.version + 1 })
+  inherit-clear tasks none records count =
+      let free : refusal_in (scene_in old (Inherit heir from)) (Inherit heir from) ≡ None = rw (lt-leb old.bounds.max_commands old.version room, none) refl in
+      let counted : length tasks ≡ (length old.tasks - (if is_some (record_of old.tasks heir) then 1 else 0)) + 0 = omega arith in
+      rw free (record {
+        machine = refl;
+        bounds = refl;
+        version = refl;
+        allowed = refl;
+        pages = λ page. refl;
+        tasks = λ other. records other ∙ ap (λ r. if heir == other then r else record_of old.tasks other) (sym none);
+        task_count = rw none counted;
+        weights = λ n. refl;
+      })
+
+  pub inherit-set : (policy : PolicyRecord) (tasks : List (ℕ × PolicyRecord)) → record_of old.tasks from ≡ Some policy
+      → (not (is_some (record_of old.tasks heir)) && nat_le old.bounds.max_tasks (length old.tasks)) ≡ false
+      → ((other : ℕ) → record_of tasks other ≡ if heir == other then Some policy else record_of old.tasks other)
+      → length tasks ≡ length old.tasks + (if is_some (record_of old.tasks heir) then 0 else 1)
+      → IsAnswer old (Inherit heir from) (Ok tt) (record old { tasks = tasks; version = old.version + 1 })
+  inherit-set policy tasks some place records count =
+      let free : refusal_in (scene_in old (Inherit heir from)) (Inherit heir from) ≡ None = rw (lt-leb old.bounds.max_commands old.version room, some, place) refl in
+      rw free (record {
+        machine = refl;
+        bounds = refl;
+        version = refl;
+        allowed = refl;
+        pages = λ page. refl;
+        tasks = λ other. records other ∙ ap (λ r. if heir == other then r else record_of old.tasks other) (sym some);
+        task_count = rw some (count ∙ counted (record_of old.tasks heir) refl);
+        weights = λ n. refl;
+      })
+    where
+      held : (tasks : List (ℕ × PolicyRecord)) → is_some (record_of tasks heir) ≡ true → 0 < length tasks
+      held [] h = absurd (cc)
+      held (one ∷ tasks) h = omega arith
+
+      counted : (r : Option PolicyRecord) → record_of old.tasks heir ≡ r → length old.tasks + (if is_some r then 0 else 1) ≡ (length old.tasks - (if is_some r then 1 else 0)) + 1
       counted None e = omega arith
       counted (Some r) e = omega (arith, held old.tasks (ap is_some e))

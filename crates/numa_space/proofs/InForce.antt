@@ -20,7 +20,7 @@ use Rattle.numa_space.specs.Refusals.{Scene, PageMap, when, bad_span, has_no_nod
 use Rattle.numa_space.specs.Standing.{SpaceState, record_of, IsInForce, IsSound}
 use Rattle.numa_space.specs.Steps.{record_now, policy_with_home, policy_after, allowed_next, pages_next, task_next, task_count_next, IsNext, scene_in, IsAnswer}
 use Rattle.numa_space.specs.declared.command.Command.{Command}
-use Rattle.numa_space.specs.declared.command.Command.TheVariants.{Map, Unmap, Mbind, SetTask, SetHome, SetWeight, SetMems}
+use Rattle.numa_space.specs.declared.command.Command.TheVariants.{Map, Unmap, Mbind, SetTask, Inherit, SetHome, SetWeight, SetMems}
 use Rattle.numa_space.specs.declared.refusal.Refusal.{Refusal}
 use Rattle.numa_space.specs.declared.refusal.Refusal.TheVariants.{CommandsSpent, NoSuchNode, NodesNotAllowed, TooManyTasks}
 use Rattle.numa_space.proofs.Answers.{AnswersBy}
@@ -152,6 +152,12 @@ task-room scene task spec none set new =
     let test = when-none (not (is_default spec) && (not (is_some (scene.task task)) && leb scene.bounds.max_tasks scene.task_count)) TooManyTasks rest.1 in
     leb-false scene.bounds.max_tasks scene.task_count (rw (set, new) at test)
 
+heir-room : (scene : Scene) (heir from : ℕ) → refusal_in scene (Inherit heir from) ≡ None → is_some (scene.task from) ≡ true → is_some (scene.task heir) ≡ false → scene.task_count < scene.bounds.max_tasks
+heir-room scene heir from none held new =
+    let causes = first_of-none (when (leb scene.bounds.max_commands scene.version) CommandsSpent) (cause_in scene (Inherit heir from)) none in
+    let test = when-none (is_some (scene.task from) && (not (is_some (scene.task heir)) && leb scene.bounds.max_tasks scene.task_count)) TooManyTasks causes.1 in
+    leb-false scene.bounds.max_tasks scene.task_count (rw (held, new) at test)
+
 -- ---- what is in force
 
 -- some nodes are allowed, all of them with memory, and each record of a page or a task is in force
@@ -171,6 +177,7 @@ module _ (scene : Scene) (small : scene.machine.memory < 2 ^ 256) (force : AreIn
   some-next (Unmap start bytes) none = force.some
   some-next (Mbind start bytes spec) none = force.some
   some-next (SetTask task spec) none = force.some
+  some-next (Inherit heir from) none = force.some
   some-next (SetHome start bytes node) none = force.some
   some-next (SetWeight node weight) none = force.some
   some-next (SetMems mask) none = mems-some scene mask memory none
@@ -180,6 +187,7 @@ module _ (scene : Scene) (small : scene.machine.memory < 2 ^ 256) (force : AreIn
   memory-next (Unmap start bytes) = force.memory
   memory-next (Mbind start bytes spec) = force.memory
   memory-next (SetTask task spec) = force.memory
+  memory-next (Inherit heir from) = force.memory
   memory-next (SetHome start bytes node) = force.memory
   memory-next (SetWeight node weight) = force.memory
   memory-next (SetMems mask) = mems-memory scene.machine mask
@@ -196,6 +204,7 @@ module _ (scene : Scene) (small : scene.machine.memory < 2 ^ 256) (force : AreIn
       (λ e. page-changed scene.machine scene.allowed scene.allowed (λ r. record_now scene.allowed spec) (scene.pages page) (λ r h. holds-now scene.machine scene.allowed spec force.memory) (force.at_pages page))
       (λ e. force.at_pages page)
   page-next (SetTask task spec) page none = force.at_pages page
+  page-next (Inherit heir from) page none = force.at_pages page
   page-next (SetHome start bytes node) page none =
       cond_both (in_pages (page_of start) (page_count bytes) page) (changed_page (policy_with_home node) (scene.pages page)) (scene.pages page) (PageHolds scene.machine scene.allowed)
       (λ e. page-changed scene.machine scene.allowed scene.allowed (policy_with_home node) (scene.pages page) (λ r h. holds-homed scene.machine scene.allowed node r (home-node scene start bytes node none) h) (force.at_pages page))
@@ -209,6 +218,7 @@ module _ (scene : Scene) (small : scene.machine.memory < 2 ^ 256) (force : AreIn
   held-next (Unmap start bytes) task none = force.at_tasks task
   held-next (Mbind start bytes spec) task none = force.at_tasks task
   held-next (SetTask set spec) task none = cond_both (eqb set task) (record_now scene.allowed spec) (scene.task task) (Holds scene.machine scene.allowed) (λ e. holds-now scene.machine scene.allowed spec force.memory) (λ e. force.at_tasks task)
+  held-next (Inherit heir from) task none = cond_both (eqb heir task) (scene.task from) (scene.task task) (Holds scene.machine scene.allowed) (λ e. force.at_tasks from) (λ e. force.at_tasks task)
   held-next (SetHome start bytes node) task none = force.at_tasks task
   held-next (SetWeight node weight) task none = force.at_tasks task
   held-next (SetMems mask) task none = holds-rebound scene.machine scene.allowed (mems_of scene.machine mask) (scene.task task) (some-mems mask none) (memory-next (SetMems mask)) (force.at_tasks task)
@@ -256,6 +266,14 @@ module _ (old : SpaceState) (sound : IsSound old) (small : old.machine.memory < 
         | inr d ↦ elim (cases_Bool (is_some (record_of old.tasks task))) [
           | inl t ↦ rw (d, t) (omega (arith, sound.task_limit, task-counted old.tasks task t))
           | inr f ↦ rw (d, f) (omega (arith, task-room (scene_in old (SetTask task spec)) task spec none d f))
+        ]
+      ]
+  task_limit-next (Inherit heir from) none =
+      elim (cases_Bool (is_some (record_of old.tasks from))) [
+        | inr d ↦ rw d (omega (arith, sound.task_limit))
+        | inl d ↦ elim (cases_Bool (is_some (record_of old.tasks heir))) [
+          | inl t ↦ rw (d, t) (omega (arith, sound.task_limit, task-counted old.tasks heir t))
+          | inr f ↦ rw (d, f) (omega (arith, heir-room (scene_in old (Inherit heir from)) heir from none d f))
         ]
       ]
   task_limit-next (SetHome start bytes node) none = sound.task_limit

@@ -1,13 +1,11 @@
 -- What a space answers about a page is what every history that it stands for says.
-use Rattle.std.proofs.Common.{◌≡◌, ℕ, true, false, not, List, Option, Some, None, is_some, refl, sym, ap, ◌∙◌, length}
+use Rattle.std.proofs.Common.{◌≡◌, ℕ, true, List, Option, is_some, refl, sym, ap, ◌∙◌, length}
 use Rattle.std.specs.Option.{option_map_or}
-use Rattle.std.specs.Prelude.{if◌then◌else◌, option_and_then}
 use Rattle.numa_machine.specs.Machine.{Hardware}
 use Rattle.numa_mode.specs.Policy.{PolicyRecord}
 use Rattle.numa_ranges.specs.Runs.{page_at, AreApart, AreMaximal}
 use Rattle.numa_ranges.specs.Counts.{range_count}
 use Rattle.numa_ranges.proofs.Counted.{range_count-length}
-use Rattle.numa_space.specs.History.{Place}
 use Rattle.numa_space.specs.Policies.{policy_that_counts}
 use Rattle.numa_space.specs.Pages.{is_mapped, index_of, page_in, policy_of_range, resolved_policy}
 use Rattle.numa_space.specs.Lists.{list_for, setting_of, node_list}
@@ -15,7 +13,6 @@ use Rattle.numa_space.specs.Same.{same_record}
 use Rattle.numa_space.specs.Refusals.{range_count_of}
 use Rattle.numa_space.specs.Standing.{SpaceState, StandsFor, setting_in, policy_in, list_in, place_refusal_in, place_refusal_of}
 use Rattle.numa_space.specs.declared.command.Command.{Command}
-use Rattle.numa_space.specs.declared.command.Command.TheVariants.{Map, Unmap, Mbind, SetTask, SetHome, SetWeight, SetMems}
 use Rattle.numa_space.proofs.Refused.{page-is_some}
 use Rattle.numa_space.proofs.Same.{same_record-exact, same_record-refl}
 

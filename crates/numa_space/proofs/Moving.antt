@@ -17,10 +17,10 @@ use Rattle.numa_ranges.proofs.Laws.{same-runs, inside}
 use Rattle.numa_ranges.proofs.Moves.{AreLeft, moves, moves-next, window-now}
 use Rattle.numa_ranges.proofs.Pages.{any_page-true}
 use Rattle.numa_space.specs.declared.command.Command.{Command}
-use Rattle.numa_space.specs.declared.command.Command.TheVariants.{Map, Unmap, Mbind, SetTask, SetHome, SetWeight, SetMems}
+use Rattle.numa_space.specs.declared.command.Command.TheVariants.{Map, Unmap, Mbind, SetTask, Inherit, SetHome, SetWeight, SetMems}
 use Rattle.numa_space.specs.declared.refusal.Refusal.TheVariants.{CommandsSpent, EmptyLength, BadOffset, Overlap}
 use Rattle.numa_space.specs.History.{page_of, page_count}
-use Rattle.numa_space.specs.Refusals.{PageMap, bad_span, cause_in, first_of, too_many_ranges, when, bad_map_span}
+use Rattle.numa_space.specs.Refusals.{PageMap, cause_in, first_of, too_many_ranges, when, bad_map_span}
 use Rattle.numa_space.specs.Same.{same_record}
 use Rattle.numa_space.specs.Spans.{span_first, span_pages, span_end, StaysInSpan, EditsSpan, span_edit}
 use Rattle.numa_space.specs.Standing.{SpaceState}
@@ -35,6 +35,7 @@ next-outside machine allowed pages (Map start bytes offset) page stays out = ap 
 next-outside machine allowed pages (Unmap start bytes) page stays out = ap (λ (b : Bool). cond b None (pages page)) out
 next-outside machine allowed pages (Mbind start bytes spec) page stays out = ap (λ (b : Bool). cond b (changed_page (λ old. record_now allowed spec) (pages page)) (pages page)) out
 next-outside machine allowed pages (SetTask task spec) page stays out = refl
+next-outside machine allowed pages (Inherit heir from) page stays out = refl
 next-outside machine allowed pages (SetHome start bytes node) page stays out = ap (λ (b : Bool). cond b (changed_page (policy_with_home node) (pages page)) (pages page)) out
 next-outside machine allowed pages (SetWeight node weight) page stays out = refl
 next-outside machine allowed pages (SetMems mask) page stays out = absurd stays
@@ -52,6 +53,7 @@ next-edited machine allowed pages (Map start bytes offset) page edits in_span = 
 next-edited machine allowed pages (Unmap start bytes) page edits in_span = ap (λ (b : Bool). cond b None (pages page)) in_span ∙ edit-none (pages page)
 next-edited machine allowed pages (Mbind start bytes spec) page edits in_span = ap (λ (b : Bool). cond b (changed_page (λ old. record_now allowed spec) (pages page)) (pages page)) in_span ∙ edit-some (λ old. record_now allowed spec) (pages page)
 next-edited machine allowed pages (SetTask task spec) page edits in_span = absurd edits
+next-edited machine allowed pages (Inherit heir from) page edits in_span = absurd edits
 next-edited machine allowed pages (SetHome start bytes node) page edits in_span = ap (λ (b : Bool). cond b (changed_page (policy_with_home node) (pages page)) (pages page)) in_span ∙ edit-some (policy_with_home node) (pages page)
 next-edited machine allowed pages (SetWeight node weight) page edits in_span = absurd edits
 next-edited machine allowed pages (SetMems mask) page edits in_span = absurd edits
@@ -61,6 +63,7 @@ edits-stays (Map start bytes offset) edits = absurd edits
 edits-stays (Unmap start bytes) edits = tt
 edits-stays (Mbind start bytes spec) edits = tt
 edits-stays (SetTask task spec) edits = absurd edits
+edits-stays (Inherit heir from) edits = absurd edits
 edits-stays (SetHome start bytes node) edits = tt
 edits-stays (SetWeight node weight) edits = absurd edits
 edits-stays (SetMems mask) edits = absurd edits

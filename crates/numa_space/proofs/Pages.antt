@@ -11,7 +11,7 @@ use Rattle.numa_space.specs.Policies.{allowed_nodes, effective_set, record_set, 
 use Rattle.numa_space.specs.Pages.{covers, cover_of, is_unmap, maps_or_unmaps, is_mapped, maps, index_by, index_of, last_home, at_home, bound_by, range_record, page_in}
 use Rattle.numa_space.specs.Steps.{record_now, policy_with_home, policy_after, pages_next}
 use Rattle.numa_space.specs.declared.command.Command.{Command}
-use Rattle.numa_space.specs.declared.command.Command.TheVariants.{Map, Unmap, Mbind, SetTask, SetHome, SetWeight, SetMems}
+use Rattle.numa_space.specs.declared.command.Command.TheVariants.{Map, Unmap, Mbind, SetTask, Inherit, SetHome, SetWeight, SetMems}
 use Rattle.numa_space.proofs.Places.{changes_allowed, IsPlace, last_where-place, allowed-at_place, effective-now, effective-mems, effective-other}
 
 -- ---- a command that neither covers the page nor changes records
@@ -39,6 +39,7 @@ last_home-other page (Map start bytes offset) after other = refl
 last_home-other page (Unmap start bytes) after other = refl
 last_home-other page (Mbind start bytes spec) after other = refl
 last_home-other page (SetTask task spec) after other = refl
+last_home-other page (Inherit heir from) after other = refl
 last_home-other page (SetHome start bytes node) after other = absurd (cc)
 last_home-other page (SetWeight node weight) after other = refl
 last_home-other page (SetMems mask) after other = refl
@@ -55,6 +56,7 @@ later-record machine page command change (Some place) none h = go place.command 
     go (Unmap start bytes) e = sym none
     go (Mbind start bytes spec) e = h place start bytes spec refl e
     go (SetTask task spec) e = sym none
+    go (Inherit heir from) e = sym none
     go (SetHome start bytes node) e = sym none
     go (SetWeight node weight) e = sym none
     go (SetMems mask) e = sym none
@@ -145,6 +147,8 @@ pages-next machine history (Mbind start bytes spec) page =
     ]
 pages-next machine history (SetTask task spec) page =
     kept machine history page (SetTask task spec) refl refl refl ∙ ap (with_record machine history page) (record-other machine history page (SetTask task spec) refl refl)
+pages-next machine history (Inherit heir from) page =
+    kept machine history page (Inherit heir from) refl refl refl ∙ ap (with_record machine history page) (record-other machine history page (Inherit heir from) refl refl)
 pages-next machine history (SetHome start bytes node) page =
     elim (cases_Bool (in_span start bytes page)) [
       | inl e ↦ kept machine history page (SetHome start bytes node) refl refl refl ∙ ap (with_record machine history page) (record-home machine history page start bytes node e) ∙ changed-either (policy_with_home node) (is_mapped history page) (index_of history page) (range_record machine history page) ∙ rw e refl

@@ -12,7 +12,7 @@ use Rattle.numa_space.specs.History.{Place, last_where, one_later}
 use Rattle.numa_space.specs.Policies.{allowed_nodes, documented_set, rebound_set, effective_set, set_by, mems_of}
 use Rattle.numa_space.specs.Steps.{allowed_next}
 use Rattle.numa_space.specs.declared.command.Command.{Command}
-use Rattle.numa_space.specs.declared.command.Command.TheVariants.{Map, Unmap, Mbind, SetTask, SetHome, SetWeight, SetMems}
+use Rattle.numa_space.specs.declared.command.Command.TheVariants.{Map, Unmap, Mbind, SetTask, Inherit, SetHome, SetWeight, SetMems}
 
 -- the nodes that are allowed after one command more
 pub allowed-next : (machine : Hardware) (history : List Command) (command : Command) → allowed_nodes machine (command ∷ history) ≡ allowed_next machine (allowed_nodes machine history) command
@@ -20,6 +20,7 @@ allowed-next machine history (Map start bytes offset) = refl
 allowed-next machine history (Unmap start bytes) = refl
 allowed-next machine history (Mbind start bytes spec) = refl
 allowed-next machine history (SetTask task spec) = refl
+allowed-next machine history (Inherit heir from) = refl
 allowed-next machine history (SetHome start bytes node) = refl
 allowed-next machine history (SetWeight node weight) = refl
 allowed-next machine history (SetMems mask) = refl
@@ -54,6 +55,7 @@ allowed-left_out machine before [] (Map start bytes offset) other = refl
 allowed-left_out machine before [] (Unmap start bytes) other = refl
 allowed-left_out machine before [] (Mbind start bytes spec) other = refl
 allowed-left_out machine before [] (SetTask task spec) other = refl
+allowed-left_out machine before [] (Inherit heir from) other = refl
 allowed-left_out machine before [] (SetHome start bytes node) other = refl
 allowed-left_out machine before [] (SetWeight node weight) other = refl
 allowed-left_out machine before [] (SetMems mask) other = absurd (cc)
@@ -61,6 +63,7 @@ allowed-left_out machine before (Map start bytes offset ∷ after) command other
 allowed-left_out machine before (Unmap start bytes ∷ after) command other = allowed-left_out machine before after command other
 allowed-left_out machine before (Mbind start bytes spec ∷ after) command other = allowed-left_out machine before after command other
 allowed-left_out machine before (SetTask task spec ∷ after) command other = allowed-left_out machine before after command other
+allowed-left_out machine before (Inherit heir from ∷ after) command other = allowed-left_out machine before after command other
 allowed-left_out machine before (SetHome start bytes node ∷ after) command other = allowed-left_out machine before after command other
 allowed-left_out machine before (SetWeight node weight ∷ after) command other = allowed-left_out machine before after command other
 allowed-left_out machine before (SetMems mask ∷ after) command other = refl
@@ -94,6 +97,7 @@ documented-other machine before after spec (Map start bytes offset) other = refl
 documented-other machine before after spec (Unmap start bytes) other = refl
 documented-other machine before after spec (Mbind start bytes s) other = refl
 documented-other machine before after spec (SetTask task s) other = refl
+documented-other machine before after spec (Inherit heir from) other = refl
 documented-other machine before after spec (SetHome start bytes node) other = refl
 documented-other machine before after spec (SetWeight node weight) other = refl
 documented-other machine before after spec (SetMems mask) other = absurd (cc)
@@ -105,6 +109,7 @@ rebound-other machine before after spec (Map start bytes offset) other = refl
 rebound-other machine before after spec (Unmap start bytes) other = refl
 rebound-other machine before after spec (Mbind start bytes s) other = refl
 rebound-other machine before after spec (SetTask task s) other = refl
+rebound-other machine before after spec (Inherit heir from) other = refl
 rebound-other machine before after spec (SetHome start bytes node) other = refl
 rebound-other machine before after spec (SetWeight node weight) other = refl
 rebound-other machine before after spec (SetMems mask) other = absurd (cc)

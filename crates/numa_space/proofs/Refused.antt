@@ -1,23 +1,19 @@
 -- What a space refuses is what the history that it stands for refuses.
-use Rattle.std.proofs.Common.{◌≡◌, ℕ, ◌+◌, ◌<◌, ◌≤◌, Bool, true, false, not, eqb, leb, ltb, List, length, Option, Some, None, is_some, refl, sym, ap, ◌∙◌, arith, inl, inr}
-use Rattle.std.proofs.lemmas.Bool.{cases_Bool, both_ways, and_parts, leb-true, ltb-true, eqb-true}
+use Rattle.std.proofs.Common.{◌≡◌, ℕ, Bool, true, false, List, Option, Some, None, is_some, refl, sym, ap, ◌∙◌}
 use Rattle.std.specs.Prelude.{if◌then◌else◌}
 use Rattle.numa_machine.specs.Machine.{Hardware}
 use Rattle.numa_machine.specs.declared.rules.Rules.{Rules}
 use Rattle.numa_machine.specs.declared.rules.Rules.TheVariants.{Document, Linux}
 use Rattle.numa_mode.specs.Policy.{PolicyRecord}
 use Rattle.numa_ranges.specs.Runs.{page_at}
-use Rattle.numa_ranges.specs.Maps.{any_page}
-use Rattle.numa_ranges.proofs.Pages.{any_page-true}
 use Rattle.numa_space.specs.Limited.{Bounds}
-use Rattle.numa_space.specs.History.{page_of, page_count, in_span}
 use Rattle.numa_space.specs.Policies.{allowed_nodes, task_record}
 use Rattle.numa_space.specs.Pages.{is_mapped, index_of, range_record, page_in}
-use Rattle.numa_space.specs.Refusals.{Scene, PageMap, first_of, when, bad_span, has_no_node, bad_map_span, bind_cause, too_many_ranges, cause_in, refusal_in, scene_of, refusal_of}
+use Rattle.numa_space.specs.Refusals.{Scene, first_of, when, bad_span, bad_map_span, bind_cause, too_many_ranges, cause_in, refusal_in, scene_of, refusal_of}
 use Rattle.numa_space.specs.Standing.{SpaceState, StandsFor, record_of}
 use Rattle.numa_space.specs.Steps.{pages_next, scene_in}
 use Rattle.numa_space.specs.declared.command.Command.{Command}
-use Rattle.numa_space.specs.declared.command.Command.TheVariants.{Map, Unmap, Mbind, SetTask, SetHome, SetWeight, SetMems}
+use Rattle.numa_space.specs.declared.command.Command.TheVariants.{Map, Unmap, Mbind, SetTask, Inherit, SetHome, SetWeight, SetMems}
 use Rattle.numa_space.specs.declared.refusal.Refusal.{Refusal}
 use Rattle.numa_space.specs.declared.refusal.Refusal.TheVariants.{CommandsSpent, Unaligned, OutOfSpace, EmptyLength, BadOffset, Overlap, Hole, NoSuchNode, BadWeight, NodesNotAllowed, NotSupported, NoPolicy, TooManyTasks, TooManyRanges, NoMemory}
 use Rattle.numa_space.proofs.Pages.{pages-next}
@@ -120,6 +116,7 @@ cause-not_memory scene (Mbind start bytes spec) =
     first_of-not_memory (bad_span start bytes) _ (bad_span-not_memory start bytes)
     (choice-not_memory _ None _ (λ e. cc) (bind_cause-not_memory scene.machine.rules _ _ _ (when-not_memory _ NodesNotAllowed (λ e. cc)) (when-not_memory _ Hole (λ e. cc)) (too_many-not_memory scene)))
 cause-not_memory scene (SetTask task spec) = first_of-not_memory _ _ (when-not_memory _ NodesNotAllowed (λ e. cc)) (when-not_memory _ TooManyTasks (λ e. cc))
+cause-not_memory scene (Inherit heir from) = when-not_memory _ TooManyTasks (λ e. cc)
 cause-not_memory scene (SetHome start bytes node) =
     first_of-not_memory (bad_span start bytes) _ (bad_span-not_memory start bytes)
     (first_of-not_memory _ _ (when-not_memory _ NoSuchNode (λ e. cc)) (choice-not_memory _ None _ (λ e. cc) (first_of-not_memory _ _ (when-not_memory _ NotSupported (λ e. cc)) (first_of-not_memory _ _ (when-not_memory _ NoPolicy (λ e. cc)) (too_many-not_memory scene)))))

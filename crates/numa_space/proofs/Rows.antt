@@ -15,7 +15,7 @@ use Rattle.numa_space.specs.Policies.{mems_of}
 use Rattle.numa_space.specs.Policies.{task_record}
 use Rattle.numa_space.specs.Lists.{node_list}
 use Rattle.numa_space.specs.declared.command.Command.{Command}
-use Rattle.numa_space.specs.declared.command.Command.TheVariants.{Map, Unmap, Mbind, SetTask, SetHome, SetWeight, SetMems}
+use Rattle.numa_space.specs.declared.command.Command.TheVariants.{Map, Unmap, Mbind, SetTask, Inherit, SetHome, SetWeight, SetMems}
 
 -- ---- machines and specifications
 
@@ -252,6 +252,21 @@ range-counts = refl
 local-counts : node_list in_a_row local_run 1 0x12 2 ≡ 2 ∷ 1 ∷ 0 ∷ []
 unfolding members fallback_order local_run mems_of
 local-counts = refl
+
+-- a task that inherits has the other's policy, and keeps it when the other gets one of its own; both
+-- follow the allowed nodes
+heir-has_it : node_list in_a_row (SetTask 1 (asked Bind Plain (2 ∷ [])) ∷ Inherit 2 1 ∷ local_run) 2 0x10 2 ≡ 1 ∷ 0 ∷ []
+unfolding members fallback_order local_run mems_of
+heir-has_it = refl
+
+heir-follows : node_list in_a_row (mems (1 ∷ 2 ∷ []) ∷ Inherit 2 1 ∷ local_run) 2 0x10 0 ≡ 1 ∷ 2 ∷ []
+unfolding members fallback_order local_run mems_of
+heir-follows = refl
+
+-- from a task without a policy nothing is inherited, and what the heir had is gone
+heir-has_none : node_list in_a_row (Inherit 1 2 ∷ local_run) 1 0x10 1 ≡ 1 ∷ 0 ∷ 2 ∷ []
+unfolding members fallback_order local_run mems_of
+heir-has_none = refl
 
 none-is_local : node_list in_a_row local_run 2 0x10 1 ≡ 1 ∷ 0 ∷ 2 ∷ []
 unfolding members fallback_order local_run mems_of

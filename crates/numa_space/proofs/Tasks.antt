@@ -1,17 +1,18 @@
 -- What one command more makes of the tasks and of the weights.
-use Rattle.std.proofs.Common.{◌≡◌, ℕ, ◌+◌, ◌-◌, false, not, eqb, List, [], ◌∷◌, ◌++◌, length, filter, Option, Some, None, is_some, refl, sym, ap, ◌∙◌, arith, inl, inr}
+use Rattle.std.proofs.Common.{◌≡◌, ℕ, ◌+◌, ◌-◌, Bool, true, IfSome, false, not, eqb, List, [], ◌∷◌, ◌++◌, length, filter, Option, Some, None, is_some, refl, sym, ap, ◌∙◌, arith, inl, inr}
 use Rattle.std.proofs.lemmas.Bool.{cases_Bool, eqb-true}
 use Rattle.std.specs.Option.{option_map}
+use Rattle.std.specs.List.{list_any}
 use Rattle.std.specs.Prelude.{if◌then◌else◌, option_and_then}
 use Rattle.numa_machine.specs.Machine.{Hardware}
 use Rattle.numa_machine.specs.declared.rules.Rules.{Rules}
 use Rattle.numa_mode.specs.Policy.{Specification, PolicyRecord, is_default, effect_after}
-use Rattle.numa_space.specs.History.{Place, last_where, one_later}
-use Rattle.numa_space.specs.Policies.{allowed_nodes, effective_set, record_set, sets_task, set_by_task, task_record, tasks_of, node_weight, mems_of}
+use Rattle.numa_space.specs.History.{Place, one_later}
+use Rattle.numa_space.specs.Policies.{allowed_nodes, effective_set, record_set, sets_task, set_by_task, task_before, setter_of, task_record, tasks_of, node_weight, mems_of}
 use Rattle.numa_space.specs.Steps.{record_now, policy_after, task_next, task_count_next, weight_next}
 use Rattle.numa_space.specs.declared.command.Command.{Command}
-use Rattle.numa_space.specs.declared.command.Command.TheVariants.{Map, Unmap, Mbind, SetTask, SetHome, SetWeight, SetMems}
-use Rattle.numa_space.proofs.Places.{changes_allowed, IsPlace, last_where-place, allowed-at_place, effective-now, effective-mems, effective-other}
+use Rattle.numa_space.specs.declared.command.Command.TheVariants.{Map, Unmap, Mbind, SetTask, Inherit, SetHome, SetWeight, SetMems}
+use Rattle.numa_space.proofs.Places.{changes_allowed, IsPlace, allowed-at_place, effective-now, effective-mems, effective-other}
 
 -- ---- weights
 
@@ -20,11 +21,25 @@ weight-next history (Map start bytes offset) node = refl
 weight-next history (Unmap start bytes) node = refl
 weight-next history (Mbind start bytes spec) node = refl
 weight-next history (SetTask task spec) node = refl
+weight-next history (Inherit heir from) node = refl
 weight-next history (SetHome start bytes n) node = refl
 weight-next history (SetWeight n weight) node = refl
 weight-next history (SetMems mask) node = refl
 
 -- ---- records
+
+-- the command that set a task's policy stands in the history
+setter-place : (task : ℕ) (history : List Command) → IfSome (setter_of task history) (IsPlace (λ c. true) history)
+setter-place task [] = tt
+setter-place task (command ∷ history) =
+    elim (cases_Bool (sets_task task command)) [
+      | inl e ↦ rw e (record { whole = refl; passes = refl })
+      | inr e ↦ rw e (later (setter_of (task_before command task) history) (setter-place (task_before command task) history))
+    ]
+  where
+    later : (o : Option Place) → IfSome o (IsPlace (λ c. true) history) → IfSome (option_map (one_later command) o) (IsPlace (λ c. true) (command ∷ history))
+    later None h = tt
+    later (Some place) h = record { whole = ap (λ rest. command ∷ rest) h.whole; passes = refl }
 
 -- the record of a task after a command that doesn't set it, from the place of the command that did
 later-record : (machine : Hardware) (command : Command) (change : Option PolicyRecord → Option PolicyRecord) (o : Option Place) → change None ≡ None
@@ -38,23 +53,24 @@ later-record machine command change (Some place) none h = go place.command refl
     go (Unmap start bytes) e = sym none
     go (Mbind start bytes spec) e = sym none
     go (SetTask task spec) e = h place task spec refl e
+    go (Inherit heir from) e = sym none
     go (SetHome start bytes node) e = sym none
     go (SetWeight node weight) e = sym none
     go (SetMems mask) e = sym none
 
 record-other : (machine : Hardware) (history : List Command) (task : ℕ) (command : Command) → changes_allowed command ≡ false
-    → option_and_then (λ place. set_by_task machine place.command place) (option_map (one_later command) (last_where (sets_task task) history)) ≡ task_record machine history task
+    → option_and_then (λ place. set_by_task machine place.command place) (option_map (one_later command) (setter_of task history)) ≡ task_record machine history task
 record-other machine history task command same =
-    later-record machine command (λ r. r) (last_where (sets_task task) history) refl
+    later-record machine command (λ r. r) (setter_of task history) refl
     (λ place t spec found is i. if is_default spec then None else Some (record { spec = spec; effective = effective-other machine place.before place.after spec command same i; home = None }))
 
 record-mems : (machine : Hardware) (history : List Command) (task mask : ℕ)
-    → option_and_then (λ place. set_by_task machine place.command place) (option_map (one_later (SetMems mask)) (last_where (sets_task task) history)) ≡ policy_after machine.rules (allowed_nodes machine history) (mems_of machine mask) (task_record machine history task)
+    → option_and_then (λ place. set_by_task machine place.command place) (option_map (one_later (SetMems mask)) (setter_of task history)) ≡ policy_after machine.rules (allowed_nodes machine history) (mems_of machine mask) (task_record machine history task)
 record-mems machine history task mask =
-    later-record machine (SetMems mask) (policy_after machine.rules (allowed_nodes machine history) (mems_of machine mask)) (last_where (sets_task task) history) refl
+    later-record machine (SetMems mask) (policy_after machine.rules (allowed_nodes machine history) (mems_of machine mask)) (setter_of task history) refl
     (λ place t spec found is.
-    let here : IsPlace (sets_task task) history place = rw found at (last_where-place (sets_task task) history) in
-    go place spec (effective-mems machine place.before place.after spec mask ∙ ap (λ a. effect_after machine.rules spec (effective_set machine place.before place.after spec) a (mems_of machine mask)) (allowed-at_place machine (sets_task task) history place (ap changes_allowed is) here)))
+    let here : IsPlace (λ c. true) history place = rw found at (setter-place task history) in
+    go place spec (effective-mems machine place.before place.after spec mask ∙ ap (λ a. effect_after machine.rules spec (effective_set machine place.before place.after spec) a (mems_of machine mask)) (allowed-at_place machine (λ c. true) history place (ap changes_allowed is) here)))
   where
     go : (place : Place) (spec : Specification) → effective_set machine place.before (SetMems mask ∷ place.after) spec ≡ effect_after machine.rules spec (effective_set machine place.before place.after spec) (allowed_nodes machine history) (mems_of machine mask)
         → record_set machine spec (one_later (SetMems mask) place) ≡ policy_after machine.rules (allowed_nodes machine history) (mems_of machine mask) (record_set machine spec place)
@@ -81,6 +97,11 @@ task-next machine history (SetTask other spec) task =
     elim (cases_Bool (eqb other task)) [
       | inl e ↦ rw e (set-now machine history (SetTask other spec) spec)
       | inr e ↦ rw e (record-other machine history task (SetTask other spec) refl)
+    ]
+task-next machine history (Inherit heir from) task =
+    elim (cases_Bool (eqb heir task)) [
+      | inl e ↦ rw e (record-other machine history from (Inherit heir from) refl)
+      | inr e ↦ rw e (record-other machine history task (Inherit heir from) refl)
     ]
 task-next machine history (SetHome start bytes node) task = record-other machine history task (SetHome start bytes node) refl
 task-next machine history (SetWeight node weight) task = record-other machine history task (SetWeight node weight) refl
@@ -127,6 +148,19 @@ some-rebound : (rules : Rules) (old new : ℕ) (r : Option PolicyRecord) → is_
 some-rebound rules old new None = refl
 some-rebound rules old new (Some r) = refl
 
+-- a task that stands so often in a list is in it, or isn't
+among : (b : Bool) (task : ℕ) (tasks : List ℕ) → times task tasks ≡ (if b then 1 else 0) → list_any (λ other. eqb other task) tasks ≡ b
+among true task [] h = absurd (omega (arith, h))
+among false task [] h = refl
+among true task (x ∷ xs) h = elim (cases_Bool (eqb x task)) [
+  | inl e ↦ rw e refl
+  | inr e ↦ let k : 0 + times task xs ≡ 1 = rw e at h in rw e (among true task xs (omega (arith, k)))
+]
+among false task (x ∷ xs) h = elim (cases_Bool (eqb x task)) [
+  | inl e ↦ let k : 1 + times task xs ≡ 0 = rw e at h in absurd (omega (arith, k))
+  | inr e ↦ let k : 0 + times task xs ≡ 0 = rw e at h in rw e (among false task xs (omega (arith, k)))
+]
+
 -- each task with a record stands once among those that have one, and no other task does
 pub tasks-once : (machine : Hardware) (history : List Command) (task : ℕ) → times task (tasks_of history) ≡ one_if_some (task_record machine history task)
 tasks-once machine [] task = refl
@@ -145,6 +179,18 @@ tasks-once machine (SetTask other spec ∷ history) task =
           elim (cases_Bool (is_default spec)) [ inl d ↦ rw (e, d) (omega arith) | inr d ↦ rw (e, d, e) (omega arith) ]
     ]
     ∙ ap one_if_some (sym (task-next machine history (SetTask other spec) task))
+tasks-once machine (Inherit heir from ∷ history) task =
+    times-append task (if list_any (λ o. eqb o from) (tasks_of history) then heir ∷ [] else []) (filter (λ o. not (eqb o heir)) (tasks_of history))
+    ∙ rw (among (is_some (task_record machine history from)) from (tasks_of history) (tasks-once machine history from)) (elim (cases_Bool (eqb heir task)) [
+      | inl e ↦
+          let gone : times task (filter (λ o. not (eqb o heir)) (tasks_of history)) ≡ 0 = ap (λ k. times task (filter (λ o. not (eqb o k)) (tasks_of history))) (eqb-true heir task e) ∙ times-left_out task (tasks_of history) in
+          elim (cases_Bool (is_some (task_record machine history from))) [ inl d ↦ rw (e, d, e) (omega (arith, gone)) | inr d ↦ rw (e, d) (omega (arith, gone)) ]
+      | inr e ↦
+          let same = times-others task heir (tasks_of history) e in
+          let once = tasks-once machine history task in
+          elim (cases_Bool (is_some (task_record machine history from))) [ inl d ↦ rw (e, d, e) (omega (arith, same, once)) | inr d ↦ rw (e, d) (omega (arith, same, once)) ]
+    ])
+    ∙ ap one_if_some (sym (task-next machine history (Inherit heir from) task))
 tasks-once machine (SetHome start bytes node ∷ history) task = tasks-once machine history task ∙ ap one_if_some (sym (task-next machine history (SetHome start bytes node) task))
 tasks-once machine (SetWeight node weight ∷ history) task = tasks-once machine history task ∙ ap one_if_some (sym (task-next machine history (SetWeight node weight) task))
 tasks-once machine (SetMems mask ∷ history) task = tasks-once machine history task ∙ ap (λ b. if b then 1 else 0) (sym (some-rebound machine.rules _ _ (task_record machine history task))) ∙ ap one_if_some (sym (task-next machine history (SetMems mask) task))
@@ -157,6 +203,11 @@ task_count-next machine history (SetTask task spec) =
     let rest = length-left_out task (tasks_of history) in
     let once = tasks-once machine history task in
     elim (cases_Bool (is_default spec)) [ inl d ↦ rw d (omega (arith, rest, once)) | inr d ↦ rw d (omega (arith, rest, once)) ]
+task_count-next machine history (Inherit heir from) =
+    let rest = length-left_out heir (tasks_of history) in
+    let once = tasks-once machine history heir in
+    let among_them = among (is_some (task_record machine history from)) from (tasks_of history) (tasks-once machine history from) in
+    elim (cases_Bool (is_some (task_record machine history from))) [ inl d ↦ rw (among_them, d) (omega (arith, rest, once)) | inr d ↦ rw (among_them, d) (omega (arith, rest, once)) ]
 task_count-next machine history (SetHome start bytes node) = refl
 task_count-next machine history (SetWeight node weight) = refl
 task_count-next machine history (SetMems mask) = refl

@@ -1,5 +1,5 @@
 -- What an edit of a space's ranges answers.
-use Rattle.std.specs.Prelude.{◌≡◌, ℕ, ◌-◌, ◌&&◌, Bool, nat_lt, is_some, not, Option, Some, Result}
+use Rattle.std.specs.Prelude.{◌≡◌, ℕ, ◌-◌, ◌&&◌, Bool, nat_lt, is_some, Option, Some, Result}
 use Rattle.std.specs.Prelude.{Err, List, MatchOption, MatchResult}
 use Rattle.numa_mode.specs.Policy.{PolicyRecord}
 use Rattle.numa_ranges.specs.Maps.{any_page}

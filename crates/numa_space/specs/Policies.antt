@@ -11,8 +11,11 @@ use Rattle.numa_mode.specs.Policy.{is_live, effect_after, never_empty}
 use Rattle.numa_mode.specs.declared.modes.NodeFlag.{NodeFlag}
 use Rattle.numa_mode.specs.declared.modes.NodeFlag.TheVariants.{Plain, Static, Relative}
 use Rattle.numa_space.specs.declared.command.Command.{Command}
-use Rattle.numa_space.specs.declared.command.Command.TheVariants.{SetTask, SetWeight, SetMems}
-use Rattle.numa_space.specs.History.{Place, last_where}
+use Rattle.numa_space.specs.declared.command.Command.TheVariants.{SetTask, Inherit, SetWeight}
+use Rattle.numa_space.specs.declared.command.Command.TheVariants.{SetMems}
+use Rattle.std.specs.Option.{option_map}
+use Rattle.std.specs.List.{list_any}
+use Rattle.numa_space.specs.History.{Place, one_later}
 
 -- ---- the allowed nodes
 
@@ -86,10 +89,24 @@ abbrev pub set_by_task : Hardware → Command → Place → Option PolicyRecord
 set_by_task machine (SetTask t spec) place = record_set machine spec place
 set_by_task machine _ place = None
 
--- the record of a task: that of its last command, none where that is DEFAULT or missing
+-- which task had, before the command, what this task has after it
+abbrev pub task_before : Command → ℕ → ℕ
+task_before (Inherit heir from) task = if heir == task then from else task
+task_before _ task = task
+
+-- the command that set a task's policy: its last SetTask or, where it inherited after that, the one
+-- that had set the other's policy by then
+abbrev pub setter_of : ℕ → List Command → Option Place
+setter_of task [] = None
+setter_of task (command ∷ history) =
+    if sets_task task command
+    then Some (record { before = history; command = command; after = [] })
+    else option_map (one_later command) (setter_of (task_before command task) history)
+
+-- the record of a task: the one set there, none where that is DEFAULT or there is no such command
 abbrev pub task_record : Hardware → List Command → ℕ → Option PolicyRecord
 task_record machine history task = option_and_then
-    (λ place. set_by_task machine place.command place) (last_where (sets_task task) history)
+    (λ place. set_by_task machine place.command place) (setter_of task history)
 
 -- the tasks that have a record, each once
 abbrev pub tasks_of : List Command → List ℕ
@@ -97,6 +114,9 @@ tasks_of [] = []
 tasks_of (SetTask task spec ∷ history) =
     (if is_default spec then [] else task ∷ [])
     ++ filter (λ other. not (other == task)) (tasks_of history)
+tasks_of (Inherit heir from ∷ history) =
+    (if list_any (λ other. other == from) (tasks_of history) then heir ∷ [] else [])
+    ++ filter (λ other. not (other == heir)) (tasks_of history)
 tasks_of (_ ∷ history) = tasks_of history
 
 -- ---- weights

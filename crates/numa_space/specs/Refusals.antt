@@ -15,6 +15,7 @@ use Rattle.numa_ranges.specs.Maps.{any_page}
 use Rattle.numa_space.specs.Limited.{Bounds}
 use Rattle.numa_space.specs.declared.command.Command.{Command}
 use Rattle.numa_space.specs.declared.command.Command.TheVariants.{Map, Unmap, Mbind, SetTask}
+use Rattle.numa_space.specs.declared.command.Command.TheVariants.{Inherit}
 use Rattle.numa_space.specs.declared.command.Command.TheVariants.{SetHome, SetWeight, SetMems}
 use Rattle.numa_space.specs.declared.refusal.Refusal.{Refusal}
 use Rattle.numa_space.specs.declared.refusal.Refusal.TheVariants.{CommandsSpent, Unaligned}
@@ -141,6 +142,9 @@ cause_in scene (SetTask task spec) =
     first_of (when (has_no_node scene.allowed spec) NodesNotAllowed)
     (when (not (is_default spec) && (not (is_some (scene.task task))
     && nat_le scene.bounds.max_tasks scene.task_count)) TooManyTasks)
+cause_in scene (Inherit heir from) =
+    when (is_some (scene.task from) && (not (is_some (scene.task heir))
+    && nat_le scene.bounds.max_tasks scene.task_count)) TooManyTasks
 cause_in scene (SetHome start bytes node) =
     first_of (bad_span start bytes)
     (first_of (when (nat_le scene.machine.nodes node) NoSuchNode)

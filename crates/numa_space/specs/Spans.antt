@@ -4,6 +4,7 @@ use Rattle.std.specs.Prelude.{ℕ, ◌+◌, Option, Some, None}
 use Rattle.numa_mode.specs.Policy.{PolicyRecord}
 use Rattle.numa_space.specs.declared.command.Command.{Command}
 use Rattle.numa_space.specs.declared.command.Command.TheVariants.{Map, Unmap, Mbind, SetTask}
+use Rattle.numa_space.specs.declared.command.Command.TheVariants.{Inherit}
 use Rattle.numa_space.specs.declared.command.Command.TheVariants.{SetHome, SetWeight, SetMems}
 use Rattle.numa_space.specs.History.{page_of, page_count}
 use Rattle.numa_space.specs.Steps.{record_now, policy_with_home}
@@ -14,6 +15,7 @@ span_first (Map start bytes offset) = page_of start
 span_first (Unmap start bytes) = page_of start
 span_first (Mbind start bytes spec) = page_of start
 span_first (SetTask task spec) = 0
+span_first (Inherit heir from) = 0
 span_first (SetHome start bytes node) = page_of start
 span_first (SetWeight node weight) = 0
 span_first (SetMems mask) = 0
@@ -24,6 +26,7 @@ span_pages (Map start bytes offset) = page_count bytes
 span_pages (Unmap start bytes) = page_count bytes
 span_pages (Mbind start bytes spec) = page_count bytes
 span_pages (SetTask task spec) = 0
+span_pages (Inherit heir from) = 0
 span_pages (SetHome start bytes node) = page_count bytes
 span_pages (SetWeight node weight) = 0
 span_pages (SetMems mask) = 0
@@ -38,6 +41,7 @@ StaysInSpan (Map start bytes offset) = Unit {0}
 StaysInSpan (Unmap start bytes) = Unit {0}
 StaysInSpan (Mbind start bytes spec) = Unit {0}
 StaysInSpan (SetTask task spec) = Unit {0}
+StaysInSpan (Inherit heir from) = Unit {0}
 StaysInSpan (SetHome start bytes node) = Unit {0}
 StaysInSpan (SetWeight node weight) = Unit {0}
 StaysInSpan (SetMems mask) = ⊥
@@ -49,6 +53,7 @@ EditsSpan (Map start bytes offset) = ⊥
 EditsSpan (Unmap start bytes) = Unit {0}
 EditsSpan (Mbind start bytes spec) = Unit {0}
 EditsSpan (SetTask task spec) = ⊥
+EditsSpan (Inherit heir from) = ⊥
 EditsSpan (SetHome start bytes node) = Unit {0}
 EditsSpan (SetWeight node weight) = ⊥
 EditsSpan (SetMems mask) = ⊥
@@ -59,6 +64,7 @@ span_edit allowed (Map start bytes offset) policy = Some policy
 span_edit allowed (Unmap start bytes) policy = None
 span_edit allowed (Mbind start bytes spec) policy = Some (record_now allowed spec)
 span_edit allowed (SetTask task spec) policy = Some policy
+span_edit allowed (Inherit heir from) policy = Some policy
 span_edit allowed (SetHome start bytes node) policy = Some (policy_with_home node policy)
 span_edit allowed (SetWeight node weight) policy = Some policy
 span_edit allowed (SetMems mask) policy = Some policy

@@ -3,7 +3,6 @@ use Rattle.std.specs.Prelude.{◌≡◌, ◌≢◌, ℕ, false, ◌+◌, ◌-◌
 use Rattle.std.specs.Prelude.{Result, Err, MatchOption, MatchResult, List, length, slice_get, take}
 use Rattle.std.specs.Prelude.{if◌then◌else◌, ◌≤◌, ◌∷◌, OnOk, OnErr, IfErr}
 use Rattle.std.specs.Option.{option_map}
-use Rattle.numa_mask.specs.NodeSet.{both}
 use Rattle.numa_machine.specs.Machine.{Hardware}
 use Rattle.numa_machine.specs.declared.rules.Rules.{Rules}
 use Rattle.numa_machine.specs.Weights.{weight_at}
@@ -14,6 +13,7 @@ use Rattle.numa_ranges.specs.Maps.{with_span, without_span, changed_page, change
 use Rattle.numa_space.specs.Limited.{Bounds}
 use Rattle.numa_space.specs.declared.command.Command.{Command}
 use Rattle.numa_space.specs.declared.command.Command.TheVariants.{Map, Unmap, Mbind, SetTask}
+use Rattle.numa_space.specs.declared.command.Command.TheVariants.{Inherit}
 use Rattle.numa_space.specs.declared.command.Command.TheVariants.{SetHome, SetWeight, SetMems}
 use Rattle.numa_space.specs.declared.refusal.Refusal.{Refusal}
 use Rattle.numa_space.specs.declared.refusal.Refusal.TheVariants.{NoMemory}
@@ -54,6 +54,8 @@ pages_next machine allowed pages _ page = pages page
 abbrev pub task_next : Hardware → ℕ → (ℕ → Option PolicyRecord) → Command → ℕ → Option PolicyRecord
 task_next machine allowed tasks (SetTask task spec) other =
     if task == other then record_now allowed spec else tasks other
+task_next machine allowed tasks (Inherit heir from) other =
+    if heir == other then tasks from else tasks other
 task_next machine allowed tasks (SetMems mask) other =
     policy_after machine.rules allowed (mems_of machine mask) (tasks other)
 task_next machine allowed tasks _ other = tasks other
@@ -61,6 +63,8 @@ task_next machine allowed tasks _ other = tasks other
 abbrev pub task_count_next : (ℕ → Option PolicyRecord) → ℕ → Command → ℕ
 task_count_next tasks count (SetTask task spec) =
     (count - (if is_some (tasks task) then 1 else 0)) + (if is_default spec then 0 else 1)
+task_count_next tasks count (Inherit heir from) =
+    (count - (if is_some (tasks heir) then 1 else 0)) + (if is_some (tasks from) then 1 else 0)
 task_count_next tasks count _ = count
 
 abbrev pub weight_next : (ℕ → ℕ) → Command → ℕ → ℕ
@@ -103,6 +107,7 @@ MayNeedRoom (Unmap start bytes) = bytes ≢ 0
 MayNeedRoom (Mbind start bytes spec) = bytes ≢ 0
 MayNeedRoom (SetHome start bytes node) = bytes ≢ 0
 MayNeedRoom (SetTask task spec) = is_default spec ≡ false
+MayNeedRoom (Inherit heir from) = Unit {0}
 MayNeedRoom (SetWeight node weight) = ⊥
 MayNeedRoom (SetMems mask) = ⊥
 

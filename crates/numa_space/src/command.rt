@@ -31,6 +31,12 @@ pub enum Command {
         task: u32,
         spec: PolicySpec,
     },
+    /// Gives a task the policy that another has, as a new thread or process begins with that of the
+    /// one that made it (fork(2), clone(2)); where the other has none, takes it away.
+    Inherit {
+        task: u32,
+        from: u32,
+    },
     /// Gives the policies of a span's pages a home node (set_mempolicy_home_node(2)).
     SetHome {
         start: u64,

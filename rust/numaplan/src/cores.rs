@@ -161,6 +161,11 @@ impl Core {
         done(unsafe { raw::np_core_set_weight(&mut self.0, node, weight) })
     }
 
+    /// Gives a task the policy that another has, or none, as a new thread has its maker's.
+    pub fn inherit(&mut self, task: u32, from: u32) -> Result<(), Refused> {
+        done(unsafe { raw::np_core_inherit(&mut self.0, task, from) })
+    }
+
     /// Gives the policies of a span's pages a home node.
     pub fn set_home(&mut self, start: u64, length: u64, node: u32) -> Result<(), Refused> {
         done(unsafe { raw::np_core_set_home(&mut self.0, start, length, node) })

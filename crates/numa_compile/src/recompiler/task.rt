@@ -1,9 +1,8 @@
 //! Recompiling for a task's policy.
 ghost use Rattle.std.specs.Prelude.{◌≡◌, OnOk, OnErr};
-ghost use Rattle.numa_mode.specs.Policy.{Specification};
 ghost use Rattle.numa_space.specs.declared.command.Command.{Command};
 ghost use Rattle.numa_compile.specs.Follows.{Follows, IsBehind};
-ghost use Rattle.numa_compile.specs.Recompiling.{KeepsRuns, WritesRules};
+ghost use Rattle.numa_compile.specs.Recompiling.{GivesTask, KeepsRuns, WritesRules};
 
 use crate::compiler::survey;
 use crate::recompiler::added::number_or_add;
@@ -12,7 +11,7 @@ use numa_plan::{NoMemory, Plan, Steps};
 use numa_space::Space;
 use std::alloc::Global;
 
-/// Gives a task the rule of its new policy. Writes no run, and one rule at most.
+/// Gives a task, of which a command changed the policy, the rule of its new one. Writes no run, and one rule at most.
 ///
 /// # Errors
 /// `NoMemory` where there is none for the rule or for the task; the plan is as it was.
@@ -23,8 +22,8 @@ pub(crate) fn recompile_task(
     task: u32,
     steps: &mut Steps,
 ) -> Result<(), NoMemory>
-    requires behind { (spec : Specification)
-        × IsBehind space.now (Command.SetTask task spec) plan.old }
+    requires behind { (command : Command) × GivesTask task command
+        × IsBehind space.now command plan.old }
     ensures follows { OnOk result (Follows space.now plan.new) }
     ensures unchanged { OnErr result (plan.new ≡ plan.old) }
     ensures few { WritesRules 1 steps.old steps.new }

@@ -130,6 +130,7 @@ impl Space {
                 spec,
             } => self.bind(start, length, spec),
             Command::SetTask { task, spec } => self.set_task(task, spec),
+            Command::Inherit { task, from } => self.inherit(task, from),
             Command::SetHome {
                 start,
                 length,
@@ -244,6 +245,27 @@ impl Space {
             → MayNeedRoom (Command.SetTask task spec)) }
     {
         let Some(policy) = self.policy_of(spec)? else {
+            self.tasks.clear(task);
+            self.version += 1;
+            return Ok(());
+        };
+        if self.has_no_place_for(task) {
+            return Err(Refusal::TooManyTasks);
+        }
+        if self.tasks.set(task, policy).is_err() {
+            return Err(Refusal::NoMemory);
+        }
+        self.version += 1;
+        Ok(())
+    }
+
+    fn inherit(&mut self, task: u32, from: u32) -> Result<(), Refusal>
+        requires { self.old.version < self.old.bounds.max_commands }
+        ensures answer { IsAnswer self.old (Command.Inherit task from) result self.new }
+        ensures room { IfErr result (λ refusal. refusal ≡ Refusal.NoMemory
+            → MayNeedRoom (Command.Inherit task from)) }
+    {
+        let Some(policy) = self.tasks.get(from) else {
             self.tasks.clear(task);
             self.version += 1;
             return Ok(());

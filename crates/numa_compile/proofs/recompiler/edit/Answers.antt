@@ -1,7 +1,7 @@
 use Rattle.std.proofs.Common.{◌≡◌, ◌≤◌, ℕ, refl, sym, subst, arith}
 use Rattle.numa_space.specs.History.{page_of, page_count}
 use Rattle.numa_space.specs.declared.command.Command.{Command}
-use Rattle.numa_space.specs.declared.command.Command.TheVariants.{Unmap, Mbind, SetHome}
+use Rattle.numa_space.specs.declared.command.Command.TheVariants.{Unmap, Mbind, SetTask, Inherit, SetHome}
 use Rattle.numa_space.specs.Spans.{span_first, span_pages, EditsSpan}
 use Rattle.numa_space.specs.Standing.{SpaceState}
 use Rattle.numa_plan.specs.Counted.{Counted}
@@ -98,3 +98,13 @@ rewrite_homes-requires-clause-ready c = c.requires.ready
 
 pub rewrite_homes-requires-clause-of : goal.rewrite_homes-requires-clause-of
 rewrite_homes-requires-clause-of c = c.in-Some-open_window-2.ensures.open
+
+pub recompile_task-requires : goal.recompile_task-requires
+recompile_task-requires c = record {
+  behind = (SetTask c.in-SetTask.task c.in-SetTask.spec, refl, behind-as c.args.space.now c.args.plan.now c.args.command (SetTask c.in-SetTask.task c.in-SetTask.spec) c.requires.behind c.in-SetTask.is);
+}
+
+pub recompile_task-requires-in-Inherit : goal.recompile_task-requires-in-Inherit
+recompile_task-requires-in-Inherit c = record {
+  behind = (Inherit c.in-Inherit.task c.in-Inherit.from, refl, behind-as c.args.space.now c.args.plan.now c.args.command (Inherit c.in-Inherit.task c.in-Inherit.from) c.requires.behind c.in-Inherit.is);
+}

@@ -45,3 +45,9 @@ returns-in-SetMems c =
     let P : Command → Type 0 = λ command. IsAnswer c.args.self.now command c.set_mems.result c.set_mems.new.self in
     let Q : Command → Type 0 = λ command. IfErr c.set_mems.result (λ refusal. refusal ≡ NoMemory → MayNeedRoom command) in
     record { answer = subst P (sym c.in-SetMems.is) c.set_mems.ensures.answer; room = subst Q (sym c.in-SetMems.is) c.set_mems.ensures.room }
+
+pub returns-in-Inherit : goal.returns-in-Inherit
+returns-in-Inherit c =
+    let P : Command → Type 0 = λ command. IsAnswer c.args.self.now command c.inherit.result c.inherit.new.self in
+    let Q : Command → Type 0 = λ command. IfErr c.inherit.result (λ refusal. refusal ≡ NoMemory → MayNeedRoom command) in
+    record { answer = subst P (sym c.in-Inherit.is) c.inherit.ensures.answer; room = subst Q (sym c.in-Inherit.is) c.inherit.ensures.room }
