@@ -60,8 +60,8 @@ pub enum Keyword {
 /// The first words of lines, in the order of the keywords.
 static NAMES: [&str; 24] = [
     "limits", "rules", "cpus", "machine", "map", "unmap", "mbind", "home", "task", "inherit",
-    "weight", "mems", "place", "span", "counts", "ranges", "maps", "publish", "begin", "look", "try",
-    "give", "touch", "release",
+    "weight", "mems", "place", "span", "counts", "ranges", "maps", "publish", "begin", "look",
+    "try", "give", "touch", "release",
 ];
 
 impl Keyword {
