@@ -27,14 +27,18 @@ from ._causes import Unaligned, Unknown, UnknownMode, Unmapped
 from ._cores import Core, Placement, Policy, Range
 from ._library import LIBRARY
 from ._plans import Plan
+from ._progress import progress
+from ._questions import Answer, Question
 from ._scripts import Script
 from ._seats import Frame, Seat
+from ._sweeps import sweep
+from ._tables import write_table
 from ._values import effective, nodes, nodes_text, policy_text, rebind
 
 __version__ = "0.10.0"
 __all__ = [
-    "Core", "Frame", "Placement", "Plan", "Policy", "Range", "Script", "Seat",
-    "effective", "nodes", "nodes_text", "policy_text", "rebind",
+    "Answer", "Core", "Frame", "Placement", "Plan", "Policy", "Question", "Range", "Script", "Seat",
+    "effective", "nodes", "nodes_text", "policy_text", "progress", "rebind", "sweep", "write_table",
     "AllTaken", "AnswerLost", "BadCpu", "BadDistance", "BadLimits", "BadNodeCount", "BadOffset",
     "BadOrders", "BadRules", "BadTry", "BadWeight", "BadWorkers", "BothFlags", "Busy", "CAUSES",
     "Closed", "CommandsSpent", "EmptyLength", "Exhausted", "FlagsForbidden", "Hole", "Idle", "ListBackwards", "ListBadDigit",
@@ -45,7 +49,7 @@ __all__ = [
     "Unknown", "UnknownMode", "Unmapped",
 ]
 # (as users name them, also where they are pickled)
-for _one in (Core, Frame, Placement, Plan, Policy, Range, Script, Seat):
+for _one in (Answer, Core, Frame, Placement, Plan, Policy, Question, Range, Script, Seat):
     _one.__module__ = __name__
 
 

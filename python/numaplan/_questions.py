@@ -1,0 +1,204 @@
+"""A question where pages go, and its answer. Not proved."""
+
+from __future__ import annotations
+
+import json
+import os
+import re
+from contextlib import ExitStack, contextmanager
+from typing import Any, Iterable, Iterator, Mapping, NamedTuple, Sequence, Union
+
+from ._judged import rules_number, u8, u32, u64
+from ._program import Ran, run
+
+Text = Union[str, "os.PathLike[str]", bytes]
+
+
+class Question(NamedTuple):
+    """Where do the pages of a script go, if `task` touches each of them now on a CPU of `node`?
+    Or, with a trace, where do its accesses go? In both, what if `lines` stood behind the script?
+
+    script: the name of a file in the language of `numaplan run`, or its text as bytes
+    trace: the name of a file of accesses, `TASK ADDRESS CPU [COUNT]` a line, or its text as bytes
+    lines: lines of a script, as "mems 0-1"
+    task, node: numbers; a trace has its own
+    rules: whose rules count, of the "document" or of the running kernel ("linux")
+    free: how many free pages nodes have; other nodes never run out. None: no node does."""
+
+    script: Text
+    trace: "Text | None" = None
+    lines: Sequence[str] = ()
+    task: int = 1
+    node: int = 0
+    rules: str = "document"
+    free: "Mapping[int, int] | None" = None
+
+
+class Answer(NamedTuple):
+    """What a question was answered.
+
+    number: the question's place, from 0
+    failed: why there is no answer, and what follows is empty; None where there is one
+    faults: lines of the script that were faulty or refused, in the words of `numaplan check`; they
+        are passed over
+    nodes: how many pages go to each node that gets some; with a trace, how many accesses
+    moved: without a trace, how many pages go from one node to another (from, to) by the lines
+    distances: with a trace, how many accesses go how far
+    placed, exhausted: with a trace, faults that placed a page, and that found no frame; else
+        `exhausted` counts pages that find no free memory
+    unserved: with a trace, the accesses that went nowhere for that
+    json: the whole answer, as `numaplan predict` or `replay --format json` writes it
+    seconds: how long it took the worker"""
+
+    number: int
+    question: Question
+    failed: "str | None"
+    faults: list[str]
+    nodes: dict[int, int]
+    moved: "dict[tuple[int, int], int]"
+    distances: dict[int, int]
+    placed: int
+    exhausted: int
+    unserved: int
+    json: str
+    seconds: float
+
+
+NONE = Question(b"")  # (stands in an answer on its way from a worker)
+
+
+# ---- questions, judged
+
+
+def judged(question: "Question | tuple[Any, ...] | Text") -> Question:
+    """A question as workers get it: with names that are absolute, and numbers in their bounds."""
+    if isinstance(question, (str, bytes, os.PathLike)):
+        question = Question(question)
+    one = Question(*question)
+    rules_number(one.rules)
+    if one.free is not None and one.trace is not None:
+        raise ValueError("free is for questions without a trace, which goes by the machine's frames")
+    return one._replace(
+        script=_named("script", one.script),
+        trace=None if one.trace is None else _named("trace", one.trace),
+        lines=_lines(one.lines), task=u32("task", one.task), node=u32("node", one.node),
+        free=None if one.free is None else {u8("a node of free", node): u64("free pages", pages)
+                                            for node, pages in one.free.items()})
+
+
+def _named(what: str, text: Text) -> "str | bytes":
+    if isinstance(text, bytes):
+        return text
+    if isinstance(text, (str, os.PathLike)):
+        return os.path.abspath(text)
+    raise TypeError(f"{what} is {text!r}; hand in the name of a file, or its text as bytes")
+
+
+def _lines(lines: Iterable[str]) -> "tuple[str, ...]":
+    found = (lines,) if isinstance(lines, str) else tuple(lines)
+    for line in found:
+        if not isinstance(line, str) or "\n" in line or "\0" in line:
+            raise ValueError(f"{line!r} among the lines is none; it has to be a text of one line")
+    return found
+
+
+# ---- answers
+
+
+def _answer(**found: Any) -> Answer:
+    """An answer that has these fields, and nothing else."""
+    nothing: dict[str, Any] = {
+        "number": 0, "question": NONE, "failed": None, "faults": [], "nodes": {}, "moved": {},
+        "distances": {}, "placed": 0, "exhausted": 0, "unserved": 0, "json": "", "seconds": 0.0,
+    }
+    return Answer(**{**nothing, **found})
+
+
+def failure(why: str) -> Answer:
+    """The answer where there is none."""
+    return _answer(failed=why)
+
+
+def answer(question: Question) -> Answer:
+    """The answer to a judged question, but for its number and question. Raises nothing."""
+    try:
+        return _predicted(question) if question.trace is None else _replayed(question)
+    except Exception as fault:
+        return failure(f"{type(fault).__name__}: {fault}")
+
+
+def _predicted(question: Question) -> Answer:
+    touch = ["--task", str(question.task), "--node", str(question.node)]
+    free = ",".join(f"{node}={pages}" for node, pages in (question.free or {}).items())
+    ran = _run(question, ["predict", "--format=json", *touch, *([f"--free={free}"] if free else [])])
+    if ran.failed:
+        return failure(ran.failed)
+    total = json.loads(ran.answer)["total"]
+    found = _answer(faults=ran.told, nodes=_table(total["nodes"], "node", "pages"),
+                    exhausted=total.get("exhausted", 0), json=ran.answer)
+    if not question.lines:
+        return found
+    then = [f"--then={line}" for line in question.lines]
+    ran = _run(question._replace(lines=()), ["diff", *touch, *then])
+    if ran.failed:
+        return failure(ran.failed)
+    moves = re.findall(r"N(\d+)->N(\d+)=(\d+)", ran.answer.splitlines()[-1])
+    return found._replace(moved={(int(a), int(b)): int(pages) for a, b, pages in moves})
+
+
+def _replayed(question: Question) -> Answer:
+    ran = _run(question, ["replay", "--format=json"])
+    if ran.failed:
+        return failure(ran.failed)
+    total = json.loads(ran.answer)["total"]
+    counts = {key: total[key] for key in ("placed", "exhausted", "unserved")}
+    return _answer(faults=ran.told, nodes=_table(total["nodes"], "node", "accesses"), **counts,
+                   distances=_table(total["distances"], "distance", "accesses"), json=ran.answer)
+
+
+def _table(rows: "list[dict[str, int]]", key: str, value: str) -> dict[int, int]:
+    return {row[key]: row[value] for row in rows}
+
+
+def _run(question: Question, words: Sequence[str]) -> Ran:
+    """Runs a word of the program on a question's script, trace and lines. Bytes are handed in as
+    standard input or as files without a name, which are told as `trace` and `--then`."""
+    script = question.script
+    files: list[int] = []
+    names: dict[str, str] = {}
+    with ExitStack() as stack:
+
+        def named(text: Text, name: str) -> str:
+            if not isinstance(text, bytes):
+                return os.fspath(text)
+            file = stack.enter_context(_file_of(text))
+            files.append(file)
+            names[f"/dev/fd/{file}:"] = f"{name}:"
+            return f"/dev/fd/{file}"
+
+        words = [*words, "--lenient", f"--rules={question.rules}"]
+        if question.trace is not None:
+            words.append(f"--trace={named(question.trace, 'trace')}")
+        words += ["--", "-" if isinstance(script, bytes) else os.fspath(script)]
+        if question.lines:
+            words.append(named("\n".join(question.lines).encode(), "--then"))
+        ran = run(words, script if isinstance(script, bytes) else b"", files)
+    return Ran(ran.answer, [_renamed(line, names) for line in ran.told], _renamed(ran.failed, names))
+
+
+@contextmanager
+def _file_of(data: bytes) -> Iterator[int]:
+    """An open file without a name that holds these bytes."""
+    file = os.memfd_create("numaplan")
+    try:
+        with open(file, "wb", closefd=False) as written:
+            written.write(data)
+        yield file
+    finally:
+        os.close(file)
+
+
+def _renamed(text: str, names: Mapping[str, str]) -> str:
+    for name, shown in names.items():
+        text = text.replace(name, shown)
+    return text

@@ -1,0 +1,241 @@
+"""numaplan.sweep over processes of this machine: answers by arithmetic and by worked examples, what
+failed and why, lost workers, interrupts, tables, progress. Prints a line for each; not proved."""
+
+import csv
+import io
+import multiprocessing
+import os
+import pty
+import signal
+import subprocess
+import sys
+import tempfile
+from concurrent.futures import ProcessPoolExecutor, ThreadPoolExecutor
+from concurrent.futures.process import BrokenProcessPool
+
+import hosts
+import numaplan
+from numaplan import Question, sweep
+
+HERE = os.path.dirname(os.path.abspath(__file__))
+TOP = os.path.join(HERE, "..", "..")
+RANGE = os.path.join(TOP, "examples", "interleaved-range.numaplan")
+TRACE = os.path.join(TOP, "examples", "replayed.trace")
+failed = 0
+
+
+def check(what, got, wanted):
+    """Prints whether something is as it is to be."""
+    global failed
+    print(f"ok {what}" if got == wanted else f"FAILED {what}: {got!r}, not {wanted!r}", flush=True)
+    failed += got != wanted
+
+
+def raised(call):
+    """The fault of a call, as its class and text."""
+    try:
+        call()
+    except Exception as fault:
+        return f"{type(fault).__name__}: {fault}"
+    return "nothing"
+
+
+def one(*fields, **named):
+    """The answer to one question."""
+    (answer,) = sweep([Question(*fields, **named)], THREADS)
+    return answer
+
+
+# ---- answers
+
+THREADS = ThreadPoolExecutor(2)
+
+
+def ask_hosts(folder):
+    """Of the questions every other has its script in a file."""
+    for number in range(200):
+        script = hosts.script(number)
+        if number % 2:
+            script = os.path.join(folder, f"{number}.numaplan")
+            with open(script, "wb") as file:
+                file.write(hosts.script(number))
+        yield script, None, hosts.THEN
+
+
+with tempfile.TemporaryDirectory() as folder:
+    check("200 hosts on four processes, as by arithmetic",
+          hosts.faults(list(sweep(ask_hosts(folder), workers=4)), 200), [])
+    check("the same on two threads, of an executor that is handed in",
+          hosts.faults(list(sweep(ask_hosts(folder), THREADS)), 200), [])
+check("no questions", list(sweep([])), [])
+# (docs/COMMANDS.md works these out)
+answer = one(RANGE, task=1, node=3)
+check("a prediction", (answer.nodes, answer.moved, answer.faults), ({0: 3, 1: 1, 2: 2}, {}, []))
+answer = one(RANGE, None, ["mbind 0x30000 0x4000 bind:3"], 1, 3)
+check("what if", (answer.nodes, answer.moved),
+      ({0: 1, 2: 1, 3: 4}, {(0, 3): 2, (1, 3): 1, (2, 3): 1}))
+answer = one(RANGE, node=3, free={0: 2, 1: 0})
+check("free pages", (answer.nodes, answer.exhausted), ({0: 2, 2: 4}, 0))
+check("free pages run out", one(b"machine 1 0 0 flat\nmap 0 0x3000 0\n", free={0: 1}).exhausted, 2)
+for script, trace in ((RANGE, TRACE), (open(RANGE, "rb").read(), open(TRACE, "rb").read())):
+    answer = one(script, trace)
+    check("a replay", (answer.nodes, answer.distances, answer.placed, answer.unserved),
+          ({0: 1050, 1: 200, 2: 9}, {10: 50, 20: 1209}, 3, 0))
+# (all on node 0: 58 accesses from there, one from node 1 at 12, 1200 from node 3 at 20)
+answer = one(RANGE, TRACE, ["mems 0"])
+check("a replay behind added lines", answer.distances, {10: 58, 12: 1, 20: 1200})
+moves = b"machine 2 0-1 0 flat\nmap 0 0x1000 0\ntask 1 prefer:1\nmems 0\nmems 0-1\n"
+check("by both rules", [one(moves, rules=rules).nodes for rules in ("document", "linux")],
+      [{0: 1}, {1: 1}])
+
+# ---- what failed, and why
+
+answer = one(RANGE, None, ["task 1 interlave:0-1"], node=3)
+check("a faulty line is told, and passed over", (answer.failed, answer.nodes, answer.faults), (None, {
+    0: 3, 1: 1, 2: 2}, ["--then:1: bad policy UnknownMode: what stands before the colon is no policy"
+                        " with its flag"]))
+check("in bytes, too", one(b"machine 1 0 0 flat\nmap 1 2 3 4\n").faults[0][:18], "-:2:11: bad words:")
+WHY = [
+    (("/none.numaplan",), "error: can't open '/none.numaplan': No such file or directory (os error 2)"),
+    ((RANGE, None, (), 1, 4), "error: '--node 4': the machine's nodes are 0 to 3"),
+    ((b"limits 1 1 1",), "error: no machine is ready after the scripts"),
+    ((RANGE, b"1 0x30000 0\n1 2 3 4 5"),
+     "trace:2: bad words: a line of a trace is TASK ADDRESS CPU [COUNT]"),
+]
+for fields, why in WHY:
+    answer = one(*fields)
+    check(f"failed: {why[:40]}..", (answer.failed, answer.nodes, answer.json), (why, {}, ""))
+os.environ["NUMAPLAN_PROGRAM"], program = "/none", os.environ["NUMAPLAN_PROGRAM"]
+check("failed: no program", one(RANGE).failed,
+      "the program can't be run: [Errno 2] No such file or directory: '/none'")
+os.environ["NUMAPLAN_PROGRAM"] = program
+FAULTY = [
+    (Question(RANGE, task=-1), "ValueError: task is -1; it has to be from 0 to 4294967295"),
+    (Question(RANGE, node="0"), "TypeError: 'str' object cannot be interpreted as an integer"),
+    (Question(3), "TypeError: script is 3; hand in the name of a file, or its text as bytes"),
+    (Question(RANGE, lines=["a\nb"]),
+     "ValueError: 'a\\nb' among the lines is none; it has to be a text of one line"),
+    (Question(RANGE, rules="x"), "ValueError: rules is 'x'; it has to be 'document' or 'linux'"),
+    (Question(RANGE, TRACE, free={}),
+     "ValueError: free is for questions without a trace, which goes by the machine's frames"),
+]
+for question, why in FAULTY:
+    check(f"refused: {why[:50]}..", raised(lambda: list(sweep([question]))), why)
+
+# ---- lost workers
+
+
+def kill_one(answers, after):
+    """Passes answers on, and kills a process of this one's once there were so many."""
+    for count, each in enumerate(answers):
+        yield each
+        if count == after:
+            os.kill(multiprocessing.active_children()[0].pid, signal.SIGKILL)
+
+
+asked = [(hosts.script(number), None, hosts.THEN) for number in range(120)]
+for after in (5, 60):
+    check(f"a worker killed after {after} answers: none is lost or doubled",
+          hosts.faults(list(kill_one(sweep(asked, workers=4), after)), 120), [])
+answer_it = numaplan._sweeps.answer
+
+
+def deadly(question):
+    """Answers, but for one question, which ends its worker."""
+    if question.lines == ("deadly",):
+        os.kill(os.getpid(), signal.SIGKILL)
+    return answer_it(question)
+
+
+multiprocessing.set_start_method("fork", force=True)
+numaplan._sweeps.answer = deadly  # (which processes that begin now have, too)
+answers = list(sweep(asked + [(RANGE, None, ["deadly"])], workers=3))
+ended = [(each.number, each.failed[:35]) for each in answers if each.failed]
+check("a question that ends each worker fails, and no other",
+      (ended, hosts.faults([each for each in answers if not each.failed], 120)),
+      ([(120, "no answer came, 3 times: BrokenProc")], []))
+with ProcessPoolExecutor(2) as pool:
+    try:
+        list(sweep([(RANGE, None, ["deadly"])] * 3, pool))
+        check("an executor that is broken is told", "nothing", "BrokenProcessPool")
+    except BrokenProcessPool:
+        check("an executor that is broken is told", "told", "told")
+numaplan._sweeps.answer = answer_it
+
+# ---- ends
+
+for each in sweep(asked, workers=2):
+    break
+del each
+check("a sweep that is left leaves no process", multiprocessing.active_children(), [])
+LONG = """if True:
+    import sys, numaplan
+    numaplan._progress.FIRST = 0.1
+    try:
+        for one in numaplan.sweep([(sys.argv[1], sys.argv[2])] * int(sys.argv[3]), workers=2):
+            if one.number == 100:
+                print("begun", flush=True)
+    except KeyboardInterrupt:
+        print("interrupted")
+"""
+
+
+def start(count, **ends):
+    words = [sys.executable, "-c", LONG, RANGE, TRACE, str(count)]
+    return subprocess.Popen(words, text=True, start_new_session=True, **ends)
+
+
+def in_session(leader):
+    """The processes of a session that still run."""
+    said = subprocess.run(["ps", "-o", "pid=", "-s", str(leader)], stdout=subprocess.PIPE, text=True)
+    return said.stdout.split()
+
+
+long = start(10**7, stdout=subprocess.PIPE, stderr=subprocess.PIPE)
+long.stdout.readline()
+os.killpg(long.pid, signal.SIGINT)
+check("an interrupt ends a sweep, and without a word of its workers", long.communicate(timeout=20),
+      ("interrupted\n", ""))
+check("and leaves no process", in_session(long.pid), [])
+
+# ---- progress
+
+here, there = pty.openpty()
+with open(here, "rb", buffering=0) as terminal:
+    shown = start(300, stdout=subprocess.DEVNULL, stderr=there)
+    os.close(there)
+    text = b""
+    try:
+        while True:
+            text += terminal.read(4096)
+    except OSError:  # (nobody writes any more)
+        pass
+    shown.wait()
+lines = text.decode().split("\r\x1b[K")
+check("a terminal shows how far it is",
+      (lines[1][:10], " of 300 answers in 0:0" in lines[1], lines[-1]), ("numaplan: ", True, ""))
+quiet = start(300, stdout=subprocess.DEVNULL, stderr=subprocess.PIPE)
+check("and nothing else is shown it", quiet.communicate()[1], "")
+with tempfile.TemporaryFile("w+") as file:
+    check("what is looked at, with its progress", list(numaplan.progress("abc", "letters")), list("abc"))
+
+# ---- tables
+
+TABLE = """number,script,trace,lines,task,node,failed,faults,total,nodes,moved,moves,distances,placed,\
+exhausted,unserved
+0,RANGE,,mbind 0x30000 0x4000 bind:3; mems 0-3,1,3,,,6,N0=1 N2=1 N3=4,4,N0->N3=2 N1->N3=1 N2->N3=1,,0,0,0
+1,,TRACE,,1,0,,,1259,N0=1050 N1=200 N2=9,0,,D10=50 D20=1209,3,0,0
+2,RANGE,,,1,4,error: '--node 4': the machine's nodes are 0 to 3,,0,,0,,,0,0,0
+"""
+answers = sweep([(RANGE, None, ["mbind 0x30000 0x4000 bind:3", "mems 0-3"], 1, 3),
+                 (open(RANGE, "rb").read(), TRACE), (RANGE, None, (), 1, 4)], workers=1)
+with io.StringIO(newline="") as file:
+    many = numaplan.write_table(sorted(answers), file)
+    table = file.getvalue().replace(os.path.abspath(RANGE), "RANGE").replace(os.path.abspath(TRACE), "TRACE")
+check("a table", (many, table.replace("\r\n", "\n")), (1, TABLE))
+said = subprocess.run([sys.executable, os.path.join(TOP, "python/examples/sweep.py"), "--node", "3", "--then",
+                       "mbind 0x30000 0x4000 bind:3", RANGE, RANGE], stdout=subprocess.PIPE, text=True)
+rows = list(csv.DictReader(said.stdout.splitlines()))
+check("the example", [said.returncode] + sorted((row["number"], row["moves"]) for row in rows),
+      [0, ("0", "N0->N3=2 N1->N3=1 N2->N3=1"), ("1", "N0->N3=2 N1->N3=1 N2->N3=1")])
+sys.exit(failed > 0)
