@@ -241,9 +241,9 @@ uint32_t np_core_open_by(np_core *core, const uint8_t *memory, size_t memory_len
 void np_core_close(np_core *core);
 
 /* Keeps a copy of the core in `copy`, to be asked "what if": it has the same ranges, policies
- * and published version, and its workers have the same frames and go on with the same hunts.
- * What is then done to one of the two doesn't change the other. NP_OPEN where `copy` keeps a
- * core, NP_CLOSED where `core` keeps none, NP_NO_MEMORY. */
+ * and published version, and its workers have the same frames and go on with the same frame
+ * searches. What is then done to one of the two doesn't change the other. NP_OPEN where `copy`
+ * keeps a core, NP_CLOSED where `core` keeps none, NP_NO_MEMORY. */
 uint32_t np_core_copy(np_core *core, np_core *copy);
 
 /* How many commands are accepted, and how many of them are published. NP_CLOSED. */
@@ -396,8 +396,8 @@ uint32_t np_seat_split(np_seat *seat, np_seat *other);
 /* Takes a free frame of the first of the listed nodes that has one. `nodes` is a list as
  * np_plan_choice writes it; a node that the machine lacks has no frame. `frame` gets the
  * frame, and `rank` the node's place in the list, from 0. NP_ALL_TAKEN where each frame of
- * each listed node was found taken at a moment of this call, also for an empty list: the call
- * took none, and `frame` and `rank` are as they were. Needs no memory. NP_CLOSED. */
+ * each listed node was found taken at some time during this call, also for an empty list: the
+ * call took none, and `frame` and `rank` are as they were. Needs no memory. NP_CLOSED. */
 uint32_t np_seat_take(np_seat *seat, const uint8_t *nodes, size_t count, np_frame *frame,
                       size_t *rank);
 
