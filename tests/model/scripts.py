@@ -180,8 +180,8 @@ class Script(Words):
 
     def worker(self, busy=None):
         """Any worker, rarely one that isn't there; one that is busy, or one that is idle."""
-        hunts = self.state.crew.hunts
-        fitting = [it for it in range(4) if busy is None or bool(hunts[it]) == busy]
+        searches = self.state.crew.searches
+        fitting = [it for it in range(4) if busy is None or bool(searches[it]) == busy]
         if not fitting or self.likely(0.1):
             return self.dice.choice([0, 1, 2, 3, 3, 4])
         return self.dice.choice(fitting)
@@ -189,8 +189,8 @@ class Script(Words):
     def frame(self, worker):
         """A frame of the worker's current node mostly, met or not, taken or not."""
         crew = self.state.crew
-        hunt = crew.hunts[worker] if worker < 4 else None
-        node = current_node(crew, hunt) if hunt else self.dice.choice(sorted(self.memory))
+        search = crew.searches[worker] if worker < 4 else None
+        node = current_node(crew, search) if search else self.dice.choice(sorted(self.memory))
         most = crew.frames[node]
         if self.likely(0.06):
             node = self.node()
@@ -202,7 +202,7 @@ class Script(Words):
         return node, self.dice.randrange(max(1, most))
 
     def begin(self):
-        """A hunt: a begin, and mostly some steps, between which others may come."""
+        """A frame search: a begin, and mostly some steps, between which others may come."""
         worker = self.worker(False)
         self.say("begin", worker, self.task_number(), self.address_for_workers(), self.node())
         for _ in range(self.dice.choice([0, 1, 2, 4, 6])):
@@ -210,7 +210,7 @@ class Script(Words):
 
     def step(self):
         """A look or a try of a busy worker; where none is, mostly a touch in its place."""
-        if not any(self.state.crew.hunts) and self.likely(0.8):
+        if not any(self.state.crew.searches) and self.likely(0.8):
             return self.touch()
         worker = self.worker(True)
         if self.likely(0.4):

@@ -9,7 +9,7 @@ WORKERS = 4
 WORD = 64
 
 
-class Hunt:
+class FrameSearch:
     """What a busy worker is about: the version and the node list that it took, the frames met."""
 
     def __init__(self, version, nodes):
@@ -24,7 +24,7 @@ class Crew:
     def __init__(self, space):
         self.frames = space.machine.frames
         self.published = space
-        self.hunts = [None] * WORKERS  # None for an idle worker
+        self.searches = [None] * WORKERS  # None for an idle worker
         self.owners = {}
         self.kept = {}
 
@@ -57,25 +57,25 @@ def worker_cause(crew, worker, must_be_busy):
     if worker >= WORKERS:
         return "NoSuchWorker"
     if must_be_busy:
-        return None if crew.hunts[worker] else "Idle"
-    return "Busy" if crew.hunts[worker] else None
+        return None if crew.searches[worker] else "Idle"
+    return "Busy" if crew.searches[worker] else None
 
 
-def current_node(crew, hunt):
+def current_node(crew, search):
     """The first node of the list that has a frame which the worker hasn't met, or None."""
-    for node in hunt.nodes:
-        if any((node, frame) not in hunt.met for frame in range(crew.frames[node])):
+    for node in search.nodes:
+        if any((node, frame) not in search.met for frame in range(crew.frames[node])):
             return node
     return None
 
 
 def goes_on(crew, worker):
     """`still` while there is a current node; else the list is exhausted, and the worker idle."""
-    hunt = crew.hunts[worker]
-    if current_node(crew, hunt) is not None:
+    search = crew.searches[worker]
+    if current_node(crew, search) is not None:
         return "still"
-    crew.hunts[worker] = None
-    return f"exhausted v{hunt.version}"
+    crew.searches[worker] = None
+    return f"exhausted v{search.version}"
 
 
 def begin(crew, worker, task, address, cpu):
@@ -84,7 +84,7 @@ def begin(crew, worker, task, address, cpu):
     cause = worker_cause(crew, worker, False) or place_cause(space, address, cpu)
     if cause:
         return f"refused {cause}"
-    crew.hunts[worker] = Hunt(space.version, list_of_page(space, task, address, cpu))
+    crew.searches[worker] = FrameSearch(space.version, list_of_page(space, task, address, cpu))
     return goes_on(crew, worker)
 
 
@@ -93,13 +93,13 @@ def look(crew, worker, word):
     cause = worker_cause(crew, worker, True)
     if cause:
         return f"refused {cause}"
-    hunt = crew.hunts[worker]
-    node = current_node(crew, hunt)
+    search = crew.searches[worker]
+    node = current_node(crew, search)
     if word * WORD >= crew.frames[node]:
         return "refused BadTry"
     for frame in range(word * WORD, (word + 1) * WORD):
         if (node, frame) in crew.owners:
-            hunt.met.add((node, frame))
+            search.met.add((node, frame))
     return goes_on(crew, worker)
 
 
@@ -108,16 +108,16 @@ def try_frame(crew, worker, node, frame):
     cause = worker_cause(crew, worker, True)
     if cause:
         return f"refused {cause}"
-    hunt = crew.hunts[worker]
-    wrong = node != current_node(crew, hunt) or frame >= crew.frames[node]
-    if wrong or (node, frame) in hunt.met:
+    search = crew.searches[worker]
+    wrong = node != current_node(crew, search) or frame >= crew.frames[node]
+    if wrong or (node, frame) in search.met:
         return "refused BadTry"
     if (node, frame) in crew.owners:
-        hunt.met.add((node, frame))
+        search.met.add((node, frame))
         return goes_on(crew, worker)
     crew.owners[node, frame] = worker
-    crew.hunts[worker] = None
-    return f"won v{hunt.version} node {node} frame {frame} rank {hunt.nodes.index(node)}"
+    crew.searches[worker] = None
+    return f"won v{search.version} node {node} frame {frame} rank {search.nodes.index(node)}"
 
 
 def give(crew, worker, node, frame):
@@ -139,9 +139,9 @@ def touch(crew, worker, task, address, cpu):
     the frame that is won, or it is given back where the page keeps one already."""
     answer = begin(crew, worker, task, address, cpu)
     while answer == "still":
-        hunt = crew.hunts[worker]
-        node = current_node(crew, hunt)
-        frame = min(it for it in range(crew.frames[node]) if (node, it) not in hunt.met)
+        search = crew.searches[worker]
+        node = current_node(crew, search)
+        frame = min(it for it in range(crew.frames[node]) if (node, it) not in search.met)
         answer = try_frame(crew, worker, node, frame)
     if not answer.startswith("won"):
         return answer
