@@ -1,5 +1,5 @@
 -- What recompiling for a command writes into a plan, and what it leaves there as it was.
-use Rattle.std.specs.Prelude.{◌≡◌, ◌≢◌, ⊥, ℕ, ◌+◌, ◌≤◌, ◌⊎◌, Bool, true, false, Option, Some, None}
+use Rattle.std.specs.Prelude.{◌≡◌, ◌≢◌, ℕ, ◌+◌, ◌≤◌, ◌⊎◌, Bool, true, false, Option, Some, None}
 use Rattle.std.specs.Prelude.{◌==◌, List, count_by, slice_get, if◌then◌else◌}
 use Rattle.std.specs.Option.{ForSome}
 use Rattle.numa_mode.specs.Policy.{PolicyRecord}
