@@ -1,7 +1,7 @@
 //! Pools of page frames that threads share without a lock. Each frame of the machine has a bit; a
 //! seat takes a frame by setting its bit in one atomic step and gives it up by clearing it, and
-//! each thread works with a seat of its own. An [`OwnedSeat`] carries its pools, for threads that share
-//! nothing else.
+//! each thread works with a seat of its own. An [`OwnedSeat`] carries its pools, for threads that
+//! share nothing else.
 #![tactic(auto)]
 
 pub mod alone;

@@ -7,8 +7,8 @@ use crate::log::Front;
 use numa_machine::Machine;
 use std::marker::Model;
 
-/// What was published at one moment. It has no bytes but the version, and may go to another thread.
-/// A reader that learns it sees that version or a later one at its next look.
+/// What was published at one time. It has no bytes but the version, and may go to another thread. A
+/// reader that learns it sees that version or a later one at its next look.
 ///
 /// Clauses see of which desk it is, and the history that was published.
 #[derive(Drop)]

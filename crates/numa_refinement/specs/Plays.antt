@@ -54,13 +54,14 @@ since_deed (splits id) since = since
 since_deed (has_event version event) since = since_event event since
 
 module _ (s : Setup) where
-  -- worker id frame searches, and the step may come next in its walk
+  -- worker id is searching, and the step may come next in its walk
   abbrev pub IsNextOf : World → (ℕ → List Entry) → ℕ → Entry → Type 0
   IsNextOf world since id e =
       (frame_search : FrameSearch) × (frame_search_of world id ≡ Some frame_search)
       × MayCome s.machine.frames frame_search.nodes (since id) e
 
-  -- a load or a try comes next in the walk of a worker that frame searches; a return is by one that is idle
+  -- a load or a try comes next in the walk of a worker that is searching; a return is by one that
+  -- is idle
   abbrev pub MayStep : World → (ℕ → List Entry) → ℕ → Entry → Type 0
   MayStep world since id (Load n w x) = IsNextOf world since id (Load n w x)
   MayStep world since id (Won f) = IsNextOf world since id (Won f)

@@ -49,8 +49,8 @@ MayCome frames ns es (Lost f) = IsNext frames es ns f
 MayCome frames ns es (Gave f) = ⊥
 
 module _ (s : Setup) (world : World) (since : ℕ → List Entry) where
-  -- In a world that is tied to the pools the worker of seat id frame searches, and the seat makes a step
-  -- that may come next in its walk
+  -- In a world that is tied to the pools the worker of seat id is searching, and the seat makes a
+  -- step that may come next in its walk
   pub record WalksOn (id : ℕ) (frame_search : FrameSearch) (e : Entry) (old new : PoolState) : Type 0 where
     pub tied : IsTied s world old
     pub met : HaveMet world since

@@ -70,8 +70,8 @@ pub fn a_desk_stays_the_worlds()
 {}
 
 /// What a desk has published is published in its world, and stays so at every step. So is what a
-/// view shows, which the desk had published at some time; and what a reader has seen, where it learns
-/// a receipt of the same version.
+/// view shows, which the desk had published at some time; and what a reader has seen, where it
+/// learns a receipt of the same version.
 pub fn what_is_published_stays()
     ensures desk { (s : Setup) (world : World) (desk : DeskState) → IsDeskOf s world desk
         → IsPublishedIn world desk.published }
@@ -121,12 +121,12 @@ pub fn a_fault_begins()
         → MayBegin s first w (length history) request (list_of s.machine history request) }
 {}
 
-/// A fault is a frame search of the core. Where it answers `Exhausted` or a placement, its Begin and the
-/// steps that its seat gained, the oldest first, are steps of the core's world, none is refused,
-/// each but the last is to go on, and the last reply is Exhausted with this version, or Won with
-/// this placement, whose frame is the worker's then. Each step may fall in any world that is tied
-/// to the pools, whatever other threads did before it, as long as the worker's frame search is as its
-/// step before had left it.
+/// A fault is a frame search of the core. Where it answers `Exhausted` or a placement, its Begin
+/// and the steps that its seat gained, the oldest first, are steps of the core's world, none is
+/// refused, each but the last is to go on, and the last reply is Exhausted with this version, or
+/// Won with this placement, whose frame is the worker's then. Each step may fall in any world that
+/// is tied to the pools, whatever other threads did before it, as long as the worker's frame search
+/// is as its step before had left it.
 pub fn a_fault_is_a_frame_search()
     ensures exhausted { (s : Setup) (w : ℕ) (history : List Command) (request : Request)
         (first : World) (before after : SeatView) (turns : List Turn) (version : ℕ)
@@ -146,9 +146,9 @@ pub fn a_fault_is_a_frame_search()
         → owner_of (last_world s w history request first turns) placement.frame ≡ Some w }
 {}
 
-/// After a frame search the worker is idle, and what it was told last is the version of its fault. So it is
-/// ready again, by that history or a longer one that is published: each page that a span places,
-/// all by one history, is such a frame search, and so is the next fault.
+/// After a frame search the worker is idle, and what it was told last is the version of its fault.
+/// So it is ready again, by that history or a longer one that is published: each page that a span
+/// places, all by one history, is such a frame search, and so is the next fault.
 pub fn a_fault_leaves_its_worker_ready()
     ensures exhausted { (s : Setup) (w : ℕ) (history longer : List Command) (request : Request)
         (first next : World) (before after : SeatView) (turns : List Turn) (version : ℕ)

@@ -29,9 +29,9 @@ ghost use Rattle.numa_refinement.specs.Plays.{Done, IsPlay, NoneRefused, by_seat
 ghost use Rattle.numa_refinement.specs.Plays.{pools_of, execution_of, since_of};
 ghost use Rattle.numa_refinement.specs.Tie.{HasMet, HaveMet, IsAt, IsTied, OwnsWhatIsHeld, noted};
 
-/// Where a frame search has met what a walk's steps found taken, the walk's current node is the frame search's, and
-/// what the walk may do next the frame search may do. A frame search with a current node goes on; where each listed
-/// node is full it is over, and the reply is Exhausted.
+/// Where a frame search has met what a walk's steps found taken, the walk's current node is the
+/// frame search's, and what the walk may do next the frame search may do. A frame search with a
+/// current node goes on; where each listed node is full it is over, and the reply is Exhausted.
 pub fn walks_are_frame_searches()
     ensures current { (s : Setup) (frame_search : FrameSearch) (es : List Entry) (n : ℕ) → HasMet frame_search es
         → IsCurrent s.machine.frames es frame_search.nodes n → IsAt s frame_search n }
@@ -48,9 +48,9 @@ pub fn walks_are_frame_searches()
         → IsNext s.machine.frames es frame_search.nodes f → may_try s frame_search f ≡ true }
 {}
 
-/// What a frame search meets is what the walk's steps find taken. Under the pools' rule a load of a word of
-/// the current node finds taken what a Look at it finds with an owner, and a lost try meets the
-/// frame that a lost Try meets.
+/// What a frame search meets is what the walk's steps find taken. Under the pools' rule a load of a
+/// word of the current node finds taken what a Look at it finds with an owner, and a lost try meets
+/// the frame that a lost Try meets.
 pub fn steps_meet_alike()
     ensures load { (s : Setup) (world : World) (words : List ℕ) (views : List View) (frame_search : FrameSearch)
         (es : List Entry) (n w : ℕ) → PoolRule s.machine.frames words views
@@ -83,7 +83,8 @@ pub fn core_steps_make_executions()
         ≡ effect_of s (world_of s past) version event) }
 {}
 
-/// A load of a word of the current node, by a seat whose worker frame searches, is a Look of that worker.
+/// A load of a word of the current node, by a seat whose worker is searching, is a Look of that
+/// worker.
 pub fn load_is_a_look()
     ensures { (s : Setup) (world : World) (since : ℕ → List Entry) (old new : PoolState)
         (id version n w x : ℕ) (frame_search : FrameSearch)
@@ -104,8 +105,8 @@ pub fn try_is_a_try()
         → IsCoreStep s world version (Event.Try id f) (goes_on s (frame_search_past f frame_search)) }
 {}
 
-/// After a load or a try the world is tied to the pools as before, and each frame search has met what the
-/// steps found taken.
+/// After a load or a try the world is tied to the pools as before, and each frame search has met
+/// what the steps found taken.
 pub fn walks_keep_the_tie()
     ensures tied { (s : Setup) (world : World) (since : ℕ → List Entry) (old new : PoolState)
         (id version : ℕ) (e : Entry) (frame_search : FrameSearch) → WalksOn s world since id frame_search e old new
@@ -128,8 +129,8 @@ pub fn return_is_a_give()
         → HaveMet (effect_of s world version (Event.Give id f)) (noted since id (Entry.Gave f)) }
 {}
 
-/// A walk starts at a Begin of its seat's worker, which the pools take no step for: the frame search has
-/// the list of the version that it takes, and has met nothing.
+/// A walk starts at a Begin of its seat's worker, which the pools take no step for: the frame
+/// search has the list of the version that it takes, and has met nothing.
 pub fn begin_starts_a_walk()
     ensures core_step { (s : Setup) (world : World) (id version : ℕ) (request : Request)
         (nodes : List ℕ) → MayBegin s world id version request nodes
@@ -167,9 +168,9 @@ pub fn seats_come_and_go()
         → (effect_of s world version event).owner n k ≡ Some id → id ≡ other }
 {}
 
-/// A walk of a seat over a list of nodes is a frame search of its worker, where the Begin takes a version
-/// whose list for the request that is: the walk's steps are its Looks and Tries, none is refused,
-/// and the last reply tells what the walk found. Then the worker is idle.
+/// A walk of a seat over a list of nodes is a frame search of its worker, where the Begin takes a
+/// version whose list for the request that is: the walk's steps are its Looks and Tries, none is
+/// refused, and the last reply tells what the walk found. Then the worker is idle.
 pub fn a_walk_is_a_frame_search()
     ensures frame_search { (s : Setup) (first : World) (id version : ℕ) (request : Request) (nodes : List ℕ)
         (found : Option Frame) (turns : List Turn) → MayBegin s first id version request nodes

@@ -1,4 +1,4 @@
-//! What stands at one moment: a plan, and which pages are mapped.
+//! The state at one time: a plan, and which pages are mapped.
 ghost use Rattle.std.specs.Prelude.{◌≡◌, ◌<◌, ◌^◌, ◌++◌, List, map, IfErr, IfOk};
 ghost use Rattle.numa_compile.specs.Standing.{PlanStandsFor};
 ghost use Rattle.numa_space.specs.Standing.{StandsFor};
@@ -20,7 +20,7 @@ pub struct PageSpan {
     pub pages: u64,
 }
 
-/// What stands at one moment: the plan of the commands so far, and the pages of each range, rising.
+/// The state at one time: the plan of the commands so far, and the pages of each range, rising.
 #[derive(Drop)]
 pub struct Outlook {
     pub plan: Plan,

@@ -60,7 +60,7 @@ fn accept(rt: &impl Abort, core: &mut Core, command: &Command) {
     step(rt, core, &Event::Publish);
 }
 
-/// Worker 0 frame searches for a frame for page 0x10 of task 2, and gives it back.
+/// Worker 0 searches for a frame for page 0x10 of task 2, and gives it back.
 fn frame_search(rt: &impl Abort, core: &mut Core) {
     let request = Request {
         task: 2,
