@@ -1,13 +1,12 @@
-//! How many pages of a span are on one node.
+//! The number of pages of a span on one node.
 ghost use Rattle.std.specs.Prelude.{◌≡◌, ℕ, ◌+◌, ◌*◌, ◌≤◌, ◌==◌, length};
 ghost use Rattle.numa_lanes.specs.Spans.{node_count};
 
 use crate::lanes::{LANES, ROUNDS, add_lanes, hits, sum_of_lanes};
 use std::simd::prelude::*;
 
-/// How many pages of a block are on the node. A block is a whole number of vectors of 32 pages, and
-/// at most 255 of them: a lane counts one page a vector in a byte, so after 255 vectors it may be
-/// full.
+/// The number of pages of a block on the node. A block is at most 255 whole vectors of 32 pages:
+/// each lane counts one page of each vector in a byte, which may be full after 255 vectors.
 pub fn count_block(block: &[u8], rounds: usize, node: u8) -> u64
     requires whole { length block.now ≡ 32 * rounds }
     requires rounds_fit { rounds ≤ 255 }
@@ -20,7 +19,7 @@ pub fn count_block(block: &[u8], rounds: usize, node: u8) -> u64
     sum_of_lanes(sums)
 }
 
-/// How many pages of a span are on the node.
+/// The number of pages of a span on the node.
 pub fn count_node(nodes: &[u8], node: u8) -> u64
     ensures { result ≡ node_count node nodes.now }
 {

@@ -1,4 +1,4 @@
-//! How many pages of a span are on each node.
+//! The number of pages of a span on each node.
 ghost use Rattle.std.specs.Prelude.{◌≡◌, ℕ, ◌+◌, ◌*◌, ◌^◌, ◌<◌, ◌≤◌, length, slice_index};
 ghost use Rattle.numa_lanes.specs.Spans.{node_count, IsBetween, Adds};
 
@@ -6,7 +6,7 @@ use crate::count::count_block;
 use crate::ends::near_ends;
 use crate::lanes::{LANES, ROUNDS, WORTH};
 
-/// Adds to each node's count the pages of a span that are on it, one page after another.
+/// Adds to each node's count the pages of a span that are on it, page by page.
 #[inline]
 pub fn tally(span: &[u8], counts: &mut [u64; 256])
     requires { (node : ℕ) → node < 256 →
@@ -18,8 +18,8 @@ pub fn tally(span: &[u8], counts: &mut [u64; 256])
     }
 }
 
-/// Adds to each node's count the pages of a block that are on it, where they are all on nodes from
-/// `least` to `greatest`: a pass over the block for each of these.
+/// Adds to each node's count the pages of a block that are on it, if they are all on nodes from
+/// `least` to `greatest`: one pass over the block for each of these nodes.
 fn add_between(block: &[u8], rounds: usize, least: u8, greatest: u8, counts: &mut [u64; 256])
     requires whole { length block.now ≡ 32 * rounds }
     requires rounds_fit { rounds ≤ 255 }
@@ -48,7 +48,7 @@ fn add_block(block: &[u8], rounds: usize, counts: &mut [u64; 256])
     }
 }
 
-/// Writes how many pages of a span are on each node, over what `counts` held.
+/// Overwrites `counts` with the number of pages of a span on each node.
 pub fn count_all(nodes: &[u8], counts: &mut [u64; 256])
     ensures { (node : ℕ) → node < 256 → slice_index counts.new node ≡ node_count node nodes.now }
 {

@@ -1,4 +1,4 @@
-//! Between which nodes the pages of a block are.
+//! The least and the greatest node of a block.
 ghost use Rattle.std.specs.Prelude.{◌≡◌, ℕ, ◌+◌, ◌*◌, ◌<◌, ◌≤◌, length};
 ghost use Rattle.std.specs.Prelude.{slice_index, EachIndex, IfSome};
 ghost use Rattle.numa_lanes.specs.Spans.{IsBetween};
@@ -6,14 +6,14 @@ ghost use Rattle.numa_lanes.specs.Spans.{IsBetween};
 use crate::lanes::LANES;
 use std::simd::prelude::*;
 
-/// How many neighbouring nodes a block may hold at most, so that a pass of lanes for each is faster
-/// than a tally.
+/// The most neighbouring nodes of a block for which a vector pass for each node is faster than a
+/// tally.
 const NEAR: u8 = 12;
 
-/// How many vectors of a block are looked at before the rest.
+/// The number of vectors of a block that are looked at before the rest.
 const FIRST: usize = 8;
 
-/// Of each lane and the block's entry at its place, from `at` on, the lesser.
+/// The lanewise minimum of `lanes` and the block's entries from `at` on.
 #[inline(always)]
 fn lesser(lanes: u8x32, block: &[u8], at: usize) -> u8x32
     requires room { at + 32 ≤ length block.now }
@@ -25,7 +25,7 @@ fn lesser(lanes: u8x32, block: &[u8], at: usize) -> u8x32
     lanes.simd_min(u8x32::from_slice(&block[at..]))
 }
 
-/// Of each lane and the block's entry at its place, from `at` on, the greater.
+/// The lanewise maximum of `lanes` and the block's entries from `at` on.
 #[inline(always)]
 fn greater(lanes: u8x32, block: &[u8], at: usize) -> u8x32
     requires room { at + 32 ≤ length block.now }
@@ -75,7 +75,7 @@ fn ends(block: &[u8], rounds: usize) -> (u8, u8)
     (least_lane(least), greatest_lane(greatest))
 }
 
-/// Whether four entries of a block are too far apart already.
+/// Whether four sampled entries of a block are already too far apart.
 fn looks_wide(block: &[u8]) -> bool
     requires { 0 < length block.now }
 {
@@ -85,12 +85,12 @@ fn looks_wide(block: &[u8]) -> bool
         .any(|entry| entry.abs_diff(block[0]) >= NEAR)
 }
 
-/// Whether more than so many neighbouring nodes are between these.
+/// Whether more than `NEAR` neighbouring nodes lie between these.
 fn is_wide(least: u8, greatest: u8) -> bool {
     greatest.saturating_sub(least) >= NEAR
 }
 
-/// Whether the pages of the first vectors of a block are too far apart already.
+/// Whether the pages of the first vectors of a block are already too far apart.
 fn begins_wide(block: &[u8]) -> bool
     requires { 256 ≤ length block.now }
 {
@@ -98,9 +98,9 @@ fn begins_wide(block: &[u8]) -> bool
     is_wide(least, greatest)
 }
 
-/// Two nodes between which the pages of a block of whole vectors are, where they are so near that a
-/// pass of lanes for each node between them is faster than a tally. Where it gives none is a matter
-/// of speed, and no clause says it.
+/// The least and the greatest node of a block of whole vectors, if they are close enough that a
+/// vector pass for each node between them is faster than a tally. When it returns `None` is a
+/// matter of speed, and no clause says it.
 pub(crate) fn near_ends(block: &[u8], rounds: usize) -> Option<(u8, u8)>
     requires whole { length block.now ≡ 32 * rounds }
     requires some { 8 ≤ rounds }

@@ -1,17 +1,16 @@
-//! A span with all its pages on one node.
+//! Fills a span with one node.
 ghost use Rattle.std.specs.Prelude.{◌≡◌, ℕ, ◌<◌, ◌≤◌, length, slice_index};
 ghost use Rattle.numa_lanes.specs.Spans.{IsFilled};
 
 use crate::lanes::LANES;
 use std::simd::prelude::*;
 
-/// How many vectors are stored at most before the rest of a span goes to a plain loop. The back end
-/// makes that loop one call of the C library's memset, which fills a long span faster than vectors
-/// of this size, and a short one slower.
+/// The most vectors that are stored before the rest of a span goes to a plain loop. The compiler
+/// turns that loop into a call of the C library's memset, which fills a long span faster than
+/// vectors of this size, and a short one slower.
 const FEW: usize = 8;
 
-/// Places the pages of the first whole vectors of a span on the node. Answers how many pages these
-/// are.
+/// Fills the first whole vectors of a span with the node, and returns the number of pages written.
 fn fill_vectors(node: u8, out: &mut [u8]) -> usize
     ensures within { result ≤ length out.new }
     ensures filled { (k : ℕ) → k < result → slice_index out.new k ≡ node }
@@ -24,7 +23,7 @@ fn fill_vectors(node: u8, out: &mut [u8]) -> usize
     whole * LANES
 }
 
-/// Places each page of the span on the node.
+/// Fills the span with the node: every entry becomes `node`.
 pub fn fill_one(node: u8, out: &mut [u8])
     ensures { IsFilled node out.new }
 {

@@ -1,20 +1,20 @@
-//! Vectors of 32 bytes, and what one step of a count does to them.
+//! Vectors of 32 bytes, and the steps of a count on them.
 ghost use Rattle.std.specs.Prelude.{◌≡◌, ℕ, ◌+◌, ◌<◌, ◌≤◌, ◌==◌, length};
 ghost use Rattle.std.specs.Simd.Lanes.{sum_l, Each1, chunk};
 ghost use Rattle.numa_lanes.specs.Spans.{node_count};
 
 use std::simd::prelude::*;
 
-/// How many bytes a vector has.
+/// The number of bytes in a vector.
 pub(crate) const LANES: usize = 32;
 
-/// How many vectors a block has at most: a byte counts to 255.
+/// The most vectors in a block: a byte counts to 255.
 pub(crate) const ROUNDS: usize = 255;
 
-/// How many vectors a block has at least: a shorter one is counted as fast page by page.
+/// The fewest vectors in a block: a shorter one is counted just as fast page by page.
 pub(crate) const WORTH: usize = 32;
 
-/// A vector with 1 where the block's entry, from `at` on, is the node, and 0 elsewhere.
+/// A vector with 1 where the block's entry from `at` on is the node, and 0 elsewhere.
 #[inline(always)]
 pub(crate) fn hits(block: &[u8], at: usize, node: u8) -> u8x32
     requires { at + 32 ≤ length block.now }
@@ -27,7 +27,7 @@ pub(crate) fn hits(block: &[u8], at: usize, node: u8) -> u8x32
         .select(u8x32::splat(1), u8x32::splat(0))
 }
 
-/// The sums so far, of at most `rounds` hits a lane, with one more vector of hits.
+/// Adds one vector of hits to the sums so far, which have at most `rounds` hits in each lane.
 #[inline(always)]
 pub(crate) fn add_lanes(sums: u8x32, hits: u8x32, rounds: usize) -> u8x32
     requires fits { rounds < 255 }
@@ -39,12 +39,12 @@ pub(crate) fn add_lanes(sums: u8x32, hits: u8x32, rounds: usize) -> u8x32
     ensures most { Each1 (λ sum. sum ≤ rounds + 1) result }
     ensures long { length result ≡ 32 }
 {
-    // It bounds the sums for the proof alone.
+    // Only the proof needs this bound of the sums.
     let _ = rounds;
     sums.strict_add(hits)
 }
 
-/// The sum of the lanes, which are widened first.
+/// The sum of the lanes, widened first.
 #[inline(always)]
 pub(crate) fn sum_of_lanes(sums: u8x32) -> u64
     requires { length sums ≡ 32 }

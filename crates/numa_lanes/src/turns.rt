@@ -1,4 +1,4 @@
-//! A span whose pages take the nodes of a cycle in turn.
+//! Fills a span with the nodes of a cycle in turn.
 ghost use Rattle.std.specs.Prelude.{◌≡◌, ℕ, ◌+◌, ◌*◌, ◌%◌, ◌^◌, ◌<◌};
 ghost use Rattle.std.specs.Prelude.{◌≤◌, length, slice_index, IfOk};
 ghost use Rattle.numa_lanes.specs.Spans.{IsCycled};
@@ -8,15 +8,15 @@ use std::alloc::{AllocError, Global};
 use std::marker::Model;
 use std::simd::prelude::*;
 
-/// How many pages a vector of the fill places: more than one of a count, since the next waits for
-/// the turn that this comes to.
+/// The number of pages in a vector of a cycle's fill. It is wider than a vector of a count, since
+/// each vector waits for the turn at which the one before it ended.
 const WIDE: usize = 64;
 
-/// The nodes that pages take in turn: a list with at least one entry, which begins again after its
-/// last.
+/// A cycle of nodes that pages take in turn: a list with at least one entry that starts over after
+/// its last.
 ///
-/// The entries are kept with a vector's length more of the turns that follow them, so that a vector
-/// can be read from each place of the list.
+/// The entries are kept with one vector's length of the turns that follow them, so that a vector
+/// can be read from any place of the list.
 #[derive(Drop)]
 pub struct Cycle {
     len: usize,
@@ -35,10 +35,10 @@ impl Model for Cycle {
 }
 
 impl Cycle {
-    /// The cycle of these entries, of which there is at least one.
+    /// The cycle of these entries, at least one.
     ///
     /// # Errors
-    /// Where the memory for a copy of the entries is refused.
+    /// `AllocError`: there is no memory for a copy of the entries.
     pub fn new(alloc: Global, entries: &[u8]) -> Result<Cycle, AllocError>
         requires { 0 < length entries.now }
         ensures { IfOk result (λ cycle. cycle ≡ entries.now) }
@@ -61,7 +61,7 @@ impl Cycle {
         &self.table[..self.len]
     }
 
-    /// The nodes of so many turns from one on, at most 64. Turn t is that of entry t modulo the
+    /// The nodes of `count` turns, at most 64, from turn `start` on. Turn t has entry t modulo the
     /// cycle's length.
     #[inline]
     pub fn turns(&self, start: u64, count: usize) -> &[u8]
@@ -74,7 +74,7 @@ impl Cycle {
     }
 }
 
-/// The turn that comes so many turns after another, as places of a cycle of this length.
+/// The turn `step` turns after `turn`, modulo the cycle's length.
 #[inline(always)]
 fn advance(turn: usize, step: usize, len: usize) -> usize
     requires turn { turn < len }
@@ -86,8 +86,8 @@ fn advance(turn: usize, step: usize, len: usize) -> usize
     if next >= len { next - len } else { next }
 }
 
-/// Places the pages of as many whole vectors as the span has on the nodes of a table in turn.
-/// Answers how many pages these are.
+/// Fills the whole vectors of the span with the nodes of a table in turn, and returns the number of
+/// pages written.
 fn fill_vectors(table: &[u8], len: usize, start: usize, out: &mut [u8]) -> usize
     requires { IsTable len table.now }
     ensures within { result ≤ length out.new }
@@ -104,8 +104,8 @@ fn fill_vectors(table: &[u8], len: usize, start: usize, out: &mut [u8]) -> usize
     whole * WIDE
 }
 
-/// Places the pages of the span on the nodes of the cycle in turn, the first on that of turn
-/// `start`, which is below 2^36. Turn t is that of entry t modulo the cycle's length.
+/// Fills the span with the nodes of the cycle in turn, from turn `start` on, which is below 2^36.
+/// Turn t has entry t modulo the cycle's length.
 pub fn fill_cycle(cycle: &Cycle, start: u64, out: &mut [u8])
     requires { start < 2 ^ 36 }
     ensures { IsCycled cycle.now start out.new }

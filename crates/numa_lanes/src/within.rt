@@ -1,4 +1,4 @@
-//! How many pages of a span are on the nodes of a set.
+//! The number of pages of a span on the nodes of a set.
 ghost use Rattle.std.specs.Prelude.{◌≡◌, ◌*◌, ◌<◌, ◌≤◌, length};
 ghost use Rattle.numa_lanes.specs.Spans.{set_count, IsBetween};
 
@@ -7,7 +7,7 @@ use crate::ends::near_ends;
 use crate::lanes::{LANES, ROUNDS, WORTH};
 use numa_mask::NodeMask;
 
-/// The count in a set, one page after another.
+/// The count in a set, page by page.
 fn count_pages_in(span: &[u8], set: &NodeMask) -> u64
     ensures { result ≡ set_count set.now span.now }
 {
@@ -18,8 +18,8 @@ fn count_pages_in(span: &[u8], set: &NodeMask) -> u64
     total
 }
 
-/// The count in a set, where the pages of a block are all on nodes from `least` to `greatest`: a
-/// pass over the block for each of these that is in the set.
+/// The count in a set of a block whose pages are all on nodes from `least` to `greatest`: one pass
+/// over the block for each of these that is in the set.
 fn count_between_in(block: &[u8], rounds: usize, least: u8, greatest: u8, set: &NodeMask) -> u64
     requires whole { length block.now ≡ 32 * rounds }
     requires rounds_fit { rounds ≤ 255 }
@@ -48,7 +48,7 @@ fn count_block_in(block: &[u8], rounds: usize, set: &NodeMask) -> u64
     }
 }
 
-/// How many pages of a span are on a node of the set.
+/// The number of pages of a span on a node of the set.
 pub fn count_in(nodes: &[u8], set: &NodeMask) -> u64
     ensures { result ≡ set_count set.now nodes.now }
 {

@@ -1,4 +1,4 @@
-//! Whether the description of a machine holds together.
+//! Whether the description of a machine is consistent.
 ghost use Rattle.std.specs.Prelude.{◌≡◌, ◌+◌, ◌*◌, ◌≤◌, ◌<◌, ℕ, length, sum, slice_index};
 ghost use Rattle.numa_machine.specs.Faults.{some_node, has_bad_count, has_bad_memory};
 ghost use Rattle.numa_machine.specs.Faults.{is_bad_distance, has_bad_distance, are_bad_frames};
@@ -20,11 +20,11 @@ const OWN_DISTANCE: u8 = 10;
 /// The most frames of a node.
 const MOST_FRAMES: u32 = 4096;
 
-/// The most frames of all nodes together.
+/// The most frames of all nodes in total.
 const MOST_FRAMES_IN_ALL: u64 = 65536;
 
-/// Whether a number of nodes is none of 1 to 256, or does not fit the table of distances or the
-/// list of frames.
+/// Whether a number of nodes isn't 1 to 256, or doesn't fit the table of distances or the list of
+/// frames.
 fn has_bad_count(nodes: u32, distances: &[u8], frames: &[u32]) -> bool
     ensures { result ≡ has_bad_count nodes distances.now frames.now }
 {
@@ -35,14 +35,14 @@ fn has_bad_count(nodes: u32, distances: &[u8], frames: &[u32]) -> bool
         || frames.len() != nodes_wide
 }
 
-/// Whether a set has a node that is none of the machine's.
+/// Whether a set has a node that the machine lacks.
 fn has_other_node(nodes: u32, set: &NodeMask) -> bool
     ensures { result ≡ has_other_node nodes set.now }
 {
     set.iter().any(|node| nodes <= u32::from(node.number()))
 }
 
-/// Whether no node has memory, or one that is said to have some is none of the machine's.
+/// Whether no node has memory, or the machine lacks a node that is listed as having some.
 #[tactic(auto, unfolding(crate::specs::Faults::has_bad_memory))]
 fn has_bad_memory(nodes: u32, memory: &NodeMask) -> bool
     ensures { result ≡ has_bad_memory nodes memory.now }
@@ -50,7 +50,7 @@ fn has_bad_memory(nodes: u32, memory: &NodeMask) -> bool
     memory.is_empty() || has_other_node(nodes, memory)
 }
 
-/// Whether an entry of the table is not 10 at a node's own place, or below 11 elsewhere.
+/// Whether an entry of the table isn't 10 for a node itself, or is below 11 for another.
 fn is_bad_distance(from: usize, to: usize, far: u8) -> bool
     ensures { result ≡ is_bad_distance from to far }
 {
@@ -111,7 +111,7 @@ fn has_bad_node(memory: &NodeMask, frames: &[u32]) -> bool
     false
 }
 
-/// The frames of all nodes together.
+/// The total frames of all nodes.
 fn frames_in_all(frames: &[u32]) -> u64
     requires { length frames.now ≤ 256 }
     ensures { result ≡ sum frames.now }
@@ -119,7 +119,7 @@ fn frames_in_all(frames: &[u32]) -> u64
     frames.iter().map(|count| u64::from(*count)).sum()
 }
 
-/// Whether some node has too many frames, or all together do.
+/// Whether some node, or all nodes in total, have too many frames.
 #[tactic(auto, unfolding(crate::specs::Faults::has_bad_frames))]
 fn has_bad_frames(nodes: u32, memory: &NodeMask, frames: &[u32]) -> bool
     requires nodes { nodes ≤ 256 }
@@ -129,7 +129,7 @@ fn has_bad_frames(nodes: u32, memory: &NodeMask, frames: &[u32]) -> bool
     has_bad_node(memory, frames) || frames_in_all(frames) > MOST_FRAMES_IN_ALL
 }
 
-/// The first fault of the description of a machine, lack of memory apart.
+/// The first thing wrong with the description of a machine, apart from lack of memory.
 #[tactic(auto, unfolding(crate::specs::Faults::machine_fault))]
 pub(crate) fn fault_of(
     nodes: u32,
@@ -152,7 +152,7 @@ pub(crate) fn fault_of(
     }
 }
 
-/// What is wrong with the orders that a machine of so many nodes is asked to have.
+/// What is wrong with the fallback orders asked of a machine with this many nodes.
 pub(crate) fn fault_of_fallback(nodes: u32, fallback: &Fallback) -> Option<MachineFault>
     ensures { result ≡ fallback_fault nodes fallback.now }
 {

@@ -1,4 +1,4 @@
-//! The orders that go by distance.
+//! Fallback orders by distance.
 ghost use Rattle.std.specs.Prelude.{◌≡◌, ℕ, ◌+◌, ◌*◌, ◌<◌, ◌≤◌, [], All, IfOk, slice_index};
 ghost use Rattle.numa_mask.specs.NodeSet.{members};
 ghost use Rattle.numa_machine.specs.Machine.{all_orders};
@@ -9,7 +9,7 @@ use crate::orders::{NODES, append_order, entry};
 use numa_mask::NodeMask;
 use std::alloc::{AllocError, Global};
 
-/// Writes how far each node is from one.
+/// Writes the distance of each node from one.
 fn fill_distances(costs: &mut [u32; NODES], table: &[u8], nodes: usize, from: usize)
     requires nodes { nodes ≤ 256 }
     requires from { from < nodes }
@@ -21,7 +21,7 @@ fn fill_distances(costs: &mut [u32; NODES], table: &[u8], nodes: usize, from: us
     }
 }
 
-/// The orders of all nodes, one after the other, each with the nearest node first.
+/// The orders of all nodes, concatenated, each with the nearest node first.
 pub(crate) fn distance_orders(
     alloc: Global,
     nodes: u32,

@@ -1,4 +1,4 @@
-//! Whose fallback orders a machine has.
+//! Which fallback orders a machine uses.
 ghost use Rattle.std.specs.Prelude.{◌≡◌, ◌≤◌, ◌<◌, [], All, IfOk};
 ghost use Rattle.numa_mask.specs.NodeSet.{members};
 ghost use Rattle.numa_machine.specs.Machine.{all_orders};
@@ -9,19 +9,19 @@ use crate::kernel_orders::kernel_orders;
 use numa_mask::NodeMask;
 use std::alloc::{AllocError, Global};
 
-/// In which order a node falls back to others when it has no room.
+/// The order in which an allocation falls back to other nodes when a node has no free frame.
 #[derive(Clone, Copy, Debug, PartialEq, Eq)]
 pub enum Fallback {
-    /// The nearest node first, of equally distant ones the lower number.
+    /// The nearest node first; equally distant ones by their number.
     Nearest,
-    /// As Linux 6.1 to 6.12 makes its zone lists, where these nodes have CPUs: by distance, with one
-    /// more to a lower number and one more to a node with CPUs; of equal ones the node first at
-    /// which fewer of the lists made so far turn to another distance, so that not all nodes fall
-    /// back to the same one.
+    /// As Linux 6.1 to 6.12 builds its zone lists if these nodes have CPUs: by distance, with one
+    /// more for a lower number and one more for a node with CPUs. A tie goes to the node at which
+    /// fewer of the lists built so far change to another distance, so that not all nodes fall back
+    /// to the same one.
     Kernel(NodeMask),
 }
 
-/// The orders of all nodes, one after the other.
+/// The orders of all nodes, concatenated.
 pub(crate) fn orders_of(
     alloc: Global,
     nodes: u32,

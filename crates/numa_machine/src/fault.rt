@@ -1,22 +1,20 @@
 //! Why a machine or a weight is refused.
 use std::alloc::AllocError;
 
-/// Why the description of a machine is refused. Of several reasons the first in this order is
-/// given.
+/// Why the description of a machine is refused: the first of these that applies.
 #[derive(Clone, Copy, Debug, PartialEq, Eq)]
 pub enum MachineFault {
-    /// The number of nodes is 0 or above 256, the distances are not nodes times nodes, or the
-    /// frames are not as many as the nodes; or a node that is said to have CPUs is none of the
-    /// machine's.
+    /// The number of nodes is 0 or above 256, the distances aren't nodes times nodes, or the frames
+    /// aren't as many as the nodes; or the machine lacks a node that is listed as having CPUs.
     NodeCount,
-    /// No node has memory, or a node that is said to have memory is none of the machine's.
+    /// No node has memory, or the machine lacks a node that is listed as having memory.
     NoMemoryNode,
-    /// A node is not at distance 10 from itself, or at less than 11 from another node.
+    /// A node's distance to itself isn't 10, or its distance to another is below 11.
     BadDistance,
-    /// A node has more than 4,096 frames, a node without memory has frames, or all nodes have more
-    /// than 65,536.
+    /// A node has more than 4,096 frames, a node without memory has frames, or there are more than
+    /// 65,536 frames in total.
     TooManyFrames,
-    /// The tables found no room.
+    /// Out of memory for the tables.
     NoMemory,
 }
 
@@ -31,10 +29,10 @@ impl From<AllocError> for MachineFault {
     }
 }
 
-/// Why the weight of a node is refused. Of two reasons the first is given.
+/// Why the weight of a node is refused: the first of these that applies.
 #[derive(Clone, Copy, Debug, PartialEq, Eq)]
 pub enum WeightError {
-    /// The node is none of the machine's.
+    /// The machine lacks the node.
     NoSuchNode,
     /// The weight is 0 or above 255.
     BadWeight,

@@ -1,7 +1,6 @@
-//! A frame of memory.
+//! Page frames.
 
-/// A page frame of the machine: the node that has it, and its number among the frames of that node,
-/// from 0.
+/// A page frame: its node, and its number among the frames of that node, from 0.
 #[derive(Clone, Copy, PartialEq, Eq, Debug, Drop)]
 pub struct Frame {
     pub node: u8,

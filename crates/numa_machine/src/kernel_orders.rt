@@ -1,4 +1,4 @@
-//! The orders that a kernel makes.
+//! Fallback orders as a kernel builds them.
 ghost use Rattle.std.specs.Prelude.{◌≡◌, ℕ, ◌+◌, ◌*◌, ◌<◌, ◌≤◌, [], All, IfOk, nat_lt, ◌==◌};
 ghost use Rattle.std.specs.Prelude.{if◌then◌else◌, fold, length, slice_index};
 ghost use Rattle.numa_mask.specs.NodeSet.{has, members};
@@ -13,7 +13,7 @@ use std::alloc::{AllocError, Global};
 /// The distance of a node from itself.
 const OWN_DISTANCE: u8 = 10;
 
-/// What it costs to go to a node that is so far and has this load.
+/// The cost of falling back to a node at distance `far` that has this load.
 fn cost_of_going(far: u8, load: u32, from: usize, to: usize, cpus: &NodeMask) -> u32
     requires load { load ≤ 65536 }
     requires to { to < 256 }
@@ -27,7 +27,7 @@ fn cost_of_going(far: u8, load: u32, from: usize, to: usize, cpus: &NodeMask) ->
     far * 1024 + load
 }
 
-/// Writes what it costs to go from one node to each.
+/// Writes the cost of falling back from one node to each.
 fn fill_costs(
     costs: &mut [u32; NODES],
     table: &[u8],
@@ -48,7 +48,7 @@ fn fill_costs(
     }
 }
 
-/// Counts a node of an order, where it is not as far as the node before.
+/// Adds 1 to the load of a node of an order, if its distance differs from that of the node before.
 fn count_turn(loads: &mut [u32; NODES], node: u8, far: u8, before: u8)
     requires { slice_index loads.old node ≤ 65536 }
     ensures { loads.new ≡ (if far == before then loads.old else one_more_at loads.old node) }
@@ -58,7 +58,7 @@ fn count_turn(loads: &mut [u32; NODES], node: u8, far: u8, before: u8)
     }
 }
 
-/// Counts the turns of an order whose node has the row of the table that begins at `start`.
+/// Adds the turns of an order to the loads; its node's row of the table begins at `start`.
 fn count_turns(loads: &mut [u32; NODES], order: &[u8], table: &[u8], start: usize)
     requires start { start < 65536 }
     requires loads { (node : ℕ) → slice_index loads.old node + length order.now ≤ 65536 }
@@ -73,8 +73,7 @@ fn count_turns(loads: &mut [u32; NODES], order: &[u8], table: &[u8], start: usiz
     }
 }
 
-/// The orders of all nodes, one after the other, as a kernel makes them where these nodes have
-/// CPUs.
+/// The orders of all nodes, concatenated, as a kernel builds them if these nodes have CPUs.
 pub(crate) fn kernel_orders(
     alloc: Global,
     nodes: u32,

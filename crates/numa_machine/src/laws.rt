@@ -1,5 +1,5 @@
-//! Laws about the definitions that the contracts of this crate cite. Each function does nothing:
-//! what it ensures is the law.
+//! Laws about the definitions that the contracts of this crate cite. The functions do nothing: what
+//! each one ensures is a law.
 ghost use Rattle.std.specs.Prelude.{◌≡◌, ◌==◌, ℕ, ◌%◌, ◌<◌, List, Contains, None, count_by, length};
 ghost use Rattle.std.specs.Prelude.{slice_index};
 ghost use Rattle.std.specs.List.{list_any, range_with_len};
@@ -12,8 +12,8 @@ ghost use Rattle.numa_machine.specs.declared.fallback.Fallback.TheVariants as Fa
 ghost use Rattle.numa_machine.specs.Weights.{interleave_node, IsInterleaveNode, total_weight};
 ghost use Rattle.numa_machine.specs.Weights.{weighted_node, IsWeightedNode, cycle};
 
-/// The distance order of a node has each node with memory once, of each two the nearer one earlier,
-/// and it is the only list that does.
+/// The distance order of a node is the only list that has each node with memory once, and of any
+/// two the nearer one first.
 pub fn distance_orders()
     ensures is_one { (hardware : Hardware) (from : ℕ) →
         IsDistanceOrder hardware from (distance_order hardware from) }
@@ -21,9 +21,9 @@ pub fn distance_orders()
         → IsDistanceOrder hardware from order → order ≡ distance_order hardware from }
 {}
 
-/// The order in which a node falls back has each node with memory once, of each two the one that
-/// costs less earlier, at one cost the lower number, and it is the only list that does. It is the
-/// distance order, or the list that a kernel makes, as the machine says.
+/// A node's fallback order is the only list that has each node with memory once, and of any two the
+/// one that costs less first, at equal cost the lower number. It is the distance order, or the list
+/// that a kernel builds, as the machine says.
 pub fn fallback_orders()
     ensures is_one { (hardware : Hardware) (from : ℕ) →
         IsFallbackOrder hardware from (fallback_order hardware from) }
@@ -36,8 +36,8 @@ pub fn fallback_orders()
         → fallback_order hardware from ≡ kernel_order hardware cpus from }
 {}
 
-/// The list that a kernel makes for a node with memory begins with it. The load of a node, when the
-/// list of another is made, is how many lists of lower nodes have a turn at it.
+/// The list that a kernel builds for a node with memory begins with that node. The load of a node,
+/// when the list of another is built, is the number of lists of lower nodes that have a turn at it.
 pub fn kernel_orders()
     ensures itself_first { (hardware : Hardware) (cpus from : ℕ) → hardware_fault hardware ≡ None
         → from < hardware.nodes → Contains (members hardware.memory) from
@@ -49,8 +49,8 @@ pub fn kernel_orders()
         (range_with_len 0 from) }
 {}
 
-/// The node that interleave chooses from a set that is not empty is the member with as many smaller
-/// members as the index is modulo their number, and no other node is.
+/// The node that interleave chooses from a set that isn't empty is the member whose number of
+/// smaller members is the index modulo the weight of the set, and no other node is.
 pub fn interleave_nodes()
     ensures is_one { (set index : ℕ) → 0 < weight_of set →
         IsInterleaveNode set index (interleave_node set index) }
@@ -58,9 +58,9 @@ pub fn interleave_nodes()
         → IsInterleaveNode set index node → node ≡ interleave_node set index }
 {}
 
-/// The node that weighted interleave chooses, where the weights are not all 0, is the member whose
+/// The node that weighted interleave chooses, if the weights aren't all 0, is the member whose
 /// block has the index modulo the total weight, and no other node is. The blocks written out are as
-/// long as the total weight and have it at that place.
+/// long as the total weight, and have that node at that place.
 pub fn weighted_nodes()
     ensures is_one { (weight : ℕ → ℕ) (set index : ℕ)
         → 0 < total_weight weight set →

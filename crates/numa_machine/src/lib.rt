@@ -1,5 +1,5 @@
 //! The machine on which memory is placed: its nodes, the distances between them, their frames, and
-//! the weights by which nodes take turns. Want of memory, as the crates above answer it, stands
+//! the weights by which nodes take turns. `NoMemory`, which the crates above return, is defined
 //! here too.
 #![tactic(auto)]
 

@@ -18,15 +18,14 @@ use std::marker::Model;
 
 /// A machine of 1 to 256 nodes, some of which have memory. The distances between nodes are those of
 /// ACPI's System Locality Information Table, which `numactl --hardware` prints: 10 from a node to
-/// itself and more to another, not always the same both ways. 255 is a distance like the others.
+/// itself and more to another, and not always the same both ways. 255 is a distance like any other.
 #[derive(Debug, Drop)]
 pub struct Machine {
     nodes: u32,
     memory: NodeMask,
     distances: Vec<u8>,
     frames: Vec<u32>,
-    /// The orders of nodes 0, 1, .., one after the other, each as long as there are nodes with
-    /// memory.
+    /// The orders of nodes 0, 1, .., concatenated; each has every node with memory.
     orders: Vec<u8>,
     rules: Rules,
     fallback: Fallback,
@@ -59,11 +58,14 @@ impl Model for Machine {
 }
 
 impl Machine {
-    /// The machine with this many nodes, these of them with memory, these distances between them
-    /// (row by row, the row of a node before that of the next) and this many frames of 4,096 bytes
-    /// for each node. It follows the rules of the documents, and each node falls back to the nearest
-    /// first. Refusals, the first that applies: `NodeCount`, `NoMemoryNode`, `BadDistance`,
-    /// `TooManyFrames`, `NoMemory`.
+    /// A machine with `nodes` nodes. `memory` has the nodes with memory, `distances` the distance
+    /// from each node to each, row by row, and `frames` each node's number of page frames of 4,096
+    /// bytes. The machine follows the rules of the documents, and each node falls back to the
+    /// nearest first.
+    ///
+    /// # Errors
+    /// The first of these that applies: `NodeCount`, `NoMemoryNode`, `BadDistance`,
+    /// `TooManyFrames`, as [`MachineFault`] says; `NoMemory`, there is no memory for the tables.
     pub fn new(
         alloc: Global,
         nodes: u32,
@@ -102,7 +104,7 @@ impl Machine {
         })
     }
 
-    /// The machine with these rules in the place of those that it has.
+    /// The machine with these rules instead of its own.
     pub fn with_rules(self, rules: Rules) -> Machine
         ensures { result ≡ record self { rules = rules } }
     {
@@ -117,11 +119,11 @@ impl Machine {
         }
     }
 
-    /// The machine with these orders in the place of those that it has.
+    /// The machine with these fallback orders instead of its own.
     ///
     /// # Errors
-    /// `NodeCount` where a node that is said to have CPUs is none of the machine's, else `NoMemory`
-    /// where there is none for the orders.
+    /// `NodeCount`: the machine lacks a node that is listed as having CPUs; else `NoMemory`: there
+    /// is no memory for the orders.
     pub fn with_fallback(self, alloc: Global, fallback: Fallback) -> Result<Machine, MachineFault>
         ensures ok { IfOk result (λ machine. (fallback_fault self.nodes fallback ≡ None)
             × (machine ≡ record self { fallback = fallback })) }
@@ -143,10 +145,10 @@ impl Machine {
         })
     }
 
-    /// The same machine once more.
+    /// Returns a copy.
     ///
     /// # Errors
-    /// `NoMemory` where there is none for its distances, its frames and its orders.
+    /// `NoMemory`: there is no memory for the copy's distances, frames and orders.
     pub fn copy(&self, alloc: Global) -> Result<Machine, NoMemory>
         ensures { IfOk result (λ copy. copy ≡ self.now) }
     {
@@ -164,14 +166,15 @@ impl Machine {
         })
     }
 
-    /// Whose rules count on the machine: those of the documents, until `with_rules` gives others.
+    /// Whose rules the machine follows: those of the documents, unless `with_rules` chose others.
     pub fn rules(&self) -> Rules
         ensures { result ≡ self.now.rules }
     {
         self.rules
     }
 
-    /// Whose orders the machine has: the nearest first, until `with_fallback` gives others.
+    /// Which fallback orders the machine uses: the nearest first, unless `with_fallback` chose
+    /// others.
     pub fn fallback(&self) -> Fallback
         ensures fallback { result ≡ self.now.fallback }
         ensures no_fault { fallback_fault self.now.nodes result ≡ None }
@@ -179,7 +182,7 @@ impl Machine {
         self.fallback
     }
 
-    /// How many nodes the machine has: they are numbered from 0.
+    /// The number of nodes, which are numbered from 0.
     pub fn nodes(&self) -> u32
         ensures nodes { result ≡ self.now.nodes }
         ensures at_least { 1 ≤ result }
@@ -198,7 +201,7 @@ impl Machine {
         self.memory
     }
 
-    /// How far it is from one node to another.
+    /// The distance from one node to another, as in the table: 10 for a node itself.
     pub fn distance(&self, from: u32, to: u32) -> u8
         requires from { from < self.now.nodes }
         requires to { to < self.now.nodes }
@@ -210,8 +213,8 @@ impl Machine {
         )
     }
 
-    /// How many frames of 4,096 bytes a node has: none where it has no memory, none past the last
-    /// node.
+    /// The number of page frames of a node, of 4,096 bytes each: 0 for a node without memory, and
+    /// past the last node.
     pub fn frames(&self, node: u32) -> u32
         ensures frames { result ≡ frames_of self.now node }
         ensures at_most { result ≤ 4096 }
@@ -221,9 +224,9 @@ impl Machine {
     }
 
     /// All nodes with memory in the order in which an allocation on a node falls back to them: the
-    /// nearest first, equally distant ones by their number, or as a kernel has them
-    /// (`with_fallback`). "NUMA Memory Policy" has the kernel search other nodes in order of
-    /// increasing distance.
+    /// nearest first, equally distant ones by their number, or as a kernel orders them
+    /// (`with_fallback`). "NUMA Memory Policy" says that the kernel searches other nodes in order
+    /// of increasing distance.
     pub fn order(&self, node: u32) -> &[u8]
         requires { node < self.now.nodes }
         ensures order { result.now ≡ fallback_order self.now node }

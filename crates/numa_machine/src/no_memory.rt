@@ -1,8 +1,7 @@
-//! Want of memory.
+//! The error that says that memory ran out.
 use std::alloc::{AllocError, AllocFailed};
 
-/// A growth was refused: there was no memory for it. Each call that answers this says what it
-/// wanted memory for.
+/// Out of memory. Each call that returns this says what it needed memory for.
 #[derive(Clone, Copy, PartialEq, Eq, Debug, Drop)]
 pub struct NoMemory;
 

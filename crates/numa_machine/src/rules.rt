@@ -2,7 +2,7 @@
 ghost use Rattle.std.specs.Prelude.{◌≡◌};
 ghost use Rattle.numa_machine.specs.Rules.{is_linux};
 
-/// Whose rules count where Linux's documents and its kernel differ (docs/KERNEL.md).
+/// Whose rules apply where Linux's documents and its kernel differ (docs/KERNEL.md).
 #[derive(Clone, Copy, Debug, PartialEq, Eq)]
 pub enum Rules {
     /// Those of the documents: the manual pages and the kernel's administration guide.
@@ -12,7 +12,7 @@ pub enum Rules {
 }
 
 impl Rules {
-    /// Whether those of the running kernel count.
+    /// Whether these are the rules of the running kernel.
     pub fn is_linux(self) -> bool
         ensures { result ≡ is_linux self }
     {

@@ -8,14 +8,14 @@ use numa_mask::NodeMask;
 use std::alloc::{AllocError, Global};
 use std::marker::Model;
 
-/// How many nodes can have a weight.
+/// The number of nodes that can have a weight.
 const NODES: usize = 256;
 
 /// The greatest weight of a node.
 const GREATEST_WEIGHT: u32 = 255;
 
-/// The weight of each node, from 1 to 255. A node of weight 3 takes three turns where one of weight
-/// 1 takes one, as in the weighted interleave of set_mempolicy(2) and the kernel's
+/// The weight of each node, from 1 to 255. A node of weight 3 takes three turns for each turn of a
+/// node of weight 1, as in the weighted interleave of set_mempolicy(2) and the kernel's
 /// `/sys/kernel/mm/mempolicy/weighted_interleave`.
 #[derive(Clone, Copy, Debug)]
 pub struct Weights {
@@ -35,7 +35,7 @@ impl Model for Weights {
     ghost invariant = { λ w. AreWeights w.nodes w.weights };
 }
 
-/// Appends a node as often as its weight says.
+/// Appends a node as many times as its weight.
 fn push_turns(cycle: &mut Vec<u8>, node: u8, weight: u8) -> Result<(), AllocError>
     ensures { OnOk result (cycle.new.items ≡ cycle.old.items ++ replicate weight node) }
 {
@@ -47,8 +47,7 @@ impl Weights {
     ghost use Rattle.numa_machine.specs.Weights.{weight_at, weight_fault, total_weight};
     ghost use Rattle.numa_machine.specs.Weights.{weighted_node, cycle};
 
-    /// Weight 1 for each node of a machine. A machine has at most 256 nodes: of a greater number
-    /// 256 count.
+    /// Weight 1 for each node of a machine with `nodes` nodes; above 256, for 256 nodes.
     pub fn new(nodes: u32) -> Weights
         ensures nodes { result.nodes ≡ min nodes 256 }
         ensures weights { (node : ℕ) → weight_at result node ≡ 1 }
@@ -59,8 +58,11 @@ impl Weights {
         }
     }
 
-    /// Sets the weight of a node. Refusals, the first that applies: `NoSuchNode` for a node that
-    /// the machine lacks, `BadWeight` for a weight of 0 or above 255. A refusal changes nothing.
+    /// Sets the weight of a node.
+    ///
+    /// # Errors
+    /// The first of these that applies: `NoSuchNode`, the machine lacks the node; `BadWeight`, the
+    /// weight is 0 or above 255. Then nothing has changed.
     pub fn set(&mut self, node: u32, weight: u32) -> Result<(), WeightError>
         ensures fault { result_err result ≡ weight_fault self.old.nodes node weight }
         ensures nodes { self.new.nodes ≡ self.old.nodes }
@@ -78,7 +80,7 @@ impl Weights {
         Ok(())
     }
 
-    /// The weight of a node: 1 until another is set.
+    /// The weight of a node: 1 unless another was set.
     pub fn get(&self, node: u32) -> u32
         requires { node < 256 }
         ensures weight { result ≡ weight_at self.now node }
@@ -88,8 +90,11 @@ impl Weights {
         u32::from(self.weights[node as usize])
     }
 
-    /// The members of a set in rising order, each as often as its weight: the turns of weighted
-    /// interleave written out.
+    /// The members of a set in ascending order, each as many times as its weight: one cycle of
+    /// weighted interleave.
+    ///
+    /// # Errors
+    /// `AllocError`: there is no memory for the cycle.
     pub fn cycle_of(&self, alloc: Global, set: &NodeMask) -> Result<Vec<u8>, AllocError>
         ensures cycle { IfOk result (λ turns. turns.items ≡ cycle (weight_at self.now) set.now) }
         ensures length { IfOk result (λ turns. vec_len turns

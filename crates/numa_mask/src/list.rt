@@ -11,10 +11,10 @@ use crate::mask::NodeMask;
 use crate::node::NodeId;
 use crate::parts::{Parts, first_place};
 
-/// Why a text is no list of nodes.
+/// Why a text isn't a list of nodes.
 #[derive(Clone, Copy, Debug, PartialEq, Eq, Drop)]
 pub enum ListFault {
-    /// An item without a byte, as in the empty text.
+    /// An empty item, as in the empty text.
     Empty,
     /// An item that is neither `a` nor `a-b` with numbers of 1 to 4 decimal digits.
     BadDigit,
@@ -32,7 +32,7 @@ fn digit(byte: u8) -> Option<u32>
     char::from(byte).to_digit(10)
 }
 
-/// The number that 1 to 4 decimal digits write.
+/// The value of 1 to 4 decimal digits.
 fn numeral(digits: &[u8]) -> Option<u32>
     ensures { result ≡ numeral_of digits.now }
 {
@@ -46,7 +46,7 @@ fn numeral(digits: &[u8]) -> Option<u32>
     Some(value)
 }
 
-/// The two ends of an item `a-b`, or twice the number of an item `a`.
+/// The two ends of an item `a-b`; of an item `a` both are its number.
 fn ends(item: &[u8]) -> Option<(u32, u32)>
     ensures { result ≡ ends_of item.now }
 {
@@ -63,7 +63,7 @@ fn ends(item: &[u8]) -> Option<(u32, u32)>
     }
 }
 
-/// The first and the last node of an item, or its first fault.
+/// The first and the last node of an item, or what is wrong with it first.
 fn read_item(item: &[u8]) -> Result<(u8, u8), ListFault>
     ensures { result ≡ item_of item.now }
 {
@@ -82,7 +82,7 @@ fn read_item(item: &[u8]) -> Result<(u8, u8), ListFault>
     Ok((first as u8, last as u8))
 }
 
-/// Adds the nodes from the first to the last.
+/// Adds the nodes from `first` to `last`, both included.
 fn insert_between(set: &mut NodeMask, first: u8, last: u8)
     ensures { set.new ≡ fold with_node set.old (nodes_between first last) }
 {
@@ -94,8 +94,9 @@ fn insert_between(set: &mut NodeMask, first: u8, last: u8)
 /// Reads a list of nodes: items separated by commas, each of them `a` or `a-b`, where a and b are
 /// numbers of 1 to 4 decimal digits. Items may overlap and come in any order.
 ///
-/// Items are judged from the left, and the first faulty one decides. Inside an item the faults come
-/// in this order: `Empty`, `BadDigit`, `BackRange`, `NodeTooHigh`.
+/// # Errors
+/// The first cause of the first bad item, from the left: `Empty`, an item has no byte; `BadDigit`,
+/// it is neither `a` nor `a-b`; `BackRange`, a is above b; `NodeTooHigh`, a number is above 255.
 pub fn read_list(text: &[u8]) -> Result<NodeMask, ListFault>
     ensures { result ≡ list_of text.now }
 {

@@ -1,24 +1,23 @@
-//! Sets of nodes, with the operations of the Linux kernel's bitmaps (lib/bitmap.c) that its memory
-//! policies are made of.
+//! Sets of nodes, with those operations of the Linux kernel's bitmaps (lib/bitmap.c) that its
+//! memory policies use.
 //!
-//! A set has up to 256 members, the nodes 0 to 255. A contract sees it as one number whose bit n is
-//! 1 where node n is a member; the code keeps that number as four words of 64 bits, the lowest
-//! first. The n-th member of a set is the one with exactly n smaller members, counted from 0; its
-//! ordinal is n. The weight is the number of members.
+//! A set has up to 256 members, the nodes 0 to 255. Contracts see it as one number whose bit n is 1
+//! if node n is a member; the code keeps that number as four words of 64 bits, the lowest first.
+//! The n-th member of a set is the one with exactly n smaller members, counted from 0; its ordinal
+//! is n. The weight is the number of members.
 //!
-//! Three operations map the members of a set, one by one, and give the set of all images:
+//! Three operations map each member of a set to a node, and return the set of these nodes:
 //!
 //! - `fold` by a size: "for each bit oldbit in @orig, set bit oldbit mod @sz in @dst" (comment on
-//!   bitmap_fold). It makes a mask of any width fit the first `size` nodes.
-//! - `onto` another set: member n goes to the n-th member of the other set, and nowhere where the
-//!   other set has no n-th member (comment on bitmap_onto). It reads a mask as one relative to
-//!   another set.
+//!   bitmap_fold). It folds a mask of any width onto the first `size` nodes.
+//! - `onto` another set: member n goes to the n-th member of the other set, and is dropped if there
+//!   is none (comment on bitmap_onto). It reads a mask relative to another set.
 //! - `remap` from an old set to a new one: the n-th member of the old set goes to the member of the
 //!   new set with ordinal n modulo the new weight; "the positions of unset bits in @old are mapped
-//!   to themselves", and all are where the new set is empty (comment on bitmap_remap). It carries a
-//!   policy over to another set of allowed nodes.
+//!   to themselves", and so is every bit if the new set is empty (comment on bitmap_remap). It
+//!   moves a policy to another set of allowed nodes.
 //!
-//! No call takes memory.
+//! No call allocates.
 ghost use Rattle.std.specs.Prelude.{count_ones, ◌≡◌, ◌≢◌, ◌==◌, ◌+◌, ◌-◌, ◌<◌, ◌≤◌};
 ghost use Rattle.std.specs.Prelude.{◌^◌, ◌↔◌, ℕ, true, false, IsTrue, IsSome, IfSome, List};
 ghost use Rattle.std.specs.Prelude.{[], length, nat_lt, Some, None, if◌then◌else◌};
@@ -36,7 +35,7 @@ use crate::ranked::Ranked;
 use std::hash::{Hash, Hasher};
 use std::marker::Model;
 
-/// A set of nodes from 0 to 255. Two sets are equal where they have the same members.
+/// A set of nodes from 0 to 255. Two sets are equal if they have the same members.
 #[derive(Clone, Copy, Debug)]
 pub struct NodeMask {
     words: [u64; 4],
@@ -83,7 +82,7 @@ impl Hash for NodeMask {
     }
 }
 
-/// How many bits of a few words are 1.
+/// The number of 1 bits in a few words.
 fn ones_of(words: &[u64]) -> u32
     requires { length words.now ≤ 4 }
     ensures { result ≡ sum_by count_ones words.now }
@@ -92,22 +91,22 @@ fn ones_of(words: &[u64]) -> u32
 }
 
 impl NodeMask {
-    /// The set without nodes.
+    /// The empty set.
     pub fn empty() -> NodeMask
         ensures { result ≡ 0 }
     {
         NodeMask { words: [0; 4] }
     }
 
-    /// The set of four words: node n is a member where bit n % 64 of word n / 64 is 1. Each four
-    /// words are a set.
+    /// The set that four words describe: node n is a member if bit n % 64 of word n / 64 is 1. Any
+    /// four words describe a set.
     pub fn from_words(words: [u64; 4]) -> NodeMask
         ensures { result ≡ number_of words }
     {
         NodeMask { words }
     }
 
-    /// The four words of the set: bit n % 64 of word n / 64 is 1 where node n is a member.
+    /// The four words of the set: bit n % 64 of word n / 64 is 1 if node n is a member.
     pub fn words(&self) -> [u64; 4]
         ensures words { number_of result ≡ self.now }
         ensures four { AreFour result }
@@ -123,7 +122,7 @@ impl NodeMask {
         self.words[number as usize / 64] |= 1u64 << (number % 64);
     }
 
-    /// Takes a node away, where it is a member.
+    /// Removes a node, if it is a member.
     pub(crate) fn remove(&mut self, node: NodeId)
         ensures gone { has self.new node ≡ false }
         ensures others { (other : ℕ) → other ≢ node → has self.new other ≡ has self.old other }
@@ -140,14 +139,14 @@ impl NodeMask {
         (self.words[number as usize / 64] >> (number % 64)) & 1 == 1
     }
 
-    /// Whether the node of this number is a member. Every byte is the number of a node.
+    /// Whether node `number` is a member. Every byte is the number of a node.
     pub fn has(&self, number: u8) -> bool
         ensures { result ≡ has self.now number }
     {
         self.contains(NodeId::of(number))
     }
 
-    /// The nodes that both sets have.
+    /// The intersection of the two sets.
     pub fn and(&self, other: &NodeMask) -> NodeMask
         ensures { result ≡ both self.now other.now }
     {
@@ -161,7 +160,7 @@ impl NodeMask {
         }
     }
 
-    /// How many members there are, at most 256. It is 0 for the empty set alone.
+    /// The number of members, at most 256.
     pub fn weight(&self) -> u32
         ensures weight { result ≡ weight_of self.now }
         ensures some { self.now ≢ 0 → 0 < result }
@@ -178,7 +177,7 @@ impl NodeMask {
         self.first().is_none()
     }
 
-    /// The lowest member, `None` for the empty set alone.
+    /// The lowest member, or `None` if the set is empty.
     pub fn first(&self) -> Option<NodeId>
         ensures first { result ≡ nth_member self.now 0 }
         ensures some { IsSome result ↔ (self.now ≢ 0) }
@@ -194,8 +193,8 @@ impl NodeMask {
         None
     }
 
-    /// The k-th member, counted from 0: the one with exactly k smaller members. `None` where there
-    /// are at most k.
+    /// The k-th member, counted from 0: the one with exactly k smaller members. `None` if there are
+    /// no more than k members.
     pub fn nth(&self, k: u32) -> Option<NodeId>
         ensures nth { result ≡ nth_member self.now k }
         ensures some { IsSome result ↔ (k < weight_of self.now) }
@@ -205,7 +204,7 @@ impl NodeMask {
         self.iter().nth(k as usize)
     }
 
-    /// How many members are smaller than this node, where it is a member itself; else `None`.
+    /// The number of members below this node, if it is a member itself; else `None`.
     pub fn ordinal(&self, node: NodeId) -> Option<u32>
         ensures ordinal { result ≡ if has self.now node
             then Some (ordinal_of self.now node) else None }
@@ -219,7 +218,7 @@ impl NodeMask {
         }
     }
 
-    /// How many members are smaller than this node.
+    /// The number of members below this node.
     fn count_below(&self, node: NodeId) -> u32
         ensures ordinal { result ≡ ordinal_of self.now node }
         ensures node { node < 256 }
@@ -230,7 +229,7 @@ impl NodeMask {
         ones_of(&self.words[..place]) + below.count_ones()
     }
 
-    /// The set of each member modulo the size (the kernel's bitmap_fold). The size is at least 1.
+    /// Each member modulo `size`, which is at least 1 (the kernel's bitmap_fold).
     pub fn fold(&self, size: u32) -> NodeMask
         requires { 1 ≤ size }
         ensures { result ≡ fold_set self.now size }
@@ -242,9 +241,8 @@ impl NodeMask {
         set
     }
 
-    /// The set of the n-th member of the other set for each member n (the kernel's bitmap_onto,
-    /// with the other set as its @relmap). A member at or above the other set's weight has no
-    /// image.
+    /// For each member n, the n-th member of the other set (the kernel's bitmap_onto, with the
+    /// other set as its @relmap). A member n at or above the other set's weight is dropped.
     pub fn onto(&self, other: &NodeMask) -> NodeMask
         ensures { result ≡ onto_set self.now other.now }
     {
@@ -259,9 +257,9 @@ impl NodeMask {
         set
     }
 
-    /// The set in which each member that is the n-th of `old` has become the member of `new` with
-    /// ordinal n modulo the weight of `new` (the kernel's bitmap_remap). A member outside `old`
-    /// stays, and so does each where `new` is empty.
+    /// For each member that is the n-th of `old`, the member of `new` with ordinal n modulo the
+    /// weight of `new` (the kernel's bitmap_remap). A member outside `old` stays, and so does each
+    /// if `new` is empty.
     pub fn remap(&self, old: &NodeMask, new: &NodeMask) -> NodeMask
         ensures { result ≡ remap_set self.now old.now new.now }
     {
@@ -273,7 +271,7 @@ impl NodeMask {
         set
     }
 
-    /// The members, rising, each once.
+    /// The members in ascending order.
     pub fn iter(&self) -> Nodes
         ensures members { result ≡ self.now }
         ensures within { self.now < 2 ^ 256 }

@@ -1,4 +1,4 @@
-//! The members of a set, one after another.
+//! Iteration over the members of a set.
 ghost use Rattle.std.specs.Prelude.{◌≡◌, ℕ};
 ghost use Rattle.numa_mask.specs.NodeSet.{members};
 ghost use Rattle.std.specs.Iterator.{YieldsFirst, item_count};
@@ -7,7 +7,7 @@ use crate::mask::NodeMask;
 use crate::node::NodeId;
 use std::marker::Model;
 
-/// The members of a set that are left, rising.
+/// An iterator over the members of a set, in ascending order.
 #[derive(Drop)]
 pub struct Nodes {
     rest: NodeMask,

@@ -1,12 +1,12 @@
-//! The parts of a text, which single bytes part.
+//! The parts of a text between separators of one byte.
 ghost use Rattle.std.specs.Prelude.{◌≡◌, ℕ, ◌==◌, [], ◌∷◌, List, MatchOption, position};
 ghost use Rattle.std.specs.Iterator.{YieldsFirstRef, item_count};
 ghost use Rattle.numa_mask.specs.Parts.{parts_of};
 
 use std::marker::Model;
 
-/// Where the byte comes first. The loop stays a function of its own: where it is part of a larger
-/// one, what that one keeps is written anew for each byte.
+/// The first position of a byte. This loop stays a separate function: inside a larger loop the
+/// compiler would store that loop's variables again for each byte.
 #[inline(never)]
 pub fn first_place(text: &[u8], byte: u8) -> Option<usize>
     ensures { result ≡ position (λ b. b == byte) text.now }
@@ -14,7 +14,7 @@ pub fn first_place(text: &[u8], byte: u8) -> Option<usize>
     text.iter().position(|other| *other == byte)
 }
 
-/// What stands before the first separator, and what stands after it.
+/// The text before the first separator, and the text after it.
 #[tactic(auto, using(crate::proofs::Splits::cut_at, crate::proofs::Splits::cut_nowhere))]
 fn cut(text: &[u8], separator: u8) -> Option<(&[u8], &[u8])>
     ensures { MatchOption result (parts_of separator text.now ≡ text.now ∷ [])
@@ -24,7 +24,7 @@ fn cut(text: &[u8], separator: u8) -> Option<(&[u8], &[u8])>
     Some((&text[..end], &text[end + 1..]))
 }
 
-/// The parts that are left of a text, from the front.
+/// An iterator over the parts of a text, from the front.
 #[derive(Drop)]
 pub struct Parts<'a> {
     rest: &'a [u8],
@@ -42,8 +42,8 @@ impl<'a> Model for Parts<'a> {
 }
 
 impl<'a> Parts<'a> {
-    /// The parts of a text between separators. There is always one: the text, where it has no
-    /// separator.
+    /// The parts of a text between separators. There is at least one: a text without a separator is
+    /// one part.
     pub fn new(text: &'a [u8], separator: u8) -> Parts<'a>
         ensures { result ≡ parts_of separator text.now }
     {
@@ -54,7 +54,7 @@ impl<'a> Parts<'a> {
         }
     }
 
-    /// The one part that is left, where just one is.
+    /// The remaining part, if exactly one remains.
     pub fn only(mut self) -> Option<&'a [u8]>
         ensures { MatchOption result
             ((part : List ℕ) → self.entry ≡ (part ∷ []) → ⊥)

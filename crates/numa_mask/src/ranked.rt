@@ -1,4 +1,4 @@
-//! A set whose n-th member is one look-up.
+//! A set whose n-th member is found by one look-up.
 ghost use Rattle.std.specs.Prelude.{◌≡◌, ◌≢◌, ◌==◌, ◌<◌, ℕ};
 ghost use Rattle.numa_mask.specs.NodeSet.{weight_of, nth_member};
 
@@ -7,8 +7,8 @@ use crate::node::NodeId;
 use arrayvec::ArrayVec;
 use std::marker::Model;
 
-/// A set with the numbers of its members in a row, rising, so that `nth` needs no walk. Seen as the
-/// set, as a `NodeMask` is.
+/// A set with the numbers of its members in an ascending array, so that `nth` is a look-up.
+/// Contracts see the set, as of a `NodeMask`.
 #[derive(Drop)]
 pub(crate) struct Ranked {
     nodes: ArrayVec<u8, 256>,
@@ -44,7 +44,7 @@ impl Ranked {
         self.nodes.is_empty()
     }
 
-    /// How many members there are.
+    /// The number of members.
     pub(crate) fn weight(&self) -> u32
         ensures weight { result ≡ weight_of self.now }
         ensures some { self.now ≢ 0 → 0 < result }
@@ -52,7 +52,7 @@ impl Ranked {
         self.nodes.len() as u32
     }
 
-    /// The member with k smaller ones.
+    /// The member with k smaller members.
     pub(crate) fn nth(&self, k: u32) -> Option<NodeId>
         ensures { result ≡ nth_member self.now k }
     {

@@ -49,7 +49,7 @@ fn push_run(text: &mut ArrayString<1024>, first: NodeId, last: NodeId)
     }
 }
 
-/// Appends a run, after a comma where it isn't the first.
+/// Appends a run, after a comma unless it is the first.
 fn push_next(text: &mut ArrayString<1024>, first: NodeId, last: NodeId)
     requires { array_string_len text.old + 1 + length (run_text first last) ≤ 1024 }
     ensures { text.new.bytes ≡ with_part text.old.bytes (run_text first last) }
@@ -60,9 +60,9 @@ fn push_next(text: &mut ArrayString<1024>, first: NodeId, last: NodeId)
     push_run(text, first, last);
 }
 
-/// Writes a set as a list: its maximal runs of nodes, rising, separated by commas. A run of one
-/// node is written as `a`, a longer one as `a-b`. The text of the empty set is empty; that of any
-/// other set is read back by `read_list`.
+/// Writes a set as a list: its maximal runs of nodes in ascending order, separated by commas. A run
+/// of one node is written as `a`, a longer one as `a-b`. The text of the empty set is empty; that
+/// of any other set is read back by `read_list`.
 pub fn list_text(set: &NodeMask) -> ArrayString<1024>
     ensures text { result.bytes ≡ text_of set.now }
     ensures reads_back { set.now ≢ 0 → list_of result.bytes ≡ Ok set.now }

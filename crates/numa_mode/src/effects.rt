@@ -1,4 +1,4 @@
-//! The effective set of a policy that is set.
+//! The effective set of a policy.
 ghost use Rattle.std.specs.Prelude.{◌≡◌, ◌≢◌, ◌<◌, false, true};
 ghost use Rattle.numa_mask.specs.NodeSet.{weight_of};
 ghost use Rattle.numa_mode.specs.Policy.{lowest, kept_nodes, given_nodes, effect_when_set};
@@ -11,8 +11,7 @@ use crate::specification::PolicySpec;
 use numa_machine::Rules;
 use numa_mask::NodeMask;
 
-/// The nodes that a policy has once it is set where these nodes are allowed, of which there are
-/// `size`.
+/// The effective set of a policy that is set while these `size` nodes are allowed.
 pub(crate) fn effect(spec: &PolicySpec, allowed: &NodeMask, size: u32) -> NodeMask
     requires size { size ≡ weight_of allowed.now }
     requires some { 0 < size }
@@ -22,7 +21,7 @@ pub(crate) fn effect(spec: &PolicySpec, allowed: &NodeMask, size: u32) -> NodeMa
     kept_by(spec.mode(), given(spec.flag(), &spec.mask(), allowed, size))
 }
 
-/// The nodes that a flag gives to a mask.
+/// The nodes of a mask, as its flag has them read.
 fn given(flag: NodeFlag, mask: &NodeMask, allowed: &NodeMask, size: u32) -> NodeMask
     requires size { size ≡ weight_of allowed.now }
     requires some { 0 < size }
@@ -35,7 +34,7 @@ fn given(flag: NodeFlag, mask: &NodeMask, allowed: &NodeMask, size: u32) -> Node
     }
 }
 
-/// What a mode keeps of the nodes that it is given.
+/// The part of these nodes that a mode keeps.
 fn kept_by(mode: Mode, set: NodeMask) -> NodeMask
     ensures kept { result ≡ kept_nodes mode set }
     ensures within { IsWithin result set }
@@ -47,7 +46,7 @@ fn kept_by(mode: Mode, set: NodeMask) -> NodeMask
     }
 }
 
-/// The lowest member alone.
+/// The set of the lowest member.
 fn lowest_of(set: &NodeMask) -> NodeMask
     ensures lowest { result ≡ lowest set.now }
     ensures within { IsWithin result set.now }
@@ -59,8 +58,7 @@ fn lowest_of(set: &NodeMask) -> NodeMask
     alone
 }
 
-/// The effective set once the allowed nodes have changed from `old` to `new`, of which there are
-/// `size`.
+/// The effective set after the allowed nodes have changed from `old` to the `size` nodes of `new`.
 pub(crate) fn effect_after(
     rules: Rules,
     spec: &PolicySpec,
@@ -80,7 +78,7 @@ pub(crate) fn effect_after(
     never_empty(rules, moved, new)
 }
 
-/// The nodes of a policy that follows the allowed nodes, as its flag has it.
+/// The new nodes of a policy that follows the allowed nodes in the way of its flag.
 fn moved(spec: &PolicySpec, set: &NodeMask, old: &NodeMask, new: &NodeMask, size: u32) -> NodeMask
     requires size { size ≡ weight_of new.now }
     requires some { 0 < size }
@@ -92,7 +90,7 @@ fn moved(spec: &PolicySpec, set: &NodeMask, old: &NodeMask, new: &NodeMask, size
     }
 }
 
-/// Whether a policy's nodes stay as they were set.
+/// Whether a policy keeps the nodes with which it was set.
 fn stays(rules: Rules, mode: Mode) -> bool
     ensures { result ≡ stays rules mode }
 {
@@ -105,7 +103,7 @@ fn stays(rules: Rules, mode: Mode) -> bool
     }
 }
 
-/// The nodes, or, by the rules of the kernel, all that are allowed where there are none.
+/// The nodes, or, by the kernel's rules, all allowed nodes if there are none.
 fn never_empty(rules: Rules, set: NodeMask, allowed: &NodeMask) -> NodeMask
     ensures { result ≡ never_empty rules set allowed.now }
 {

@@ -9,7 +9,7 @@ use bitflags::{Flag, Flags, bitflag_items};
 /// The bits of a mode word that are flags: `MPOL_MODE_FLAGS`.
 pub(crate) const MODE_FLAGS: u32 = 0xc000;
 
-/// The flags of a mode word of set_mempolicy(2), at their bits there.
+/// The flags of a mode word of set_mempolicy(2), with their bits there.
 #[derive(Clone, Copy, PartialEq, Eq, Debug)]
 pub struct PolicyFlags(u32);
 
@@ -47,21 +47,21 @@ impl Flags for PolicyFlags {
 }
 
 impl PolicyFlags {
-    /// Whether the mask's nodes are to stay as they are: `MPOL_F_STATIC_NODES`.
+    /// Whether the mask's nodes don't follow the allowed nodes: `MPOL_F_STATIC_NODES`.
     pub fn is_static(self) -> bool
         ensures { result ≡ has_static self }
     {
         self.contains(PolicyFlags::STATIC_NODES)
     }
 
-    /// Whether the mask's nodes are places among the allowed ones: `MPOL_F_RELATIVE_NODES`.
+    /// Whether the mask's nodes are ordinals among the allowed ones: `MPOL_F_RELATIVE_NODES`.
     pub fn is_relative(self) -> bool
         ensures { result ≡ has_relative self }
     {
         self.contains(PolicyFlags::RELATIVE_NODES)
     }
 
-    /// The flags of a mode word, as `MPOL_MODE_FLAGS` picks them.
+    /// The flags of a mode word, by `MPOL_MODE_FLAGS`.
     pub(crate) fn of_word(word: u32) -> PolicyFlags
         ensures bits { bits_of result ≡ bit_and word MODE_FLAGS }
         ensures is_static { has_static result ≡ (bit_at word 15 == 1) }

@@ -1,33 +1,31 @@
 //! Memory policies of a task or of a range of pages, as set_mempolicy(2) and mbind(2) take them.
 //!
-//! A policy is asked for by a mode, at most one of two flags, and a set of nodes: the
-//! [`PolicySpec`]. What it does is settled by its effective set, which follows from the nodes that
-//! the task is allowed: the [`Record`] has both. The record of a range may also have a home node,
-//! as set_mempolicy_home_node(2) gives one.
+//! A policy is requested by a mode, at most one of two flags, and a set of nodes: a [`PolicySpec`].
+//! Its effective set, which depends on the nodes that the task is allowed, decides what it does: a
+//! [`Record`] has both. The record of a range may also have a home node, as set by
+//! set_mempolicy_home_node(2).
 //!
-//! `Default` asks for no policy: it removes the one that stands there, so no record has it.
+//! `Default` requests no policy: it removes the current one, so no record has it.
 //!
-//! `Preferred` has at most one node, the lowest of those that its flag gives. Without nodes it is
-//! `Local`.
+//! `Preferred` has at most one node, the lowest of its set. Without nodes it is `Local`.
 //!
-//! `Bind` has the nodes that its flag gives, and no page may come from another.
+//! `Bind` allows no node outside its set.
 //!
-//! `Interleave` spreads pages over the nodes that its flag gives, one page each in turn.
+//! `Interleave` spreads pages over its nodes, one page each in turn.
 //!
-//! `Local` has no nodes, and counts all the same: a page comes from the node that it is first
-//! touched from.
+//! `Local` has no nodes: a page comes from the node of the CPU that first touches it.
 //!
-//! `PreferredMany` has the nodes that its flag gives before all others.
+//! `PreferredMany` prefers its nodes to all others.
 //!
-//! `WeightedInterleave` is `Interleave` with as many pages in turn as a node's weight.
+//! `WeightedInterleave` is `Interleave` with as many pages in a node's turn as its weight.
 //!
-//! With `STATIC_NODES` a policy has those of its nodes that are allowed, now and after each change
-//! of the allowed nodes. With `RELATIVE_NODES` its numbers are places among the allowed nodes, read
-//! again at each change. With neither it has those of its nodes that are allowed when it is set,
-//! and at each change these move to the same places among the new ones; so what a smaller set took
-//! away doesn't come back.
+//! With `STATIC_NODES` a policy has those of its nodes that are allowed at any time. With
+//! `RELATIVE_NODES` its numbers are ordinals among the allowed nodes, read again at each change of
+//! these. With neither it has those of its nodes that are allowed when it is set, and at each
+//! change these move to the same ordinals among the new ones; so nodes that a smaller set took away
+//! don't come back.
 //!
-//! No call takes memory. The rules are the kernel's: mm/mempolicy.c and "NUMA Memory Policy" of its
+//! No call allocates. The rules are the kernel's: mm/mempolicy.c and "NUMA Memory Policy" of its
 //! administration guide.
 #![tactic(auto)]
 

@@ -1,4 +1,4 @@
-//! The modes, and what a flag says of the mask.
+//! The modes, and the ways to read a mask.
 ghost use Rattle.std.specs.Prelude.{◌≡◌, ◌≤◌, ℕ, length};
 ghost use Rattle.numa_mode.specs.Flags.{has_static, has_relative};
 ghost use Rattle.numa_mode.specs.Policy.{mode_numbered, mode_text, flag_text, word_of};
@@ -10,23 +10,23 @@ use crate::flags::PolicyFlags;
 /// and `WeightedInterleave` is `MPOL_WEIGHTED_INTERLEAVE`, 6.
 #[derive(Clone, Copy, Debug, PartialEq, Eq, Hash)]
 pub enum Mode {
-    /// No policy of its own.
+    /// No own policy.
     Default,
-    /// One node before all others.
+    /// One node is preferred to all others.
     Preferred,
-    /// The nodes of the set alone.
+    /// Only nodes of the set.
     Bind,
-    /// The nodes of the set in turn, a page each.
+    /// The nodes of the set in turn, one page each.
     Interleave,
-    /// The node that a page is first touched from.
+    /// The node of the CPU that first touches the page.
     Local,
-    /// The nodes of the set before all others.
+    /// The nodes of the set are preferred to all others.
     PreferredMany,
-    /// The nodes of the set in turn, as many pages each as its weight.
+    /// The nodes of the set in turn, as many pages each as the node's weight.
     WeightedInterleave,
 }
 
-/// The names that numa_maps gives the modes, in their order.
+/// The names of the modes in numa_maps, in order.
 static MODE_TEXTS: [&str; 7] = [
     "default",
     "prefer",
@@ -38,7 +38,7 @@ static MODE_TEXTS: [&str; 7] = [
 ];
 
 impl Mode {
-    /// The mode of a number.
+    /// The mode with this number.
     pub(crate) fn numbered(number: u32) -> Option<Mode>
         ensures { result ≡ mode_numbered number }
     {
@@ -54,7 +54,7 @@ impl Mode {
         }
     }
 
-    /// The name that numa_maps gives the mode: see proc_pid_numa_maps(5).
+    /// The name of the mode in numa_maps: see proc_pid_numa_maps(5).
     pub fn text(self) -> &'static str
         ensures text { result.now ≡ mode_text self }
         ensures short { length result.now ≤ 19 }
@@ -62,12 +62,12 @@ impl Mode {
         MODE_TEXTS[self as usize]
     }
 
-    /// The mode word that asks for this mode with these flags, as set_mempolicy(2) takes it. Bits
-    /// of `flags` other than the two are left out.
+    /// The mode word for this mode with these flags, as set_mempolicy(2) takes it. Other bits of
+    /// `flags` are ignored.
     pub fn word(self, flags: PolicyFlags) -> u32
         ensures word { result ≡ word_of self (has_static flags) (has_relative flags) }
 
-        // Its answer, with any mask, is that of the mode and the flags.
+        // With any mask, the word means what the mode and the flags mean.
         ensures agrees { (mask : ℕ) → raw_specification result mask
             ≡ specification_of self (has_static flags) (has_relative flags) mask }
     {
@@ -77,19 +77,19 @@ impl Mode {
     }
 }
 
-/// How the nodes of a specification are read once the allowed nodes are known.
+/// How a specification's nodes depend on the allowed nodes.
 #[derive(Clone, Copy, Debug, PartialEq, Eq, Hash)]
 pub enum NodeFlag {
-    /// Nodes by their number, which then move with the allowed nodes.
+    /// Node numbers that move with the allowed nodes.
     Plain,
-    /// Nodes by their number, whatever the allowed nodes are: `MPOL_F_STATIC_NODES`.
+    /// Node numbers that stay whatever the allowed nodes are: `MPOL_F_STATIC_NODES`.
     Static,
-    /// Places among the allowed nodes: `MPOL_F_RELATIVE_NODES`.
+    /// Ordinals among the allowed nodes: `MPOL_F_RELATIVE_NODES`.
     Relative,
 }
 
 impl NodeFlag {
-    /// What stands behind the mode's name in numa_maps: nothing for `Plain`.
+    /// The suffix of the mode's name in numa_maps, empty for `Plain`.
     pub fn text(self) -> &'static str
         ensures text { result.now ≡ flag_text self }
         ensures short { length result.now ≤ 9 }

@@ -1,4 +1,4 @@
-//! A policy as it stands.
+//! Policies in force.
 ghost use Rattle.std.specs.Prelude.{◌≡◌, ◌≢◌, true, false, is_ok, is_some};
 ghost use Rattle.std.specs.Prelude.{IfOk, IfSome, IsTrue, ◌↔◌};
 ghost use Rattle.numa_mode.specs.Policy.{is_default, is_preferred, is_local, is_live};
@@ -14,14 +14,14 @@ use numa_machine::Rules;
 use numa_mask::{NodeMask, list_text};
 use std::marker::Model;
 
-/// None of the nodes that a policy asks for is allowed: `EINVAL` of set_mempolicy(2) and mbind(2).
+/// A policy asks only for nodes that aren't allowed: `EINVAL` of set_mempolicy(2) and mbind(2).
 #[derive(Clone, Copy, Debug, PartialEq, Eq)]
 pub struct NodesNotAllowed;
 
-/// A policy as it stands: its specification, its effective set, and the home node that its range
-/// was given.
+/// A policy in force: its specification, its effective set, and the home node of its range, if one
+/// was set.
 ///
-/// Two records are equal where all three are; the nodes that were asked for count, allowed or not.
+/// Two records are equal if all three parts are. That includes requested nodes that aren't allowed.
 #[derive(Clone, Copy, Debug, PartialEq, Eq, Hash)]
 pub struct Record {
     spec: PolicySpec,
@@ -43,11 +43,11 @@ impl Model for Record {
 }
 
 impl Record {
-    /// The record of a policy that is set where these nodes are allowed, without a home node.
-    /// `NodesNotAllowed` where it would have no node and isn't `Local`.
+    /// The record of a policy that is set while these nodes are allowed, without a home node. The
+    /// policy isn't `Default`, which removes a record, and at least one node is allowed.
     ///
-    /// The policy isn't `Default`, which removes a record in place of making one, and a node is
-    /// allowed.
+    /// # Errors
+    /// `NodesNotAllowed`: the policy would have no node, and isn't `Local`.
     pub fn set(spec: PolicySpec, allowed: &NodeMask) -> Result<Record, NodesNotAllowed>
         requires policy { is_default spec ≡ false }
         requires some { allowed.now ≢ 0 }
@@ -67,13 +67,13 @@ impl Record {
         }
     }
 
-    /// The record once the allowed nodes have changed from `old` to `new`: with a flag the
-    /// effective set is read again from the nodes that were asked for, and without one the nodes
-    /// that stand move, as the kernel's bitmap_remap moves bits. By the rules of the kernel
-    /// `Preferred` and `PreferredMany` stay as they are, and all of `new` stand in for a set that
-    /// would be empty. The home node stays, allowed or not.
+    /// The record after the allowed nodes have changed from `old` to `new`: with a flag the
+    /// effective set is derived again from the requested nodes, and without one the current nodes
+    /// move, as the kernel's bitmap_remap moves bits. By the kernel's rules `Preferred` and
+    /// `PreferredMany` stay as they are, and all of `new` replace a set that would be empty. The
+    /// home node stays, allowed or not.
     ///
-    /// A node of `new` is allowed.
+    /// `new` isn't empty.
     pub fn rebind(&self, rules: Rules, old: &NodeMask, new: &NodeMask) -> Record
         requires some { new.now ≢ 0 }
         ensures rebind { result ≡ record_after rules self.now old.now new.now }
@@ -89,17 +89,17 @@ impl Record {
         }
     }
 
-    /// Whether the policy counts: it has a node, or is `Local`, which needs none. Where it doesn't,
-    /// the next scope's policy is looked at.
+    /// Whether the policy is live: it has a node, or is `Local`, which needs none. If it isn't, the
+    /// next scope's policy applies.
     pub fn is_live(&self) -> bool
         ensures { result ≡ is_live self.now }
     {
         !self.effective.is_empty() || self.spec.mode() == Mode::Local
     }
 
-    /// The record with a home node, as set_mempolicy_home_node(2) gives one, in place of another
-    /// that it had. `None` where the mode takes none: all but `Bind` and `PreferredMany`. The node
-    /// may be one that isn't allowed.
+    /// The record with this home node, as set by set_mempolicy_home_node(2), instead of any other.
+    /// `None` if the mode takes none: all but `Bind` and `PreferredMany`. The node need not be
+    /// allowed.
     pub fn with_home(self, node: u8) -> Option<Record>
         ensures takes { is_some result ≡ takes_home self }
         ensures home { IfSome result (λ r. r ≡ with_home self node) }
@@ -114,15 +114,14 @@ impl Record {
         }
     }
 
-    /// Whether both are one record: the same specification, effective set and home node. This is
-    /// what `==` answers.
+    /// Whether both have the same specification, effective set and home node: the same as `==`.
     pub fn is_same(&self, other: &Record) -> bool
         ensures { IsTrue result ↔ (self.now ≡ other.now) }
     {
         *self == *other
     }
 
-    /// The home node, where one was given; always `None` for modes other than `Bind` and
+    /// The home node, if one was set; always `None` for modes other than `Bind` and
     /// `PreferredMany`.
     pub fn home(&self) -> Option<u8>
         ensures home { result ≡ self.now.home }
@@ -131,7 +130,7 @@ impl Record {
         self.home
     }
 
-    /// The specification, which isn't `Default`.
+    /// The specification, never `Default`.
     pub fn spec(&self) -> PolicySpec
         ensures spec { result ≡ self.now.spec }
         ensures policy { is_default result ≡ false }
@@ -139,7 +138,7 @@ impl Record {
         self.spec
     }
 
-    /// The nodes that the policy has at present: at most one for `Preferred`, none for `Local`.
+    /// The effective set: at most one node for `Preferred`, none for `Local`.
     pub fn effective(&self) -> NodeMask
         ensures effective { result ≡ self.now.effective }
         ensures preferred { is_preferred self.now.spec ≡ true → IsAtMostOne result }
@@ -149,8 +148,8 @@ impl Record {
     }
 
     /// The policy as numa_maps shows it, `interleave=static:0,2-3`: the mode's name, the flag, and
-    /// after a colon the nodes that the policy has at present, where it has any. The nodes that
-    /// were asked for and the home node aren't shown.
+    /// after a colon the effective set, if it isn't empty. The requested nodes and the home node
+    /// aren't shown.
     pub fn policy_text(&self) -> ArrayString<1024>
         ensures { result.bytes ≡ policy_text self.now }
     {

@@ -1,4 +1,4 @@
-//! A policy as it is asked for.
+//! Policies as they are requested.
 ghost use Rattle.std.specs.Prelude.{◌≡◌};
 ghost use Rattle.numa_mode.specs.Flags.{bits_of, has_static, has_relative};
 ghost use Rattle.numa_mode.specs.Policy.{flag_bits, is_default, is_static, is_relative};
@@ -10,11 +10,11 @@ use bitflags::Flags;
 use numa_mask::NodeMask;
 use std::marker::Model;
 
-/// Why a mode, flags and nodes are no specification; set_mempolicy(2) answers `EINVAL` to each.
-/// Where several hold, the first of this order is the answer.
+/// Why a mode, flags and nodes make no specification: the first of these that applies.
+/// set_mempolicy(2) returns `EINVAL` for each.
 #[derive(Clone, Copy, Debug, PartialEq, Eq)]
 pub enum SpecError {
-    /// No mode has the number that is left of a mode word without the two flags.
+    /// The mode word without the two flags isn't the number of a mode.
     UnknownMode,
     /// `STATIC_NODES` and `RELATIVE_NODES` together.
     BothFlags,
@@ -26,7 +26,7 @@ pub enum SpecError {
     NodesMissing,
 }
 
-/// A policy as it was asked for: a mode, what a flag says of the nodes, and the nodes.
+/// A policy as it was requested: a mode, a flag that says how the nodes are read, and the nodes.
 #[derive(Clone, Copy, Debug, PartialEq, Eq, Hash)]
 pub struct PolicySpec {
     mode: Mode,
@@ -47,10 +47,13 @@ impl Model for PolicySpec {
 }
 
 impl PolicySpec {
-    /// The policy that a mode, flags and nodes ask for, by the rules of set_mempolicy(2), or the
-    /// first [`SpecError`] of them; never `UnknownMode`. `Default` drops a flag, `Preferred`
-    /// without nodes becomes `Local`, and bits of `flags` other than the two are left out. Nodes
-    /// may be named that a machine lacks.
+    /// The policy of a mode, flags and nodes, by the rules of set_mempolicy(2). `Default` drops a
+    /// flag, `Preferred` without nodes becomes `Local`, and bits of `flags` other than the two are
+    /// ignored. The mask may have nodes that a machine lacks.
+    ///
+    /// # Errors
+    /// The first that applies of `BothFlags`, `NodesForbidden`, `FlagsForbidden`, `NodesMissing`,
+    /// as [`SpecError`] says; never `UnknownMode`.
     pub fn new(mode: Mode, flags: PolicyFlags, mask: NodeMask) -> Result<PolicySpec, SpecError>
         ensures { result ≡ specification_of mode (has_static flags) (has_relative flags) mask }
     {
@@ -63,7 +66,7 @@ impl PolicySpec {
         PolicySpec::with_flag(mode, flag, mask)
     }
 
-    /// The policy that a mode, at most one flag and nodes ask for.
+    /// The policy of a mode, at most one flag, and nodes.
     fn with_flag(mode: Mode, flag: NodeFlag, mask: NodeMask) -> Result<PolicySpec, SpecError>
         ensures { result ≡ specification_of mode (is_static flag) (is_relative flag) mask }
     {
@@ -89,9 +92,11 @@ impl PolicySpec {
         }
     }
 
-    /// The policy that a mode word of set_mempolicy(2) and nodes ask for: `STATIC_NODES` is bit 15
-    /// of the word, `RELATIVE_NODES` bit 14, and the rest is the mode's number. `UnknownMode` where
-    /// that is above 6, and else the answer of [`PolicySpec::new`].
+    /// The policy of a mode word of set_mempolicy(2) and nodes: `STATIC_NODES` is bit 15 of the
+    /// word, `RELATIVE_NODES` bit 14, and the rest is the mode's number.
+    ///
+    /// # Errors
+    /// `UnknownMode`: the number is above 6; otherwise as [`PolicySpec::new`].
     pub fn from_raw(word: u32, mask: NodeMask) -> Result<PolicySpec, SpecError>
         ensures { result ≡ raw_specification word mask }
     {
@@ -102,22 +107,21 @@ impl PolicySpec {
         }
     }
 
-    /// The mode: `Local` where `Preferred` was asked for without nodes.
+    /// The mode: `Local` if `Preferred` was requested without nodes.
     pub fn mode(&self) -> Mode
         ensures { result ≡ self.now.mode }
     {
         self.mode
     }
 
-    /// Whether the mode is `Default`, which asks for no policy.
+    /// Whether the mode is `Default`, which requests no policy.
     pub fn is_default(&self) -> bool
         ensures { result ≡ is_default self.now }
     {
         matches!(self.mode, Mode::Default)
     }
 
-    /// What the flag says of the nodes: `Plain` where there is no flag, as always at `Default` and
-    /// `Local`.
+    /// How the nodes are read: `Plain` if there is no flag, as always for `Default` and `Local`.
     pub fn flag(&self) -> NodeFlag
         ensures { result ≡ self.now.flag }
     {
@@ -128,7 +132,7 @@ impl PolicySpec {
     pub fn flags(&self) -> PolicyFlags
         ensures flags { bits_of result ≡ flag_bits self.now.flag }
 
-        // Asked for again, by its mode, flags and nodes, it gives itself.
+        // Its mode, flags and nodes make the same specification again.
         ensures accepted { specification_of self.now.mode (has_static result) (has_relative result)
             self.now.mask ≡ Ok self.now }
     {
@@ -139,7 +143,7 @@ impl PolicySpec {
         }
     }
 
-    /// The nodes as they were asked for, allowed or not.
+    /// The requested nodes, allowed or not.
     pub fn mask(&self) -> NodeMask
         ensures { result ≡ self.now.mask }
     {

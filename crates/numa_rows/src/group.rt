@@ -10,15 +10,15 @@ use std::alloc::{AllocError, Global};
 use std::ops::Range;
 use std::sync::Arc;
 
-/// A list of shared chunks that copies of it share. A copy takes one step; the first edit behind it
-/// makes the list once more, with the same chunks but for the one that it copies.
+/// A list of shared chunks that copies of it share. A copy takes one step; the first edit after it
+/// makes a new list with the same chunks but for the one that it copies.
 #[derive(Drop)]
 pub struct Group<T: Copy + Drop> {
     list: Arc<Rows<T, Shared<T>>>,
 }
 
 impl<T: Copy + Drop> Group<T> {
-    /// The group of a list that no other has yet.
+    /// The group of a list that isn't shared yet.
     fn of(alloc: Global, list: Rows<T, Shared<T>>) -> Result<Group<T>, AllocError>
         ensures { IfOk result (λ group. group.list.value ≡ list) }
     {

@@ -2,7 +2,7 @@
 ghost use Rattle.std.specs.Prelude.{◌≡◌, length, map};
 ghost use Rattle.numa_rows.specs.Changes.{Makes};
 
-/// Gives each item what `f` makes of it. It takes no memory and can't be refused.
+/// Replaces each item by what `f` returns for it. It doesn't allocate and can't fail.
 pub fn update_items<T: Copy + Drop, F: Fn(&T) -> T>(items: &mut Vec<T>, f: &F)
     requires { F.IsAlwaysCallable f.now }
     ensures size { length items.new.items ≡ length items.old.items }

@@ -8,15 +8,15 @@ use crate::part::Part;
 use std::alloc::{AllocError, Global};
 use std::ops::Range;
 
-/// A way to keep the rows of a chunk: [`Owned`](crate::Owned) for itself alone, or so that copies of
-/// it share them, [`Shared`](crate::Shared) in a vector and [`Group`](crate::Group) in chunks.
+/// A way to keep the rows of a chunk: owned by it alone ([`Owned`](crate::Owned)), or shared by its
+/// copies, in a vector ([`Shared`](crate::Shared)) or in chunks ([`Group`](crate::Group)).
 ///
-/// The answer is `AllocError` where memory is wanting; then nothing is changed.
+/// Each `AllocError` means out of memory; then nothing has changed.
 pub trait Keep<T>: Drop {
-    /// The rows that are kept.
+    /// The rows of the chunk.
     ghost rows_of: { Self → List T };
 
-    /// How many rows a chunk has at most, when an edit leaves it as it is.
+    /// The most rows that an edit leaves in a chunk; else it is re-cut.
     fn most() -> usize
         ensures low { 128 ≤ result }
         ensures high { result ≤ 6144 };
@@ -25,25 +25,25 @@ pub trait Keep<T>: Drop {
     fn keep(alloc: Global, rows: &[T]) -> Result<Self, AllocError>
         ensures { IfOk result (λ chunk. rows_of chunk ≡ rows.now) };
 
-    /// How many rows there are.
+    /// The number of rows.
     fn size(&self) -> usize
         ensures { result ≡ length (rows_of self.now) };
 
-    /// Rows that stand together, and have the row at a place.
+    /// Rows that are contiguous in memory, the row at `place` among them.
     fn part_at(&self, place: usize) -> Part<'_, T>
         requires { place < length (rows_of self.now) }
         ensures part { IsChunkOf (rows_of self.now) result }
         ensures has { HasRow result place };
 
-    /// Adds the rows behind others.
+    /// Appends the rows to `others`.
     fn append_to(&self, others: &mut Vec<T>) -> Result<(), AllocError>
         ensures { OnOk result (others.new.items ≡ others.old.items ++ rows_of self.now) };
 
-    /// The same rows once more.
+    /// Returns a copy.
     fn copied(&self, alloc: Global) -> Result<Self, AllocError>
         ensures { IfOk result (λ chunk. rows_of chunk ≡ rows_of self.now) };
 
-    /// Puts rows in the place of those from one place to another.
+    /// Replaces the rows from one place to another.
     fn replace(&mut self, alloc: Global, span: Range<usize>, rows: &[T]) -> Result<(), AllocError>
         requires rises { span.start ≤ span.end }
         requires within { span.end ≤ length (rows_of self.old) }

@@ -1,4 +1,4 @@
-//! Rows that one chunk has for itself.
+//! Rows that belong to one chunk alone.
 ghost use Rattle.std.specs.Prelude.{◌≡◌, ◌<◌, length, map, slice_set, take};
 ghost use Rattle.numa_rows.specs.Changes.{Makes};
 
@@ -10,10 +10,10 @@ use std::alloc::{AllocError, Global};
 use std::marker::Model;
 use std::ops::Range;
 
-/// How many rows an owned chunk has at most, when an edit leaves it as it is.
+/// The most rows that an edit leaves in an owned chunk.
 const MOST_OWNED: usize = 128;
 
-/// Rows that one chunk has for itself.
+/// Rows that belong to one chunk alone.
 #[derive(Drop)]
 pub struct Owned<T> {
     rows: Vec<T>,
@@ -70,7 +70,7 @@ impl<T: Copy + Drop> Keep<T> for Owned<T> {
 }
 
 impl<T: Copy + Drop> Owned<T> {
-    /// Gives each row what `f` makes of it.
+    /// Replaces each row by what `f` returns for it.
     pub(crate) fn update<F: Fn(&T) -> T>(&mut self, f: &F)
         requires { F.IsAlwaysCallable f.now }
         ensures size { length self.new ≡ length self.old }
@@ -79,7 +79,7 @@ impl<T: Copy + Drop> Owned<T> {
         update_items(&mut self.rows, f);
     }
 
-    /// Puts a row in the place of another.
+    /// Replaces a row.
     pub(crate) fn put(&mut self, place: usize, row: T)
         requires { place < length self.old }
         ensures { self.new ≡ slice_set self.old place row }
@@ -87,7 +87,7 @@ impl<T: Copy + Drop> Owned<T> {
         self.rows[place] = row;
     }
 
-    /// Takes out the rows behind the first so many.
+    /// Removes the rows after the first `len`.
     pub(crate) fn truncate(&mut self, len: usize)
         ensures { self.new ≡ take len self.old }
     {

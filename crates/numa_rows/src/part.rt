@@ -1,4 +1,4 @@
-//! A part of a list, for searches of one's own.
+//! A part of a list, for hand-written searches.
 ghost use Rattle.std.specs.Prelude.{◌≡◌, ℕ, ◌+◌, ◌-◌, ◌<◌, ◌^◌, List, drop, length};
 ghost use Rattle.std.specs.Prelude.{slice_index_or};
 ghost use Rattle.std.specs.Bool.{OnTrue};
@@ -10,7 +10,7 @@ use crate::keep::Keep;
 use crate::table::{Place, place_of};
 use std::marker::Model;
 
-/// The rows of a chunk of a list, or no rows, and the rank of the first of them.
+/// Consecutive rows of one chunk of a list, or no rows, and the rank of the first.
 #[derive(Drop)]
 pub struct Part<'a, T> {
     chunk: usize,
@@ -52,7 +52,7 @@ impl<'a, T> Part<'a, T> {
         }
     }
 
-    /// Rows of a place's chunk, which has the row of a rank.
+    /// Rows of the chunk at `place`, the row at `rank` among them.
     #[inline]
     pub(crate) fn at<K: Keep<T>>(
         chunks: &'a [Chunk<T, K>],
@@ -71,7 +71,7 @@ impl<'a, T> Part<'a, T> {
         }
     }
 
-    /// Whether it has the row of a rank.
+    /// Whether it has the row at a rank.
     #[inline]
     pub(crate) fn has(&self, rank: usize) -> bool
         ensures { OnTrue result (HasRow self.now rank) }
@@ -79,7 +79,7 @@ impl<'a, T> Part<'a, T> {
         self.start <= rank && rank - self.start < self.rows.len()
     }
 
-    /// The row of a rank, which it has.
+    /// The row at a rank, which it has.
     #[inline]
     pub(crate) fn row(&self, rank: usize) -> &'a T
         requires { HasRow self.now rank }
@@ -98,7 +98,7 @@ impl<'a, T> Part<'a, T> {
         &self.rows[rank - self.start..]
     }
 
-    /// The rank of its last row, where it has the row of a rank.
+    /// The rank of its last row, if it has the row at a rank.
     #[inline]
     pub(crate) fn last_rank(&self, _rank: usize) -> usize
         requires has { HasRow self.now _rank }
@@ -115,8 +115,8 @@ impl<'a, T> Part<'a, T> {
     }
 }
 
-/// The part itself where it has the row of a rank; otherwise the part that has it, sought from a
-/// guess at its chunk on.
+/// The part itself if it has the row at a rank, else the part that has it. The search starts at a
+/// guess at its chunk.
 #[inline]
 pub(crate) fn part_of<'a, T, K: Keep<T>>(
     chunks: &'a [Chunk<T, K>],

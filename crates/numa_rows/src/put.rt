@@ -1,13 +1,13 @@
-//! Rows that are copied, and put in the place of others.
+//! Copying rows over others.
 ghost use Rattle.std.specs.Prelude.{◌≡◌, ◌+◌, ◌-◌, ◌≤◌, length, take, IfOk, OnOk, OnErr};
 ghost use Rattle.std.specs.List.{splice};
 
 use std::alloc::{AllocError, Global};
 
-/// How many more rows than it has fit into a vector that is made, at least.
+/// The least spare room of a new vector, in rows.
 const MORE: usize = 8;
 
-/// These rows in a vector with room for so many, and for a few more than they are.
+/// A vector of these rows, with room for `most` rows, and for at least a few more than these.
 pub(crate) fn with_room<T: Copy + Drop>(
     alloc: Global,
     most: usize,
@@ -21,7 +21,7 @@ pub(crate) fn with_room<T: Copy + Drop>(
     Ok(items)
 }
 
-/// Puts rows in the place of those from one place to another.
+/// Replaces the rows from one place to another.
 pub(crate) fn put_in<T: Copy + Drop>(
     items: &mut Vec<T>,
     from: usize,
@@ -45,7 +45,7 @@ pub(crate) fn put_in<T: Copy + Drop>(
     Ok(())
 }
 
-/// Puts rows among the first so many items, in the place of those from one place to another.
+/// Replaces the items from one place to another, among the first `len`.
 fn put_among<T: Copy + Drop>(items: &mut [T], len: usize, from: usize, to: usize, rows: &[T])
     requires rises { from ≤ to }
     requires within { to ≤ len }

@@ -10,12 +10,11 @@ use std::alloc::{AllocError, Allocator, Global};
 use std::ops::Range;
 use std::sync::Arc;
 
-/// How many rows a shared chunk has at most, when an edit leaves it as it is: the first edit behind
-/// a copy copies them.
+/// The most rows that an edit leaves in a shared chunk: the first edit after a copy copies them.
 const MOST_SHARED: usize = 768;
 
-/// Rows in a vector that copies of a chunk share. The first edit behind a copy copies the rows; rows
-/// that no other chunk has are edited in place.
+/// Rows in a vector that copies of a chunk share. The first edit after a copy copies the rows; rows
+/// that aren't shared are edited in place.
 #[derive(Drop)]
 pub struct Shared<T> {
     rows: Arc<Vec<T>>,
@@ -64,7 +63,7 @@ impl<T: Copy + Drop> Keep<T> for Shared<T> {
     }
 }
 
-/// What one owner alone has, to be written to.
+/// The contents of an Arc that isn't shared, for writing.
 #[inline]
 pub(crate) fn sole<B, A: Allocator>(block: &mut Arc<B, A>) -> Result<&mut B, AllocError>
     ensures* lends { sem 𝓛 (LendsBlock B.row A.row A.Allocator block.entry result) }

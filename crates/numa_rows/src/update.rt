@@ -1,4 +1,4 @@
-//! Changes of owned rows, which take no memory.
+//! Changes of owned rows that don't allocate.
 ghost use Rattle.std.specs.Prelude.{◌≡◌, ◌+◌, ◌<◌, map, slice_set, take};
 ghost use Rattle.numa_rows.specs.Changes.{Makes};
 ghost use Rattle.numa_rows.specs.Parts.{HasRank, IsTable, flat};
@@ -8,7 +8,7 @@ use crate::owned::Owned;
 use crate::starts::guess_at;
 use crate::table::{Place, place_of};
 
-/// Gives each row what `f` makes of it.
+/// Replaces each row by what `f` returns for it.
 pub(crate) fn update_rows<T: Copy + Drop, F: Fn(&T) -> T>(
     chunks: &mut Vec<Chunk<T, Owned<T>>>,
     _starts: &[u32],
@@ -26,7 +26,7 @@ pub(crate) fn update_rows<T: Copy + Drop, F: Fn(&T) -> T>(
     }
 }
 
-/// Puts a row in the place of that of a rank.
+/// Replaces the row at a rank.
 pub(crate) fn put_row<T: Copy + Drop>(
     chunks: &mut Vec<Chunk<T, Owned<T>>>,
     starts: &[u32],
@@ -43,7 +43,7 @@ pub(crate) fn put_row<T: Copy + Drop>(
     chunks[place.chunk].put(rank - place.start, row);
 }
 
-/// Keeps the first so many rows.
+/// Keeps the first `left` rows.
 pub(crate) fn cut_to<T: Copy + Drop>(
     chunks: &mut Vec<Chunk<T, Owned<T>>>,
     starts: &mut Vec<u32>,
@@ -65,7 +65,7 @@ pub(crate) fn cut_to<T: Copy + Drop>(
     cut_behind(chunks, starts, len, place, rank);
 }
 
-/// Takes out the rows behind one, which a chunk has.
+/// Removes the rows after one, which a chunk has.
 fn cut_behind<T: Copy + Drop>(
     chunks: &mut Vec<Chunk<T, Owned<T>>>,
     starts: &mut Vec<u32>,
