@@ -1,4 +1,4 @@
-//! Runs, cut at the ends of a span and edited inside.
+//! Editing runs: cut at the ends of a span, changed inside it.
 ghost use Rattle.std.specs.Prelude.{◌≡◌, ◌+◌, ◌*◌, ◌<◌, ◌≤◌, ◌^◌, List, [], ◌∷◌, ◌++◌, length};
 ghost use Rattle.std.specs.Prelude.{take, drop};
 ghost use Rattle.std.specs.List.{slice_range};
@@ -16,7 +16,7 @@ use crate::run::Run;
 use crate::runs::Runs;
 use std::alloc::Global;
 
-/// Gathers the next runs, so many, with those pages edited that lie in the span.
+/// Gathers the next `count` runs, with the pages inside the span edited.
 pub(crate) fn gather_edited<T: Exact, F: Fn(&T) -> Option<T>>(
     alloc: Global,
     rest: &mut RangeIter<'_, T>,
@@ -45,8 +45,8 @@ pub(crate) fn gather_edited<T: Exact, F: Fn(&T) -> Option<T>>(
     pieces
 }
 
-/// Gathers the runs from one rank to another, with a run put in at a place between them. `near` is
-/// a guess at the chunk of the first.
+/// Gathers the runs from one rank to another, with a run inserted at a place between them. `near`
+/// is a guess at the chunk of the first.
 #[inline]
 pub(crate) fn gather_with<T: Exact>(
     alloc: Global,
@@ -75,7 +75,7 @@ pub(crate) fn gather_with<T: Exact>(
     pieces
 }
 
-/// Adds the next runs, so many, as they are.
+/// Adds the next `count` runs unchanged.
 fn add_all<T: Exact>(pieces: &mut Pieces<T>, rest: &mut RangeIter<'_, T>, count: usize)
     requires within { count ≤ length rest.old }
     requires len { count ≤ 2 ^ 32 }
@@ -131,7 +131,7 @@ fn add_from<T: Exact>(pieces: &mut Pieces<T>, run: Run<T>, page: u64)
     }
 }
 
-/// Adds the part of a run between two pages with the value that `edit` gives it, if it gives one.
+/// Adds the part of a run between two pages, with the value that `edit` returns, if any.
 fn add_within<T: Exact, F: Fn(&T) -> Option<T>>(
     pieces: &mut Pieces<T>,
     run: Run<T>,

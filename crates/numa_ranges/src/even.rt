@@ -1,14 +1,14 @@
-//! Where a row would stand if all were spread evenly.
+//! Guessing a row's place from its page, as if rows were spread evenly.
 ghost use Rattle.std.specs.Prelude.{◌-◌, ◌<◌, ◌≤◌, length, slice_index_or, IfSome};
 
 use crate::row::Row;
 use numa_rows::{Owned, Rows};
 
-/// At so many rows a look about a guess looks.
+/// The number of rows that are looked at around a guess.
 const LOOKED_AT: usize = 4;
 
-/// The rank at which a row that starts at a page would stand, if all rows were spread evenly from
-/// the first to the last. Nothing depends on it but time.
+/// The rank of a row that starts at a page, if all rows were spread evenly from the first to the
+/// last. Only speed depends on it.
 fn even_rank(rows: &Rows<Row, Owned<Row>>, page: u64) -> Option<usize> {
     let last = rows.len().checked_sub(1)?;
     let mut chunk = rows.chunk_count();
@@ -25,8 +25,8 @@ fn rank_between(page: u64, low: u64, top: u64, last: usize) -> Option<usize> {
     Some((product / whole) as usize)
 }
 
-/// How many rows start at a page or before it, where few rows about the rank tell at which a row
-/// would stand if all were spread evenly; `chunk` is then theirs.
+/// The number of rows that start at a page or before it, if a few rows around the guessed rank
+/// decide it; `chunk` is then their chunk.
 pub(crate) fn starts_beside(
     rows: &Rows<Row, Owned<Row>>,
     page: u64,

@@ -1,12 +1,12 @@
-//! Values of which equal ones are the same.
+//! Values that are the same if they are equal.
 ghost use Rattle.std.specs.Prelude.{true, ◌≡◌};
 
-/// A value that a range may carry: what `==` calls equal is one and the same value.
+/// A value of a range: values that `==` calls equal are one and the same.
 ///
-/// So two neighbours with equal values can become one range without losing either value.
+/// So two adjacent ranges with equal values can become one without losing either value.
 pub trait Exact: Copy + Eq + Drop {
-    /// A number that spreads values: equal values should have one mark, and different values
-    /// different marks. Nothing but speed depends on it.
+    /// A hash of the value: equal values should have one mark, different values different ones.
+    /// Only speed depends on it.
     fn mark(&self) -> u64;
 
     ghost exact: { (a b : Self) → Self.PartialEq.eq a b ≡ true → a ≡ b };

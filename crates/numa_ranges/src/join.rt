@@ -1,4 +1,4 @@
-//! Runs that are joined where they stand.
+//! Joining runs in place.
 ghost use Rattle.std.specs.Prelude.{◌≡◌, ◌<◌, length, slice_get, slice_set, slice_index_or, Some};
 ghost use Rattle.std.specs.Prelude.{All, take};
 ghost use Rattle.numa_ranges.specs.Edits.{IsInRange, maximal_runs};
@@ -9,7 +9,7 @@ use crate::row::{Row, with_value};
 use crate::run::{Run, continues};
 use numa_rows::{Owned, Rows};
 
-/// Joins each run that continues the one before it to that, and takes no memory.
+/// Joins each run to the one before it if it continues that. It doesn't allocate.
 pub(crate) fn join_in_place<T: Exact>(rows: &mut Rows<Row, Owned<Row>>, values: &[T])
     requires numbered { AreNumbered values.now rows.old }
     requires in_range { All IsInRange (runs_of values.now rows.old) }
@@ -44,7 +44,7 @@ pub(crate) fn join_in_place<T: Exact>(rows: &mut Rows<Row, Owned<Row>>, values: 
     keep_runs(rows, values, kept + 1);
 }
 
-/// The run of a rank, and the number of its value.
+/// The run at a rank, and the number of its value.
 fn run_at<T: Exact>(rows: &Rows<Row, Owned<Row>>, values: &[T], rank: usize) -> (Run<T>, u32)
     requires numbered { AreNumbered values.now rows.now }
     requires within { rank < length rows.now }
@@ -55,7 +55,7 @@ fn run_at<T: Exact>(rows: &Rows<Row, Owned<Row>>, values: &[T], rank: usize) -> 
     (with_value(values, row), row.number)
 }
 
-/// Puts a run, whose value has a number, in the place of that of a rank.
+/// Replaces the run at a rank by one whose value has a number.
 fn put_run<T: Exact>(
     rows: &mut Rows<Row, Owned<Row>>,
     _values: &[T],
@@ -82,7 +82,7 @@ fn put_run<T: Exact>(
     );
 }
 
-/// Keeps the first so many runs, and takes out the others.
+/// Keeps the first `count` runs and removes the others.
 fn keep_runs<T: Exact>(rows: &mut Rows<Row, Owned<Row>>, _values: &[T], count: usize)
     requires numbered { AreNumbered _values.now rows.old }
     ensures numbered { AreNumbered _values.now rows.new }

@@ -1,15 +1,16 @@
 //! A map by page that splits and joins.
 //!
 //! A [`RangeMap`] is a finite map from page numbers to an index and a value. It keeps its mapped
-//! pages as ranges: maximal runs of pages whose indexes run on by one and whose values are equal.
-//! Mapping, unmapping or changing the value of a span splits the ranges at its ends and joins what
-//! has become one, so that the ranges are maximal after each call, and each page keeps its index
-//! until it is unmapped.
+//! pages as ranges: maximal runs of pages with consecutive indexes and equal values. Mapping,
+//! unmapping or changing the value of a span splits the ranges at its ends and joins adjacent ones,
+//! so that the ranges are maximal after each call, and each page keeps its index until it is
+//! unmapped.
 //!
-//! What a call makes of the map is told page by page in `specs/Maps.antt`, what a range is in
+//! What a call does to the map, page by page, is defined in `specs/Maps.antt`, what a range is in
 //! `specs/Counts.antt`, and what a list of runs says of a page in `specs/Runs.antt`.
-//! `specs/Edits.antt`, `specs/Gathered.antt` and `specs/Numbered.antt` serve the private functions;
-//! of the first, `joined` also tells crates above how runs of pages become ranges.
+//! `specs/Edits.antt`, `specs/Gathered.antt` and `specs/Numbered.antt` are for the private
+//! functions; crates above also use `joined` of the first, which says how runs of pages become
+//! ranges.
 #![tactic(auto)]
 
 mod edit;

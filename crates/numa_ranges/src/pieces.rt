@@ -1,4 +1,4 @@
-//! Runs, joined as they are gathered.
+//! Gathering runs and joining them on the way.
 ghost use Rattle.std.specs.Prelude.{◌≡◌, []};
 ghost use Rattle.std.specs.Option.{ForSome};
 ghost use Rattle.numa_ranges.specs.Edits.{IsInRange};
@@ -9,9 +9,9 @@ use crate::run::{Run, continues};
 use crate::runs::Runs;
 use std::alloc::Global;
 
-/// Runs that were added one after another, each joined to the one before where it continues that.
+/// Runs that are added one by one, each joined to the one before if it continues that.
 ///
-/// Where memory is refused the runs are only counted.
+/// Without memory for them the runs are only counted.
 #[derive(Drop)]
 pub(crate) struct Pieces<T> {
     pub(crate) closed: Vec<Run<T>>,
@@ -30,7 +30,7 @@ impl<T: Exact> Pieces<T> {
     ghost use Rattle.numa_ranges.specs.declared.fault.RangeError.TheVariants.{TooManyRanges};
     ghost use Rattle.numa_ranges.specs.declared.fault.RangeError.TheVariants.{NoMemory};
 
-    /// No runs, with room for so many where there is memory for it.
+    /// No runs, with room for `room`, if there is memory for it.
     pub(crate) fn new(alloc: Global, room: usize) -> Pieces<T>
         ensures gathered { Gathered T.eq result [] }
         ensures count { result.count ≡ 0 }
@@ -69,7 +69,7 @@ impl<T: Exact> Pieces<T> {
         }
     }
 
-    /// Closes the open run, so that all that was added stands among the closed ones.
+    /// Closes the open run, so that everything that was added is among the closed ones.
     fn seal(&mut self)
         requires room { self.old.count < 2 ^ 63 }
         ensures count { (added : List (Run T)) → Gathered T.eq self.old added
@@ -84,8 +84,8 @@ impl<T: Exact> Pieces<T> {
         }
     }
 
-    /// Puts the gathered runs in the place of a window of runs, unless that makes too many. `near`
-    /// is a guess at the chunk of the window.
+    /// Replaces a window of runs by the gathered ones, unless that makes too many. `near` is a
+    /// guess at the chunk of the window.
     pub(crate) fn put(
         mut self,
         runs: &mut Runs<T>,
@@ -141,7 +141,7 @@ impl<T: Exact> Pieces<T> {
     }
 }
 
-/// A vector without items, with room for so many where there is memory for it.
+/// An empty vector, with room for `room` items if there is memory for it.
 fn with_room<T: Copy + Drop>(alloc: Global, room: usize) -> Vec<T>
     ensures { result.items ≡ [] }
 {

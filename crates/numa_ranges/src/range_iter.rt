@@ -9,7 +9,7 @@ use crate::run::Run;
 use numa_rows::{Iter, Owned};
 use std::marker::Model;
 
-/// The ranges that are left, from the front.
+/// An iterator over ranges, in ascending order.
 #[derive(Drop)]
 pub struct RangeIter<'a, T> {
     rows: Iter<'a, Row, Owned<Row>>,

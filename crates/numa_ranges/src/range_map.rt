@@ -29,17 +29,16 @@ use std::marker::Model;
 
 /// A finite map from pages to an index and a value, kept as its ranges.
 ///
-/// A range is a maximal run of mapped pages whose indexes run on by one and whose values are equal.
-/// Pages lie below 2^35, and the index of a page counts the pages of what is mapped there: as the
-/// page offset of a mapping in mmap(2), it belongs to its page, whatever happens to the pages
-/// beside it. Ranges split and join as Linux splits and merges the areas of an address space under
-/// mbind(2).
+/// A range is a maximal run of mapped pages with consecutive indexes and equal values. Page numbers
+/// are below 2^35. The index of a page is its offset, in pages, in what is mapped there, as the
+/// offset of mmap(2): it belongs to its page, whatever happens to adjacent pages. Ranges split and
+/// join as Linux splits and merges the areas of an address space under mbind(2).
 ///
-/// The ranges stand in one sorted list in chunks, and their values in a list of their own, so that
-/// an edit moves few bytes. A call over a span finds its first range by one search, works on the
-/// ranges that it touches and one or two more on each side, judges their number, and edits one
-/// chunk or a few. Where the last edit was is kept, since the next is often beside it: nothing
-/// depends on it but time.
+/// The ranges are in one sorted list of chunks, and their values in a separate list, so that an
+/// edit moves few bytes. A call over a span finds its first range by one search, works on the
+/// ranges that it touches and one or two more on each side, checks their number, and edits one
+/// chunk or a few. The place of the last edit is kept, since the next one is often near it: only
+/// speed depends on it.
 #[derive(Drop)]
 pub struct RangeMap<T: Exact> {
     runs: Runs<T>,
@@ -64,8 +63,7 @@ impl<T: Exact> Model for RangeMap<T> {
 }
 
 impl<T: Exact> RangeMap<T> {
-    /// A map without pages, for at most `max_ranges` ranges. It keeps the allocator and takes no
-    /// memory.
+    /// An empty map for at most `max_ranges` ranges. It keeps the allocator and doesn't allocate.
     pub fn new(alloc: Global, max_ranges: u32) -> RangeMap<T>
         ensures { result ≡ record { runs = []; max_ranges = max_ranges } }
     {
@@ -78,10 +76,10 @@ impl<T: Exact> RangeMap<T> {
         }
     }
 
-    /// The same map once more. What is done to one of the two afterwards leaves the other as it is.
+    /// Returns a copy. Later changes of one of the two don't affect the other.
     ///
     /// # Errors
-    /// `AllocError` where there is no memory for its ranges.
+    /// `AllocError`: there is no memory for the copy's ranges.
     pub fn copy(&self) -> Result<RangeMap<T>, AllocError>
         ensures { IfOk result (λ copy. copy ≡ self.now) }
     {
@@ -95,8 +93,8 @@ impl<T: Exact> RangeMap<T> {
         })
     }
 
-    /// How many ranges there are: as many as mapped pages whose predecessor is unmapped, has
-    /// another value or an index that is not one less.
+    /// The number of ranges: that of mapped pages whose predecessor isn't mapped, has another
+    /// value, or an index that isn't one less.
     pub fn len(&self) -> usize
         ensures runs { result ≡ length self.now.runs }
         ensures count { result ≡ range_count T.eq (page_at self.now.runs) }
@@ -105,8 +103,8 @@ impl<T: Exact> RangeMap<T> {
         self.runs.len()
     }
 
-    /// The ranges in rising order, each as its first page, its number of pages, its first index and
-    /// its value.
+    /// The ranges in ascending order, each with its first page, its number of pages, its first
+    /// index and its value.
     pub fn iter(&self) -> RangeIter<'_, T>
         ensures runs { result ≡ self.now.runs }
         ensures rising { AreApart 0 self.now.runs }
@@ -120,18 +118,16 @@ impl<T: Exact> RangeMap<T> {
         self.runs.iter()
     }
 
-    /// The ranges in rising order with numbers in the place of their values, and the values, each
-    /// at the place that is its number: so what follows from a value can be found once for all ranges
-    /// that have its number. Equal numbers are equal values; equal values can have several numbers,
-    /// and there can be values that no range has.
+    /// The ranges in ascending order, each with the number of its value, and the values by number:
+    /// so a caller can derive something once for all ranges with one number. Equal numbers mean
+    /// equal values; equal values can have several numbers, and some values may belong to no range.
     pub fn rows(&self) -> (Iter<'_, Row, Owned<Row>>, &[T])
         ensures { AreRowsOf result.1.now result.0 self.now.runs }
     {
         self.runs.rows()
     }
 
-    /// The range at a place, where the ranges stand in the order of their first pages and are
-    /// counted from 0: the k-th that `iter` lends. None from `len` on.
+    /// The range at `place`, counted from 0 in ascending order as by `iter`; `None` from `len` on.
     pub fn range_at(&self, place: usize) -> Option<Run<T>>
         ensures range { result ≡ slice_get self.now.runs place }
     {
@@ -141,13 +137,12 @@ impl<T: Exact> RangeMap<T> {
         Some(self.runs.get_near(place, self.near))
     }
 
-    /// Beside which place the last edit was: a guess at where the ranges stand that it has changed.
-    /// Nothing depends on it but time.
+    /// The place of the last edit: a guess at the ranges that it changed. Only speed depends on it.
     pub fn edited_place(&self) -> usize {
         self.edited
     }
 
-    /// The index and the value of a page, where it is mapped. The search is binary.
+    /// The index and the value of a page, if it is mapped, by a binary search.
     pub fn at(&self, page: u64) -> Option<(u64, T)>
         ensures page { result ≡ page_at self.now.runs page }
         ensures bound { IfSome result (λ found. (page < 2 ^ 35) × (found.0 < 2 ^ 36)) }
@@ -156,7 +151,7 @@ impl<T: Exact> RangeMap<T> {
         Some((run.index + (page - run.first), run.value))
     }
 
-    /// Whether one of the `pages` pages from `first` on is not mapped, which mbind(2) answers with
+    /// Whether one of the `pages` pages from `first` on isn't mapped, for which mbind(2) returns
     /// EFAULT. `set_span` is then refused.
     pub fn has_hole(&self, first: u64, pages: u64) -> bool
         requires span { first + pages ≤ 2 ^ 35 }
@@ -168,12 +163,13 @@ impl<T: Exact> RangeMap<T> {
         lacks_page(&self.runs, place, first, pages, near)
     }
 
-    /// Maps the `pages` pages from `first` on, with the indexes from `index` on and one value.
+    /// Maps the `pages` pages from page `first` on, with the indexes from `index` on and one value.
     ///
-    /// Refusals, in this order, after which the map is as it was:
-    /// - `Overlap`: a page of the span is mapped.
+    /// # Errors
+    /// The first of these that applies; the map hasn\'t changed:
+    /// - `Overlap`: a page of the span is already mapped.
     /// - `TooManyRanges`: there would be more than `max_ranges` ranges.
-    /// - `NoMemory`: there was none for the ranges that the call makes.
+    /// - `NoMemory`: there is no memory for the ranges that the call makes.
     pub fn map_span(
         &mut self,
         first: u64,
@@ -205,8 +201,8 @@ impl<T: Exact> RangeMap<T> {
         self.insert_run(place, run, near)
     }
 
-    /// Puts a run in at its place among the runs, joined to its neighbours where they go on from
-    /// one another. `near` is a guess at the chunk of the place, kept for the next edit.
+    /// Inserts a run at its place among the runs, joined to its neighbours if they continue each
+    /// other. `near` is a guess at the chunk of the place, kept for the next edit.
     fn insert_run(&mut self, place: usize, run: Run<T>, near: usize) -> Result<(), RangeError>
         requires span { IsSpan run.first run.pages }
         requires room { HasRoom self.old.runs place run.first (run.first + (run.pages - 1)) }
@@ -227,8 +223,8 @@ impl<T: Exact> RangeMap<T> {
         Ok(())
     }
 
-    /// The place of a span among the runs, where none of its pages is mapped, sought from a chunk
-    /// on; `near` is afterwards where the search ended.
+    /// The place of a span among the runs, if none of its pages is mapped. The search starts at
+    /// chunk `near`, which afterwards is where it ended.
     fn place_between(&self, first: u64, pages: u64, near: &mut usize) -> Option<usize>
         requires span { IsSpan first pages }
         ensures none { IfNone result (any_page
@@ -250,12 +246,13 @@ impl<T: Exact> RangeMap<T> {
         }
     }
 
-    /// Gives the `pages` pages from `first` on another value. Each keeps its index.
+    /// Sets the value of the `pages` pages from page `first` on. Each keeps its index.
     ///
-    /// Refusals, in this order, after which the map is as it was:
-    /// - `Hole`: a page of the span is not mapped, which mbind(2) answers with EFAULT.
+    /// # Errors
+    /// The first of these that applies; the map hasn\'t changed:
+    /// - `Hole`: a page of the span isn't mapped, for which mbind(2) returns EFAULT.
     /// - `TooManyRanges`: there would be more than `max_ranges` ranges.
-    /// - `NoMemory`: there was none for the ranges that the call makes.
+    /// - `NoMemory`: there is no memory for the ranges that the call makes.
     pub fn set_span(&mut self, first: u64, pages: u64, value: T) -> Result<(), RangeError>
         requires span { IsSpan first pages }
         ensures ok { OnOk result (Shows self.new.runs
@@ -275,12 +272,13 @@ impl<T: Exact> RangeMap<T> {
         self.edit_span(place, first, pages, &|_: &T| Some(value), near)
     }
 
-    /// Unmaps the `pages` pages from `first` on, as munmap(2) does: pages of the span that are not
-    /// mapped are passed over, and the others keep their indexes.
+    /// Unmaps the `pages` pages from page `first` on, as munmap(2) does: pages of the span that
+    /// aren't mapped are skipped, and pages outside it keep their indexes.
     ///
-    /// Refusals, in this order, after which the map is as it was:
-    /// - `TooManyRanges`: a range that is split would make more than `max_ranges` ranges.
-    /// - `NoMemory`: the parts that stay could not be gathered, also where the map shrinks.
+    /// # Errors
+    /// The first of these that applies; the map hasn\'t changed:
+    /// - `TooManyRanges`: splitting a range would make more than `max_ranges` ranges.
+    /// - `NoMemory`: there is no memory for the parts that stay, even if the map shrinks.
     pub fn unmap_span(&mut self, first: u64, pages: u64) -> Result<(), RangeError>
         requires span { IsSpan first pages }
         ensures ok { OnOk result (Shows self.new.runs
@@ -297,13 +295,14 @@ impl<T: Exact> RangeMap<T> {
         self.edit_span(place, first, pages, &|_: &T| None, near)
     }
 
-    /// Gives each mapped page among the `pages` pages from `first` on the value that `f` makes of
-    /// its own. Each keeps its index, and pages that are not mapped are passed over. `f` answers
-    /// equal values with equal values.
+    /// Replaces the value of each mapped page among the `pages` pages from page `first` on by what
+    /// `f` returns for it. Each keeps its index, and pages that aren't mapped are skipped. `f`
+    /// returns equal values for equal values.
     ///
-    /// Refusals, in this order, after which the map is as it was:
+    /// # Errors
+    /// The first of these that applies; the map hasn\'t changed:
     /// - `TooManyRanges`: there would be more than `max_ranges` ranges.
-    /// - `NoMemory`: there was none for the ranges that the call makes.
+    /// - `NoMemory`: there is no memory for the ranges that the call makes.
     pub fn update_span<F: Fn(&T) -> T>(
         &mut self,
         first: u64,
@@ -334,9 +333,9 @@ impl<T: Exact> RangeMap<T> {
         self.edit_span(place, first, pages, &edit, near)
     }
 
-    /// Gives each mapped page the value that `f` makes of its own. Each keeps its index, and
-    /// neighbours that become equal join. `f` answers equal values with equal values. It takes no
-    /// memory and is never refused.
+    /// Replaces the value of each mapped page by what `f` returns for it. Each keeps its index, and
+    /// adjacent ranges that become equal join. `f` returns equal values for equal values. It
+    /// doesn't allocate and can't fail.
     pub fn update_all<F: Fn(&T) -> T>(&mut self, f: F)
         requires callable { F.IsAlwaysCallable f }
         requires function { (change : T → T) × Makes F.Fn f change }
@@ -349,9 +348,8 @@ impl<T: Exact> RangeMap<T> {
         self.runs.join();
     }
 
-    /// Gives every mapped page of a span the value that `edit` makes of its own, or unmaps it,
-    /// where so many runs start at its first page or before it. `near` is a guess at their chunk,
-    /// kept for the next edit.
+    /// Replaces the value of each mapped page of a span by what `edit` returns for it, or unmaps
+    /// the page. `near` is a guess at the chunk, kept for the next edit.
     fn edit_span<F: Fn(&T) -> Option<T>>(
         &mut self,
         place: usize,
@@ -384,8 +382,7 @@ impl<T: Exact> RangeMap<T> {
         Ok(())
     }
 
-    /// The places of the runs that an edit of a span can change or join, where so many start at its
-    /// first page or before it.
+    /// The places of the runs that an edit of a span can change or join.
     fn window(&self, place: usize, first: u64, end: u64, near: usize) -> (usize, usize)
         requires rises { first ≤ end }
         requires within { place ≤ length self.now.runs }
@@ -406,7 +403,7 @@ impl<T: Exact> RangeMap<T> {
         (from, to)
     }
 
-    /// The run that holds a page, where it is mapped.
+    /// The run that has a page, if it is mapped.
     fn run_at(&self, page: u64) -> Option<Run<T>>
         ensures { MatchOption result (page_at self.now.runs page ≡ None)
             (λ run. HoldsPage self.now.runs run page) }
@@ -423,8 +420,8 @@ impl<T: Exact> RangeMap<T> {
         }
     }
 
-    /// How many runs start at the page or before it, sought from a chunk on; `near` is afterwards
-    /// where the search ended.
+    /// The number of runs that start at the page or before it. The search starts at chunk `near`,
+    /// which afterwards is where it ended.
     fn starts_near(&self, page: u64, near: &mut usize) -> usize
         ensures within { result ≤ length self.now.runs }
         ensures apart { AreApart 0 self.now.runs }
@@ -434,7 +431,7 @@ impl<T: Exact> RangeMap<T> {
         self.runs.starts_near(page, near)
     }
 
-    /// How many runs start at the page or before it.
+    /// The number of runs that start at the page or before it.
     fn starts_up_to(&self, page: u64) -> usize
         ensures within { result ≤ length self.now.runs }
         ensures apart { AreApart 0 self.now.runs }

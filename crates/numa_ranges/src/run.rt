@@ -1,16 +1,15 @@
-//! A run of pages.
+//! Runs of pages.
 ghost use Rattle.std.specs.Prelude.{IsTrue, ◌↔◌, ◌+◌, ◌≤◌, ◌^◌};
 ghost use Rattle.numa_ranges.specs.Runs.{Continues, end_of};
 
 use crate::exact::Exact;
 
-/// Pages that follow each other, with indexes that run on by one, and one value. The items of a
-/// range map.
+/// Consecutive pages with consecutive indexes and one value: an item of a range map.
 #[derive(Clone, Copy, Debug, PartialEq, Eq)]
 pub struct Run<T> {
     /// The first page.
     pub first: u64,
-    /// How many pages: at least one.
+    /// The number of pages, at least one.
     pub pages: u64,
     /// The index of the first page.
     pub index: u64,
@@ -18,7 +17,7 @@ pub struct Run<T> {
     pub value: T,
 }
 
-/// Whether the second run goes on where the first ends.
+/// Whether the second run continues the first.
 pub(crate) fn continues<T: Exact>(run: &Run<T>, next: &Run<T>) -> bool
     requires end { end_of run.now ≤ 2 ^ 36 }
     requires index { run.now.index + run.now.pages ≤ 2 ^ 36 }

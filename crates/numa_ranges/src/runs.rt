@@ -1,4 +1,4 @@
-//! The runs of a map, with their values under numbers.
+//! The runs of a map, with numbers for their values.
 ghost use Rattle.std.specs.Prelude.{◌≡◌, ◌==◌, ◌+◌, ◌<◌, ◌≤◌, ◌^◌, [], length, map, drop, All};
 ghost use Rattle.std.specs.Prelude.{slice_index_or, IfSome, IfOk, OnOk, OnErr};
 ghost use Rattle.std.specs.List.{splice};
@@ -18,13 +18,13 @@ use numa_rows::{Iter, Owned, Rows};
 use std::alloc::{AllocError, Global};
 use std::marker::Model;
 
-/// So many values more than two for each run are kept before they are numbered anew.
+/// The number of values beyond two for each run at which they are renumbered.
 const SPARE: usize = 512;
 
 /// A list of runs that is cheap to edit in the middle.
 ///
 /// Values can be large, and an edit moves half a chunk of rows: so a row has the number of its
-/// value, and the values stand in a list of their own.
+/// value, and the values are in a separate list.
 #[derive(Drop)]
 pub(crate) struct Runs<T> {
     rows: Rows<Row, Owned<Row>>,
@@ -45,7 +45,7 @@ impl<T> Model for Runs<T> {
 }
 
 impl<T: Exact> Runs<T> {
-    /// No runs. It takes no memory.
+    /// No runs. It doesn't allocate.
     pub(crate) fn new(alloc: Global) -> Runs<T>
         ensures { result ≡ [] }
     {
@@ -56,10 +56,10 @@ impl<T: Exact> Runs<T> {
         }
     }
 
-    /// The same runs once more.
+    /// Returns a copy.
     ///
     /// # Errors
-    /// `AllocError` where memory is wanting.
+    /// `AllocError`: out of memory.
     pub(crate) fn copy(&self) -> Result<Runs<T>, AllocError>
         ensures { IfOk result (λ copy. copy ≡ self.now) }
     {
@@ -72,7 +72,7 @@ impl<T: Exact> Runs<T> {
         })
     }
 
-    /// How many runs there are.
+    /// The number of runs.
     #[inline]
     pub(crate) fn len(&self) -> usize
         ensures len { result ≡ length self.now }
@@ -81,7 +81,7 @@ impl<T: Exact> Runs<T> {
         self.rows.len()
     }
 
-    /// The run of a rank.
+    /// The run at a rank.
     #[inline]
     pub(crate) fn get(&self, rank: usize) -> Run<T>
         requires { rank < length self.now }
@@ -91,7 +91,7 @@ impl<T: Exact> Runs<T> {
         with_value(self.values.items(), row)
     }
 
-    /// The run of a rank. `near` is a guess at its chunk.
+    /// The run at a rank. `near` is a guess at its chunk.
     #[inline]
     pub(crate) fn get_near(&self, rank: usize, near: usize) -> Run<T>
         requires { rank < length self.now }
@@ -104,7 +104,7 @@ impl<T: Exact> Runs<T> {
         run
     }
 
-    /// How many runs start at the page or before it.
+    /// The number of runs that start at the page or before it.
     pub(crate) fn starts_up_to(&self, page: u64) -> usize
         requires { AreApart 0 self.now }
         ensures within { result ≤ length self.now }
@@ -114,9 +114,9 @@ impl<T: Exact> Runs<T> {
             .partition_point(&mut |row: &Row| row.first <= page)
     }
 
-    /// How many runs start at the page or before it, looked for as if they were spread evenly, and
-    /// then sought from a chunk on; `chunk` is afterwards where the search ended. Any number will
-    /// do for it.
+    /// The number of runs that start at the page or before it. It looks where they would be if they
+    /// were spread evenly, and then searches from `chunk` on, which is afterwards where the search
+    /// ended. Any number will do.
     pub(crate) fn starts_near(&self, page: u64, chunk: &mut usize) -> usize
         requires { AreApart 0 self.now }
         ensures within { result ≤ length self.now }
@@ -136,7 +136,7 @@ impl<T: Exact> Runs<T> {
         RangeIter::new(self.rows.iter(), self.values.items())
     }
 
-    /// The rows in order, and the values under their numbers.
+    /// The rows in order, and the values by number.
     #[inline]
     pub(crate) fn rows(&self) -> (Iter<'_, Row, Owned<Row>>, &[T])
         ensures { AreRowsOf result.1.now result.0 self.now }
@@ -153,11 +153,11 @@ impl<T: Exact> Runs<T> {
         RangeIter::new(self.rows.iter_near(rank, near), self.values.items())
     }
 
-    /// Puts runs in the place of those from one rank to another. `near` is a guess at the chunk of
-    /// the first. Values that no run has any more stay until `tidy`.
+    /// Replaces the runs from one rank to another. `near` is a guess at the chunk of the first.
+    /// Values that no run has any more stay until `tidy`.
     ///
     /// # Errors
-    /// `AllocError` where memory is wanting; then the runs are as they were.
+    /// `AllocError`: out of memory. Then the runs haven't changed.
     pub(crate) fn splice_near(
         &mut self,
         from: usize,
@@ -174,8 +174,8 @@ impl<T: Exact> Runs<T> {
         Ok(())
     }
 
-    /// Numbers the values anew where there are far more of them than runs. Without memory for that
-    /// all stays as it is.
+    /// Renumbers the values if there are far more of them than runs. Without memory for that
+    /// nothing changes.
     #[inline]
     pub(crate) fn tidy(&mut self)
         ensures { self.new ≡ self.old }
@@ -186,8 +186,8 @@ impl<T: Exact> Runs<T> {
         }
     }
 
-    /// Numbers the values anew, if there is memory for it. A function of its own, so that an edit
-    /// that leaves the values as they are takes no stack for it.
+    /// Renumbers the values, if there is memory for it. It is a separate function, so that edits
+    /// that don't need it use no stack for it.
     #[inline(never)]
     fn renumber(&mut self)
         ensures { self.new ≡ self.old }
@@ -197,7 +197,7 @@ impl<T: Exact> Runs<T> {
         }
     }
 
-    /// The same runs without the values that none of them has. None where memory is wanting.
+    /// The same runs without values that none of them has; `None` on out-of-memory.
     fn renumbered(&self) -> Option<Runs<T>>
         ensures { IfSome result (λ fresh. fresh ≡ self.now) }
     {
@@ -211,7 +211,8 @@ impl<T: Exact> Runs<T> {
         Some(fresh)
     }
 
-    /// Gives each run the value that `f` makes of its own. It takes no memory and can't be refused.
+    /// Replaces the value of each run by what `f` returns for it. It doesn't allocate and can't
+    /// fail.
     pub(crate) fn update_all<F: Fn(&T) -> T>(&mut self, f: &F)
         requires { F.IsAlwaysCallable f.now }
         ensures size { length self.new ≡ length self.old }
@@ -221,8 +222,8 @@ impl<T: Exact> Runs<T> {
         self.values.change_all(f);
     }
 
-    /// Joins each run that continues the one before it to that. It takes no memory and can't be
-    /// refused.
+    /// Joins each run to the one before it if it continues that. It doesn't allocate and can't
+    /// fail.
     pub(crate) fn join(&mut self)
         requires { All IsInRange self.old }
         ensures { self.new ≡ maximal_runs T.eq self.old }
@@ -231,7 +232,7 @@ impl<T: Exact> Runs<T> {
     }
 }
 
-/// The rows of some runs, whose values are added to others.
+/// The rows of some runs, whose values are added to `values`.
 fn numbered<T: Exact>(
     alloc: Global,
     values: &mut Values<T>,
@@ -254,7 +255,7 @@ fn numbered<T: Exact>(
     Ok(rows)
 }
 
-/// All runs, in a vector of their own.
+/// All runs, in a new vector.
 fn gathered<T: Exact>(alloc: Global, runs: &Runs<T>) -> Result<Vec<Run<T>>, AllocError>
     ensures { IfOk result (λ all. all.items ≡ runs.now) }
 {

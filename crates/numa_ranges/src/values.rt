@@ -1,4 +1,4 @@
-//! Values under numbers.
+//! Numbered values.
 ghost use Rattle.std.specs.Prelude.{◌≡◌, ◌<◌, ◌≤◌, ◌^◌, [], length, map, slice_get, Some, IfOk};
 ghost use Rattle.std.specs.Prelude.{IfSome, OnErr};
 ghost use Rattle.numa_rows.specs.Changes.{Makes};
@@ -9,17 +9,17 @@ use numa_rows::update_items;
 use std::alloc::{AllocError, Global};
 use std::marker::Model;
 
-/// So many values are too many.
+/// The number of values at which a list is too long.
 const TOO_MANY: usize = 1 << 32;
 
-/// With so many of the last values a new one is compared.
+/// The number of last values with which a new one is compared.
 const COMPARED: usize = 16;
 
-/// A list of values, each of which has its place as its number.
+/// A list of values; the number of a value is its index.
 ///
-/// A value that is added gets the number of an equal one, where that is found at once: under the
-/// number that the values of its mark had last, or among the last few. So a value can stand under
-/// several numbers, and the numbers that were given out keep what they mean.
+/// An added value gets the number of an equal one if a quick look finds one: at the number last
+/// used for its mark, or among the last few values. So one value can have several numbers, and a
+/// number never changes its meaning.
 #[derive(Drop)]
 pub(crate) struct Values<T> {
     items: Vec<T>,
@@ -37,7 +37,7 @@ impl<T> Model for Values<T> {
 }
 
 impl<T: Exact> Values<T> {
-    /// No values. It takes no memory.
+    /// No values. It doesn't allocate.
     pub(crate) fn new(alloc: Global) -> Values<T>
         ensures { result ≡ [] }
     {
@@ -47,14 +47,14 @@ impl<T: Exact> Values<T> {
         }
     }
 
-    /// The values in the order of their numbers.
+    /// The values by number.
     pub(crate) fn items(&self) -> &[T]
         ensures { result.now ≡ self.now }
     {
         self.items.as_slice()
     }
 
-    /// The same values once more, under the same numbers.
+    /// Returns a copy with the same numbers.
     pub(crate) fn copy(&self, alloc: Global) -> Result<Values<T>, AllocError>
         ensures { IfOk result (λ copy. copy ≡ self.now) }
     {
@@ -65,7 +65,7 @@ impl<T: Exact> Values<T> {
         })
     }
 
-    /// The number of a value, which is added where no equal one is found at once.
+    /// The number of a value, which is added unless a quick look finds an equal one.
     pub(crate) fn add(&mut self, value: T) -> Result<u32, AllocError>
         ensures number { IfOk result (λ number. slice_get self.new number ≡ Some value) }
         ensures longer { IsLonger self.old self.new }
@@ -86,8 +86,7 @@ impl<T: Exact> Values<T> {
         Ok(number)
     }
 
-    /// The number of an equal value, if one stands under a number that may be right, or is among
-    /// the last few.
+    /// The number of an equal value, if the hinted number or one of the last few has it.
     fn found(&self, hint: u32, value: T) -> Option<u32>
         ensures { IfSome result (λ number. slice_get self.now number ≡ Some value) }
     {
@@ -103,7 +102,7 @@ impl<T: Exact> Values<T> {
         None
     }
 
-    /// Gives each value what `f` makes of it. It takes no memory and can't be refused.
+    /// Replaces each value by what `f` returns for it. It doesn't allocate and can't fail.
     pub(crate) fn change_all<F: Fn(&T) -> T>(&mut self, f: &F)
         requires { F.IsAlwaysCallable f.now }
         ensures size { length self.new ≡ length self.old }

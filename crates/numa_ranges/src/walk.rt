@@ -1,4 +1,4 @@
-//! Runs that are walked one by one, from a place that a search found.
+//! Walks along runs, from a place that a search found.
 ghost use Rattle.std.specs.Prelude.{◌≡◌, ◌+◌, ◌≤◌, ◌^◌, length, not, is_some};
 ghost use Rattle.numa_ranges.specs.Runs.{page_at, AreApart};
 ghost use Rattle.numa_ranges.specs.Maps.{any_page};
@@ -7,8 +7,8 @@ ghost use Rattle.numa_ranges.specs.Edits.{StartsAround};
 use crate::exact::Exact;
 use crate::runs::Runs;
 
-/// Whether one of the pages of a span is not mapped, where so many runs start at its first page or
-/// before it. `near` is a guess at their chunk.
+/// Whether one of the pages of a span isn't mapped; `place` runs start at its first page or before
+/// it. `near` is a guess at their chunk.
 pub(crate) fn lacks_page<T: Exact>(
     runs: &Runs<T>,
     place: usize,
@@ -36,8 +36,8 @@ pub(crate) fn lacks_page<T: Exact>(
     page < end
 }
 
-/// How many runs start at a page or before it, where so many start at an earlier page or before
-/// that. `near` is a guess at their chunk.
+/// The number of runs that start at a page or before it, given that number for an earlier page.
+/// `near` is a guess at their chunk.
 pub(crate) fn starts_on<T: Exact>(
     runs: &Runs<T>,
     place: usize,

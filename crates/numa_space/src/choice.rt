@@ -1,4 +1,4 @@
-//! The nodes that an index or a set chooses, and the nodes of an order that a set has.
+//! Choosing a node by an index, and restricting an order to a set.
 ghost use Rattle.std.specs.Prelude.{◌≡◌, ◌≢◌, ◌<◌, ◌≤◌, ◌+◌, ◌++◌, ◌&&◌, not, true, length, filter};
 ghost use Rattle.std.specs.Prelude.{slice_index};
 ghost use Rattle.numa_mask.specs.NodeSet.{has, members};
@@ -10,7 +10,7 @@ use arrayvec::ArrayVec;
 use numa_machine::Weights;
 use numa_mask::NodeMask;
 
-/// Appends those nodes of an order that a set has.
+/// Appends the nodes of an order that are in a set.
 pub(crate) fn push_within(list: &mut ArrayVec<u8, 256>, order: &[u8], set: &NodeMask)
     requires { length list.old.items + length (within set.now order.now) ≤ 256 }
     ensures { list.new.items ≡ list.old.items ++ within set.now order.now }
@@ -22,7 +22,7 @@ pub(crate) fn push_within(list: &mut ArrayVec<u8, 256>, order: &[u8], set: &Node
     }
 }
 
-/// Appends those nodes of an order that are allowed and that a set lacks.
+/// Appends the nodes of an order that are allowed and not in a set.
 pub(crate) fn push_others(
     list: &mut ArrayVec<u8, 256>,
     order: &[u8],
@@ -50,7 +50,7 @@ pub(crate) fn first_node(set: &NodeMask) -> u8
     set.first().map_or(0, |node| node.number())
 }
 
-/// The node of a set that interleave chooses for an index: the members take turns.
+/// The node of a set that interleave chooses for an index.
 pub(crate) fn interleave_node(set: &NodeMask, index: u64) -> u8
     requires { set.now ≢ 0 }
     ensures node { result ≡ interleave_node set.now index }
@@ -63,7 +63,7 @@ pub(crate) fn interleave_node(set: &NodeMask, index: u64) -> u8
     node.number()
 }
 
-/// The weights of the nodes of a set together.
+/// The total weight of the nodes of a set.
 fn total_weight(weights: &Weights, set: &NodeMask) -> u64
     requires { set.now ≢ 0 }
     ensures total { result ≡ total_weight (weight_at weights.now) set.now }
@@ -76,8 +76,7 @@ fn total_weight(weights: &Weights, set: &NodeMask) -> u64
     total
 }
 
-/// The node of a set that weighted interleave chooses for an index: the members take turns, each as
-/// many as its weight.
+/// The node of a set that weighted interleave chooses for an index.
 pub(crate) fn weighted_node(weights: &Weights, set: &NodeMask, index: u64) -> u8
     requires { set.now ≢ 0 }
     ensures node { result ≡ weighted_node (weight_at weights.now) set.now index }

@@ -9,28 +9,28 @@ use numa_machine::Frame;
 /// is the frames 0 to 63, word 1 the frames 64 to 127, and so on.
 #[derive(Clone, Copy, Debug, PartialEq, Eq)]
 pub enum Event {
-    /// A command is to be accepted.
+    /// Accept a command.
     Accept(Command),
-    /// All accepted commands are published.
+    /// Publish all accepted commands.
     Publish,
     /// A worker takes a published version, and that version's node list for the request.
     Begin(u32, Request),
-    /// A worker looks at a word of its current node, the first listed one with a frame that it has
-    /// not met. Each owned frame there counts as met.
+    /// A worker looks at a word of its current node: the first listed one with a frame that it
+    /// hasn't met. Each owned frame there counts as met.
     Look(u32, u32),
-    /// A worker tries a frame of its current node that it has not met. A free frame becomes the
-    /// worker's; an owned one counts as met.
+    /// A worker tries to take a frame of its current node that it hasn't met. A free frame becomes
+    /// the worker's; an owned one counts as met.
     Try(u32, Frame),
     /// A worker gives a frame back.
     Give(u32, Frame),
 }
 
-/// What an event that isn't refused answers.
+/// The reply to an event that isn't refused.
 #[derive(Debug, PartialEq, Eq, Drop)]
 pub enum CoreReply {
-    /// The command was accepted: how many now are.
+    /// The command was accepted: the number of accepted commands.
     Accepted(u64),
-    /// The commands were published: how many.
+    /// The commands were published: their number, which is the version.
     Published(u64),
     /// The worker has a current node, and goes on.
     Still,
@@ -43,25 +43,25 @@ pub enum CoreReply {
     Given,
 }
 
-/// Why an event was refused, in the order in which the causes are looked for.
+/// Why an event was refused: the first of these that applies.
 #[derive(Clone, Copy, Debug, PartialEq, Eq)]
 pub enum CoreRefusal {
-    /// The command was refused, for this cause. Want of memory for an Accept is a cause too.
+    /// The command was refused, for this cause. Out of memory for an Accept is one too.
     Command(Refusal),
-    /// There are not so many workers.
+    /// There is no worker with this number.
     NoSuchWorker,
-    /// A Begin or a Give of a worker that is still looking for a frame.
+    /// A Begin or a Give of a worker that is still searching for a frame.
     Busy,
-    /// A Look or a Try of a worker that looks for no frame.
+    /// A Look or a Try of a worker that isn't searching for a frame.
     Idle,
-    /// A word that the current node lacks, or a frame that isn't an unmet one of the current node.
+    /// A word that the current node lacks, or a frame that isn't one of its unmet frames.
     BadTry,
     /// A Give of a frame that the worker doesn't own.
     NotOwned,
-    /// The faulting node is no node of the machine.
+    /// The machine lacks the faulting node.
     BadCpu,
     /// The page isn't mapped in the version that the worker took.
     Unmapped(u64),
-    /// Memory for a Publish was not to be had.
+    /// Out of memory for a Publish.
     NoMemory,
 }

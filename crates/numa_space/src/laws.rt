@@ -1,5 +1,5 @@
-//! Laws about the definitions that the contracts of this crate cite. Each function does nothing:
-//! what it ensures is the law.
+//! Laws about the definitions that the contracts of this crate cite. The functions do nothing: what
+//! each one ensures is a law.
 ghost use Rattle.std.specs.Prelude.{◌≡◌, ◌≢◌, ◌^◌, ◌<◌, ◌≤◌, ℕ, List, ◌∷◌};
 ghost use Rattle.numa_mask.specs.NodeSet.{weight_of};
 ghost use Rattle.numa_machine.specs.Machine.{Hardware};
@@ -13,9 +13,9 @@ ghost use Rattle.numa_space.specs.Rows.{IsModeRow};
 ghost use Rattle.numa_space.specs.Standing.{IsAccepted, IsNodeList};
 ghost use Rattle.numa_space.specs.declared.command.Command.{Command};
 
-/// The list of a mode has the words of `IsModeRow`, where its set has a node and no weight is 0,
-/// and it is the only list that has: for BIND the list without repeats whose nodes are those of the
-/// set and in which each earlier node precedes the later ones in the machine's order.
+/// The list of a mode, if its set has a node and no weight is 0, is the only one that `IsModeRow`
+/// describes: for BIND the list without repeats whose nodes are those of the set, in the machine's
+/// order.
 pub fn mode_rows()
     ensures is_one { (setting : Setting) (mode : Mode) (set from index : ℕ)
         → 0 < weight_of set → ((node : ℕ) → 0 < setting.weight node)
@@ -25,8 +25,8 @@ pub fn mode_rows()
         → row ≡ list_by_mode setting mode set from index }
 {}
 
-/// Each node list that accepted commands mean, on a machine of which some nodes have memory, has a
-/// node, each once, and only allowed ones.
+/// Each node list that accepted commands mean, on a machine with memory, isn't empty, has no node
+/// twice, and has only allowed nodes.
 pub fn node_lists()
     ensures sound { (machine : Hardware) (bounds : Bounds) (history : List Command)
         (task page cpu : ℕ)
@@ -34,8 +34,8 @@ pub fn node_lists()
         → IsNodeList (allowed_nodes machine history) (node_list machine history task page cpu) }
 {}
 
-/// A command that names no pages never raises the number of ranges, so it need not be judged by
-/// that number.
+/// A command that names no pages never raises the number of ranges, so it need not be checked
+/// against the limit.
 pub fn range_counts()
     ensures task { (machine : Hardware) (history : List Command) (task : ℕ) (spec : Specification)
         → range_count_of machine (Command.SetTask task spec ∷ history)

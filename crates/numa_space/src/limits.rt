@@ -1,9 +1,9 @@
-//! How large a space may grow.
+//! Limits on the size of a space.
 ghost use Rattle.std.specs.Prelude.{◌≡◌, ◌≤◌, ◌↔◌, IsSome, IfSome};
 
 use std::marker::Model;
 
-/// How many ranges, task policies and accepted commands a space may have.
+/// The most ranges, task policies and accepted commands of a space.
 #[derive(Clone, Copy, Debug, PartialEq, Eq)]
 pub struct Limits {
     max_ranges: u32,
@@ -24,8 +24,8 @@ impl Model for Limits {
 }
 
 impl Limits {
-    /// Limits of at most 65,536 ranges, 1,024 task policies and 4,294,967,295 commands; None past
-    /// any of these.
+    /// Limits of at most 65,536 ranges, 1,024 task policies and 4,294,967,295 commands; `None`
+    /// above any of these.
     pub fn new(max_ranges: u32, max_tasks: u32, max_commands: u32) -> Option<Limits>
         ensures exists { IsSome result ↔ ((max_ranges ≤ 65536) × (max_tasks ≤ 1024)) }
         ensures value { IfSome result (λ limits. limits
@@ -46,7 +46,7 @@ impl Limits {
         }
     }
 
-    /// How many ranges there may be.
+    /// The most ranges.
     pub fn max_ranges(&self) -> u32
         ensures limit { result ≡ self.now.max_ranges }
         ensures at_most { result ≤ 65536 }
@@ -54,7 +54,7 @@ impl Limits {
         self.max_ranges
     }
 
-    /// How many tasks may have a policy.
+    /// The most tasks with a policy.
     pub fn max_tasks(&self) -> u32
         ensures limit { result ≡ self.now.max_tasks }
         ensures at_most { result ≤ 1024 }
@@ -62,7 +62,7 @@ impl Limits {
         self.max_tasks
     }
 
-    /// How many commands may be accepted.
+    /// The most accepted commands.
     pub fn max_commands(&self) -> u32
         ensures limit { result ≡ self.now.max_commands }
     {

@@ -1,4 +1,4 @@
-//! The pages of a space: a map that splits and joins, with refusals as a space gives them.
+//! The pages of a space: a range map, with a space's refusals.
 ghost use Rattle.std.specs.Prelude.{◌≡◌, ◌≢◌, ◌+◌, ◌<◌, ◌≤◌, ◌^◌, ℕ, Some, None, Option, Ok, Err};
 ghost use Rattle.std.specs.Prelude.{IfOk, MatchResult, is_some, not, false, [], length, Contains, ◌↔◌};
 ghost use Rattle.std.specs.Prelude.{slice_get};
@@ -25,14 +25,14 @@ use numa_rows::{Iter, Owned};
 use std::alloc::{AllocError, Global};
 use std::marker::Model;
 
-/// What is asked of the pages of a span.
+/// A test of the pages of a span.
 #[derive(Clone, Copy)]
 pub(crate) enum PageTest {
     /// Whether it is mapped.
     IsMapped,
-    /// Whether its range has a policy of its own.
+    /// Whether its range has an own policy.
     HasPolicy,
-    /// Whether its range has a policy that takes no home node.
+    /// Whether its range has an own policy that takes no home node.
     TakesNoHome,
 }
 
@@ -51,7 +51,7 @@ impl Model for Pages {
 }
 
 impl Pages {
-    /// No pages, of at most so many ranges; takes no memory.
+    /// No pages, for at most `max_ranges` ranges; it doesn't allocate.
     pub(crate) fn new(alloc: Global, max_ranges: u32) -> Pages
         ensures { result ≡ record { runs = []; limit = max_ranges } }
     {
@@ -60,7 +60,7 @@ impl Pages {
         }
     }
 
-    /// The same pages once more.
+    /// Returns a copy.
     pub(crate) fn copy(&self) -> Result<Pages, AllocError>
         ensures { IfOk result (λ copy. copy ≡ self.now) }
     {
@@ -68,7 +68,7 @@ impl Pages {
         Ok(Pages { map })
     }
 
-    /// How many ranges there are.
+    /// The number of ranges.
     pub(crate) fn len(&self) -> usize
         ensures runs { result ≡ length self.now.runs }
         ensures count { result ≡ range_count same_record (page_at self.now.runs) }
@@ -77,7 +77,7 @@ impl Pages {
         self.map.len()
     }
 
-    /// The ranges, rising.
+    /// The ranges in ascending order.
     pub(crate) fn iter(&self) -> RangeIter<'_, RangeRecord>
         ensures runs { result ≡ self.now.runs }
         ensures rising { AreApart 0 self.now.runs }
@@ -88,26 +88,26 @@ impl Pages {
         self.map.iter()
     }
 
-    /// The ranges, rising, with numbers in the place of their records, and the records.
+    /// The ranges in ascending order, with the numbers of their records, and the records.
     pub(crate) fn rows(&self) -> (Iter<'_, Row, Owned<Row>>, &[RangeRecord])
         ensures { AreRowsOf result.1.now result.0 self.now.runs }
     {
         self.map.rows()
     }
 
-    /// The range at a place, by rising first pages; None from `len` on.
+    /// The range at a place, in ascending order; `None` from `len` on.
     pub(crate) fn range_at(&self, place: usize) -> Option<Run<RangeRecord>>
         ensures { result ≡ slice_get self.now.runs place }
     {
         self.map.range_at(place)
     }
 
-    /// Beside which place the last edit was, as a guess.
+    /// The place of the last edit, as a guess.
     pub(crate) fn edited_place(&self) -> usize {
         self.map.edited_place()
     }
 
-    /// The index of a page and its range's policy, where it is mapped.
+    /// The index of a page and its range's policy, if it is mapped.
     pub(crate) fn at(&self, page: u64) -> Option<(u64, Option<Record>)>
         ensures { result ≡ page_at self.now.runs page }
     {
@@ -115,7 +115,7 @@ impl Pages {
         Some((index, value.policy()))
     }
 
-    /// Maps a span without a policy of its own.
+    /// Maps a span without an own policy.
     pub(crate) fn map_span(&mut self, first: u64, pages: u64, index: u64) -> Result<(), Refusal>
         requires span { IsSpan first pages }
         requires index { index < 2 ^ 35 }
@@ -139,8 +139,7 @@ impl Pages {
         answered(self.map.unmap_span(first, pages))
     }
 
-    /// Gives the pages of a span a policy of their own, or takes it away; where holes are passed
-    /// over, those of them that are mapped.
+    /// Sets or removes the policy of a span's pages; with `passes_holes`, of those that are mapped.
     pub(crate) fn bind_span(
         &mut self,
         first: u64,
@@ -164,7 +163,7 @@ impl Pages {
         self.bind_mapped(first, pages, policy)
     }
 
-    /// Gives the pages of a span a policy, where all of them are mapped.
+    /// Sets the policy of a span's pages, all of which have to be mapped.
     fn bind_whole(&mut self, first: u64, pages: u64, policy: Option<Record>) -> Result<(), Refusal>
         requires span { IsSpan first pages }
         ensures edit { IsEdit (first_of (hole_cause false (page_at self.old.runs) first pages)
@@ -176,7 +175,7 @@ impl Pages {
         answered(self.map.set_span(first, pages, RangeRecord::of(policy)))
     }
 
-    /// Gives the mapped pages of a span a policy.
+    /// Sets the policy of the mapped pages of a span.
     fn bind_mapped(&mut self, first: u64, pages: u64, policy: Option<Record>) -> Result<(), Refusal>
         requires span { IsSpan first pages }
         ensures edit { IsEdit (too_many self.old.limit (changed_span first pages (λ old. policy)
@@ -199,7 +198,7 @@ impl Pages {
         self.map.has_hole(first, pages)
     }
 
-    /// Gives the policies of a span's pages a home node, those that have one.
+    /// Sets the home node of the policies of a span's pages, where they have one.
     pub(crate) fn home_span(&mut self, first: u64, pages: u64, node: u8) -> Result<(), Refusal>
         requires span { IsSpan first pages }
         ensures edit { IsEdit (too_many self.old.limit
@@ -215,7 +214,7 @@ impl Pages {
         answered(self.map.update_span(first, pages, at_home))
     }
 
-    /// Moves every policy with a change of the allowed nodes; takes no memory.
+    /// Updates every policy for a change of the allowed nodes; it doesn't allocate.
     pub(crate) fn rebind(&mut self, rules: Rules, old: &NodeMask, new: &NodeMask)
         requires some { new.now ≢ 0 }
         ensures pages { (page : ℕ) → page_at self.new.runs page
@@ -266,7 +265,7 @@ fn reaches(test: PageTest, run: &Run<RangeRecord>, first: u64, end: u64) -> bool
     run.first < end && passed < run.pages && passes
 }
 
-/// A map's answer, as a space's.
+/// A range map's result as a space's.
 fn answered(outcome: Result<(), RangeError>) -> Result<(), Refusal>
     ensures { MatchResult outcome (λ done. result ≡ Ok done)
         (λ fault. result ≡ Err (refusal_from fault)) }

@@ -9,10 +9,11 @@ use numa_mode::Record;
 use numa_ranges::Exact;
 use std::marker::Model;
 
-/// 2^64 over the golden ratio: a product with it has bits of every factor at its top.
+/// 2^64 divided by the golden ratio: the top bits of a product with it depend on every bit of the
+/// other factor.
 const SPREAD: u64 = 0x9E37_79B9_7F4A_7C15;
 
-/// The policy that a range of pages has of its own, if it has one.
+/// The own policy of a range of pages, if it has one.
 #[derive(Clone, Copy, Debug, PartialEq, Eq)]
 pub struct RangeRecord {
     policy: Option<Record>,
@@ -30,14 +31,14 @@ impl Model for RangeRecord {
 }
 
 impl RangeRecord {
-    /// A range with this policy of its own, or with none.
+    /// A range with this own policy, or with none.
     pub(crate) fn of(policy: Option<Record>) -> RangeRecord
         ensures { result ≡ policy }
     {
         RangeRecord { policy }
     }
 
-    /// The same with a home node, where the policy takes one.
+    /// The same with a home node, if the policy takes one.
     pub(crate) fn homed(&self, node: u8) -> RangeRecord
         ensures { result ≡ policy_with_home node self.now }
     {
@@ -48,7 +49,7 @@ impl RangeRecord {
         RangeRecord { policy }
     }
 
-    /// The same, once the allowed nodes changed.
+    /// The same after a change of the allowed nodes.
     pub(crate) fn rebound(&self, rules: Rules, old: &NodeMask, new: &NodeMask) -> RangeRecord
         requires { new.now ≢ 0 }
         ensures { result ≡ policy_after rules old.now new.now self.now }
@@ -60,7 +61,7 @@ impl RangeRecord {
         RangeRecord { policy }
     }
 
-    /// Whether the range has a policy of its own that takes no home node.
+    /// Whether the range has an own policy that takes no home node.
     pub(crate) fn takes_no_home(&self) -> bool
         ensures { result ≡ takes_no_home (Some (0, self.now)) }
     {
@@ -70,7 +71,7 @@ impl RangeRecord {
         }
     }
 
-    /// The policy that the range has of its own.
+    /// The own policy of the range.
     pub fn policy(&self) -> Option<Record>
         ensures { result ≡ self.now }
     {
@@ -83,7 +84,7 @@ impl Exact for RangeRecord {
 
     ghost exact = { range-exact };
 
-    /// Policies of different modes, flags, nodes at present or homes mostly have different marks.
+    /// Policies with different modes, flags, effective sets or homes mostly have different marks.
     fn mark(&self) -> u64 {
         let Some(policy) = self.policy else {
             return 0;

@@ -2,42 +2,42 @@
 ghost use Rattle.std.specs.Prelude.{◌≡◌};
 ghost use Rattle.numa_space.specs.Errors.{errno_of};
 
-/// Why a command was refused, in the order in which the causes are looked for.
+/// Why a command was refused: the first of these that applies.
 #[derive(Clone, Copy, Debug, PartialEq, Eq)]
 pub enum Refusal {
-    /// As many commands as the limits allow were accepted.
+    /// The limit of accepted commands is reached.
     CommandsSpent,
-    /// The start is no multiple of 4,096.
+    /// The start isn't a multiple of 4,096.
     Unaligned,
-    /// The span ends above address 2^47; by the rules of the kernel, a map above 2^47 - 4096.
+    /// The span ends above address 2^47; by the kernel's rules a map, above 2^47 - 4096.
     OutOfSpace,
-    /// A map of no bytes; by the rules of the kernel an unmap too.
+    /// A map of no bytes; by the kernel's rules an unmap too.
     EmptyLength,
     /// The offset of a map is 2^35 pages or more.
     BadOffset,
-    /// A page of a map's span is mapped already.
+    /// A page of a map's span is already mapped.
     Overlap,
-    /// A page to which a policy is bound isn't mapped.
+    /// A page that is to be bound isn't mapped.
     Hole,
-    /// A node is named that the machine lacks.
+    /// The machine lacks a node that is named.
     NoSuchNode,
-    /// A weight above 255, or of 0 by the rules of the documents.
+    /// A weight above 255, or of 0 by the documents' rules.
     BadWeight,
     /// The policy would have no node when it is set, or the new allowed nodes have no memory.
     NodesNotAllowed,
     /// A home for a page whose own policy is neither BIND nor PREFERRED_MANY.
     NotSupported,
-    /// By the rules of the kernel, a home for a span of which no page has a policy of its own.
+    /// By the kernel's rules, a home for a span of which no page has an own policy.
     NoPolicy,
-    /// As many tasks as the limits allow have a policy.
+    /// The limit of tasks with a policy is reached.
     TooManyTasks,
     /// There would be more ranges than the limits allow.
     TooManyRanges,
-    /// Memory for the change was not to be had.
+    /// Out of memory for the change.
     NoMemory,
 }
 
-/// The error number that Linux gives for a cause, by name (errno(3)).
+/// The name of the error number that Linux returns for a cause (errno(3)).
 #[derive(Clone, Copy, Debug, PartialEq, Eq)]
 pub enum Errno {
     EInval,
@@ -74,10 +74,10 @@ impl Refusal {
     }
 }
 
-/// Why a question about a page has no answer, in the order in which the causes are looked for.
+/// Why a question about a page has no answer: the first of these that applies.
 #[derive(Clone, Copy, Debug, PartialEq, Eq)]
 pub enum PlaceRefusal {
-    /// The faulting node is no node of the machine.
+    /// The machine lacks the faulting node.
     BadCpu,
     /// The page isn't mapped.
     Unmapped,

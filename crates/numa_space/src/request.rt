@@ -1,4 +1,4 @@
-//! What a fault asks for.
+//! Page faults.
 
 /// A page fault: the task that touched the page, the number of the page (its address divided by
 /// 4,096), and the node of the processor that the task ran on.

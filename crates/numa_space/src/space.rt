@@ -1,4 +1,4 @@
-//! A space of pages and its policies.
+//! Spaces of pages and their policies.
 ghost use Rattle.std.specs.Prelude.{◌≡◌, ◌≢◌, ◌≤◌, ◌<◌, ℕ, IfOk, OnOk, IfErr, IfSome, None};
 ghost use Rattle.std.specs.Prelude.{Option, Some, List, [], length, slice_get};
 ghost use Rattle.std.specs.Prelude.{take, AllPairs, Contains, ◌↔◌};
@@ -35,7 +35,8 @@ use std::marker::Model;
 mod changes;
 mod place;
 
-/// Pages, policies, weights and allowed nodes of one machine, as the accepted commands left them.
+/// The pages, policies, weights and allowed nodes of one machine, as the accepted commands left
+/// them.
 #[derive(Drop)]
 pub struct Space {
     machine: Machine,
@@ -61,7 +62,7 @@ impl Model for Space {
 
 impl Space {
     /// A space in which nothing is mapped, no task has a policy, every weight is 1 and all nodes
-    /// with memory are allowed. Takes no memory; the allocator is kept for later commands.
+    /// with memory are allowed. It doesn't allocate; the allocator is kept for later commands.
     pub fn new(alloc: Global, machine: Machine, limits: Limits) -> Space
         ensures stands { StandsFor result [] }
         ensures machine { result.machine ≡ machine }
@@ -82,12 +83,11 @@ impl Space {
         }
     }
 
-    /// The same space once more: the copy stands for each history for which this one does. A
-    /// command to one of the two leaves the other as it is, so that a caller can try what commands
-    /// come to.
+    /// Returns a copy, which stands for the same histories. A command to one of the two doesn't
+    /// affect the other, so a caller can try commands on a copy.
     ///
     /// # Errors
-    /// `NoMemory` where there is none for the machine, the ranges and the tasks' policies.
+    /// `NoMemory`: there is no memory for the copy's machine, ranges and task policies.
     pub fn copy(&self, alloc: Global) -> Result<Space, NoMemory>
         ensures same { IfOk result (λ copy. copy ≡ self.now) }
         ensures stands { (history : List Command) → StandsFor self.now history
@@ -110,23 +110,24 @@ impl Space {
     /// Carries out a command, or refuses it.
     ///
     /// # Errors
-    /// The first cause that applies, as [`Refusal`] lists them; `NoMemory` is the last. A refusal
-    /// leaves the space as it was.
+    /// The first cause that applies, as [`Refusal`] lists them; `NoMemory` is the last. Then the
+    /// space hasn't changed.
     pub fn apply(&mut self, command: &Command) -> Result<(), Refusal>
         ensures { IsApplied self.old command.now result self.new }
     {
-        // Tell the proof how the ranges stand, and how many ranges and tasks there may be.
+        // Tell the proof that the ranges are maximal, and the limits of ranges and tasks.
         let _ = self.range_iter();
         let _ = self.ranges();
         let _ = self.task_count();
         self.answer(command)
     }
 
-    /// Carries out commands, the first first, and passes over those against which a cause stands.
+    /// Carries out commands in order, and skips those that are refused for a cause other than
+    /// memory.
     ///
     /// # Errors
-    /// Out of memory for a command: how many commands came before it. Those were carried out or
-    /// passed over, and this one was not.
+    /// Out of memory for a command: the number of commands before it. Those were carried out or
+    /// skipped, and this one was not.
     pub fn apply_all(&mut self, commands: &[Command]) -> Result<(), usize>
         ensures ok { (history : List Command) → StandsFor self.old history → OnOk result
             (StandsFor self.new (accepted_of self.old.machine self.old.bounds commands.now
@@ -147,7 +148,7 @@ impl Space {
         Ok(())
     }
 
-    /// How many commands were accepted. Every space stands for the history of those.
+    /// The number of accepted commands. Every space stands for the history of these.
     pub fn version(&self) -> u64
         ensures version { result ≡ self.now.version }
         ensures meaning { (history : List Command) → StandsFor self.now history
@@ -165,7 +166,7 @@ impl Space {
         &self.machine
     }
 
-    /// The nodes on which memory may be placed: some, all of them with memory.
+    /// The nodes on which memory may be placed. All have memory.
     pub fn allowed(&self) -> NodeMask
         ensures allowed { result ≡ self.now.allowed }
         ensures meaning { (history : List Command) → StandsFor self.now history
@@ -185,9 +186,9 @@ impl Space {
         &self.weights
     }
 
-    /// How many ranges there are: mapped pages whose predecessor isn't mapped, or has another
-    /// policy of its own or an index that isn't one less. Linux can keep more areas, since it does
-    /// not always merge equal neighbours again, or fewer (docs/KERNEL.md).
+    /// The number of ranges: of mapped pages whose predecessor isn't mapped, has another own
+    /// policy, or an index that isn't one less. Linux can keep more areas, since it doesn't always
+    /// merge equal neighbours, or fewer (docs/KERNEL.md).
     pub fn ranges(&self) -> usize
         ensures ranges { result ≡ length self.now.ranges }
         ensures count { result ≡ range_count same_record (page_at self.now.ranges) }
@@ -201,8 +202,9 @@ impl Space {
         self.pages.len()
     }
 
-    /// The ranges, rising: each as its first page, how many pages it has, the index of the first
-    /// and, by `value.policy()`, the policy of its own, if it has one. No two of them could be one.
+    /// The ranges in ascending order, each with its first page, its number of pages, its first
+    /// index and, by `value.policy()`, its own policy, if it has one. No two of them could be
+    /// joined.
     pub fn range_iter(&self) -> RangeIter<'_, RangeRecord>
         ensures runs { result ≡ self.now.ranges }
         ensures rising { AreApart 0 self.now.ranges }
@@ -216,35 +218,33 @@ impl Space {
         self.pages.iter()
     }
 
-    /// The range at a place, where the ranges stand in the order of their first pages and are
-    /// counted from 0: the k-th that `range_iter` lends. None from `ranges` on.
+    /// The range at `place`, counted from 0 in ascending order as by `range_iter`; `None` from
+    /// `ranges` on.
     pub fn range_at(&self, place: usize) -> Option<Run<RangeRecord>>
         ensures range { result ≡ slice_get self.now.ranges place }
         ensures rising { AreApart 0 self.now.ranges }
         ensures maximal { AreMaximal self.now.ranges }
     {
-        // Tells the proof that the ranges rise and are maximal.
+        // Tells the proof that the ranges are in ascending order and maximal.
         let _ = self.pages.iter();
         self.pages.range_at(place)
     }
 
-    /// The ranges, rising, with numbers in the place of their records, and the records, each at the
-    /// place that is its number: so what follows from a record can be found once for all ranges
-    /// that have its number. Equal records can have several numbers, and there can be records that no
-    /// range has.
+    /// The ranges in ascending order, each with the number of its record, and the records by
+    /// number: so a caller can derive something once for all ranges with one number. Equal records
+    /// can have several numbers, and some records may belong to no range.
     pub fn range_rows(&self) -> (Iter<'_, Row, Owned<Row>>, &[RangeRecord])
         ensures { AreRowsOf result.1.now result.0 self.now.ranges }
     {
         self.pages.rows()
     }
 
-    /// Beside which place the last edit of the ranges was: a guess at where those stand that it has
-    /// changed. Nothing depends on it but time.
+    /// The place of the last edit: a guess at the ranges that it changed. Only speed depends on it.
     pub fn edited_place(&self) -> usize {
         self.pages.edited_place()
     }
 
-    /// How many tasks have a policy. Each task is there once.
+    /// The number of tasks that have a policy.
     pub fn task_count(&self) -> usize
         ensures tasks { result ≡ length self.now.tasks }
         ensures meaning { (history : List Command) → StandsFor self.now history
@@ -258,8 +258,8 @@ impl Space {
         self.tasks.len()
     }
 
-    /// The k-th task that has a policy, and the policy; None from `task_count` on. Each task that
-    /// has one is at some place.
+    /// The k-th task that has a policy, and the policy; `None` from `task_count` on. Each such task
+    /// is at one place.
     pub fn task_at(&self, k: usize) -> Option<(u32, Record)>
         ensures task { result ≡ slice_get self.now.tasks k }
         ensures every { (task : ℕ) (policy : PolicyRecord)
@@ -272,7 +272,7 @@ impl Space {
         self.tasks.at(k)
     }
 
-    /// The policy of a task, where it has one of its own.
+    /// The policy of a task, if it has one.
     pub fn task_policy(&self, task: u32) -> Option<Record>
         ensures policy { result ≡ record_of self.now.tasks task }
         ensures meaning { (history : List Command) → StandsFor self.now history

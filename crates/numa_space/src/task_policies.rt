@@ -26,14 +26,14 @@ impl Model for Tasks {
 }
 
 impl Tasks {
-    /// No task has a policy; takes no memory.
+    /// No task has a policy; it doesn't allocate.
     pub(crate) fn new(alloc: Global) -> Tasks
         ensures { result ≡ [] }
     {
         Tasks(IndexMap::new(alloc))
     }
 
-    /// The same policies once more, of the same tasks.
+    /// Returns a copy.
     pub(crate) fn copy(&self) -> Result<Tasks, AllocError>
         ensures { IfOk result (λ copy. copy ≡ self.now) }
     {
@@ -41,7 +41,7 @@ impl Tasks {
         Ok(Tasks(records))
     }
 
-    /// How many tasks have a policy.
+    /// The number of tasks that have a policy.
     pub(crate) fn len(&self) -> usize
         ensures len { result ≡ length self.now }
         ensures each_once { AllPairs (λ earlier later. earlier.0 ≢ later.0) self.now }
@@ -56,7 +56,7 @@ impl Tasks {
         self.0.get(&task).copied()
     }
 
-    /// The k-th task that has a policy, in the order in which they got one.
+    /// The k-th task that has a policy, and the policy.
     pub(crate) fn at(&self, k: usize) -> Option<(u32, Record)>
         ensures at { result ≡ slice_get self.now k }
         ensures record { IfSome result (λ held. record_of self.now held.0 ≡ Some held.1) }
@@ -67,7 +67,7 @@ impl Tasks {
         }
     }
 
-    /// Gives a task a policy.
+    /// Sets the policy of a task.
     pub(crate) fn set(&mut self, task: u32, policy: Record) -> Result<(), AllocError>
         ensures records { OnOk result ((other : ℕ)
             → record_of self.new other ≡ if task == other then Some policy
@@ -82,7 +82,7 @@ impl Tasks {
         }
     }
 
-    /// Takes a task's policy away, if it has one.
+    /// Removes a task's policy, if it has one.
     pub(crate) fn clear(&mut self, task: u32)
         ensures records { (other : ℕ) → record_of self.new other ≡ if task == other then None
             else record_of self.old other }
@@ -92,7 +92,7 @@ impl Tasks {
         let _ = self.0.shift_remove(&task);
     }
 
-    /// Moves every policy with a change of the allowed nodes; takes no memory.
+    /// Updates every policy for a change of the allowed nodes; it doesn't allocate.
     pub(crate) fn rebind(&mut self, rules: Rules, old: &NodeMask, new: &NodeMask)
         requires some { new.now ≢ 0 }
         ensures records { (task : ℕ) → record_of self.new task

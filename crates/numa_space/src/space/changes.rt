@@ -1,4 +1,4 @@
-//! What each command changes.
+//! The effects of each command.
 ghost use Rattle.std.specs.Prelude.{◌≡◌, ◌+◌, ◌<◌, ◌≤◌, ◌^◌, ◌&&◌, ◌||◌, ◌-◌, ◌==◌, ℕ, true, false, not, nat_le, nat_lt};
 ghost use Rattle.std.specs.Prelude.{is_some, length, Option, Some, None, MatchResult, IfErr};
 ghost use Rattle.std.specs.Prelude.{◌≢◌, MatchOption, IfSome};
@@ -44,7 +44,7 @@ fn span_of(start: u64, length: u64) -> Result<(u64, u64), Refusal>
     Ok((start / PAGE_BYTES, pages))
 }
 
-/// Whether a set has a node of this number or above.
+/// Whether a set has node `first` or a higher one.
 fn has_node_from(mask: &NodeMask, first: u32) -> bool
     ensures { result ≡ list_any (λ node. nat_le first node) (members mask.now) }
 {
@@ -52,7 +52,7 @@ fn has_node_from(mask: &NodeMask, first: u32) -> bool
 }
 
 impl Space {
-    /// Whether the rules of the kernel count.
+    /// Whether the machine follows the kernel's rules.
     fn is_linux(&self) -> bool
         ensures { result ≡ is_linux self.now.machine.rules }
     {
@@ -77,14 +77,14 @@ impl Space {
         Ok((first, pages))
     }
 
-    /// Whether an Mbind passes over holes: that of DEFAULT does in the kernel.
+    /// Whether an Mbind skips holes: that of DEFAULT does in the kernel.
     fn passes_holes(&self, spec: &PolicySpec) -> bool
         ensures { result ≡ passes_holes self.now.machine.rules spec.now }
     {
         self.is_linux() && spec.mode() == Mode::Default
     }
 
-    /// Whether no page of a span has a policy of its own, where the kernel asks for one.
+    /// Whether no page of a span has an own policy, if the kernel's rules require one.
     #[tactic(auto, unfolding(crate::specs::Refusals::lacks_policy))]
     fn lacks_policy(&self, first: u64, pages: u64) -> bool
         requires span { IsSpan first pages }
@@ -93,8 +93,8 @@ impl Space {
         self.is_linux() && !self.pages.has_page(PageTest::HasPolicy, first, pages)
     }
 
-    /// The weight that a number asks for: in the kernel 0 puts back 1. By the documents 0 stays, and
-    /// is refused.
+    /// The weight that a number means: in the kernel 0 resets it to 1. By the documents 0 is kept,
+    /// and refused.
     fn weight_meant(&self, weight: u32) -> u32
         ensures bad { (result == 0 || nat_lt 255 result)
             ≡ is_bad_weight self.now.machine.rules weight }
@@ -194,8 +194,7 @@ impl Space {
         Ok(())
     }
 
-    /// The refusal of a policy that has no node, for a span: by the documents a hole in it comes
-    /// first.
+    /// The refusal for a span of a policy that has no node: by the documents a hole comes first.
     fn hole_or_nodes(&self, first: u64, pages: u64) -> Refusal
         requires span { first + pages ≤ 2 ^ 35 }
         ensures { result ≡ (if not (is_linux self.now.machine.rules)
@@ -229,7 +228,7 @@ impl Space {
         Ok(())
     }
 
-    /// Whether a task has no policy, and as many tasks as may have one do.
+    /// Whether a task has no policy, and the limit of tasks with one is reached.
     fn has_no_place_for(&self, task: u32) -> bool
         ensures { result ≡ (not (is_some (record_of self.now.tasks task))
             && nat_le self.now.bounds.max_tasks (length self.now.tasks)) }
@@ -321,7 +320,7 @@ impl Space {
         Ok(())
     }
 
-    /// The nodes that a mask allows; None where it allows none.
+    /// The nodes that a mask allows, or `None` if it allows none.
     #[tactic(auto, unfolding(crate::specs::Refusals::lacks_mems, crate::specs::Policies::mems_of))]
     fn mems_of(&self, mask: &NodeMask) -> Option<NodeMask>
         ensures mems { MatchOption result

@@ -1,4 +1,4 @@
-//! What a space answers about a page.
+//! Questions about a page.
 ghost use Rattle.std.specs.Prelude.{◌≡◌, ◌≢◌, ◌<◌, ◌++◌, ◌&&◌, ℕ, true, not, filter, is_some};
 ghost use Rattle.std.specs.Prelude.{Option, Some, None, List, IfOk, IfSome, MatchResult};
 ghost use Rattle.numa_mask.specs.NodeSet.{has};
@@ -20,7 +20,7 @@ use arrayvec::ArrayVec;
 use numa_mask::NodeMask;
 use numa_mode::{Mode, Record};
 
-/// A policy, where it is live.
+/// A policy, if it is live.
 fn where_live(policy: Option<Record>) -> Option<Record>
     ensures { result ≡ where_live policy }
 {
@@ -30,7 +30,7 @@ fn where_live(policy: Option<Record>) -> Option<Record>
     }
 }
 
-/// The range's policy where it has one that is live, else the task's.
+/// The range's policy if it has one that is live, else the task's.
 fn resolved(range: Option<Record>, task: Option<Record>) -> Option<Record>
     ensures { result ≡ policy_that_counts range task }
 {
@@ -41,9 +41,8 @@ fn resolved(range: Option<Record>, task: Option<Record>) -> Option<Record>
 }
 
 impl Space {
-    /// The policy by which a task's fault at a page is served: that of the page's range where there
-    /// is one that is live, else the task's where there is one that is live. None means local
-    /// allocation ("NUMA Memory Policy", scopes).
+    /// The policy that serves a task's fault at a page: that of the page's range if it is live,
+    /// else the task's if it is live. `None` means local allocation ("NUMA Memory Policy", scopes).
     pub fn policy_at(&self, task: u32, page: u64) -> Option<Record>
         ensures policy { result ≡ policy_in self.now task page }
         ensures meaning { (history : List Command) → StandsFor self.now history
@@ -56,7 +55,7 @@ impl Space {
         self.policy_of_page(task, page)
     }
 
-    /// The policy that counts for a task at a page.
+    /// The policy that serves a task at a page.
     fn policy_of_page(&self, task: u32, page: u64) -> Option<Record>
         ensures { result ≡ policy_in self.now task page }
     {
@@ -68,10 +67,15 @@ impl Space {
     }
 
     /// The nodes on which memory for a page is looked for, in this order, when the task faults on
-    /// it on node `cpu`. Takes no memory.
+    /// it on node `cpu`. It doesn't allocate.
     ///
-    /// Refusals, the first that applies: `BadCpu` where the machine has no node `cpu`, `Unmapped`
-    /// where the page isn't mapped.
+    /// # Errors
+    /// The first that applies: `BadCpu`, the machine has no node `cpu`; `Unmapped`, the page isn't
+    /// mapped.
+    ///
+    /// # Errors
+    /// The first that applies: `BadCpu`, the machine has no node `cpu`; `Unmapped`, the page isn't
+    /// mapped.
     pub fn list_at(&self, task: u32, page: u64, cpu: u32) -> Result<ArrayVec<u8, 256>, PlaceRefusal>
         ensures answer { MatchResult result
             (λ list. (place_refusal_in self.now.machine.nodes
@@ -90,7 +94,7 @@ impl Space {
         self.list_of_page(task, page, cpu)
     }
 
-    /// The node list of a page, from what the space holds.
+    /// The node list of a page, from the parts of the space.
     fn list_of_page(
         &self,
         task: u32,
@@ -114,7 +118,7 @@ impl Space {
         Ok(self.list_of(policy, cpu, index))
     }
 
-    /// The list of a policy that is in force, for a fault on a node, at a page of this index.
+    /// The list of a policy in force, for a fault on a node, at a page with this index.
     fn list_of(&self, policy: Option<Record>, cpu: u32, index: u64) -> ArrayVec<u8, 256>
         requires cpu { cpu < self.now.machine.nodes }
         requires in_force { IfSome policy (λ r. IsInForce self.now.machine self.now.allowed r
@@ -128,7 +132,7 @@ impl Space {
         self.list_by_mode(&policy, from, index)
     }
 
-    /// The list of a policy that is in force, for a fault that counts as one on the node `from`.
+    /// The list of a policy in force, for a fault that counts as one on node `from`.
     fn list_by_mode(&self, policy: &Record, from: u32, index: u64) -> ArrayVec<u8, 256>
         requires from { from < self.now.machine.nodes }
         requires in_force { IsInForce self.now.machine self.now.allowed policy.now }
@@ -157,7 +161,7 @@ impl Space {
         self.nearest(&self.allowed, from)
     }
 
-    /// The nodes of a set that have memory, the nearest to a node first. Takes no memory.
+    /// The nodes of a set that have memory, the nearest to `from` first. It doesn't allocate.
     pub fn nearest(&self, set: &NodeMask, from: u32) -> ArrayVec<u8, 256>
         requires { from < self.now.machine.nodes }
         ensures { result.items ≡ within set.now (fallback_order self.now.machine from) }
@@ -167,8 +171,8 @@ impl Space {
         list
     }
 
-    /// The nodes of a set that have memory, the nearest to a node first, and behind them the other
-    /// allowed nodes in the same order. Takes no memory.
+    /// The nodes of a set that have memory, the nearest to `from` first, and after them the other
+    /// allowed nodes in the same order. It doesn't allocate.
     pub fn nearest_before_others(&self, set: &NodeMask, from: u32) -> ArrayVec<u8, 256>
         requires { from < self.now.machine.nodes }
         ensures { result.items ≡ within set.now (fallback_order self.now.machine from)
