@@ -1,6 +1,6 @@
-//! Frames without an owner. The frames that a touch would try in vain are owned, so it is found at
-//! once where it ends: at the lowest frame without an owner of the first listed node that has one,
-//! or at the end of the list.
+//! Finding free frames. The frames that a touch would try in vain all have owners, so its end is
+//! found directly: the lowest frame without an owner of the first listed node that has one, or the
+//! end of the list.
 ghost use Rattle.std.specs.Prelude.{◌≡◌, ℕ, ◌<◌, ◌≤◌, true, Option, None, Some, is_none, is_some};
 ghost use Rattle.std.specs.Prelude.{List, IfOk, IfSome, length, vec_len, slice_index};
 ghost use Rattle.numa_core.specs.World.{Setup, World};
@@ -13,14 +13,14 @@ use crate::places::Places;
 use numa_machine::Frame;
 use std::alloc::{AllocError, Global};
 
-/// A frame without an owner on a node of a list, and the place of that node in the list, from 0.
+/// A frame without an owner, and the place of its node in a list, from 0.
 #[derive(Clone, Copy, Debug, PartialEq, Eq)]
 pub(crate) struct Spot {
     pub frame: Frame,
     pub rank: u32,
 }
 
-/// Of each node no frame is known to be owned.
+/// For each node, that none of its lowest frames is known to be owned.
 pub(crate) fn none_taken(alloc: Global, places: &Places) -> Result<Vec<u32>, AllocError>
     ensures { IfOk result (λ taken. (owners : List (Option ℕ)) →
         AreTaken places.now owners taken.items) }
@@ -28,14 +28,14 @@ pub(crate) fn none_taken(alloc: Global, places: &Places) -> Result<Vec<u32>, All
     vec![in alloc; 0; places.nodes()]
 }
 
-/// How many of a node's lowest frames are known to be owned.
+/// The number of a node's lowest frames that are known to be owned.
 fn known(taken: &Vec<u32>, node: u8) -> u32
     ensures { result ≡ slice_index taken.now.items node }
 {
     taken.get(node as usize).copied().unwrap_or(0)
 }
 
-/// A frame is given back: of its node no more than the frames below it are known to be owned.
+/// A frame is given back: only the frames below it remain known to be owned.
 pub(crate) fn lower(taken: &mut Vec<u32>, frame: Frame)
     requires { frame.node < vec_len taken.old }
     ensures { (frames : List ℕ) (old new : List (Option ℕ)) → AreTaken frames old taken.old.items →
@@ -47,7 +47,7 @@ pub(crate) fn lower(taken: &mut Vec<u32>, frame: Frame)
     taken[node] = taken[node].min(frame.number as u32);
 }
 
-/// The lowest frame of a node that has no owner, where each one below `from` has an owner.
+/// The lowest frame of a node without an owner; each one below `from` has one.
 fn lowest_free(places: &Places, owners: &Vec<Option<u8>>, node: u8, from: u32) -> Option<Frame>
     requires owners { vec_len owners.now ≡ frames_before places.now (length places.now) }
     requires taken { (k : ℕ) → k < from → k < slice_index places.now node →

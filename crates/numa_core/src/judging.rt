@@ -1,4 +1,4 @@
-//! What a Begin is judged by.
+//! Judging a Begin.
 ghost use Rattle.std.specs.Prelude.{◌≡◌, ◌<◌, ◌≤◌, None, Some, IfOk, IfErr, OnOk, length, vec_len};
 ghost use Rattle.numa_core.specs.Judging.{Judges, Lists, cause_at};
 
@@ -7,7 +7,7 @@ use numa_plan::{Plan, Steps};
 use numa_space::event::CoreRefusal;
 use numa_space::{PlaceRefusal, Request};
 
-/// That a worker is one of those with these seats.
+/// Refuses a worker that has no seat.
 pub(crate) fn seated(seats: &Vec<WorkerSeat>, worker: u32) -> Result<(), CoreRefusal>
     ensures ok { OnOk result (worker < vec_len seats.now) }
     ensures err { IfErr result (λ refusal. (refusal ≡ CoreRefusal.NoSuchWorker)
@@ -19,7 +19,7 @@ pub(crate) fn seated(seats: &Vec<WorkerSeat>, worker: u32) -> Result<(), CoreRef
     Ok(())
 }
 
-/// Why a worker's Begin is refused that takes this version, by what refuses its request there.
+/// The refusal of a Begin at this version, from the refusal of its request there.
 pub fn cause_at(version: u64, refusal: PlaceRefusal) -> CoreRefusal
     ensures { result ≡ cause_at version refusal }
 {
@@ -29,8 +29,8 @@ pub fn cause_at(version: u64, refusal: PlaceRefusal) -> CoreRefusal
     }
 }
 
-/// The list of nodes that the plan of the newest published version has for a worker's request, lent
-/// by the plan. Or the refusal of the worker's Begin.
+/// The node list for a worker's request in the plan of the newest published version, lent by the
+/// plan; or the refusal of the worker's Begin.
 pub(crate) fn row_for<'a>(
     plan: &'a Plan,
     seats: &Vec<WorkerSeat>,

@@ -1,4 +1,4 @@
-//! What holds of every execution of the core.
+//! Laws of every execution of the core. The functions do nothing: what each one ensures is a law.
 ghost use Rattle.std.specs.Prelude.{◌≡◌, ◌≢◌, ℕ, ◌^◌, ◌<◌, ◌≤◌, true, Ok, Some};
 ghost use Rattle.std.specs.Prelude.{List, ◌∷◌, ◌++◌, length, count_by};
 ghost use Rattle.std.specs.List.{list_any};
@@ -17,11 +17,10 @@ ghost use Rattle.numa_space.specs.declared.event.CoreReply.{CoreReply};
 ghost use Rattle.numa_machine.specs.declared.frame.Frame.{Frame};
 ghost use Rattle.numa_space.specs.declared.placement.Placement.{Placement};
 
-/// In every execution, whatever the machine, the limits and the number of workers: each reply Won
-/// answers a Try of its frame and its placement is right; at each reply Exhausted the worker has
-/// found each frame of its list with an owner; between two Won of one frame the first winner gives
-/// the frame back; and the versions that the replies Won and Exhausted to one worker carry never
-/// fall.
+/// In every execution, for any machine, limits and number of workers: each Won replies to a Try of
+/// its frame, and its placement is right; at each Exhausted the worker has found every frame of its
+/// list with an owner; between two Won of one frame the first winner gives the frame back; and the
+/// versions in the Won and Exhausted of one worker never decrease.
 pub fn every_execution()
     ensures right { (s : Setup) (later earlier : List CoreStep) (m : CoreStep) (placement : Placement) →
         IsExecution s (later ++ m ∷ earlier) → m.answer ≡ Ok (CoreReply.Won placement) →
@@ -41,9 +40,8 @@ pub fn every_execution()
         version_told old.answer ≡ Some a → version_told new.answer ≡ Some b → a ≤ b }
 {}
 
-/// No execution comes to a standstill: it goes on with every event, which has its answer with ample
-/// memory, where a Begin takes the newest published version. No published version is above that
-/// one.
+/// No execution comes to a standstill: with ample memory it can continue with any event, where a
+/// Begin takes the newest published version. No published version is above that one.
 pub fn every_execution_goes_on()
     ensures goes_on { (s : Setup) (past : List CoreStep) (event : Event) → IsExecution s past →
         IsExecution s (next_core_step s past event ∷ past) }
@@ -52,9 +50,9 @@ pub fn every_execution_goes_on()
         → version ≤ newest_published (world_of s past) }
 {}
 
-/// The commands of every execution: against none of them did a cause stand when it came, and there
-/// are as many as Ok answers to Accept. A published version means the same commands for ever, and
-/// the newest one never falls.
+/// The commands of every execution: none of them had a cause against it when it came, and they are
+/// as many as the Ok replies to Accept. A published version means the same commands for ever, and
+/// the newest version never decreases.
 pub fn every_execution_has_commands()
     ensures accepted { (s : Setup) (past : List CoreStep) → IsExecution s past →
         IsAccepted s.machine s.bounds (world_of s past).history }
@@ -69,9 +67,9 @@ pub fn every_execution_has_commands()
         newest_published (world_of s earlier) ≤ newest_published (world_of s (later ++ earlier)) }
 {}
 
-/// On a machine of which some nodes have memory, each list that a version of an execution means has
-/// a node, each once, and only nodes that are allowed at that version; so the node of each won
-/// frame is one of these.
+/// On a machine with memory, each node list of a version of an execution isn't empty, has no node
+/// twice, and has only nodes that are allowed at that version; so the node of each won frame is
+/// allowed.
 pub fn every_list()
     ensures sound { (s : Setup) (past : List CoreStep) (version : ℕ) (request : Request)
         (nodes : List ℕ) →
@@ -87,8 +85,8 @@ pub fn every_list()
         (first_commands placement.version (world_of s earlier).history)) placement.node ≡ true }
 {}
 
-/// A core that shows the world of an execution stands for it: that the newest published version is
-/// of accepted commands, and that no worker took a newer one, follows.
+/// A core that shows the world of an execution stands for it. It follows that the newest published
+/// version is of accepted commands, and that no worker took a newer one.
 pub fn every_core()
     ensures stands { (past : List CoreStep) (core : CoreState) → IsExecution (setup_of core) past →
         ShowsWorld core (world_of (setup_of core) past) →

@@ -1,6 +1,5 @@
-//! The core over events: commands, published versions, and workers that look for frames. It has no
-//! thread: an interleaving is a list of events. The plain types of a fault are passed on: a frame,
-//! a request for one, and where a page was placed.
+//! A simulation of workers, step by step: commands, published versions, and workers that look for
+//! frames. It has no threads: an interleaving is a list of events.
 #![tactic(auto)]
 
 ghost use Rattle.std.specs.Prelude.{◌≡◌, ℕ, ◌≤◌, List, [], ◌∷◌, ◌++◌, IfOk, IfSome};
@@ -35,8 +34,8 @@ use numa_space::{Limits, Space};
 use std::alloc::Global;
 use std::marker::Model;
 
-/// Commands, published versions, and workers that look for frames. Nothing in it runs by itself:
-/// each event is one call of `step`.
+/// Commands, published versions, and workers that look for frames. Nothing runs by itself: each
+/// event is one call of `step`.
 #[derive(Drop)]
 pub struct Core {
     pub(crate) state: State,
@@ -54,14 +53,14 @@ impl Model for Core {
 }
 
 impl Core {
-    /// A core of this machine, with these limits and so many workers, which are numbered from 0.
-    /// Nothing is accepted, version 0 is published, each worker is idle and no frame is owned.
+    /// A core of this machine, with these limits and `workers` workers, numbered from 0. Nothing is
+    /// accepted, version 0 is published, each worker is idle and no frame is owned.
     ///
-    /// All memory is taken here that Begin, Look, Try and Give ever use: for owners two bytes a
-    /// frame of the machine, and for each worker a list of 256 nodes and one bit a frame.
+    /// It allocates all memory that Begin, Look, Try and Give ever use: two bytes for each frame of
+    /// the machine, and for each worker 256 bytes and one bit for each frame.
     ///
     /// # Errors
-    /// `NoMemory` where that memory was not to be had.
+    /// `NoMemory`: out of memory.
     pub fn new(
         alloc: Global,
         machine: Machine,
@@ -78,13 +77,11 @@ impl Core {
         Ok(Core { state })
     }
 
-    /// The same core once more: the copy stands for each world for which this one does, and each
-    /// execution that leads to this one leads to the copy. An event at one of the two leaves the
-    /// other as it is, so that a caller can try what events come to.
+    /// Returns a copy, which stands for the same worlds, and to which the same executions lead. An
+    /// event of one of the two doesn't affect the other, so a caller can try events on a copy.
     ///
     /// # Errors
-    /// `NoMemory` where there is none for the space, its plan, the published plan, the workers and
-    /// the owners.
+    /// `NoMemory`: there is no memory for the copy's space, plans, workers and owners.
     pub fn copy(&self) -> Result<Core, NoMemory>
         ensures same { IfOk result (λ copy. copy ≡ self.now) }
         ensures stands { (world : World) → CoreStandsFor self.now world →
@@ -96,17 +93,18 @@ impl Core {
         Ok(Core { state })
     }
 
-    /// One event, with its answer. A Begin takes the newest published version. A refused event
-    /// leaves the core as it was.
+    /// Carries out an event and returns its reply. A Begin takes the newest published version. A
+    /// refused event changes nothing.
     ///
     /// # Errors
-    /// - Accept: `Command`, with what refuses the command.
+    /// - Accept: `Command`, with the cause.
     /// - Publish: `NoMemory`.
-    /// - Begin: `NoSuchWorker`, `Busy`, `BadCpu` where the faulting node is none of the machine,
-    ///   `Unmapped` with the version that has no such page, in this order.
-    /// - Look and Try: `NoSuchWorker`, `Idle`, `BadTry` where the current node lacks the word, or
-    ///   where the frame is none of it or met.
-    /// - Give: `NoSuchWorker`, `Busy`, `NotOwned` where the frame isn't the worker's.
+    /// - Begin: the first that applies of `NoSuchWorker`; `Busy`; `BadCpu`, the machine lacks the
+    ///   faulting node; `Unmapped`, with the version in which the page isn't mapped.
+    /// - Look and Try: the first that applies of `NoSuchWorker`; `Idle`; `BadTry`, the current node
+    ///   lacks the word, or the frame isn't one of its unmet frames.
+    /// - Give: the first that applies of `NoSuchWorker`; `Busy`; `NotOwned`, the frame isn't the
+    ///   worker's.
     pub fn step(&mut self, event: Event) -> Result<CoreReply, CoreRefusal>
         ensures answer { (world : World) → CoreStandsFor self.old world →
             IsAnswer (setup_of self.old) world (newest_published world) event result
@@ -128,11 +126,11 @@ impl Core {
     }
 
     /// A touch of a page by a worker: a Begin of the request, and then, while the worker is busy,
-    /// Trys of the lowest frame of its current node that it has not met. The answer is that of the
-    /// last of these events, and the worker is idle.
+    /// Trys of the lowest frame of its current node that it hasn't met. Returns the reply to the
+    /// last of these events; the worker is idle afterwards.
     ///
     /// # Errors
-    /// As for a Begin: `NoSuchWorker`, `Busy`, `BadCpu` or `Unmapped`, in this order.
+    /// As for a Begin: the first that applies of `NoSuchWorker`, `Busy`, `BadCpu` and `Unmapped`.
     pub fn touch(&mut self, worker: u32, request: Request) -> Result<CoreReply, CoreRefusal>
         ensures answer { (world : World) → CoreStandsFor self.old world →
             (result ≡ (result_of_touch (setup_of self.old) world worker request).answer)
@@ -155,21 +153,20 @@ impl Core {
         self.state.space.space()
     }
 
-    /// Makes the plan of all accepted commands, which [`Core::accepted_plan`] lends, where there is
-    /// none yet.
+    /// Makes the plan of all accepted commands, which [`Core::accepted_plan`] lends, if there is
+    /// none.
     ///
     /// # Errors
-    /// `NoMemory` where there is none for the plan.
+    /// `NoMemory`: there is no memory for the plan.
     pub fn prepare(&mut self) -> Result<(), NoMemory>
         ensures { self.new ≡ self.old }
     {
         self.state.prepare()
     }
 
-    /// The plan of all accepted commands: it is made by the first `prepare` or Publish, and edited
-    /// in place by each command from then on. None before that, and where a command put it off: a
-    /// change of the allowed nodes does, and one for whose edit there was no memory. Then `prepare`
-    /// makes it anew.
+    /// The plan of all accepted commands. The first `prepare` or Publish makes it, and each later
+    /// command edits it in place. `None` before that, and after a change of the allowed nodes or a
+    /// command for whose edit there was no memory; then `prepare` makes it again.
     pub fn accepted_plan(&self) -> Option<&Plan>
         ensures plan { IfSome result (λ plan. IsPlanOf self.now.space plan.now) }
         ensures meaning { (world : World) → CoreStandsFor self.now world → IfSome result
@@ -178,7 +175,7 @@ impl Core {
         self.state.space.plan()
     }
 
-    /// The newest published version. Some execution leads to every core.
+    /// The newest published version: a number of commands. Some execution leads to every core.
     pub fn published(&self) -> u64
         ensures published { result ≡ self.now.plan.version }
         ensures meaning { (world : World) → CoreStandsFor self.now world →
@@ -188,7 +185,7 @@ impl Core {
         self.state.plan.version()
     }
 
-    /// The plan of the published commands, by which a Begin and a touch find their lists.
+    /// The plan of the published commands, which a Begin and a touch use.
     pub fn plan(&self) -> &Plan
         ensures plan { result.now ≡ self.now.plan }
         ensures meaning { (world : World) → CoreStandsFor self.now world →

@@ -1,4 +1,4 @@
-//! Frames in a row: the place of each frame among all, node by node.
+//! Numbering the frames of all nodes: the place of each frame among all, node by node.
 ghost use Rattle.std.specs.Prelude.{◌≡◌, ℕ, ◌+◌, ◌<◌, ◌≤◌, true, false, None, IfOk, IfSome, length};
 ghost use Rattle.std.specs.Prelude.{slice_index};
 ghost use Rattle.numa_core.specs.Standing.{frames_before, place_in};
@@ -7,8 +7,7 @@ use numa_machine::Machine;
 use std::alloc::{AllocError, Global};
 use std::marker::Model;
 
-/// How many frames each node has, and how many the nodes below it have, so that a place is found at
-/// once.
+/// The number of frames of each node, and of all nodes below it, so that a place is found directly.
 #[derive(Drop)]
 pub(crate) struct Places {
     frames: Vec<u32>,
@@ -49,14 +48,14 @@ impl Places {
         })
     }
 
-    /// How many nodes there are.
+    /// The number of nodes.
     pub(crate) fn nodes(&self) -> usize
         ensures { result ≡ length self.now }
     {
         self.frames.len()
     }
 
-    /// How many frames there are.
+    /// The number of frames.
     pub(crate) fn total(&self) -> u32
         ensures total { result ≡ frames_before self.now (length self.now) }
         ensures at_most { result ≤ 1048576 }
@@ -64,7 +63,7 @@ impl Places {
         self.total
     }
 
-    /// How many frames a node has: none past the last node.
+    /// The number of frames of a node: 0 past the last node.
     pub(crate) fn frames(&self, node: u8) -> u32
         ensures frames { result ≡ slice_index self.now node }
         ensures at_most { result ≤ 4096 }
@@ -83,7 +82,7 @@ impl Places {
         self.before[node as usize]
     }
 
-    /// The lowest number of a node's frames, from one on, whose place meets the test.
+    /// The lowest frame number of a node, from `from` on, whose place passes the test.
     pub(crate) fn lowest<F: Fn(u32) -> bool>(&self, node: u8, from: u32, test: F) -> Option<u32>
         requires { (place : ℕ) → place < frames_before self.now (length self.now)
             → F.pre test place }
@@ -109,7 +108,7 @@ impl Places {
         None
     }
 
-    /// The place of a frame, where the node has it.
+    /// The place of a frame, if the node has it.
     pub(crate) fn place(&self, node: u8, number: u16) -> Option<u32>
         ensures place { result ≡ place_in self.now node number }
         ensures within { IfSome result (λ place. place < frames_before self.now (length self.now)) }

@@ -1,4 +1,4 @@
-//! A worker's seat: what it is about, the list that it took and the frames that it met.
+//! The state of a worker: its search, the list that it took and the frames that it met.
 ghost use Rattle.std.specs.Prelude.{◌≡◌, ℕ, ◌*◌, ◌<◌, ◌≤◌, true, false, not, None, Some, IfOk};
 ghost use Rattle.std.specs.Prelude.{IfErr, IfSome, OnOk, OnErr, MatchOption, is_some, length};
 ghost use Rattle.std.specs.Prelude.{vec_len};
@@ -20,15 +20,15 @@ use numa_space::event::{CoreRefusal, CoreReply};
 use numa_space::{Placement, Request};
 use std::alloc::{AllocError, Global};
 
-/// A place in a list of nodes, from 0, and a frame of the node there, by its number.
+/// A place in a list of nodes, from 0, and the number of a frame of the node there.
 #[derive(Clone, Copy, Debug, PartialEq, Eq)]
 pub(crate) struct Cursor {
     pub rank: u32,
     pub next: u32,
 }
 
-/// What a busy worker asked, the version that it took, and where it is: at the lowest unmet frame
-/// of its current node.
+/// The search of a busy worker: its request, the version that it took, and its cursor, the lowest
+/// unmet frame of its current node.
 #[derive(Clone, Copy, Debug, PartialEq, Eq)]
 pub(crate) struct OngoingSearch {
     pub request: Request,
@@ -63,7 +63,7 @@ fn first_unmet(places: &Places, met: &Vec<u64>, node: u8, from: u32) -> Option<u
     )
 }
 
-/// The lowest unmet frame of the first listed node with one, where all before this place is met.
+/// The lowest unmet frame of the first listed node with one; everything before `from` is met.
 fn first_from(places: &Places, nodes: &[u8], met: &Vec<u64>, from: Cursor) -> Option<Cursor>
     requires room { HasRoom places.now (vec_len met.now) }
     requires few { length nodes.now ≤ 256 }
@@ -85,7 +85,7 @@ fn first_from(places: &Places, nodes: &[u8], met: &Vec<u64>, from: Cursor) -> Op
     None
 }
 
-/// The nodes become those of the row.
+/// Replaces the nodes by those of the row.
 fn take_row(nodes: &mut ArrayVec<u8, 256>, row: &[u8])
     requires { length row.now ≤ 256 }
     ensures { nodes.new.items ≡ row.now }
@@ -110,7 +110,7 @@ impl WorkerSeat {
         })
     }
 
-    /// The same seat once more, with room for as many frames.
+    /// Returns a copy, with room for as many frames.
     pub(crate) fn copy(&self, alloc: Global) -> Result<WorkerSeat, AllocError>
         ensures { IfOk result (IsSeatCopy self.now) }
     {
@@ -124,8 +124,8 @@ impl WorkerSeat {
         })
     }
 
-    /// Goes on with the job while a listed node has an unmet frame, and else is idle. All before
-    /// the job's cursor is met.
+    /// Goes on with the search if a listed node has an unmet frame, else becomes idle. Everything
+    /// before the search's cursor is met.
     fn settle(&mut self, places: &Places, job: OngoingSearch) -> CoreReply
         requires room { HasRoom places.now (vec_len self.old.met) }
         requires passed { IsPassed places.now self.old.nodes.items self.old.met.items
@@ -179,10 +179,10 @@ impl WorkerSeat {
         )
     }
 
-    /// What the worker is about, and its current node.
+    /// The worker's search, and its current node.
     ///
     /// # Errors
-    /// `Idle`, where it is about nothing.
+    /// `Idle`: it has no search.
     fn current(&self) -> Result<(OngoingSearch, u8), CoreRefusal>
         requires listed { (job : OngoingSearch) → self.now.job ≡ Some job →
             job.at.rank < length self.now.nodes.items }
@@ -223,7 +223,7 @@ impl WorkerSeat {
         Ok(self.settle(places, job))
     }
 
-    /// Why the worker can't try a frame that the machine lacks.
+    /// The refusal of a Try of a frame that the machine lacks.
     pub(crate) fn no_try(&self) -> CoreRefusal
         ensures { MatchOption self.now.job (result ≡ CoreRefusal.Idle) (λ job. result
             ≡ CoreRefusal.BadTry) }
@@ -234,7 +234,7 @@ impl WorkerSeat {
         CoreRefusal::BadTry
     }
 
-    /// Tries the frame at a place, which has an owner or not.
+    /// Tries the frame at a place; `owned` says whether it has an owner.
     pub(crate) fn attempt(
         &mut self,
         places: &Places,

@@ -1,4 +1,4 @@
-//! What a core keeps, and its steps.
+//! The state of a core, and its steps.
 ghost use Rattle.std.specs.Prelude.{◌≡◌, ℕ, ◌<◌, ◌≤◌, IfOk, OnErr, None, Some, slice_get, vec_len};
 ghost use Rattle.std.specs.List.{AllZip};
 ghost use Rattle.numa_core.specs.World.{World, opening};
@@ -24,8 +24,8 @@ use numa_space::{Command, Limits, Placement, Request};
 use std::alloc::Global;
 
 /// The space of all accepted commands with its working plan, the plan of those that are published,
-/// the workers' seats, the owner of each frame, and for each node how many of its lowest frames are
-/// known to be owned.
+/// the workers' seats, the owner of each frame, and for each node the number of its lowest frames
+/// that are known to be owned.
 #[derive(Drop)]
 pub(crate) struct State {
     pub alloc: Global,
@@ -37,7 +37,7 @@ pub(crate) struct State {
     pub taken: Vec<u32>,
 }
 
-/// Idle seats, this many.
+/// As many idle seats as workers.
 fn idle_seats(alloc: Global, places: &Places, workers: u32) -> Result<Vec<WorkerSeat>, NoMemory>
     ensures count { IfOk result (λ seats. vec_len seats ≡ workers) }
     ensures idle { IfOk result (λ seats. (w : ℕ) (seat : WorkerSeat) → slice_get seats.items w
@@ -51,7 +51,7 @@ fn idle_seats(alloc: Global, places: &Places, workers: u32) -> Result<Vec<Worker
     Ok(seats)
 }
 
-/// These seats once more.
+/// Copies of these seats.
 fn seat_copies(alloc: Global, seats: &[WorkerSeat]) -> Result<Vec<WorkerSeat>, NoMemory>
     ensures { IfOk result (λ others. AllZip IsSeatCopy seats.now others.items) }
 {
@@ -63,8 +63,7 @@ fn seat_copies(alloc: Global, seats: &[WorkerSeat]) -> Result<Vec<WorkerSeat>, N
 }
 
 impl State {
-    /// A core with nothing mapped, version 0 published, each of the workers idle and no frame
-    /// owned.
+    /// A core with nothing mapped, version 0 published, each worker idle and no frame owned.
     pub(crate) fn new(
         alloc: Global,
         machine: Machine,
@@ -94,7 +93,7 @@ impl State {
         })
     }
 
-    /// The same core once more.
+    /// Returns a copy.
     pub(crate) fn copy(&self) -> Result<State, NoMemory>
         requires kept { IsKept self.now }
         ensures kept { IfOk result IsKept }
@@ -111,7 +110,7 @@ impl State {
         })
     }
 
-    /// The command is accepted, where nothing refuses it.
+    /// Accepts a command, if nothing refuses it.
     pub(crate) fn accept(&mut self, command: Command) -> Result<CoreReply, CoreRefusal>
         requires kept { IsKept self.old }
         ensures { Performs self.old (Event.Accept command) result self.new }
@@ -123,7 +122,7 @@ impl State {
         Ok(CoreReply::Accepted(self.space.space().version()))
     }
 
-    /// The working plan is made, where there is none yet.
+    /// Makes the working plan, if there is none.
     pub(crate) fn prepare(&mut self) -> Result<(), NoMemory>
         requires kept { IsKept self.old }
         ensures kept { IsKept self.new }
@@ -132,7 +131,7 @@ impl State {
         self.space.prepare(self.alloc)
     }
 
-    /// All accepted commands are published.
+    /// Publishes all accepted commands.
     pub(crate) fn publish(&mut self) -> Result<CoreReply, CoreRefusal>
         requires kept { IsKept self.old }
         ensures { Performs self.old Event.Publish result self.new }
@@ -236,7 +235,7 @@ impl State {
         }))
     }
 
-    /// A frame of the machine becomes a worker's. Each lower frame of its node has an owner.
+    /// Makes a worker the owner of a frame. Each lower frame of its node has an owner.
     fn own(&mut self, frame: Frame, worker: u32)
         requires kept { IsKept self.old }
         requires some { worker < vec_len self.old.seats }

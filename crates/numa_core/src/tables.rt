@@ -1,4 +1,4 @@
-//! Tables by place: met frames, one bit each, and owners.
+//! Tables indexed by place: met frames, one bit each, and owners.
 ghost use Rattle.std.specs.Prelude.{◌≡◌, ℕ, ◌+◌, ◌*◌, ◌<◌, ◌≤◌, ◌==◌, ◌&&◌, ◌||◌, false, None};
 ghost use Rattle.std.specs.Prelude.{Some, IfOk, is_some, length, vec_len, nat_le, nat_lt};
 ghost use Rattle.numa_core.specs.Standing.{is_met, owner_at};
@@ -13,7 +13,7 @@ pub(crate) fn is_met(met: &Vec<u64>, place: u32) -> bool
     (met[place as usize / 64] >> (place % 64)) & 1 == 1
 }
 
-/// The frame at a place becomes met.
+/// Marks the frame at a place as met.
 pub(crate) fn meet(met: &mut Vec<u64>, place: u32)
     requires { place < 64 * vec_len met.old }
     ensures met { (p : ℕ) → is_met met.new.items (Some p)
@@ -23,7 +23,7 @@ pub(crate) fn meet(met: &mut Vec<u64>, place: u32)
     met[place as usize / 64] |= 1u64 << (place % 64);
 }
 
-/// The frame at a place becomes met where it is owned.
+/// Marks the frame at a place as met if it is owned.
 fn meet_if(met: &mut Vec<u64>, place: u32, owned: bool)
     requires { place < 64 * vec_len met.old }
     ensures met { (p : ℕ) → is_met met.new.items (Some p)
@@ -35,7 +35,7 @@ fn meet_if(met: &mut Vec<u64>, place: u32, owned: bool)
     }
 }
 
-/// Each owned frame from a place on, before an end, becomes met.
+/// Marks each owned frame from place `start` to `end` as met.
 pub(crate) fn meet_owned(met: &mut Vec<u64>, owners: &Vec<Option<u8>>, start: u32, end: u32)
     requires order { start ≤ end }
     requires room { end ≤ 64 * vec_len met.old }
@@ -50,7 +50,7 @@ pub(crate) fn meet_owned(met: &mut Vec<u64>, owners: &Vec<Option<u8>>, start: u3
     }
 }
 
-/// No frame is met.
+/// Clears all marks.
 pub(crate) fn clear(met: &mut Vec<u64>)
     ensures met { (p : ℕ) → is_met met.new.items (Some p) ≡ false }
     ensures len { vec_len met.new ≡ vec_len met.old }
@@ -60,14 +60,14 @@ pub(crate) fn clear(met: &mut Vec<u64>)
     }
 }
 
-/// Words for this many frames, none of them met.
+/// Words for `total` frames, none of them met.
 pub(crate) fn none_met(alloc: Global, total: u32) -> Result<Vec<u64>, AllocError>
     ensures { IfOk result (λ met. total ≤ 64 * vec_len met) }
 {
     vec![in alloc; 0; (total as usize + 63) / 64]
 }
 
-/// A table of this many frames, none of them owned.
+/// A table of `total` frames, none of them owned.
 pub(crate) fn none_owned(alloc: Global, total: u32) -> Result<Vec<Option<u8>>, AllocError>
     ensures owners { IfOk result (λ owners. (p : ℕ) → owner_at owners.items (Some p) ≡ None) }
     ensures len { IfOk result (λ owners. vec_len owners ≡ total) }

@@ -20,7 +20,7 @@ fn push_digit(text: &mut LineText, digit: u8)
     text.push(char::from(letter));
 }
 
-/// Appends a number in hexadecimal, after zeros where that has fewer digits than `least`.
+/// Appends a number in hexadecimal, with leading zeros to at least `least` digits.
 pub(crate) fn push_hex(text: &mut LineText, number: u64, least: u32)
     requires { array_string_len text.old + length (hex_text least number) ≤ 8192 }
     ensures { text.new.bytes ≡ text.old.bytes ++ hex_text least number }

@@ -1,5 +1,4 @@
-//! The listing of a space's ranges, with the pages that are placed in them, as numa_maps shows it
-//! (numa(7)). Readers and writers that remember whether a call on them has failed stand here too.
+//! The listing of a space's ranges and the pages placed in them, as numa_maps shows it (numa(7)).
 #![tactic(auto)]
 
 mod hex;

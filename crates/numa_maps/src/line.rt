@@ -37,7 +37,7 @@ fn push_address(text: &mut LineText, page: u64)
     push_hex(text, page * PAGE_BYTES, 8);
 }
 
-/// Appends a policy, or `default` where there is none.
+/// Appends a policy, or `default` without one.
 fn push_policy(text: &mut LineText, policy: Option<Record>)
     requires room { array_string_len text.old + 1024 ≤ 8192 }
     ensures bytes { text.new.bytes ≡ text.old.bytes ++ policy_or_default policy }
@@ -49,7 +49,7 @@ fn push_policy(text: &mut LineText, policy: Option<Record>)
     }
 }
 
-/// Appends a node and its pages, where it has some.
+/// Appends a node and its number of pages, if it has any.
 fn push_node(text: &mut LineText, node: usize, pages: u64)
     requires node { node < 256 }
     requires room { array_string_len text.old + 26 ≤ 8192 }
@@ -62,7 +62,7 @@ fn push_node(text: &mut LineText, node: usize, pages: u64)
     }
 }
 
-/// Appends each node that has pages, the lowest first.
+/// Appends each node that has pages, in ascending order.
 fn push_nodes(text: &mut LineText, pages: &[u64; 256])
     requires room { array_string_len text.old + 6656 ≤ 8192 }
     ensures bytes { text.new.bytes ≡ text.old.bytes
@@ -74,7 +74,7 @@ fn push_nodes(text: &mut LineText, pages: &[u64; 256])
     }
 }
 
-/// Appends the placed pages of a range, where there are some.
+/// Appends the placed pages of a range, if there are any.
 fn push_placed(text: &mut LineText, resident: &Resident, range: &Run<RangeRecord>)
     requires range { end_of range.now ≤ 2 ^ 35 }
     requires room { array_string_len text.old + 6702 ≤ 8192 }
@@ -90,7 +90,7 @@ fn push_placed(text: &mut LineText, resident: &Resident, range: &Run<RangeRecord
     }
 }
 
-/// Writes the line of a range whose pages have this policy, in place of what the text was.
+/// Replaces the text by the line of a range whose pages have this policy.
 pub(crate) fn write_line(
     text: &mut LineText,
     policy: Option<Record>,

@@ -12,30 +12,29 @@ use line_server::Watched;
 use numa_space::Space;
 use std::io::Write;
 
-/// A write failed: what was to be written went out in part, or not at all.
+/// A write failed: the text was written in part, or not at all.
 #[derive(Clone, Copy, Debug, PartialEq, Eq)]
 pub struct WriteFault;
 
-/// Writes one line for each range of the space, rising, in the form of numa_maps (numa(7),
-/// /proc/PID/numa_maps):
+/// Writes one line for each range of the space, in ascending order, in the form of numa_maps
+/// (numa(7), /proc/PID/numa_maps):
 ///
 /// - the address of the range's first page in lower-case hexadecimal, with leading zeros to at
 ///   least eight digits;
-/// - a space, and the policy by which a fault of the task there is served: the range's where it has
-///   one that is live, else the task's where it has one that is live, with the nodes that it has at
-///   present; else `default`;
-/// - where the range has placed pages, ` anon=` and how many; for each node that has some of them,
-///   rising, ` N<node>=` and how many; and ` kernelpagesize_kB=4`. Whichever task had them placed,
-///   they are shown. Placements on pages that no range has are not;
+/// - a space, and the policy that serves a fault of the task there, with its effective set: the
+///   range's if it is live, else the task's if it is live, else `default`;
+/// - if the range has placed pages, ` anon=` and their number; for each node that has some of them,
+///   in ascending order, ` N<node>=` and their number; and ` kernelpagesize_kB=4`. Placed pages of
+///   all tasks are shown, but no placement on an unmapped page;
 /// - a line feed.
 ///
-/// The choice of these fields, of those that numa_maps has, is this crate's. Takes no memory. Each
-/// line is handed to the writer whole, after what was said to it before. The time grows with the
-/// ranges and the placements, and not with the pages.
+/// Other fields of numa_maps are left out. It doesn't allocate. Each line is handed to the writer
+/// whole, after what was written before. The time depends on the number of ranges and placements,
+/// not of pages.
 ///
 /// # Errors
-/// `WriteFault` where this or an earlier write failed; the first part of the listing went out, or
-/// nothing after an earlier fault.
+/// `WriteFault`: this or an earlier write failed. The first part of the listing was written, or
+/// nothing after an earlier failure.
 pub fn write_maps<W: Write>(
     space: &Space,
     task: u32,

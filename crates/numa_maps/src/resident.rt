@@ -1,4 +1,4 @@
-//! Which pages are placed, and where.
+//! The placed pages.
 ghost use Rattle.std.specs.Prelude.{◌≡◌, ◌≢◌, ◌<◌, ◌≤◌, ◌^◌, ℕ, [], length, None, Some, IfSome};
 ghost use Rattle.std.specs.Prelude.{IfErr, OnOk, OnErr, MatchOption, slice_index};
 ghost use Rattle.numa_maps.specs.Listing.{pages_on, placed_in};
@@ -12,8 +12,8 @@ use std::collections::BTreeMap;
 use std::collections::btree_map::Range;
 use std::marker::Model;
 
-/// The placements of pages that hold memory, at most one a page. They are kept by page alone: a
-/// page is placed for all tasks, whichever of them touched it first.
+/// The placements of pages that have memory, at most one for each page. They are kept by page
+/// alone: a page is placed for all tasks, whichever touched it first.
 #[derive(Drop)]
 pub struct Resident {
     placements: BTreeMap<u64, Placement>,
@@ -29,17 +29,17 @@ impl Model for Resident {
     ghost invariant = { λ a. AreKept a.placements.entries };
 }
 
-/// Why a placement was not recorded. Both hand it back.
+/// Why a placement wasn't recorded. Both cases give it back.
 #[derive(PartialEq, Eq, Debug, Drop)]
 pub enum RecordRefusal {
-    /// The page is placed already.
+    /// The page is already placed.
     Taken(Placement),
-    /// There is no memory for one placement more.
+    /// Out of memory for another placement.
     NoMemory(Placement),
 }
 
 impl Resident {
-    /// No placements. Takes no memory; the allocator is kept for those that are recorded.
+    /// No placements. It doesn't allocate; the allocator is kept for those that are recorded.
     pub fn new(alloc: Global) -> Resident
         ensures { result ≡ [] }
     {
@@ -48,11 +48,11 @@ impl Resident {
         }
     }
 
-    /// Keeps a placement as that of its page.
+    /// Records a placement as that of its page.
     ///
     /// # Errors
-    /// `Taken` where the page has a placement already, else `NoMemory` where there is none for one
-    /// more; nothing has changed.
+    /// `Taken`: the page already has a placement; else `NoMemory`: there is no memory for another.
+    /// Then nothing has changed.
     pub fn record(&mut self, placement: Placement) -> Result<(), RecordRefusal>
         ensures ok { OnOk result (self.new ≡ with_placement self.old placement) }
         ensures free { OnOk result (placed_at self.old placement.page ≡ None) }
@@ -73,7 +73,7 @@ impl Resident {
         Ok(())
     }
 
-    /// The placement of a page, where it is placed.
+    /// The placement of a page, if it is placed.
     pub fn at(&self, page: u64) -> Option<&Placement>
         ensures kept { MatchOption result (placed_at self.now page ≡ None)
             (λ placement. placed_at self.now page ≡ Some placement.now) }
@@ -82,7 +82,7 @@ impl Resident {
         self.placements.get(&page)
     }
 
-    /// Takes away the placement of a page, where it is placed.
+    /// Removes the placement of a page, if it is placed.
     pub fn remove(&mut self, page: u64) -> Option<Placement>
         ensures kept { result ≡ placed_at self.old page }
         ensures rest { self.new ≡ without_page self.old page }
@@ -95,7 +95,7 @@ impl Resident {
         self.placements.remove(&page)
     }
 
-    /// The placements on the pages of a range, rising.
+    /// The placements on the pages of a range, in ascending order.
     fn placed_in(&self, range: &Run<RangeRecord>) -> Range<'_, u64, Placement>
         requires { end_of range.now ≤ 2 ^ 35 }
         ensures placed { result ≡ placed_in self.now range.now }
@@ -105,7 +105,7 @@ impl Resident {
             .range(range.first..range.first + range.pages)
     }
 
-    /// How many pages of a range are placed.
+    /// The number of placed pages of a range.
     pub(crate) fn count_in(&self, range: &Run<RangeRecord>) -> usize
         requires { end_of range.now ≤ 2 ^ 35 }
         ensures { result ≡ length (placed_in self.now range.now) }
@@ -113,7 +113,7 @@ impl Resident {
         self.placed_in(range).count()
     }
 
-    /// How many pages of a range are placed on each node.
+    /// The number of placed pages of a range on each node.
     pub(crate) fn pages_by_node(&self, range: &Run<RangeRecord>) -> [u64; 256]
         requires { end_of range.now ≤ 2 ^ 35 }
         ensures { (node : ℕ) → node < 256 → slice_index result node

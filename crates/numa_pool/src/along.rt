@@ -1,4 +1,4 @@
-//! A frame of the first node of a list that has one.
+//! Taking a frame from the first node of a list that has one.
 ghost use Rattle.std.specs.Prelude.{◌≡◌, ◌++◌, List, Some, IfSome, slice_get};
 ghost use Rattle.numa_pool.specs.Frames.{with_found, times};
 ghost use Rattle.numa_pool.specs.Walk.{WalksInOrder};
@@ -8,9 +8,9 @@ ghost use Rattle.numa_pool.specs.Seated.{frame_in};
 use crate::{PoolSeat, Pools};
 use numa_machine::Frame;
 
-/// Takes a frame of the first node of the list that has one, and tells the node's place in the
-/// list, from 0. `None` where no node has one. A node may stand in the list twice; its words are
-/// then loaded twice.
+/// Takes a frame of the first node of the list that has one, and returns it with the node's place
+/// in the list, from 0. `None` if no node has one. If the list has a node twice, its words are
+/// loaded twice.
 pub fn take_along(pools: &Pools, seat: &mut PoolSeat, nodes: &[u8]) -> Option<(usize, Frame)>
     requires { seat.old.table ≡ pools.now.table }
     ensures table { seat.new.table ≡ seat.old.table }

@@ -1,4 +1,4 @@
-//! Counting the frames that are taken at the end.
+//! Counting the taken frames at the end.
 ghost use Rattle.std.specs.Prelude.{◌≡◌, ℕ, ◌+◌, ◌*◌, ◌<◌, ◌≤◌, List};
 ghost use Rattle.std.specs.Prelude.{length, slice_index, IsTrue, ◌↔◌};
 ghost use Rattle.std.specs.Int.{bit_at};
@@ -26,7 +26,7 @@ fn is_taken(rest: &Rest, node: usize, k: usize) -> bool
     is_set(rest.word(64 * node + k / 64), k % 64)
 }
 
-/// How many of the first frames of a node are taken.
+/// The number of taken frames among the first of a node.
 fn count_node(rest: &Rest, node: usize, frames: usize) -> u32
     requires { IsFull rest.now.words × (64 * node + 64 ≤ slots_len rest.now.words)
         × (slots_len rest.now.words ≤ 16384) × (frames ≤ 4096) }
@@ -41,7 +41,7 @@ fn count_node(rest: &Rest, node: usize, frames: usize) -> u32
     count
 }
 
-/// Whether each frame of a node that is taken is marked.
+/// Whether each taken frame of a node is marked.
 fn is_all_marked(rest: &Rest, bits: &[u64], node: usize, frames: usize) -> bool
     requires { IsFull rest.now.words × (64 * node + 64 ≤ slots_len rest.now.words)
         × (slots_len rest.now.words ≤ 16384) × (frames ≤ 4096)
@@ -57,7 +57,7 @@ fn is_all_marked(rest: &Rest, bits: &[u64], node: usize, frames: usize) -> bool
     true
 }
 
-/// Whether each frame that is taken is marked.
+/// Whether each taken frame is marked.
 fn is_alone(rest: &Rest, bits: &[u64], frames: &[u32]) -> bool
     requires { IsFull rest.now.words × (slots_len rest.now.words ≡ 64 * length frames.now)
         × (length frames.now ≤ 256) × (length bits.now ≡ slots_len rest.now.words)
@@ -73,7 +73,7 @@ fn is_alone(rest: &Rest, bits: &[u64], frames: &[u32]) -> bool
     true
 }
 
-/// How many frames of each node are taken.
+/// The number of taken frames of each node.
 fn count_all(rest: &Rest, frames: &[u32]) -> [u32; 256]
     requires { IsFull rest.now.words × (slots_len rest.now.words ≡ 64 * length frames.now)
         × (length frames.now ≤ 256) × ((n : ℕ) → slice_index frames.now n ≤ 4096) }
@@ -88,7 +88,7 @@ fn count_all(rest: &Rest, frames: &[u32]) -> [u32; 256]
     taken
 }
 
-/// Counts what is taken, and frees the words.
+/// Counts the taken frames, and frees the words.
 pub(crate) fn counted(words: Words, token: Token, bits: &[u64], frames: &[u32]) -> Closed
     requires shape { (token.table ≡ words.table) × (words.frames ≡ frames.now)
         × IsShaped words.table frames.now }

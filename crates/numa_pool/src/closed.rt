@@ -1,6 +1,7 @@
-//! What the end of the pools tells.
+//! The state of the pools at their end.
 
-/// How many frames of each node were taken at the end, and whether one seat held them all.
+/// The number of frames of each node that were taken at the end, and whether one seat held them
+/// all.
 #[derive(Clone, Copy, PartialEq, Eq, Debug, Drop)]
 pub struct Closed {
     pub taken: [u32; 256],

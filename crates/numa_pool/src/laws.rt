@@ -1,4 +1,5 @@
-//! Laws of the definitions that contracts cite.
+//! Laws of the definitions that contracts cite. The functions do nothing: what each one ensures is
+//! a law.
 ghost use Rattle.std.specs.Prelude.{◌≡◌, ℕ, ◌<◌, ◌≤◌, true, false, List, [], ◌∷◌, ◌++◌};
 ghost use Rattle.std.specs.Prelude.{length, slice_index, slice_get, Option, Some, None};
 ghost use Rattle.numa_pool.specs.Frames.{with_found, gained_each};
@@ -9,7 +10,7 @@ ghost use Rattle.numa_pool.specs.declared.view.Entry.{Entry};
 ghost use Rattle.numa_pool.specs.declared.view.View.{View};
 ghost use Rattle.numa_machine.specs.declared.frame.Frame.{Frame};
 
-/// The counts that each step keeps say the rule of the pools: a bit is set exactly where one seat
+/// The counts that each step keeps imply the rule of the pools: a bit is set exactly if a seat
 /// holds its frame, no two seats hold one frame, and the bits past a node's frames are clear.
 pub fn counts_keep_the_rule()
     ensures { (frames words : List ℕ) (views : List View)
@@ -23,23 +24,23 @@ pub fn walk_is_sparing()
         → IsWalk frames nodes found es → TriesOnce es }
 {}
 
-/// Walks of the nodes of a list in its order, up to the first that won a frame, are a walk of the
-/// list, where no node stands twice in it; and no word is loaded twice in them all.
+/// Walks of the nodes of a list in order, up to the first that won a frame, are a walk of the list,
+/// if no node is in it twice; and no word is loaded twice.
 pub fn walks_compose()
     ensures { (frames nodes : List ℕ) (found : Option Frame) (es : List Entry)
         → IsDistinct nodes → WalksInOrder frames nodes found es
         → IsWalk frames nodes found es × LoadsOnce es }
 {}
 
-/// A walk that found a frame won that one and no other, and a walk that found none won none.
+/// A walk that found a frame won that one only, and a walk that found none won none.
 pub fn walk_wins_what_it_found()
     ensures { (frames nodes : List ℕ) (found : Option Frame) (es : List Entry)
         → IsWalk frames nodes found es → won_in es ≡ with_found found [] }
 {}
 
-/// A walk that won a frame found each frame of each node before the frame's own taken, at one of
-/// its steps: a load that found the bit set, or a try that was lost. The frame itself is one of its
-/// node's, and was not found taken before.
+/// A walk that won a frame found each frame of each earlier node taken at one of its steps: a load
+/// that found the bit set, or a try that was lost. The frame itself belongs to its node, and wasn't
+/// found taken before.
 pub fn win_means()
     ensures listed { (frames nodes : List ℕ) (frame : Frame) (es : List Entry)
         → IsWalk frames nodes (Some frame) es
@@ -57,15 +58,15 @@ pub fn win_means()
         × (met es frame.node frame.number ≡ false) }
 {}
 
-/// A walk that won no frame found each frame of each listed node taken, at one of its steps.
+/// A walk that won no frame found each frame of each listed node taken at one of its steps.
 pub fn exhaustion_means()
     ensures { (frames nodes : List ℕ) (es : List Entry) → IsWalk frames nodes None es
         → (i k : ℕ) → i < length nodes → k < slice_index frames (slice_index nodes i)
         → met es (slice_index nodes i) k ≡ true }
 {}
 
-/// Walks one after the other: one walk is such a row of walks, two such rows after each other are
-/// one, and what they won is what each of them found.
+/// Sequences of walks: one walk is a sequence, two sequences make one, and what a sequence won is
+/// what its walks found.
 pub fn walks_follow()
     ensures one { (frames nodes : List ℕ) (found : Option Frame) (es : List Entry)
         → IsWalk frames nodes found es → LoadsOnce es

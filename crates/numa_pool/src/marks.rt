@@ -1,4 +1,4 @@
-//! A bit for each frame, in a seat's own memory.
+//! A seat's private bit for each frame.
 ghost use Rattle.std.specs.Prelude.{ℕ, ◌+◌, ◌-◌, ◌*◌, ◌/◌, ◌<◌, ◌≤◌, min, max, length};
 ghost use Rattle.std.specs.Prelude.{IsTrue, ◌↔◌, ◌≡◌, IfOk, slice_index};
 ghost use Rattle.numa_pool.specs.Frames.{bit_in, one_if, is_frame};
@@ -6,7 +6,7 @@ ghost use Rattle.numa_pool.specs.Frames.{bit_in, one_if, is_frame};
 use numa_machine::Frame;
 use std::alloc::{AllocError, Global};
 
-/// So many words, in which no bit is set.
+/// `words` words in which no bit is set.
 pub(crate) fn blank(alloc: Global, words: usize) -> Result<Vec<u64>, AllocError>
     ensures { IfOk result (λ v. (length v.items ≡ words) × ((i : ℕ) → slice_index v.items i ≡ 0)) }
 {
@@ -44,7 +44,7 @@ pub(crate) fn is_marked(bits: &[u64], frame: Frame) -> bool
     (bits[64 * frame.node as usize + frame.number as usize / 64] >> (frame.number % 64)) & 1 == 1
 }
 
-/// Sets each bit that is set in the other.
+/// Sets each bit that is set in `other`.
 pub(crate) fn add_marks(bits: &mut Vec<u64>, other: &[u64])
     requires { length bits.old.items ≡ length other.now }
     ensures same_length { length bits.new.items ≡ length bits.old.items }

@@ -10,9 +10,9 @@ use std::alloc::Global;
 use std::marker::Model;
 use std::sync::Arc;
 
-/// A share of some pools of frames, and a seat at them: what one thread needs to take frames and to
-/// give them back. A contract sees how many frames each node of the pools has, and the seat. A seat
-/// that is dropped keeps its frames taken; the pools are freed with their last seat.
+/// Shared ownership of some pools of frames, and a seat at them: what one thread needs to take
+/// frames and give them back. Contracts see the number of frames of each node, and the seat. The
+/// frames of a dropped seat stay taken; the pools are freed with their last seat.
 #[derive(Drop)]
 pub struct OwnedSeat {
     pools: Arc<Pools, Global>,
@@ -32,7 +32,7 @@ impl Model for OwnedSeat {
 }
 
 impl OwnedSeat {
-    /// The first seat at new pools of a machine's frames, each of which is free.
+    /// The first seat at new pools of a machine's frames, all free.
     ///
     /// # Errors
     /// `NoMemory`: out of memory for the pools or for the seat.
@@ -46,10 +46,10 @@ impl OwnedSeat {
         }
     }
 
-    /// A new seat at the same pools, which holds nothing, for another thread.
+    /// A new seat at the same pools that holds nothing, for another thread.
     ///
     /// # Errors
-    /// `NoMemory`: out of memory for the seat, or as many seats share the pools as can.
+    /// `NoMemory`: out of memory for the seat, or the pools have as many seats as they can.
     pub fn split(&mut self, alloc: Global) -> Result<OwnedSeat, NoMemory>
         ensures other { IfOk result (λ other. other ≡ newcomer self.old) }
         ensures ok { OnOk result (self.new ≡ seat_after_split self.old) }
@@ -62,16 +62,16 @@ impl OwnedSeat {
         Ok(OwnedSeat { pools, seat })
     }
 
-    /// Takes a free frame of the first node of the list that has one, and tells the node's place in
-    /// the list, from 0. `None` only where each frame of each listed node was found taken at a step
-    /// of this call. Takes no memory.
+    /// Takes a free frame of the first node of the list that has one, and returns it with the
+    /// node's place in the list, from 0. `None` only if each frame of each listed node was found
+    /// taken at a step of this call. It doesn't allocate.
     pub fn take(&mut self, nodes: &[u8]) -> Option<(usize, Frame)>
         ensures { TakesAlong nodes.now result self.old self.new }
     {
         take_along(&self.pools, &mut self.seat, nodes)
     }
 
-    /// Gives back a frame, where the seat holds it, and tells whether it did.
+    /// Gives back a frame if the seat holds it, and returns whether it did.
     pub fn give(&mut self, frame: Frame) -> bool
         ensures { Gives frame result self.old self.new }
     {
@@ -82,7 +82,8 @@ impl OwnedSeat {
         false
     }
 
-    /// Gets the frames of another seat at the same pools, which is spent. Takes no memory.
+    /// Takes over the frames of another seat at the same pools, which is consumed. It doesn't
+    /// allocate.
     pub fn join(&mut self, other: OwnedSeat)
         requires { other.seat.table ≡ self.old.seat.table }
         ensures { self.new ≡ seat_after_join self.old other }

@@ -18,10 +18,10 @@ use numa_machine::{Frame, Machine, NoMemory};
 use std::alloc::{AllocError, Global};
 use std::marker::Model;
 
-/// The frames of a machine's nodes, which any number of threads take and give up through seats of
-/// their own, by single atomic steps. No call waits. At run time the pools are 64 words of 64 bits
-/// for each node of the machine; frame f of a node is bit f mod 64 of the node's word f / 64, and a
-/// bit is set while the frame is taken.
+/// The frames of a machine's nodes. Any number of threads take them and give them up, each through
+/// a seat of its own, by single atomic steps. No call blocks. The pools are 64 words of 64 bits for
+/// each node of the machine; frame f of a node is bit f mod 64 of the node's word f / 64, which is
+/// set while the frame is taken.
 #[derive(Drop)]
 pub struct Pools {
     words: Words,
@@ -40,7 +40,7 @@ impl Model for Pools {
         × (p.words.frames ≡ p.frames.items) };
 }
 
-/// How many frames each node has.
+/// The number of frames of each node.
 fn frame_counts(alloc: Global, machine: &Machine) -> Result<Vec<u32>, AllocError>
     ensures { IfOk result (λ counts. (counts.items ≡ machine.now.frames) × (0 < length counts.items)
         × (length counts.items ≤ 256)
@@ -55,8 +55,7 @@ fn frame_counts(alloc: Global, machine: &Machine) -> Result<Vec<u32>, AllocError
 }
 
 impl Pools {
-    /// The pools of the machine, in which each frame is free, and a first seat, which holds
-    /// nothing.
+    /// The pools of the machine, with all frames free, and a first seat, which holds nothing.
     ///
     /// # Errors
     /// `NoMemory`: out of memory for the words or for the seat.
@@ -72,7 +71,7 @@ impl Pools {
         Ok((pools, PoolSeat { token, bits }))
     }
 
-    /// How many frames a node has: 0 for a node that is not of the machine.
+    /// The number of frames of a node: 0 for a node that the machine lacks.
     pub fn frames(&self, node: u8) -> u32
         ensures { result ≡ slice_index self.now.frames node }
     {
@@ -82,7 +81,7 @@ impl Pools {
         }
     }
 
-    /// A new seat of these pools, which holds nothing, for another thread.
+    /// A new seat at these pools that holds nothing, for another thread.
     ///
     /// # Errors
     /// `NoMemory`: out of memory for the seat.
@@ -100,7 +99,7 @@ impl Pools {
         Ok(PoolSeat { token, bits })
     }
 
-    /// The first seat gets the frames of the second, which is spent. Takes no memory.
+    /// The first seat takes over the frames of the second, which is consumed. It doesn't allocate.
     pub fn join(&self, seat: &mut PoolSeat, other: PoolSeat)
         requires { (seat.old.table ≡ self.now.table) × (other.table ≡ self.now.table) }
         ensures frames { (seat.new.table ≡ seat.old.table)
@@ -112,10 +111,10 @@ impl Pools {
         add_marks(&mut seat.bits, bits.as_slice());
     }
 
-    /// Takes a free frame of the node, the first that it finds. `None` only where each frame of the
-    /// node was found taken at a step of this call, so also for a node without frames and for one
-    /// that is not of the machine. Each word of the node is loaded at most once, and each frame
-    /// tried at most once; no other step is made. Takes no memory.
+    /// Takes the first free frame of the node that it finds. `None` only if each frame of the node
+    /// was found taken at a step of this call; so also for a node without frames, or one that the
+    /// machine lacks. Each word of the node is loaded at most once, and each frame tried at most
+    /// once; there is no other step. It doesn't allocate.
     pub fn take(&self, seat: &mut PoolSeat, node: u8) -> Option<Frame>
         requires { seat.old.table ≡ self.now.table }
         ensures same { seat.new.table ≡ seat.old.table }
@@ -138,7 +137,7 @@ impl Pools {
         Some(frame)
     }
 
-    /// Gives up a frame that the seat holds, and no other. Takes no memory.
+    /// Gives up a frame that the seat holds, and no other. It doesn't allocate.
     pub fn give(&self, seat: &mut PoolSeat, frame: Frame)
         requires { (seat.old.table ≡ self.now.table) × Holds seat.old.held frame }
         ensures frame { (seat.new.table ≡ seat.old.table)
@@ -157,8 +156,9 @@ impl Pools {
         unmark(&mut seat.bits, frame);
     }
 
-    /// The end of the pools: how many frames of each node are taken, and whether the seat holds
-    /// them all. It uses up the pools, so no other thread steps on them any more. Takes no memory.
+    /// Ends the pools, and returns the number of taken frames of each node and whether the seat
+    /// holds them all. It consumes the pools, so no other thread can use them any more. It doesn't
+    /// allocate.
     pub fn close(self, seat: PoolSeat) -> Closed
         requires { seat.table ≡ self.table }
         ensures { Closes self.frames seat.held result.taken result.alone }

@@ -10,7 +10,7 @@ ghost use Rattle.numa_pool.specs.declared.view.Entry.{Entry};
 use crate::steps::{Token, Words, attempt, look};
 use numa_machine::Frame;
 
-/// Takes a free frame of a word, of which the node has `limit` frames.
+/// Takes a free frame of a word in which the node has `limit` frames.
 fn take_word(
     words: &Words,
     token: &mut Token,
@@ -33,7 +33,7 @@ fn take_word(
         → Reached words.now.frames node word base token.old.view.log
         → SearchedWord words.now.frames node word result base token.new.view.log }
 {
-    // The bits that were found set, by the load or by a lost try.
+    // The bits found set so far, by the load or by a lost try.
     let mut taken = look(words, token, node, word);
     while taken != u64::MAX {
         let bit = taken.trailing_ones() as usize;

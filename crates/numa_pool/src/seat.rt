@@ -1,4 +1,4 @@
-//! Seats: what one thread holds of the pools.
+//! Seats: one thread's access to the pools.
 ghost use Rattle.std.specs.Prelude.{◌≡◌, ◌*◌, ◌+◌, ◌<◌, ◌≤◌, IsTrue, ◌↔◌};
 ghost use Rattle.numa_pool.specs.Frames.{Holds};
 
@@ -7,11 +7,10 @@ use crate::steps::Token;
 use numa_machine::Frame;
 use std::marker::Model;
 
-/// The frames that one thread holds of some pools, and the right to take more and to give them up.
-/// A contract sees the pools that the seat belongs to, the frames that it holds, and its own steps:
-/// a load, a try and a return stand in its log, and splits and joins are counted. At run time a
-/// seat is one bit for each frame that its nodes may have, 64 words for each node of the machine. A
-/// seat that is dropped keeps its frames taken.
+/// The frames of some pools that one thread holds, and the right to take more and give them up.
+/// Contracts see the pools of the seat, the frames that it holds, and its own steps: loads, tries
+/// and returns are in its log, splits and joins are counted. A seat takes 64 words for each node of
+/// the machine, a bit for each frame. The frames of a dropped seat stay taken.
 #[derive(Drop)]
 pub struct PoolSeat {
     pub(crate) token: Token,

@@ -4,10 +4,10 @@
 //! load), a load of a frame word, a fetch_or of one bit that finds it clear or finds it set, and a
 //! fetch_and of all bits but one.
 //!
-//! The words and the right to step on them lie in two types whose fields have no name outside this
-//! file. So the functions below are all that the rest of the crate, or a crate above it, can do to
-//! them. Each makes one atomic step and shows it: a load, a try and a return in the log of the
-//! seat, a split and a join in its count of the others.
+//! The words and the right to step on them are two types whose fields are private to this file. So
+//! the functions below are all that the rest of the crate, or a crate above it, can do to them.
+//! Each makes one atomic step and records it for contracts: a load, a try and a return in the log
+//! of the seat, a split and a join in its count of the others.
 ghost use Rattle.std.specs.Prelude.{◌≡◌, ℕ, ◌+◌, ◌*◌, ◌<◌, ◌≤◌, [], true};
 ghost use Rattle.std.specs.Prelude.{length, slice_index, IfOk};
 ghost use Rattle.std.specs.Mem.Slots.{slots_items, slots_len, IsFull};
@@ -22,7 +22,7 @@ use atomic_table::{Join, Play, Seat, Split, Table, TableRule};
 use std::alloc::{AllocError, Global};
 use std::marker::Model;
 
-/// A bit is set exactly where one seat holds its frame, kept as counts.
+/// A bit is set exactly if one seat holds its frame: the rule, kept as counts.
 struct CountedRule;
 
 impl TableRule<Option<()>, View, Vec<u32>> for CountedRule {
@@ -72,7 +72,7 @@ impl Split<View> for NewSeat {
     ghost right = { λ _. newcomer };
 }
 
-/// The first seat gets the frames of the second.
+/// The first seat takes over the frames of the second.
 struct JoinSeats;
 
 impl Join<View> for JoinSeats {
@@ -102,7 +102,7 @@ impl Model for Words {
     ghost invariant = { λ w. IsShaped w.table.shared.table_id w.table.shared.key.items };
 }
 
-/// The right to step on the words, of no bytes.
+/// The right to step on the words. It has no bytes.
 #[derive(Drop)]
 pub(crate) struct Token {
     seat: Seat<Option<()>, View>,
@@ -119,10 +119,10 @@ impl Model for Token {
     ghost invariant = { λ t. t.seat.me.1 ≡ [] };
 }
 
-/// The words once no thread can step on them any more.
+/// The words after the last thread that could step on them.
 pub(crate) type Rest = atomic_table::Closed<Option<()>, Global>;
 
-/// The words with these bits, in which none is set, for nodes with so many frames each.
+/// The words of nodes with these numbers of frames, with no bit set.
 pub(crate) fn opening(
     alloc: Global,
     bits: &[u64],
@@ -152,7 +152,7 @@ pub(crate) fn look(words: &Words, token: &mut Token, node: usize, word: usize) -
     board.load::<LoadWord>(&mut token.seat, 64 * node + word)
 }
 
-/// Sets the bit of a frame, and tells whether it was clear.
+/// Sets the bit of a frame, and returns whether it was clear.
 pub(crate) fn attempt(
     words: &Words,
     token: &mut Token,
@@ -196,7 +196,7 @@ pub(crate) fn another(words: &Words, token: &mut Token) -> Token
     Token { seat }
 }
 
-/// The first seat gets the frames of the second.
+/// The first seat takes over the frames of the second.
 pub(crate) fn pour(words: &Words, token: &mut Token, other: Token)
     requires { (token.old.table ≡ words.now.table) × (other.table ≡ words.now.table) }
     ensures { (token.new.table ≡ token.old.table)
@@ -207,7 +207,7 @@ pub(crate) fn pour(words: &Words, token: &mut Token, other: Token)
     board.join_seat::<JoinSeats>(&mut token.seat, seat);
 }
 
-/// The last words, with what is known of them by the rule.
+/// The final words, with what the rule says of them.
 pub(crate) fn close(words: Words, token: Token) -> Rest
     requires { token.table ≡ words.table }
     ensures words { IsFull result.words × (slots_len result.words ≡ 64 * length words.frames)

@@ -1,4 +1,5 @@
-//! Laws about what a kernel does otherwise. Each function does nothing: what it ensures is the law.
+//! Laws about what a kernel does otherwise. The functions do nothing: what each one ensures is a
+//! law.
 ghost use Rattle.std.specs.Prelude.{◌≡◌, ℕ, false, Contains, None, Option, Some};
 ghost use Rattle.numa_machine.specs.Rules.{is_linux};
 ghost use Rattle.numa_machine.specs.declared.rules.Rules.{Rules};
@@ -10,9 +11,8 @@ ghost use Rattle.numa_space.specs.declared.command.Command.{Command};
 ghost use Rattle.numa_rules.specs.Both.{AreNodesAlike, IsAnsweredAlike, refusal_by};
 ghost use Rattle.numa_rules.specs.Otherwise.{otherwise_of, parted_in};
 
-/// Nothing is left out: where a kernel does nothing otherwise with a command, or gives a policy
-/// other nodes alone, the first cause that refuses the command is one by both rules, or there is
-/// none by either.
+/// `otherwise_of` is complete: if it finds nothing for a command, or only a policy with other
+/// nodes, both sets of rules refuse the command for the same first cause, or neither refuses it.
 pub fn answered_alike()
     ensures { (space : SpaceState) (after : PageMap) (command : Command)
         → is_linux space.machine.rules ≡ false → IsAnsweredAlike (otherwise_of space command)
@@ -20,8 +20,8 @@ pub fn answered_alike()
         ≡ refusal_by Rules.Linux space after command }
 {}
 
-/// And where a change of the allowed nodes gives no policy other nodes that is told, it gives none
-/// other ones: neither that of a range nor that of a task.
+/// And if it finds no policy to which a change of the allowed nodes gives other nodes, there is
+/// none: neither a range's nor a task's.
 pub fn nodes_alike()
     ensures ranges { (space : SpaceState) (after : ℕ) → parted_in space after ≡ None
         → (run : Run (Option PolicyRecord)) → Contains space.ranges run

@@ -1,7 +1,7 @@
-//! Where the rules of Linux's documents and those of its running kernel part: what a kernel does
-//! otherwise with a command that a space judges by the documents ([`otherwise_of`]), and what a
-//! script that was played by the other rules makes of a page ([`by_other_rules`]). docs/KERNEL.md
-//! has the table that both go by.
+//! Where Linux's documents and its running kernel differ: what a kernel does differently with a
+//! command that a space judges by the documents ([`otherwise_of`]), and where a script that is
+//! played by the other rules leads for a page ([`by_other_rules`]). docs/KERNEL.md has the table on
+//! which both are based.
 #![tactic(auto)]
 
 pub mod laws;

@@ -1,4 +1,4 @@
-//! What a running kernel does otherwise with a command than the documents say.
+//! What a running kernel does differently from the documents.
 ghost use Rattle.std.specs.Prelude.{◌≡◌, ◌≢◌, true, false, Option, None};
 ghost use Rattle.std.specs.List.{list_any};
 ghost use Rattle.std.specs.Prelude.{nat_le};
@@ -14,28 +14,29 @@ use numa_mask::NodeMask;
 use numa_mode::{Mode, PolicySpec, Record};
 use numa_space::{Command, Space};
 
-/// What a running kernel does otherwise with a command than the documents say (docs/KERNEL.md).
+/// What a running kernel does with a command, where that differs from the documents
+/// (docs/KERNEL.md).
 #[derive(Clone, Copy, Debug)]
 pub enum Otherwise {
-    /// It refuses a map that reaches up to address 2^47, since it keeps the last page free: ENOMEM.
+    /// It refuses a map that reaches address 2^47, since it keeps the last page free: ENOMEM.
     KeepsLastPage,
     /// It refuses an unmap of length 0: EINVAL.
     WantsLength,
-    /// It judges the nodes of an mbind before the holes in its span: EINVAL in place of EFAULT.
+    /// It checks the nodes of an mbind before the holes in its span: EINVAL instead of EFAULT.
     JudgesNodesFirst,
-    /// It passes over the holes in the span of an mbind of DEFAULT.
+    /// It skips the holes in the span of an mbind of DEFAULT.
     PassesHoles,
-    /// It refuses a home where no page of the span has a policy of its own: ENOENT.
+    /// It refuses a home if no page of the span has an own policy: ENOENT.
     WantsPolicy,
-    /// It takes weight 0, and puts back 1.
+    /// It accepts weight 0, which resets the weight to 1.
     PutsBackWeight,
-    /// It takes allowed nodes of which none has memory, and allows all that have some.
+    /// It accepts allowed nodes of which none has memory, and allows all nodes with memory.
     AllowsAllMemory,
-    /// A change of the allowed nodes leaves a policy with other nodes: this one, and maybe more.
+    /// A change of the allowed nodes leaves a policy with other nodes: this one, and perhaps more.
     LeavesNodes(Parted),
 }
 
-/// What a kernel does otherwise with a map.
+/// What a kernel does differently with a map.
 fn with_map(start: u64, length: u64) -> Option<Otherwise>
     ensures { result ≡ with_map start length }
 {
@@ -48,7 +49,7 @@ fn with_map(start: u64, length: u64) -> Option<Otherwise>
     None
 }
 
-/// What a kernel does otherwise with an unmap.
+/// What a kernel does differently with an unmap.
 fn with_unmap(start: u64, length: u64) -> Option<Otherwise>
     ensures { result ≡ with_unmap start length }
 {
@@ -61,7 +62,7 @@ fn with_unmap(start: u64, length: u64) -> Option<Otherwise>
     None
 }
 
-/// Whether a policy other than DEFAULT has no node where these are allowed.
+/// Whether a policy other than DEFAULT has no node while these are allowed.
 fn has_no_node(spec: PolicySpec, allowed: &NodeMask) -> bool
     requires policy { is_default spec ≡ false }
     requires some { allowed.now ≢ 0 }
@@ -73,7 +74,7 @@ fn has_no_node(spec: PolicySpec, allowed: &NodeMask) -> bool
     }
 }
 
-/// What a kernel does otherwise with an mbind.
+/// What a kernel does differently with an mbind.
 fn with_bind(space: &Space, start: u64, length: u64, spec: PolicySpec) -> Option<Otherwise>
     ensures { result ≡ with_bind space.now start length spec }
 {
@@ -95,7 +96,7 @@ fn with_bind(space: &Space, start: u64, length: u64, spec: PolicySpec) -> Option
     None
 }
 
-/// What a kernel does otherwise with a home.
+/// What a kernel does differently with a home.
 fn with_home(space: &Space, start: u64, length: u64, node: u32) -> Option<Otherwise>
     ensures { result ≡ with_home space.now start length node }
 {
@@ -111,7 +112,7 @@ fn with_home(space: &Space, start: u64, length: u64, node: u32) -> Option<Otherw
     Some(Otherwise::WantsPolicy)
 }
 
-/// What a kernel does otherwise with a weight.
+/// What a kernel does differently with a weight.
 fn with_weight(space: &Space, node: u32, weight: u32) -> Option<Otherwise>
     ensures { result ≡ with_weight space.now node weight }
 {
@@ -121,14 +122,14 @@ fn with_weight(space: &Space, node: u32, weight: u32) -> Option<Otherwise>
     Some(Otherwise::PutsBackWeight)
 }
 
-/// Whether a set has a node of this number or above.
+/// Whether a set has node `first` or a higher one.
 fn has_node_from(mask: &NodeMask, first: u32) -> bool
     ensures { result ≡ list_any (λ node. nat_le first node) (members mask.now) }
 {
     mask.iter().any(|node| first <= u32::from(node.number()))
 }
 
-/// What a kernel does otherwise with a change of the allowed nodes.
+/// What a kernel does differently with a change of the allowed nodes.
 fn with_mems(space: &Space, mask: &NodeMask) -> Option<Otherwise>
     ensures { result ≡ with_mems space.now mask.now }
 {
@@ -145,7 +146,7 @@ fn with_mems(space: &Space, mask: &NodeMask) -> Option<Otherwise>
     }
 }
 
-/// What a kernel does otherwise with a command.
+/// What a kernel does differently with a command.
 fn with_command(space: &Space, command: &Command) -> Option<Otherwise>
     ensures { result ≡ with_command space.now command.now }
 {
@@ -169,9 +170,9 @@ fn with_command(space: &Space, command: &Command) -> Option<Otherwise>
     }
 }
 
-/// What a running kernel would do otherwise with a command to a space that goes by the documents'
-/// rules: another answer, or other nodes of a policy. None by the kernel's rules. That the number
-/// of commands is limited doesn't count here: where it is spent, both refuse every command.
+/// What a running kernel would do differently with a command to a space that follows the documents'
+/// rules: another result, or other nodes of a policy. `None` for a space that follows the kernel's.
+/// The limit of accepted commands is ignored here: once it is reached, both refuse every command.
 pub fn otherwise_of(space: &Space, command: &Command) -> Option<Otherwise>
     ensures { result ≡ otherwise_of space.now command.now }
 {

@@ -1,4 +1,4 @@
-//! What the other rules make of a page.
+//! A page by the other rules.
 ghost use Rattle.std.specs.Prelude.{◌≡◌, List, MatchOption};
 ghost use Rattle.numa_space.specs.Standing.{StandsFor};
 ghost use Rattle.numa_space.specs.declared.command.Command.{Command};
@@ -10,7 +10,7 @@ use numa_mask::NodeMask;
 use numa_mode::Record;
 use numa_space::Space;
 
-/// The rules that aren't these.
+/// The other set of rules.
 pub fn other_rules(rules: Rules) -> Rules
     ensures { result ≡ other_rules rules }
 {
@@ -20,16 +20,16 @@ pub fn other_rules(rules: Rules) -> Rules
     }
 }
 
-/// What the other rules make of a page: where memory for it is looked for when a task faults on it.
+/// A page by the other rules: where memory for it is looked for when a task faults on it.
 #[derive(Drop)]
 pub struct ByOther {
-    /// The policy that counts; None is local allocation.
+    /// The policy that serves the fault; `None` is local allocation.
     pub policy: Option<Record>,
-    /// The nodes in order; none where the page isn't mapped.
+    /// The nodes in order; none if the page isn't mapped.
     pub nodes: ArrayVec<u8, 256>,
 }
 
-/// The nodes on which memory for a page is looked for; none where the question is refused.
+/// The nodes on which memory for a page is looked for; none if the question is refused.
 fn nodes_in(space: &Space, task: u32, page: u64, cpu: u32) -> ArrayVec<u8, 256>
     ensures { (history : List Command) → StandsFor space.now history
         → result.items ≡ nodes_in space.now.machine history task page cpu }
@@ -40,7 +40,7 @@ fn nodes_in(space: &Space, task: u32, page: u64, cpu: u32) -> ArrayVec<u8, 256>
     }
 }
 
-/// The nodes of a policy; none where there is none.
+/// The nodes of a policy; none without a policy.
 fn set_for(policy: &Option<Record>) -> NodeMask
     ensures { result ≡ set_for policy.now }
 {
@@ -50,8 +50,8 @@ fn set_for(policy: &Option<Record>) -> NodeMask
     }
 }
 
-/// What a space that a script has led to by other rules makes of a task's fault at a page on node
-/// `cpu`, where that isn't what this space does: another list, or a policy with other nodes.
+/// How another space, to which a script led by the other rules, serves a task's fault at a page on
+/// node `cpu`, if that differs from this space: by another list, or a policy with other nodes.
 pub fn by_other_rules(
     space: &Space,
     other: &Space,

@@ -8,12 +8,12 @@ use numa_mask::NodeMask;
 use numa_mode::Record;
 use numa_space::{RangeRecord, Run, Space};
 
-/// Whose a policy is.
+/// The owner of a policy.
 #[derive(Clone, Copy, Debug)]
 pub enum Owner {
-    /// That of the range that begins at this page.
+    /// The range that begins at this page.
     Range(u64),
-    /// That of this task.
+    /// The task with this number.
     Task(u32),
 }
 
@@ -21,16 +21,16 @@ pub enum Owner {
 /// by those of the documents.
 #[derive(Clone, Copy, Debug)]
 pub struct Parted {
-    /// Whose it is.
+    /// Its owner.
     pub owner: Owner,
-    /// What it is after the change by the documents.
+    /// The policy after the change by the documents.
     pub document: Record,
-    /// What it is after the change by the kernel.
+    /// The policy after the change by the kernel.
     pub linux: Record,
 }
 
-/// What a change of the allowed nodes from `before` to `after` makes of a policy by both rules,
-/// where that isn't one.
+/// A policy after a change of the allowed nodes from `before` to `after` by both rules, if they
+/// differ.
 fn parted_policy(
     owner: Owner,
     policy: &Record,
@@ -52,7 +52,7 @@ fn parted_policy(
     })
 }
 
-/// The same of a range's policy, if it has one.
+/// The same for a range's policy, if it has one.
 fn parted_range(range: &Run<RangeRecord>, before: &NodeMask, after: &NodeMask) -> Option<Parted>
     requires { after.now ≢ 0 }
     ensures { result ≡ parted_range before.now after.now range.now }
@@ -63,7 +63,7 @@ fn parted_range(range: &Run<RangeRecord>, before: &NodeMask, after: &NodeMask) -
     }
 }
 
-/// The first range's of which that is so.
+/// The first range's policy that differs.
 fn parted_ranges(space: &Space, before: &NodeMask, after: &NodeMask) -> Option<Parted>
     requires { after.now ≢ 0 }
     ensures { result ≡ parted_ranges before.now after.now space.now.ranges }
@@ -77,7 +77,7 @@ fn parted_ranges(space: &Space, before: &NodeMask, after: &NodeMask) -> Option<P
     None
 }
 
-/// The first task's of which that is so, in the order in which they got a policy.
+/// The first task's policy that differs, in the order in which tasks got one.
 fn parted_tasks(space: &Space, before: &NodeMask, after: &NodeMask) -> Option<Parted>
     requires { after.now ≢ 0 }
     ensures { result ≡ parted_tasks before.now after.now space.now.tasks }
@@ -95,7 +95,7 @@ fn parted_tasks(space: &Space, before: &NodeMask, after: &NodeMask) -> Option<Pa
 }
 
 /// The first policy of a space to which a change of the allowed nodes gives other nodes by the
-/// kernel's rules: ranges rising, then tasks.
+/// kernel's rules: ranges in ascending order, then tasks.
 pub(crate) fn parted_in(space: &Space, after: &NodeMask) -> Option<Parted>
     requires { after.now ≢ 0 }
     ensures { result ≡ parted_in space.now after.now }

@@ -1,4 +1,4 @@
-//! The pages of a span, as a space holds them.
+//! Tests of the pages of a span.
 ghost use Rattle.std.specs.Prelude.{◌≡◌, ◌+◌, ◌≤◌, ◌^◌, Some, None, MatchOption, not, is_some};
 ghost use Rattle.std.specs.Prelude.{true};
 ghost use Rattle.numa_ranges.specs.Maps.{IsSpan, any_page};
@@ -9,16 +9,16 @@ ghost use Rattle.numa_rules.specs.Pages.{passes, reaches};
 
 use numa_space::{PAGE_BYTES, RangeRecord, Run, Space};
 
-/// What is asked of the pages of a span.
+/// A test of the pages of a span.
 #[derive(Clone, Copy)]
 pub(crate) enum PageTest {
     /// Whether it is mapped.
     IsMapped,
-    /// Whether its range has a policy of its own.
+    /// Whether its range has an own policy.
     HasPolicy,
 }
 
-/// The first page of a span, and the number of its pages; none where the span is faulty.
+/// The first page of a span, and the number of its pages; `None` if the span is invalid.
 pub(crate) fn span_of(start: u64, length: u64) -> Option<(u64, u64)>
     ensures span { MatchOption result (is_some (bad_span start length) ≡ true)
         (λ span. (bad_span start length ≡ None) × (span.0 ≡ page_of start)

@@ -1,10 +1,10 @@
-//! Answers beside the slow resolution.
+//! Comparing answers with the slow resolution.
 use crate::setting::{FIRST_COMMANDS, POLICIES, command, limits, machine};
 use numa_fault::{Answer, FaultRefusal};
 use numa_space::{Placement, Request, Space};
 use std::alloc::Global;
 
-/// A new space to which the first so many commands were applied. `None` where one is refused.
+/// A new space after the first `version` commands. `None` if one is refused.
 fn space_after(alloc: Global, version: u32) -> Option<Space> {
     let mut space = Space::new(alloc, machine(alloc)?, limits()?);
     for place in 0..version {
@@ -13,7 +13,7 @@ fn space_after(alloc: Global, version: u32) -> Option<Space> {
     Some(space)
 }
 
-/// The space of each version, the first first.
+/// The space of each version, from 0 on.
 pub fn spaces(alloc: Global) -> Option<Vec<Space>> {
     let mut spaces = Vec::new(alloc);
     for version in 0..FIRST_COMMANDS + POLICIES + 1 {
@@ -22,8 +22,8 @@ pub fn spaces(alloc: Global) -> Option<Vec<Space>> {
     Some(spaces)
 }
 
-/// Whether the node of a placement stands at its rank in the list that the space of its version has
-/// for the request.
+/// Whether the node of a placement is at its rank in the list that the space of its version has for
+/// the request.
 fn is_listed(spaces: &[Space], request: &Request, placement: &Placement) -> bool {
     let Some(space) = spaces.get(placement.version as usize) else {
         return false;
@@ -34,7 +34,7 @@ fn is_listed(spaces: &[Space], request: &Request, placement: &Placement) -> bool
     }
 }
 
-/// Whether each placement among the answers is listed.
+/// Whether each placement among the answers is right.
 pub fn all_listed(spaces: &[Space], requests: &[Request], answers: &[Answer]) -> bool {
     for (request, answer) in requests.iter().zip(answers) {
         if let Answer::Placed(placement) = answer {
@@ -46,7 +46,7 @@ pub fn all_listed(spaces: &[Space], requests: &[Request], answers: &[Answer]) ->
     true
 }
 
-/// How many of the answers are placements.
+/// The number of answers that are placements.
 pub fn placed(answers: &[Answer]) -> usize {
     answers
         .iter()
@@ -54,7 +54,7 @@ pub fn placed(answers: &[Answer]) -> usize {
         .count()
 }
 
-/// How many of the answers are that no frame was found.
+/// The number of answers that say that no frame was found.
 pub fn exhausted(answers: &[Answer]) -> usize {
     answers
         .iter()

@@ -26,7 +26,7 @@ fn worker<K: DeskName, R: Wait>(
     Some(FaultWorker::new(reader.learn(receipt), seat))
 }
 
-/// Adds so many workers, each with a seat that is split off.
+/// Adds `count` workers, each with a seat that is split off.
 fn add_workers<K: DeskName, R: Wait>(
     rt: &R,
     alloc: Global,
@@ -50,7 +50,7 @@ fn add_workers<K: DeskName, R: Wait>(
     Some(())
 }
 
-/// So many workers, at least one, the last of them with this seat. `None` where a call is refused.
+/// `count` workers, at least one, the last of them with this seat. `None` if a call is refused.
 pub fn workers<K: DeskName, R: Wait>(
     rt: &R,
     alloc: Global,
@@ -82,7 +82,8 @@ pub fn workers<K: DeskName, R: Wait>(
     Some(workers)
 }
 
-/// Lets the crew serve the requests: the workers, and the answers. None where the crew is refused.
+/// Lets the crew serve the requests, and returns the workers and the answers. `None` if the crew is
+/// refused.
 pub fn serve<R: Threads + Sync>(
     rt: &R,
     alloc: Global,
@@ -100,7 +101,7 @@ pub fn serve<R: Threads + Sync>(
     (workers, answers.ok())
 }
 
-/// Joins the seats of all workers. `None` where there is none.
+/// Joins the seats of all workers. `None` without workers.
 pub fn joined(pools: &Pools, workers: Vec<FaultWorker>) -> Option<PoolSeat>
     requires { All (λ (w : FaultWorker). w.seat.table ≡ pools.now.table) workers.items }
     ensures { IfSome result (λ seat. seat.table ≡ pools.now.table) }

@@ -1,42 +1,43 @@
-//! How the threads of a storm keep together.
+//! Keeping the threads of a storm at one pace.
 use crate::setting::POLICIES;
 use numa_fault::Gate;
 use std::sync::atomic::{AtomicU64, Ordering};
 use std::thread;
 
-/// How many turns a worker waits for the first requests of the others.
+/// The number of turns that a worker waits for the first requests of the others.
 const FIRST_TURNS: u64 = 10_000_000;
 
-/// How many turns workers and policies wait for each other.
+/// The number of turns that workers and policies wait for each other.
 const TURNS: u64 = 1_000_000;
 
-/// How many requests are begun from one policy to the next.
+/// The number of requests that begin from one policy to the next.
 const STEP: u64 = 32;
 
 /// More requests than a storm has.
 const ALL_CALLED: u64 = 1 << 32;
 
-/// Lets the first request of each worker begin once that of each other worker does. From then on it
-/// lets neither the workers nor the thread of policies run ahead, so that placements of many
-/// versions come of it however the threads are scheduled: policy n begins once 32 n + 16 requests
-/// were called, and request i once i / 32 policies were begun. Where one side waits in vain, the
-/// two go on apart: without memory for a thread, one has to end before the other begins.
+/// Lets the first requests of all workers begin together. From then on it lets neither the workers
+/// nor the policy thread run ahead, so that there are placements of many versions however the
+/// threads are scheduled: policy n begins after 32 n + 16 requests have begun, and request i after
+/// i / 32 policies. If one side waits in vain, the two continue independently: without memory for a
+/// thread, one has to end before the other begins.
 #[derive(Drop)]
 pub struct Together {
     workers: u32,
-    // A bit for each worker whose first request was called.
+    // A bit for each worker whose first request has begun.
     called: AtomicU64,
-    // Whether one of these ran out of turns: then 1.
+    // 1 once one of these ran out of turns.
     late: AtomicU64,
-    // How many requests were called.
+    // The number of requests that have begun.
     requests: AtomicU64,
-    // How many policies were begun.
+    // The number of policies that have begun.
     policies: AtomicU64,
-    // Whether workers or policies waited in vain for the others: then 1.
+    // 1 once workers or policies waited in vain for the others.
     apart: AtomicU64,
 }
 
-/// Waits until the word is at least so much. Whether that came before the turns ran out.
+/// Waits until the word is at least `least`, and returns whether that came before the turns ran
+/// out.
 fn wait_for(word: &AtomicU64, least: u64, turns: u64) -> bool {
     for _ in 0..turns {
         if word.load(Ordering::SeqCst) >= least {
@@ -48,7 +49,7 @@ fn wait_for(word: &AtomicU64, least: u64, turns: u64) -> bool {
 }
 
 impl Together {
-    /// A gate for so many workers, at most 64.
+    /// A gate for `workers` workers, at most 64.
     pub fn new(workers: u32) -> Together {
         Together {
             workers,
@@ -60,18 +61,18 @@ impl Together {
         }
     }
 
-    /// The bits of all workers, which is the greatest number that their word can be.
+    /// The bits of all workers, the greatest value of their word.
     fn all(&self) -> u64 {
         1u64.wrapping_shl(self.workers).wrapping_sub(1)
     }
 
-    /// Whether the first request of each worker was called, and none of them ran out of turns.
+    /// Whether the first request of each worker has begun, and none of them ran out of turns.
     pub fn is_sound(&self) -> bool {
         self.called.load(Ordering::SeqCst) == self.all() && self.late.load(Ordering::SeqCst) == 0
     }
 
-    /// No request is called any more, so that no policy waits for one. The crew may have been
-    /// refused before it called any.
+    /// Says that no request will begin any more, so that no policy waits for one. The crew may have
+    /// been refused before any began.
     pub fn end(&self) {
         self.requests.store(ALL_CALLED, Ordering::SeqCst);
     }
@@ -83,7 +84,7 @@ impl Together {
         }
     }
 
-    /// Called before the policy with this place is submitted.
+    /// To be called before policy number `place` is submitted.
     pub fn begin_policy(&self, place: u32) {
         self.keep_up(&self.requests, u64::from(place) * STEP + STEP / 2);
         self.policies.fetch_add(1, Ordering::SeqCst);

@@ -1,5 +1,5 @@
-//! A storm: workers place pages while policies change, and each placement is compared with the slow
-//! resolution of its version.
+//! A stress test: workers in threads place pages while policies change, and each placement is
+//! compared with the slow resolution of its version.
 #![tactic(auto)]
 
 mod compare;

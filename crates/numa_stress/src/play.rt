@@ -1,5 +1,4 @@
-//! The storm itself: a desk, a crew and a thread of policies beside it, and what is written of
-//! them.
+//! The storm itself: a desk, a crew, a policy thread, and the report.
 ghost use Rattle.std.specs.Prelude.{◌≡◌, false, true, IfOk, IfSome, IsErrOf};
 ghost use Rattle.std.specs.Io.KnownBytes.{Keeps};
 ghost use Rattle.std.specs.List.{All};
@@ -26,14 +25,14 @@ use std::marker::Brand;
 use std::sync::Wait;
 use std::thread::{Threads, join};
 
-/// Submits the command with this place. `None` where it is not published.
+/// Submits command number `place`. `None` if it isn't published.
 fn submit<K: DeskName, R: Wait>(rt: &R, desk: &SharedDesk<K>, place: u32) -> Option<Receipt>
     ensures { IfSome result (λ receipt. receipt.desk ≡ K.desk) }
 {
     desk.submit(rt, &command(place)?).ok()
 }
 
-/// Submits the policies that come beside the workers. Whether each was published.
+/// Submits the policies that change while the workers run, and returns whether each was published.
 fn change_policies<K: DeskName, R: Wait>(rt: &R, desk: &SharedDesk<K>, gate: &Together) -> bool {
     let mut all = true;
     for place in 0..POLICIES {
@@ -43,7 +42,7 @@ fn change_policies<K: DeskName, R: Wait>(rt: &R, desk: &SharedDesk<K>, gate: &To
     all
 }
 
-/// How many frames were taken.
+/// The number of taken frames.
 fn taken(closed: &Closed) -> u64 {
     closed
         .taken
@@ -51,8 +50,8 @@ fn taken(closed: &Closed) -> u64 {
         .fold(0u64, |sum, frames| sum.wrapping_add(u64::from(*frames)))
 }
 
-/// The map and the first policy are published, and then eight policies by a thread of their own,
-/// while the crew serves the requests. The answers, and how the pools were closed.
+/// Publishes the map and the first policy, and then eight policies in a separate thread while the
+/// crew serves the requests. Returns the answers, and how the pools were closed.
 fn play<K: DeskName + Send + Sync, R: Threads + Wait + Sync>(
     rt: &R,
     alloc: Global,
@@ -83,7 +82,7 @@ fn play<K: DeskName + Send + Sync, R: Threads + Wait + Sync>(
     Some((answers, pools.close(seat)))
 }
 
-/// A storm on this desk. `None` where a call is refused.
+/// A storm on this desk. `None` if a call is refused.
 fn play_on<K: DeskName + Send + Sync, R: Threads + Wait + Sync>(
     rt: &R,
     alloc: Global,
@@ -106,7 +105,7 @@ fn play_on<K: DeskName + Send + Sync, R: Threads + Wait + Sync>(
     })
 }
 
-/// A storm on this desk, which is ended in each case.
+/// A storm on this desk, which is ended in any case.
 fn play_to_the_end<K: DeskName + Send + Sync, R: Threads + Wait + Sync>(
     rt: &R,
     alloc: Global,
@@ -122,7 +121,7 @@ fn play_to_the_end<K: DeskName + Send + Sync, R: Threads + Wait + Sync>(
     report
 }
 
-/// A storm on a desk of its own. `None` where a call is refused.
+/// A storm on a new desk. `None` if a call is refused.
 fn storm_once<R: Threads + Wait + Sync>(rt: &R, alloc: Global, count: u32) -> Option<Report>
     requires { IsCrew count }
     ensures { IfSome result (λ report. report.workers ≡ count) }
@@ -132,14 +131,14 @@ fn storm_once<R: Threads + Wait + Sync>(rt: &R, alloc: Global, count: u32) -> Op
     play_to_the_end::<Brand, R>(rt, alloc, desk, count)
 }
 
-/// So many workers place 320 pages while eight policies are published, and each placement is
-/// compared with the slow resolution of its version. The five lines of what came of it go to the
-/// writer, on which no call may have failed before. The status with which the program ends: 0 where
-/// all went as it must on any schedule, else 1.
+/// Lets `count` workers place 320 pages while eight policies are published, and compares each
+/// placement with the slow resolution of its version. Writes the five lines of the report; no write
+/// may have failed before. Returns the exit status: 0 if all went as it must on any schedule, else
+/// 1.
 ///
 /// # Errors
-/// `Write` where a write failed or took no byte, after which nothing more is written; `Memory`
-/// where there was none, or another call was refused, before anything is written.
+/// `Write`: a write failed or took no byte, after which nothing more is written. `Memory`: out of
+/// memory, or another call was refused, before anything is written.
 pub fn storm<R: Threads + Wait + Sync, W: Write>(
     rt: &R,
     alloc: Global,

@@ -1,4 +1,4 @@
-//! What a storm tells.
+//! The report of a storm.
 ghost use Rattle.std.specs.Prelude.{◌≡◌, ◌++◌, codes};
 ghost use Rattle.line_server.specs.Written.{Said};
 ghost use Rattle.numa_stress.specs.Storm.{line_of, match_line, status_of, text_of};
@@ -6,25 +6,25 @@ ghost use Rattle.numa_stress.specs.Storm.{line_of, match_line, status_of, text_o
 use line_server::Watched;
 use std::io::Write;
 
-/// What came of a storm.
+/// The results of a storm.
 #[derive(Clone, Copy, PartialEq, Eq, Debug, Drop)]
 pub struct Report {
-    /// How many workers there were.
+    /// The number of workers.
     pub workers: u32,
-    /// How many requests were answered by a placement.
+    /// The number of requests that were answered by a placement.
     pub placed: usize,
-    /// How many were answered by `Exhausted`.
+    /// The number that were answered by `Exhausted`.
     pub exhausted: usize,
-    /// Whether each placement is where the space of its version has it.
+    /// Whether each placement is right by the space of its version.
     pub plans_match: bool,
-    /// How many frames were taken at the end.
+    /// The number of frames that were taken at the end.
     pub held: u64,
     /// Whether one seat held them all, and the workers began together.
     pub is_sound: bool,
 }
 
 impl Report {
-    /// The status with which the program ends: 0 where all went as it must on any schedule, else 1.
+    /// The exit status: 0 if all went as it must on any schedule, else 1.
     pub fn status(&self) -> u8
         ensures { result ≡ status_of self.now }
     {
@@ -37,7 +37,7 @@ impl Report {
     }
 }
 
-/// Says a name and a number as a line.
+/// Writes a line of a name and a number.
 #[tactic(auto, unfolding(crate::specs::Storm::line_of))]
 fn say_line<W: Write>(output: &mut Watched<W>, name: &[u8], number: u64)
     ensures { Said W.contents output.old output.new (line_of name.now number) }
@@ -48,7 +48,7 @@ fn say_line<W: Write>(output: &mut Watched<W>, name: &[u8], number: u64)
     output.say(b"\n");
 }
 
-/// Says whether each placement is where the space of its version has it.
+/// Writes whether each placement is right by the space of its version.
 #[tactic(auto, unfolding(crate::specs::Storm::match_line))]
 fn say_match<W: Write>(output: &mut Watched<W>, plans_match: bool)
     ensures { Said W.contents output.old output.new (match_line plans_match) }
@@ -59,7 +59,7 @@ fn say_match<W: Write>(output: &mut Watched<W>, plans_match: bool)
     }
 }
 
-/// Says how many workers there were, and how their requests were answered.
+/// Writes the number of workers, and how their requests were answered.
 fn say_answers<W: Write>(output: &mut Watched<W>, report: &Report)
     ensures { Said W.contents output.old output.new (line_of (codes "workers") report.now.workers
         ++ line_of (codes "placed") report.now.placed
@@ -70,7 +70,7 @@ fn say_answers<W: Write>(output: &mut Watched<W>, report: &Report)
     say_line(output, b"exhausted", report.exhausted as u64);
 }
 
-/// Says the five lines.
+/// Writes the five lines.
 pub fn say_report<W: Write>(output: &mut Watched<W>, report: &Report)
     ensures { Said W.contents output.old output.new (text_of report.now) }
 {

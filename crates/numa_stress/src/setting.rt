@@ -1,4 +1,4 @@
-//! The machine of a storm, the commands that change its policies, and the pages that are asked for.
+//! The machine of a storm, the commands that change its policies, and the requested pages.
 ghost use Rattle.std.specs.Prelude.{◌≡◌};
 
 use bitflags::Flags;
@@ -8,22 +8,22 @@ use numa_mode::{Mode, PolicyFlags, PolicySpec};
 use numa_space::{Command, Limits, Request};
 use std::alloc::Global;
 
-/// How many policies are submitted beside the workers.
+/// The number of policies that are submitted while the workers run.
 pub const POLICIES: u32 = 8;
 
-/// How many commands come before these: the map and a first policy.
+/// The number of commands before these: the map and a first policy.
 pub const FIRST_COMMANDS: u32 = 2;
 
 /// The task whose pages are placed.
 pub const TASK: u32 = 1;
 
-/// How many pages are mapped, and asked for.
+/// The number of pages that are mapped and requested.
 const PAGES: u64 = 320;
 
-/// The first of them.
+/// The first page.
 const FIRST_PAGE: u64 = 0x10000;
 
-/// Four nodes with 64 frames each, 20 apart. `None` where there was no memory for it.
+/// Four nodes with 64 frames each, at distance 20. `None` on out-of-memory.
 pub fn machine(alloc: Global) -> Option<Machine> {
     let distances = [
         10, 20, 20, 20, 20, 10, 20, 20, 20, 20, 10, 20, 20, 20, 20, 10,
@@ -47,8 +47,8 @@ fn nodes(numbers: &[u8]) -> NodeMask {
     set
 }
 
-/// The command with this place, from 0: the map of all pages, then `interleave:0-3` and `prefer:2`
-/// for the task in turn.
+/// Command number `place`, from 0: the map of all pages, then `interleave:0-3` and `prefer:2` for
+/// the task in turn.
 pub fn command(place: u32) -> Option<Command> {
     if place == 0 {
         return Some(Command::Map {
@@ -66,7 +66,7 @@ pub fn command(place: u32) -> Option<Command> {
     Some(Command::SetTask { task: TASK, spec })
 }
 
-/// The requests, page by page, on the nodes in turn. `None` where there was no memory for them.
+/// The requests, page by page, on the nodes in turn. `None` on out-of-memory.
 pub fn requests(alloc: Global) -> Option<Vec<Request>> {
     let mut requests = Vec::with_capacity(alloc, 320).ok()?;
     for place in 0..320u32 {
