@@ -1,4 +1,4 @@
-//! Why there is no report.
+//! Why a report is refused.
 ghost use Rattle.std.specs.Prelude.{◌≡◌};
 ghost use Rattle.numa_reports.specs.declared.fault.ReportError.TheVariants as fault;
 
@@ -6,12 +6,12 @@ use numa_plan::NoMemory;
 use numa_space::PlaceRefusal;
 use std::alloc::AllocError;
 
-/// Why there is no report.
+/// Why a report is refused.
 #[derive(Clone, Copy)]
 pub enum ReportError {
-    /// The question was refused: the machine has no such node.
+    /// The question was refused: the machine lacks the node.
     Refused(PlaceRefusal),
-    /// There was no memory for the report.
+    /// Out of memory for the report.
     Memory,
 }
 

@@ -1,4 +1,4 @@
-//! Where all mapped pages would go, on nodes that have so many free pages each.
+//! Where all mapped pages would go, with limited free pages on each node.
 ghost use Rattle.std.specs.Prelude.{◌≡◌, ◌⊎◌, ◌+◌, ◌-◌, ◌<◌, ◌≤◌, ◌^◌, ℕ, List, Err};
 ghost use Rattle.std.specs.Prelude.{IfErr, IfOk, OnOk, length, option_and_then, replicate, slice_index};
 ghost use Rattle.numa_compile.specs.Standing.{PlanStandsFor};
@@ -22,18 +22,18 @@ use crate::turns::{all_left_behind, all_times_left};
 use numa_plan::{Plan, Steps};
 use numa_space::{PlaceRefusal, RangeRecord, Run, Space};
 
-/// So many free pages of a node.
+/// A number of free pages of a node.
 #[derive(Clone, Copy)]
 pub struct FreePages {
     pub node: u8,
     pub pages: u64,
 }
 
-/// As many pages as a space can map.
+/// The most pages that a space can map.
 const ALL_PAGES: u64 = 1 << 35;
 
-/// How many free pages each node has: those that are named, so many (the last of them counts); the
-/// others, as many as a space can map, so that they never run out.
+/// The number of free pages of each node: for named nodes the given one (the last counts), for
+/// others as many as a space can map, so that they never run out.
 pub(crate) fn free_of(named: &[FreePages]) -> [u64; 256]
     ensures { result ≡ with_named (replicate 256 (2 ^ 35)) named.now }
 {
@@ -46,8 +46,8 @@ pub(crate) fn free_of(named: &[FreePages]) -> [u64; 256]
     free
 }
 
-/// Takes a free page of the first node of a list that has one, and tells the node; of none where no
-/// node has.
+/// Takes a free page of the first node of a list that has one, and returns the node; `None` if no
+/// node has one.
 fn take_first(nodes: &[u8], free: &mut [u64; 256]) -> Option<u8>
     ensures node { result ≡ first_free free.old nodes.now }
     ensures taken { free.new ≡ one_less free.old result }
@@ -64,8 +64,7 @@ fn take_first(nodes: &[u8], free: &mut [u64; 256]) -> Option<u8>
     None
 }
 
-/// Takes a free page for a page, and tells the node of it; of none where no node of its list has
-/// one.
+/// Takes a free page for a page, and returns its node; `None` if no node of its list has one.
 fn fill_page(
     plan: &Plan,
     touch: Touch,
@@ -82,7 +81,7 @@ fn fill_page(
     }
 }
 
-/// Takes a free page for each page of a span, the lowest first, page by page.
+/// Takes a free page for each page of a span, in ascending order, one by one.
 fn fill_pages(
     plan: &Plan,
     touch: Touch,
@@ -101,8 +100,8 @@ fn fill_pages(
     Ok(())
 }
 
-/// Takes a free page for each page of a period, page by page, and at once for those of the periods
-/// behind it which take the same. Tells for how many pages: `left` at most.
+/// Takes a free page for each page of a period, one by one, and all at once for those of the
+/// following periods that take the same. Returns for how many pages, at most `left`.
 fn fill_periods(
     plan: &Plan,
     touch: Touch,
@@ -128,7 +127,7 @@ fn fill_periods(
     Ok(period + times * period)
 }
 
-/// A period, or what is left where that is less, or where no period is known and it is 0.
+/// The period, or `left` if that is less or the period is 0, which means unknown.
 fn period_within(period: u64, left: u64) -> u64
     requires { 0 < left }
     ensures some { 0 < result }
@@ -141,9 +140,9 @@ fn period_within(period: u64, left: u64) -> u64
     period
 }
 
-/// Takes a free page for each page of a span, the lowest first. The node lists of the pages come
-/// again after a period, or it is 0. The time grows with the period, and the nodes that have no
-/// free page left on the way; where the period is 0 or longer, with the pages.
+/// Takes a free page for each page of a span, in ascending order. The pages' node lists repeat
+/// after `period` pages, or it is 0. The time depends on the period and on the number of nodes that
+/// run out; if the period is 0 or longer than the span, on the pages.
 pub(crate) fn fill_span(
     plan: &Plan,
     touch: Touch,
@@ -167,8 +166,8 @@ pub(crate) fn fill_span(
     Ok(())
 }
 
-/// Takes a free page for each page of a short span, and writes the node of each; a page for which
-/// no node has one has the number 0.
+/// Takes a free page for each page of a short span, and writes the node of each, 0 for a page for
+/// which no node has one.
 pub(crate) fn fill_few(
     plan: &Plan,
     touch: Touch,
@@ -187,7 +186,7 @@ pub(crate) fn fill_few(
     Ok(())
 }
 
-/// How many pages of each node were taken.
+/// The number of pages of each node that were taken.
 pub(crate) fn taken(before: &[u64; 256], after: &[u64; 256]) -> [u64; 256]
     ensures { (node : ℕ) → node < 256 → slice_index result node
         ≡ slice_index before.now node - slice_index after.now node }
@@ -199,7 +198,8 @@ pub(crate) fn taken(before: &[u64; 256], after: &[u64; 256]) -> [u64; 256]
     counts
 }
 
-/// Takes a free page for each page of a range, the lowest first, and tells the taker how many.
+/// Takes a free page for each page of a range, in ascending order, and passes the counts to the
+/// taker.
 fn fill_next<T: TakeRange>(
     space: &Space,
     plan: &Plan,
@@ -235,16 +235,16 @@ fn fill_next<T: TakeRange>(
     Ok(())
 }
 
-/// What would be free behind all mapped pages, if the task touched each of them now on a CPU of
-/// node `cpu`, those of lower addresses first: a page goes to the first node of its list that has a
-/// free page left, and takes it; where no node has one, it goes nowhere. How many pages of a range
-/// each node gets is told to the taker on the way, for each range once and in the order of their
-/// addresses. The plan is one of the space. The time grows with the cycles of the ranges' policies,
-/// and with the nodes that run out on the way, and not with the pages.
+/// The pages of each node that remain free, if the task touched all mapped pages now on a CPU of
+/// node `cpu`, in ascending order: a page takes a free page of the first node of its list that has
+/// one, or goes nowhere. The number of pages of each range that each node gets is passed to the
+/// taker, once for each range, in ascending order. The plan is one of the space. The time depends
+/// on the cycles of the ranges' policies and the number of nodes that run out, not on the number of
+/// pages.
 ///
 /// # Errors
-/// `Refused(BadCpu)` where the machine has no node `cpu`; `Refused(Unmapped)` only where the plan
-/// isn't one of the space; `Memory` where the taker had none.
+/// `Refused(BadCpu)`: the machine has no node `cpu`. `Refused(Unmapped)`: the plan isn't one of the
+/// space. `Memory`: the taker ran out of memory.
 pub fn fill_all<T: TakeRange>(
     space: &Space,
     plan: &Plan,

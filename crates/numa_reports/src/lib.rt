@@ -1,7 +1,8 @@
-//! What an administrator asks of a space and its plan as a whole: where all mapped pages would go,
-//! and which pages go elsewhere once commands are added.
+//! Reports on a space and its plan as a whole: where all mapped pages would go, and which pages go
+//! elsewhere after more commands.
 //!
-//! Each report is a value, stated by the history of accepted commands. `sheet` makes texts of them.
+//! Each report is a value that is defined by the history of accepted commands. `sheet` formats them
+//! as text.
 #![tactic(auto)]
 
 mod fault;

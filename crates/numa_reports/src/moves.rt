@@ -17,10 +17,10 @@ use numa_plan::Plan;
 use numa_space::PlaceRefusal;
 use std::alloc::{AllocError, Global};
 
-/// How many pages are looked at together.
+/// The number of pages that are looked at together.
 pub(crate) const BLOCK: usize = 4096;
 
-/// How many entries a table has.
+/// The number of entries of a table.
 pub(crate) const ENTRIES: usize = 65_536;
 
 /// Adds one page from a node to another.
@@ -33,7 +33,7 @@ fn add_pair(table: &mut Vec<u64>, from: u8, to: u8)
     table[usize::from(from) * 256 + usize::from(to)] += 1;
 }
 
-/// Adds a page for each place: from the node there in the first list to that in the second.
+/// Adds a page for each place: from its node in the first list to that in the second.
 fn add_pairs(table: &mut Vec<u64>, before: &[u8], after: &[u8])
     requires same { length after.now ≡ length before.now }
     requires room { HasRoomFor table.old.items (length before.now) }
@@ -45,8 +45,7 @@ fn add_pairs(table: &mut Vec<u64>, before: &[u8], after: &[u8])
     }
 }
 
-/// Adds the pages of a span, as many as both lists have places, from their node by the one plan to
-/// that by the other.
+/// Adds the pages of a span that fits both lists: from their node by one plan to that by the other.
 fn add_filled(
     before: &Plan,
     after: &Plan,
@@ -120,7 +119,7 @@ pub(crate) fn add_moves(
         (RefusesEither before.now after.now span.first span.pages touch.cpu) }
 {
     let PageSpan { first, pages } = span;
-    // Tells the proof that no run has a page behind the last that can be mapped.
+    // Tells the proof that no run has a page above the last that can be mapped.
     let _ = before.run_count();
     let Some(end) = first.checked_add(pages) else {
         return Err(PlaceRefusal::Unmapped);
@@ -149,14 +148,13 @@ pub(crate) fn empty_table(alloc: Global, entries: usize) -> Result<Vec<u64>, All
     vec![in alloc; 0; entries]
 }
 
-/// How many pages of a span go from one node to another, for each two nodes: to the first by the
-/// plan `before`, and to the second by the plan `after`, if the task touched each of them on a CPU
-/// of node `cpu`. Entry `256 * from + to` of the table has them; pages that stay stand on its
-/// diagonal. The time grows with the pages.
+/// The number of pages of a span that go from one node, by the plan `before`, to another, by the
+/// plan `after`, if the task touched each of them on a CPU of node `cpu`: entry `256 * from + to`
+/// of the table. Pages that stay are on its diagonal. The time depends on the number of pages.
 ///
 /// # Errors
-/// `Refused(BadCpu)` where a plan has no node `cpu`; `Memory` where there was none for the table;
-/// `Refused(Unmapped)` where a plan lacks a page of the span.
+/// The first that applies: `Refused(BadCpu)`, a plan has no node `cpu`; `Memory`, there is no
+/// memory for the table; `Refused(Unmapped)`, a page of the span isn't mapped in a plan.
 pub fn span_moves(
     alloc: Global,
     before: &Plan,

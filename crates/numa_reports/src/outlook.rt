@@ -13,21 +13,22 @@ use numa_plan::Plan;
 use numa_space::Space;
 use std::alloc::{AllocError, Global};
 
-/// Pages one behind another: the first, and how many.
+/// Consecutive pages: the first, and their number.
 #[derive(Clone, Copy)]
 pub struct PageSpan {
     pub first: u64,
     pub pages: u64,
 }
 
-/// The state at one time: the plan of the commands so far, and the pages of each range, rising.
+/// The state at one time: the plan of the commands so far, and the pages of each range, in
+/// ascending order.
 #[derive(Drop)]
 pub struct Outlook {
     pub plan: Plan,
     pub spans: Vec<PageSpan>,
 }
 
-/// The pages of each range of a space, rising.
+/// The pages of each range of a space, in ascending order.
 fn spans_of(alloc: Global, space: &Space) -> Result<Vec<PageSpan>, AllocError>
     ensures spans { IfOk result (λ spans. spans.items ≡ map span_of space.now.ranges) }
     ensures rising { IfOk result (λ spans. AreRising 0 spans.items) }
@@ -42,10 +43,10 @@ fn spans_of(alloc: Global, space: &Space) -> Result<Vec<PageSpan>, AllocError>
     Ok(spans)
 }
 
-/// What stands in a space now.
+/// The present state of a space.
 ///
 /// # Errors
-/// `Memory` where there was none for it.
+/// `Memory`: out of memory.
 pub fn outlook_of(alloc: Global, space: &Space) -> Result<Outlook, ReportError>
     ensures plan { (history : List Command) → StandsFor space.now history
         → IfOk result (λ outlook. PlanStandsFor space.now.machine outlook.plan history) }
@@ -61,14 +62,14 @@ pub fn outlook_of(alloc: Global, space: &Space) -> Result<Outlook, ReportError>
     Ok(Outlook { plan, spans })
 }
 
-/// The page behind the last.
+/// The page after the last.
 fn end_of(span: PageSpan) -> u64
     ensures { span_end span < 2 ^ 64 → result ≡ span_end span }
 {
     span.first.saturating_add(span.pages)
 }
 
-/// Puts the pages that both spans have behind the spans found so far.
+/// Appends the intersection of two spans to the spans found so far.
 fn add_common(found: &mut Vec<PageSpan>, one: PageSpan, other: PageSpan) -> Result<(), AllocError>
     ensures { span_end one < 2 ^ 64 → span_end other < 2 ^ 64
         → IfOk result (λ _. found.new.items ≡ found.old.items ++ common_of one other) }
@@ -83,7 +84,8 @@ fn add_common(found: &mut Vec<PageSpan>, one: PageSpan, other: PageSpan) -> Resu
     Ok(())
 }
 
-/// The spans that two rising lists of spans have in common, each inside one span of either.
+/// The intersection of two ascending lists of spans, as spans each of which is inside one span of
+/// either list.
 ///
 /// # Errors
 /// `AllocError`: out of memory.

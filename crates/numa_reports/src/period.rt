@@ -1,4 +1,4 @@
-//! After how many pages the node lists of a policy come again.
+//! The number of pages after which the node lists of a policy repeat.
 ghost use Rattle.std.specs.Prelude.{◌≡◌, ℕ, List};
 ghost use Rattle.numa_machine.specs.Weights.{total_weight, weight_at};
 ghost use Rattle.numa_space.specs.Lists.{Setting, setting_of};
@@ -11,7 +11,7 @@ use numa_mask::NodeMask;
 use numa_mode::{Mode, Record};
 use numa_space::Space;
 
-/// The weights of the nodes of a set together.
+/// The total weight of the nodes of a set.
 fn total_weight(weights: &Weights, set: &NodeMask) -> u64
     ensures { result ≡ total_weight (weight_at weights.now) set.now }
 {
@@ -22,9 +22,9 @@ fn total_weight(weights: &Weights, set: &NodeMask) -> u64
     total
 }
 
-/// After how many pages the lists of a policy come again, with these weights: each node of an
-/// interleaved set has its turn, as often as it weighs where that counts; other modes have one
-/// list. It is 0 for a set without nodes, which is no period but that of nothing.
+/// The number of pages after which a policy's lists repeat with these weights: the number of nodes
+/// for INTERLEAVE, their total weight for WEIGHTED_INTERLEAVE, 1 for other modes; 0 for a set
+/// without nodes.
 fn period_of(weights: &Weights, policy: &Record) -> u64
     ensures { (setting : Setting)
         → ((node : ℕ) → weight_at weights.now node ≡ setting.weight node)
@@ -42,7 +42,8 @@ fn period_of(weights: &Weights, policy: &Record) -> u64
     }
 }
 
-/// After how many pages the lists of a policy of the space come again; none is local allocation.
+/// The number of pages after which the lists of a policy of the space repeat; `None` is local
+/// allocation.
 pub(crate) fn period_in(space: &Space, policy: &Option<Record>) -> u64
     ensures { (history : List Command) → StandsFor space.now history
         → IsPeriod (setting_of space.now.machine history) policy.now result }

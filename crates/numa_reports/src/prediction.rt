@@ -28,20 +28,19 @@ use std::alloc::AllocError;
 /// Where the pages of a range would go, if a task touched each of them now.
 #[derive(Clone, Copy)]
 pub struct RangePrediction {
-    /// The policy that serves the task there: the range's where that is live, else the task's where
-    /// that is live. None is local allocation.
+    /// The policy that serves the task there: the range's if it is live, else the task's if it is
+    /// live. `None` is local allocation.
     pub policy: Option<Record>,
-    /// How many pages of the range have each node as the first on which memory is looked for.
+    /// For each node, the number of pages of the range whose node list begins with it.
     pub counts: [u64; 256],
 }
 
 /// Where the pages of a range would go, if the task touched each of them now on a CPU of node
-/// `cpu`. The plan is one of the space. The time grows with the cycle of the range's policy, and
-/// not with its pages.
+/// `cpu`. The plan is one of the space. The time depends on the cycle of the range's policy, not on
+/// the number of its pages.
 ///
 /// # Errors
-/// `BadCpu` where the machine has no node `cpu`; else `Unmapped` where a page of the range isn't
-/// mapped.
+/// `BadCpu`: the machine has no node `cpu`; else `Unmapped`: a page of the range isn't mapped.
 pub fn predict_range(
     space: &Space,
     plan: &Plan,
@@ -67,20 +66,19 @@ pub fn predict_range(
     })
 }
 
-/// What is told of each range, as it is predicted.
+/// Receives the prediction of each range.
 pub trait TakeRange {
     ghost use Rattle.numa_reports.specs.Told.{Lacking, Telling};
 
-    /// That a taker in one state was told of a range, which left it in another; where it doesn't
-    /// say, nothing is promised of what it is told.
+    /// That a taker in one state took a range, which left it in another. By default nothing is
+    /// promised of what it takes.
     ghost told: { Telling Self } = { λ _ _ _ _. ⊤ };
 
-    /// That a taker in one state had no memory for a range; where it doesn't say, that may be at
-    /// any time.
+    /// That a taker in one state had no memory for a range. By default that may happen at any time.
     ghost lacks: { Lacking Self } = { λ _ _. ⊤ };
 
-    /// Takes a range, and what is said of it: the policy that serves there, and how many of its
-    /// pages go to each node; ranges of lower addresses come first.
+    /// Takes a range and its prediction: the policy that serves there, and the number of its pages
+    /// that go to each node. Ranges come in ascending order.
     fn take(&mut self, range: &Run<RangeRecord>, said: &RangePrediction) -> Result<(), AllocError>
         ensures tells { OnOk result (told self.old range.now said.now self.new) }
         ensures lack { OnErr result (lacks self.old range.now) };
@@ -94,8 +92,8 @@ impl TakeRange for () {
     }
 }
 
-/// The policy that serves a task in a range of the space: the range's own is at hand, so that only
-/// where it isn't live one is sought.
+/// The policy that serves a task in a range of the space. The range's own is at hand, so the task's
+/// is looked up only if that isn't live.
 pub(crate) fn policy_of(space: &Space, task: u32, range: &Run<RangeRecord>) -> Option<Record>
     requires { option_and_then (λ at. at.1) (page_at space.now.ranges range.now.first)
         ≡ range.now.value }
@@ -108,8 +106,8 @@ pub(crate) fn policy_of(space: &Space, task: u32, range: &Run<RangeRecord>) -> O
     }
 }
 
-/// Tells the taker of a range, and adds its pages to the counts of all. There are no counts of a
-/// range before, nor afterwards.
+/// Passes a range to the taker, and adds its pages to the total. The range's counts are zero before
+/// and afterwards.
 fn predict_next<T: TakeRange>(
     space: &Space,
     plan: &Plan,
@@ -143,14 +141,14 @@ fn predict_next<T: TakeRange>(
     Ok(())
 }
 
-/// How many of all mapped pages would go to each node, if the task touched each of them now on a
-/// CPU of node `cpu`; what [`predict_range`] says of each range is told to the taker on the way,
-/// once and in the order of their addresses (`&mut ()` takes nothing, and no memory). The plan is
-/// one of the space.
+/// The number of mapped pages that would go to each node, if the task touched each of them now on a
+/// CPU of node `cpu`. The prediction of each range, as by [`predict_range`], is passed to the
+/// taker, once, in ascending order (`&mut ()` ignores it and doesn't allocate). The plan is one of
+/// the space.
 ///
 /// # Errors
-/// `Refused(BadCpu)` where the machine has no node `cpu`; `Refused(Unmapped)` only where the plan
-/// isn't one of the space; `Memory` where the taker had none.
+/// `Refused(BadCpu)`: the machine has no node `cpu`. `Refused(Unmapped)`: the plan isn't one of the
+/// space. `Memory`: the taker ran out of memory.
 pub fn predict_all<T: TakeRange>(
     space: &Space,
     plan: &Plan,

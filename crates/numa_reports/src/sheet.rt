@@ -18,7 +18,7 @@ pub use object::Object;
 pub use parts::{filling_text, prediction_text};
 pub use written::Written;
 
-/// How a prediction is told.
+/// The format of a prediction.
 #[derive(Clone, Copy)]
 pub enum Format {
     /// Lines in the form of numa_maps (numa(7)).

@@ -9,10 +9,10 @@ use numa_lanes::tally;
 use numa_plan::Plan;
 use numa_space::{PlaceRefusal, RangeRecord, Run};
 
-/// How many pages are looked at one by one; where there are more, they are counted together.
+/// The most pages that are looked at one by one; more are counted together.
 const FEW: usize = 64;
 
-/// Counts the first pages of a range, as many as the list has places, by node.
+/// Counts the first pages of a range by node, as many as the list has places.
 fn count_filled(
     plan: &Plan,
     touch: Touch,
@@ -54,7 +54,7 @@ pub(crate) fn count_range(
     Ok(())
 }
 
-/// Moves the counts of so many pages to those of all, the lowest nodes first, so that none is left.
+/// Moves counts that sum to `pages` to the total, from the lowest node on, so that none remains.
 pub(crate) fn move_counts(counts: &mut [u64; 256], pages: u64, all: &mut [u64; 256])
     requires few { sum counts.old ≤ pages }
     requires room { HasRoom all.old (λ node. slice_index counts.old node) }

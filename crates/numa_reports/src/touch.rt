@@ -1,9 +1,9 @@
-//! Who touches pages.
+//! Touches of pages.
 ghost use Rattle.std.specs.Prelude.{◌≡◌, nat_lt};
 
 use numa_space::Space;
 
-/// A task that touches pages on a CPU of the node `cpu`.
+/// A task that touches pages on a CPU of node `cpu`.
 #[derive(Clone, Copy)]
 pub struct Touch {
     pub task: u32,

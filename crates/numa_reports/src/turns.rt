@@ -1,13 +1,13 @@
-//! What periods of pages take of each node, many at once.
+//! Filling many periods of pages at once.
 //!
-//! The lists of a range's pages come again after a period. Where one period took pages of a node,
-//! and the node has more left than as many periods take, they all take the same, since none of
-//! their pages finds another node without a free page.
+//! The node lists of a range's pages repeat after a period. If each node has more free pages than
+//! some periods take of it, all these periods take the same, since none of their pages finds a node
+//! without a free page.
 ghost use Rattle.std.specs.Prelude.{◌≡◌, ◌-◌, ◌*◌, ◌≤◌, length};
 ghost use Rattle.numa_reports.specs.Turns.{AllLast, AreLeftBehind, Lasts};
 
-/// How many times more, `most` at most, a node gives as many pages as it gave of `before` free
-/// ones, and has one left.
+/// The number of further times, at most `most`, that a node can give as many pages as it gave of
+/// `before` free ones, and have one left.
 fn times_left(before: u64, after: u64, most: u64) -> u64
     ensures few { result ≤ most }
     ensures lasts { Lasts before after result }
@@ -19,7 +19,7 @@ fn times_left(before: u64, after: u64, most: u64) -> u64
     most.min(after.saturating_sub(1) / took)
 }
 
-/// How many times more, `most` at most, all nodes do.
+/// The number of further times, at most `most`, that all nodes can.
 pub(crate) fn all_times_left(before: &[u64; 256], after: &[u64; 256], most: u64) -> u64
     ensures few { result ≤ most }
     ensures last { AllLast before.now after.now result }
@@ -31,7 +31,7 @@ pub(crate) fn all_times_left(before: &[u64; 256], after: &[u64; 256], most: u64)
     times
 }
 
-/// How many free pages a node has left behind so many times more.
+/// The number of free pages of a node after `times` further times.
 fn left_behind(before: u64, after: u64, times: u64) -> u64
     requires { Lasts before after times }
     ensures { result ≡ after - times * (before - after) }
@@ -39,7 +39,7 @@ fn left_behind(before: u64, after: u64, times: u64) -> u64
     after - times * before.saturating_sub(after)
 }
 
-/// How many free pages each node has left behind so many times more.
+/// The number of free pages of each node after `times` further times.
 pub(crate) fn all_left_behind(before: &[u64; 256], after: &[u64; 256], times: u64) -> [u64; 256]
     requires { AllLast before.now after.now times }
     ensures left { AreLeftBehind before.now after.now times result }

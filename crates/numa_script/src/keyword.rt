@@ -1,10 +1,10 @@
-//! The first words of lines.
+//! Keywords: the first words of lines.
 ghost use Rattle.std.specs.Prelude.{◌≡◌, ℕ, Option, Some, List};
 ghost use Rattle.numa_script.specs.Lines.{first_word_of, keywords_of, keyword_among, keyword_of};
 
 use Keyword::*;
 
-/// What the first word of a line asks for.
+/// The first word of a line, which says what kind of line it is.
 #[derive(Clone, Copy, Debug, PartialEq, Eq)]
 pub enum Keyword {
     /// `limits`
@@ -57,7 +57,7 @@ pub enum Keyword {
     Release,
 }
 
-/// The first words of lines, in the order of the keywords.
+/// The names of the keywords, in their order.
 static NAMES: [&str; 24] = [
     "limits", "rules", "cpus", "machine", "map", "unmap", "mbind", "home", "task", "inherit",
     "weight", "mems", "place", "span", "counts", "ranges", "maps", "publish", "begin", "look",
@@ -65,7 +65,7 @@ static NAMES: [&str; 24] = [
 ];
 
 impl Keyword {
-    /// The first word of its lines.
+    /// Its name: the first word of its lines.
     #[tactic(auto, unfolding(crate::specs::Lines::keyword_of))]
     pub fn name(self) -> &'static str
         ensures word { result.now ≡ first_word_of self }
@@ -75,7 +75,7 @@ impl Keyword {
     }
 }
 
-/// The keywords whose first words have so many letters.
+/// The keywords whose names have this many letters.
 fn keywords(letters: usize) -> &'static [Keyword]
     ensures { result.now ≡ keywords_of letters }
 {
@@ -89,7 +89,7 @@ fn keywords(letters: usize) -> &'static [Keyword]
     }
 }
 
-/// The keyword whose first word this is, the first such of these.
+/// The first of these keywords whose name this is.
 fn find(keywords: &[Keyword], first: &[u8]) -> Option<Keyword>
     ensures { result ≡ keyword_among keywords.now first.now }
 {
@@ -101,7 +101,7 @@ fn find(keywords: &[Keyword], first: &[u8]) -> Option<Keyword>
     None
 }
 
-/// What the first word of a line asks for.
+/// The keyword with this name.
 #[tactic(auto, unfolding(crate::specs::Lines::keyword_of))]
 pub fn read_keyword(first: &[u8]) -> Option<Keyword>
     ensures { result ≡ keyword_of first.now }

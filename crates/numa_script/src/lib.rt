@@ -1,4 +1,4 @@
-//! The script language, both ways: what a line of a script says, and the text of each answer.
+//! The script language: parsing lines, and writing answers.
 #![tactic(auto)]
 
 pub mod keyword;

@@ -1,4 +1,4 @@
-//! What a line of a script says.
+//! Parsing a line of a script.
 ghost use Rattle.std.specs.Prelude.{◌≡◌, ◌==◌, ◌+◌, ◌≤◌, ◌<◌, ℕ, List, length, Option, Ok};
 ghost use Rattle.std.specs.Option.{option_map};
 ghost use Rattle.numa_script.specs.Lines.{limits_line, machine_line, mbind_line, task_line};
@@ -20,84 +20,83 @@ use numa_mask::{ListFault, NodeMask, read_list};
 use numa_space::Command;
 use numa_space::Command::{Inherit, Map, SetHome, SetWeight, Unmap};
 
-/// The most bytes that a line may have, its line feed apart.
+/// The most bytes of a line, without its line feed.
 pub const LIMIT: usize = 4096;
 
 /// A line that describes a machine.
 #[derive(Drop)]
 pub struct MachineLine<'a> {
-    /// How many nodes there are to be.
+    /// The number of nodes.
     pub nodes: u32,
-    /// The nodes with memory, or the fault of the list that names them.
+    /// The nodes with memory, or what is wrong with their list.
     pub memory: Result<NodeMask, ListFault>,
     /// The frames of the nodes.
     pub frames: Frames<'a>,
-    /// Whether the orders in which allocations fall back are those that a kernel makes; else they
-    /// are by distance alone.
+    /// Whether fallback orders are those that a kernel builds; else they are by distance alone.
     pub kernel_orders: bool,
     /// The distances between them.
     pub distances: Distances<'a>,
 }
 
-/// What a line asks of a machine.
+/// A question about a machine.
 #[derive(Clone, Copy, Debug, PartialEq, Eq)]
 pub enum Question {
-    /// The nodes for the page of an address, in bytes, that the task first touches on a CPU of the
+    /// The node list for the page of an address, in bytes, that the task first touches on a CPU of
     /// node `cpu`.
     Place {
         task: u32,
         address: u64,
         cpu: u32,
     },
-    /// The node for each page of a span, its first, when the task first touches it on a CPU of the
-    /// node `cpu`. The span begins at the page of an address, in bytes, and has so many pages, at
-    /// most 65,536.
+    /// The first node for each page of a span, when the task first touches it on a CPU of node
+    /// `cpu`. The span begins at the page of an address, in bytes, and has `pages` pages, at most
+    /// 65,536.
     Span {
         task: u32,
         address: u64,
         pages: u32,
         cpu: u32,
     },
-    /// How many pages of a span each node would get. The span is as that of `Span`, but of any
-    /// length, in pages.
+    /// The number of pages of a span that each node would get. The span is as for `Span`, but of
+    /// any length.
     Counts {
         task: u32,
         address: u64,
         pages: u64,
         cpu: u32,
     },
-    /// How many ranges there are.
+    /// The number of ranges.
     Ranges,
 }
 
-/// What a line says.
+/// A parsed line.
 #[derive(Drop)]
 pub enum Line<'a> {
     /// Nothing, or a comment.
     Silent,
-    /// No line of a script: it is too long, its first word is unknown, it has another number of
-    /// words, or one of its numbers is malformed or out of its bounds.
+    /// Not a line of a script: it is too long, its first word is unknown, it has the wrong number
+    /// of words, or one of its numbers is malformed or out of bounds.
     Malformed,
-    /// The limits of the machine to come: at most so many ranges, tasks with a policy and accepted
+    /// The limits of the machine to come: the most ranges, tasks with a policy and accepted
     /// commands.
     Limits {
         ranges: u32,
         tasks: u32,
         commands: u32,
     },
-    /// Whose rules count on the machine to come.
+    /// Whose rules the machine to come follows.
     Rules(Rules),
-    /// The nodes with CPUs of the machine to come, or the fault of the list that names them.
+    /// The nodes with CPUs of the machine to come, or what is wrong with their list.
     Cpus(Result<NodeMask, ListFault>),
     /// A machine.
     Machine(MachineLine<'a>),
-    /// A command, or the fault of its list or policy, which counts once a machine is ready.
+    /// A command, or what is wrong with its list or policy, which matters once a machine is ready.
     Command(Result<Command, WordError>),
     /// A question.
     Question(Question),
-    /// The ranges, with their policies for the task and the pages that are placed.
+    /// A listing of the ranges, with the policies that serve the task and the placed pages.
     Maps(u32),
-    /// Something that workers have to do with.
+    /// An action of workers.
     Work(Work),
 }
 
@@ -249,14 +248,14 @@ fn command_line<'a>(command: Option<Command>) -> Option<Line<'a>>
     Some(Line::Command(Ok(command?)))
 }
 
-/// The line of what workers have to do.
+/// The line of an action of workers.
 fn work_line<'a>(work: Option<Work>) -> Option<Line<'a>>
     ensures { result ≡ option_map Line.Work work }
 {
     Some(Line::Work(work?))
 }
 
-/// The line that the words after the first write.
+/// The line of a keyword and the words after it.
 fn line_after(keyword: Keyword, words: Parts) -> Option<Line>
     ensures { result ≡ line_after keyword words.entry }
 {
@@ -299,7 +298,7 @@ fn line_after(keyword: Keyword, words: Parts) -> Option<Line>
     }
 }
 
-/// The line that the words write.
+/// The line that consists of these words.
 fn of_words(mut words: Parts) -> Option<Line>
     ensures { result ≡ words_line words.entry }
 {
@@ -307,7 +306,7 @@ fn of_words(mut words: Parts) -> Option<Line>
     line_after(read_keyword(first)?, words)
 }
 
-/// Whether a word of the line has no byte: there are two spaces in a row, or one at an end.
+/// Whether a word of the line is empty: there are two spaces in a row, or one at an end.
 #[tactic(auto, using(crate::proofs::EmptyWords::empty_words))]
 fn has_empty_word(line: &[u8]) -> bool
     ensures { result ≡ has_empty_word line.now }
@@ -324,7 +323,7 @@ fn has_empty_word(line: &[u8]) -> bool
     start == line.len()
 }
 
-/// What a line says, without its line feed.
+/// Parses a line, which comes without its line feed.
 #[tactic(auto, unfolding(crate::specs::Lines::line_of))]
 pub fn parse(line: &[u8]) -> Line<'_>
     ensures { result ≡ line_of line.now }

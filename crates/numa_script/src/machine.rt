@@ -1,4 +1,4 @@
-//! The words of a machine line that are lists of numbers: its frames and its distances.
+//! The frames and distances of a machine line.
 ghost use Rattle.std.specs.Prelude.{◌≡◌, ◌==◌, ◌≤◌, ◌<◌, ◌^◌, ℕ, List, Option, map, unwrap_or};
 ghost use Rattle.std.specs.Prelude.{IfOk, OnOk, ◌++◌, is_some};
 ghost use Rattle.std.specs.List.{list_all, flat_map, range_with_len};
@@ -15,7 +15,7 @@ use numa_mask::NodeMask;
 use std::alloc::{AllocError, Global};
 use std::marker::Model;
 
-/// The frames of a machine's nodes, as a word: decimal numbers below 2^32 with commas between them.
+/// The frames of a machine's nodes, as a word: decimal numbers below 2^32, separated by commas.
 #[derive(Drop)]
 pub struct Frames<'a> {
     word: &'a [u8],
@@ -31,8 +31,8 @@ impl<'a> Model for Frames<'a> {
     ghost view = { λ a. map (λ item. unwrap_or (item_of item) 0) (items_of a.word.now) };
 }
 
-/// A distance table, as a word: rows with semicolons between them, of decimal numbers of at most
-/// 255 with commas between them.
+/// A distance table, as a word: rows separated by semicolons, of decimal numbers up to 255,
+/// separated by commas.
 #[derive(Drop)]
 pub struct Entries<'a> {
     word: &'a [u8],
@@ -55,7 +55,7 @@ impl<'a> Model for Entries<'a> {
 pub enum Distances<'a> {
     /// `flat`: 10 from a node to itself and 20 to every other.
     Flat,
-    /// The entries of the distance table, row after row.
+    /// The entries of the distance table, row by row.
     Table(Entries<'a>),
 }
 
@@ -67,7 +67,7 @@ fn are_numbers(word: &[u8]) -> bool
 }
 
 impl<'a> Frames<'a> {
-    /// The frames that the word writes, where each item is a number.
+    /// The frames of a word, if each item is a number.
     #[tactic(auto, using(crate::proofs::Eaches::each_known, crate::proofs::Eaches::each_missing))]
     pub fn read(word: &'a [u8]) -> Option<Frames<'a>>
         ensures { result ≡ frames_of word.now }
@@ -75,8 +75,8 @@ impl<'a> Frames<'a> {
         are_numbers(word).then_some(Frames { word })
     }
 
-    /// The frames of each of so many nodes: one number is that of each node with memory, where the
-    /// others have none, and more than one are those of the nodes in turn, as many as were written.
+    /// The frames of each of `nodes` nodes. A single number is for each node with memory, and
+    /// others have none; several are for the nodes in order, as many as were written.
     ///
     /// # Errors
     /// `AllocError`: out of memory.
@@ -95,7 +95,7 @@ impl<'a> Frames<'a> {
         }
     }
 
-    /// The numbers in turn.
+    /// The numbers in order.
     fn numbers(&self, alloc: Global) -> Result<Vec<u32>, AllocError>
         ensures { IfOk result (λ v. v.items ≡ self.now) }
     {
@@ -105,7 +105,7 @@ impl<'a> Frames<'a> {
     }
 }
 
-/// So many frames for each node with memory, and none for the others.
+/// `frames` frames for each node with memory, and none for others.
 #[tactic(auto, using(crate::proofs::Eaches::row_more))]
 fn frames_with_memory(
     alloc: Global,
@@ -124,7 +124,7 @@ fn frames_with_memory(
     Ok(each)
 }
 
-/// The frames of a node, where each node with memory has so many.
+/// The frames of a node, if each node with memory has `frames`.
 fn frames_at(memory: &NodeMask, frames: u32, node: u8) -> u32
     ensures { result ≡ frames_at memory.now frames node }
 {
@@ -158,7 +158,7 @@ fn add_row(table: &mut Vec<u8>, row: &[u8]) -> Result<(), AllocError>
 }
 
 impl<'a> Entries<'a> {
-    /// The entries that the word writes, where each item is a distance.
+    /// The entries of a word, if each item is a distance.
     #[tactic(auto, using(crate::proofs::Eaches::table_known, crate::proofs::Eaches::table_missing))]
     pub fn read(word: &'a [u8]) -> Option<Entries<'a>>
         ensures { result ≡ table_of word.now }
@@ -166,7 +166,7 @@ impl<'a> Entries<'a> {
         is_table(word).then_some(Entries { word })
     }
 
-    /// The entries in turn.
+    /// The entries in order.
     fn numbers(&self, alloc: Global) -> Result<Vec<u8>, AllocError>
         ensures { IfOk result (λ v. v.items ≡ self.now) }
     {
@@ -178,18 +178,18 @@ impl<'a> Entries<'a> {
     }
 }
 
-/// What a word of distances begins with where the orders are those that a kernel makes.
+/// The prefix of a word of distances for the fallback orders that a kernel builds.
 const KERNEL: &[u8] = b"kernel:";
 
-/// Whether a word of distances begins with `kernel:`, so that the orders in which allocations fall
-/// back are those that a kernel makes.
+/// Whether a word of distances begins with `kernel:`, so that fallback orders are those that a
+/// kernel builds.
 pub(crate) fn has_kernel_orders(word: &[u8]) -> bool
     ensures { result ≡ has_kernel_orders word.now }
 {
     word.starts_with(KERNEL)
 }
 
-/// A word of distances without the `kernel:` that it may begin with.
+/// A word of distances without the prefix `kernel:`, if it has one.
 fn behind_kernel(word: &[u8]) -> &[u8]
     ensures { result.now ≡ behind_kernel word.now }
 {
@@ -200,8 +200,8 @@ fn behind_kernel(word: &[u8]) -> &[u8]
 }
 
 impl<'a> Distances<'a> {
-    /// The distances that the word writes, behind the `kernel:` that it may begin with: `flat`, or a
-    /// table whose every item is a distance.
+    /// The distances of a word, after the prefix `kernel:`, if it has one: `flat`, or a table in
+    /// which each item is a distance.
     #[tactic(auto, unfolding(crate::specs::Machines::distances_of))]
     pub fn read(word: &'a [u8]) -> Option<Distances<'a>>
         ensures { result ≡ distances_of word.now }
@@ -209,7 +209,7 @@ impl<'a> Distances<'a> {
         Distances::written(behind_kernel(word))
     }
 
-    /// The distances that the word writes: `flat`, or a table whose every item is a distance.
+    /// The distances of a word: `flat`, or a table in which each item is a distance.
     fn written(word: &'a [u8]) -> Option<Distances<'a>>
         ensures { result ≡ written_distances word.now }
     {
@@ -219,9 +219,8 @@ impl<'a> Distances<'a> {
         Some(Distances::Table(Entries::read(word)?))
     }
 
-    /// The entries of the distance table of so many nodes, row after row: `flat` makes one for each
-    /// two nodes, and a table is as it was written, whatever the number of nodes. `Err` where there
-    /// is no memory.
+    /// The entries of the distance table of `nodes` nodes, row by row: `flat` makes one for each
+    /// two nodes, and a table is as it was written, whatever the number of nodes.
     ///
     /// # Errors
     /// `AllocError`: out of memory.
@@ -236,14 +235,14 @@ impl<'a> Distances<'a> {
     }
 }
 
-/// The distance between two nodes where all are equally far apart.
+/// The distance between two nodes if all are equally far apart.
 fn flat_distance(from: u32, to: u32) -> u8
     ensures { result ≡ flat_distance from to }
 {
     if from == to { 10 } else { 20 }
 }
 
-/// Appends the row of a node, which is 10 from itself and 20 from every other.
+/// Appends the row of a node: 10 to itself and 20 to every other.
 #[tactic(auto, using(crate::proofs::Eaches::row_more))]
 fn add_flat_row(table: &mut Vec<u8>, nodes: u32, from: u32) -> Result<(), AllocError>
     ensures { OnOk result (table.new.items ≡ table.old.items ++ flat_row nodes from) }
@@ -254,7 +253,7 @@ fn add_flat_row(table: &mut Vec<u8>, nodes: u32, from: u32) -> Result<(), AllocE
     Ok(())
 }
 
-/// The table in which each node is 10 from itself and 20 from every other.
+/// The table in which each node is at distance 10 from itself and 20 from every other.
 #[tactic(auto, using(crate::proofs::Eaches::table_more))]
 fn flat_table(alloc: Global, nodes: u32) -> Result<Vec<u8>, AllocError>
     ensures { IfOk result (λ v. v.items ≡ flat_map (flat_row nodes) (range_with_len 0 nodes)) }

@@ -12,12 +12,12 @@ use crate::line::{LIMIT, is_silent_line};
 use crate::parameter::{Misfit, Parameter, parameters, read_misfit};
 use crate::parts::{Parts, words};
 
-/// What is wrong with a line that is malformed.
+/// What is wrong with a malformed line.
 #[derive(Clone, Copy, Debug, PartialEq, Eq)]
 pub enum Cause {
     /// It has more than 4,096 bytes.
     TooLong,
-    /// It has a byte that is neither a space nor a character that ASCII prints: a tab, or the
+    /// It has a byte that is neither a space nor a printable ASCII character, such as a tab or the
     /// carriage return of a DOS line end.
     StrayByte(u8),
     /// It begins with a space.
@@ -26,24 +26,24 @@ pub enum Cause {
     TrailingSpace,
     /// It has two spaces in a row.
     TwoSpaces,
-    /// Its first word is none that a line begins with.
+    /// Its first word isn't a keyword.
     UnknownWord,
-    /// There are too few words behind the first.
+    /// There are too few words after the first.
     TooFewWords(Keyword),
-    /// There are too many words behind the first.
+    /// There are too many words after the first.
     TooManyWords(Keyword),
-    /// A word isn't what it has to be.
+    /// A word isn't of the form that it must have.
     BadWord(Keyword, Parameter, Misfit),
 }
 
-/// What is wrong with a line, and the column at which that begins, in bytes from 1.
+/// What is wrong with a line, and the column at which it begins, in bytes from 1.
 #[derive(Clone, Copy, Debug, PartialEq, Eq)]
 pub struct Malformed {
     pub cause: Cause,
     pub column: usize,
 }
 
-/// How many words there are.
+/// The number of words.
 fn count_of(words: Parts) -> usize
     requires { width_of words < 2 ^ 32 }
     ensures { result ≡ length words.entry }
@@ -51,8 +51,8 @@ fn count_of(words: Parts) -> usize
     words.count()
 }
 
-/// The bytes of the first so many words, or of all where there are fewer, each with the space
-/// behind it.
+/// The number of bytes of the first `count` words, or of all if there are fewer, each with the
+/// space after it.
 fn width_of(mut words: Parts, count: usize) -> usize
     requires { width_of words < 2 ^ 32 }
     ensures { result ≡ width_of (take count words.entry) }
@@ -69,7 +69,7 @@ fn width_of(mut words: Parts, count: usize) -> usize
     width
 }
 
-/// The first word that isn't of its form, where the first of the words begins at the column.
+/// The first word that isn't of its form; the first of the words begins at the column.
 fn first_misfit(
     keyword: Keyword,
     parameters: &[Parameter],
@@ -93,7 +93,7 @@ fn first_misfit(
     None
 }
 
-/// The words behind the first.
+/// The words after the first.
 fn words_behind(line: &[u8]) -> Parts<'_>
     ensures { result ≡ drop 1 (words_of line.now) }
 {
@@ -102,8 +102,7 @@ fn words_behind(line: &[u8]) -> Parts<'_>
     words
 }
 
-/// What is wrong with the words behind the first, a keyword, where the first of them begins at the
-/// column.
+/// What is wrong with the words after a keyword; the first of them begins at the column.
 fn fault_behind(keyword: Keyword, column: usize, line: &[u8]) -> Option<Malformed>
     requires { column + width_of (drop 1 (words_of line.now)) < 2 ^ 32 }
     ensures { result ≡ fault_behind keyword column (drop 1 (words_of line.now)) }
@@ -122,7 +121,7 @@ fn fault_behind(keyword: Keyword, column: usize, line: &[u8]) -> Option<Malforme
     Some(Malformed { cause, column })
 }
 
-/// What is wrong with the words of a line, of which none is empty.
+/// What is wrong with the words of a line that has no empty word.
 fn words_fault(line: &[u8]) -> Option<Malformed>
     requires { length line.now ≤ 4096 }
     ensures { result ≡ words_fault (words_of line.now) }
@@ -139,7 +138,7 @@ fn words_fault(line: &[u8]) -> Option<Malformed>
     fault_behind(keyword, first.len() + 2, line)
 }
 
-/// Where the first empty word begins.
+/// The position of the first empty word.
 fn empty_word(line: &[u8]) -> Option<usize>
     requires { length line.now ≤ 4096 }
     ensures { result ≡ empty_word 1 (words_of line.now) }
@@ -154,7 +153,7 @@ fn empty_word(line: &[u8]) -> Option<usize>
     None
 }
 
-/// What an empty word at the column means in a line of so many bytes.
+/// What an empty word at the column means in a line of `size` bytes.
 fn spare_space(size: usize, column: usize) -> Cause
     ensures { result ≡ spare_space size column }
 {
@@ -180,21 +179,21 @@ fn written_fault(line: &[u8]) -> Option<Malformed>
     words_fault(line)
 }
 
-/// Whether a byte is neither a space nor a character that ASCII prints.
+/// Whether a byte is neither a space nor a printable ASCII character.
 fn is_stray(byte: u8) -> bool
     ensures { result ≡ is_stray byte }
 {
     byte < 32 || byte > 126
 }
 
-/// Where the first such byte is.
+/// The position of the first such byte.
 fn first_stray(line: &[u8]) -> Option<usize>
     ensures { result ≡ position is_stray line.now }
 {
     line.iter().position(|byte| is_stray(*byte))
 }
 
-/// What is wrong with a line that is malformed: first of all a byte that no word has.
+/// What is wrong with a malformed line: a stray byte takes precedence.
 fn with_stray(line: &[u8], fault: Malformed) -> Malformed
     requires { length line.now ≤ 4096 }
     ensures { result ≡ stray_else line.now (position is_stray line.now) fault }
@@ -208,10 +207,9 @@ fn with_stray(line: &[u8], fault: Malformed) -> Malformed
     }
 }
 
-/// Why a line, without its line feed, is malformed, and where; None where it isn't. Of several
-/// things that are wrong it is the first in the order of [`Cause`], and of several words that
-/// aren't what they have to be the first. A line of more than 4,096 bytes may be cut behind the
-/// 4,097th.
+/// Why a line, without its line feed, is malformed, and where; `None` if it isn't. Of several
+/// causes it is the first in the order of [`Cause`], and of several bad words the first. A line of
+/// more than 4,096 bytes may be cut after the 4,097th.
 pub fn why_malformed(line: &[u8]) -> Option<Malformed>
     ensures fault { result ≡ fault_of line.now }
     ensures malformed { is_some result ≡ is_malformed (line_of line.now) }

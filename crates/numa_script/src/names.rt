@@ -1,4 +1,4 @@
-//! The names of faults and refusals, as answers give them.
+//! The names of errors and refusals in answers.
 ghost use Rattle.std.specs.Prelude.{◌≡◌, ◌≤◌, length};
 ghost use Rattle.numa_script.specs.Texts.{name_of};
 
@@ -7,14 +7,14 @@ use numa_mask::ListFault;
 use numa_mode::SpecError;
 use numa_space::{Errno, PlaceRefusal, Refusal};
 
-/// What answers give by its name.
+/// What answers name.
 #[derive(Clone, Copy, Debug, PartialEq, Eq)]
 pub enum Named {
-    /// A fault of a list of nodes.
+    /// An error in a list of nodes.
     List(ListFault),
-    /// A fault of a policy.
+    /// An error in a policy.
     Policy(SpecError),
-    /// A fault of a machine.
+    /// An error in a machine.
     Machine(MachineFault),
     /// A command's refusal.
     Refusal(Refusal),
@@ -24,10 +24,10 @@ pub enum Named {
     Place(PlaceRefusal),
 }
 
-/// The names of the faults of a list of nodes, in their order, as those of all kinds are.
+/// The names of the errors in a list of nodes, in their order; so are those below.
 static LIST_NAMES: [&[u8]; 4] = [b"Empty", b"BadDigit", b"BackRange", b"NodeTooHigh"];
 
-/// The names of the faults of a policy.
+/// The names of the errors in a policy.
 static POLICY_NAMES: [&[u8]; 5] = [
     b"UnknownMode",
     b"BothFlags",
@@ -36,7 +36,7 @@ static POLICY_NAMES: [&[u8]; 5] = [
     b"NodesMissing",
 ];
 
-/// The names of the faults of a machine.
+/// The names of the errors in a machine.
 static MACHINE_NAMES: [&[u8]; 5] = [
     b"NodeCount",
     b"NoMemoryNode",

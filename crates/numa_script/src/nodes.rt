@@ -1,4 +1,4 @@
-//! Nodes as text, gathered before they are said.
+//! Nodes as text, gathered before they are written.
 ghost use Rattle.std.specs.Prelude.{◌≡◌, ◌+◌, ◌*◌, ◌<◌, ◌≤◌, ◌++◌, ◌∷◌, codes, decimal, length};
 ghost use Rattle.line_server.specs.Written.{Said};
 ghost use Rattle.numa_script.specs.Texts.{nodes_answer, nodes_text};
@@ -8,10 +8,10 @@ use itoa::Buffer;
 use line_server::Watched;
 use std::io::Write;
 
-/// How many nodes are gathered at most.
+/// The most nodes that are gathered.
 const BLOCK: usize = 60;
 
-/// How many nodes are said at most together with their version.
+/// The most nodes that are written together with their version.
 pub(crate) const FEW: usize = 48;
 
 /// The text of some nodes: a space and at most three digits for each.
@@ -47,7 +47,7 @@ fn push_number(text: &mut BlockText, number: u8)
     push_digit(text, number % 10);
 }
 
-/// Appends a node behind a space.
+/// Appends a space and a node.
 fn push_node(text: &mut BlockText, node: u8)
     requires { length text.old.items + 4 ≤ 240 }
     ensures items { text.new.items ≡ text.old.items ++ 32 ∷ decimal node }
@@ -70,7 +70,7 @@ fn push_version(text: &mut BlockText, version: u64)
     text.push(b':');
 }
 
-/// Appends nodes, each behind a space.
+/// Appends nodes, each after a space.
 fn push_nodes(text: &mut BlockText, nodes: &[u8])
     requires { length text.old.items + 4 * length nodes.now ≤ 240 }
     ensures items { text.new.items ≡ text.old.items ++ nodes_text nodes.now }
@@ -81,7 +81,7 @@ fn push_nodes(text: &mut BlockText, nodes: &[u8])
     }
 }
 
-/// Says some nodes, each behind a space.
+/// Writes a block of nodes, each after a space.
 fn say_block<W: Write>(output: &mut Watched<W>, nodes: &[u8])
     requires { length nodes.now ≤ 60 }
     ensures { Said W.contents output.old output.new (nodes_text nodes.now) }
@@ -91,7 +91,7 @@ fn say_block<W: Write>(output: &mut Watched<W>, nodes: &[u8])
     output.say(text.as_slice());
 }
 
-/// Says a version and few nodes as a line: `v2: 0 1`.
+/// Writes a version and a few nodes as a line: `v2: 0 1`.
 pub(crate) fn say_few<W: Write>(output: &mut Watched<W>, version: u64, nodes: &[u8])
     requires { length nodes.now ≤ 48 }
     ensures { Said W.contents output.old output.new (nodes_answer version nodes.now) }
@@ -103,7 +103,7 @@ pub(crate) fn say_few<W: Write>(output: &mut Watched<W>, version: u64, nodes: &[
     output.say(text.as_slice());
 }
 
-/// Says nodes, each behind a space.
+/// Writes nodes, each after a space.
 pub(crate) fn say_each_node<W: Write>(output: &mut Watched<W>, nodes: &[u8])
     ensures { Said W.contents output.old output.new (nodes_text nodes.now) }
 {

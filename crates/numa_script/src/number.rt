@@ -1,4 +1,4 @@
-//! Numbers, as words of a script.
+//! Reading numbers from words of a script.
 ghost use Rattle.std.specs.Prelude.{◌≡◌, ℕ, ◌+◌, ◌*◌, ◌^◌, ◌<◌, ◌≤◌, List, MatchOption, IfSome};
 ghost use Rattle.numa_script.specs.Numbers.{digit_of, in_64_bits, numeral_of, number_of, small_of};
 ghost use Rattle.numa_script.specs.Numbers.{item_of, page_of, node_of, frame_number_of};
@@ -9,7 +9,7 @@ use numa_space::PAGE_BYTES;
 /// The most hexadecimal digits of a number.
 const HEXADECIMAL_DIGITS: usize = 16;
 
-/// The digit that a byte is in the radix.
+/// The value of a digit in the radix.
 #[tactic(auto, unfolding(crate::specs::Numbers::digit_of))]
 fn digit_in(byte: u8, radix: u32) -> Option<u32>
     requires low { 2 ≤ radix }
@@ -26,7 +26,7 @@ fn digit_in(byte: u8, radix: u32) -> Option<u32>
     if digit < radix { Some(digit) } else { None }
 }
 
-/// The number with one more digit, where it fits.
+/// The number with one more digit, if it fits.
 #[tactic(auto, unfolding(crate::specs::Numbers::in_64_bits))]
 fn with_digit(value: u64, radix: u32, digit: u32) -> Option<u64>
     ensures { result ≡ in_64_bits (value * radix + digit) }
@@ -36,7 +36,7 @@ fn with_digit(value: u64, radix: u32, digit: u32) -> Option<u64>
         .checked_add(u64::from(digit))
 }
 
-/// The number that the digits write, where they are 1 to `most` in the radix and the number fits.
+/// The value of 1 to `most` digits in the radix, if it fits.
 #[tactic(auto, using(crate::proofs::Numerals::numeral_steps))]
 fn numeral(digits: &[u8], radix: u32, most: usize) -> Option<u64>
     requires low { 2 ≤ radix }
@@ -54,7 +54,7 @@ fn numeral(digits: &[u8], radix: u32, most: usize) -> Option<u64>
     Some(value)
 }
 
-/// The number that the digits write, where they are 1 to 16 hexadecimal digits. It always fits.
+/// The value of 1 to 16 hexadecimal digits. It always fits.
 #[tactic(auto, using(crate::proofs::Numerals::numeral_steps))]
 fn hexadecimal(digits: &[u8]) -> Option<u64>
     ensures { result ≡ numeral_of 16 16 digits.now }
@@ -70,8 +70,7 @@ fn hexadecimal(digits: &[u8]) -> Option<u64>
     Some(value)
 }
 
-/// The number of a word: `0x` and 1 to 16 hexadecimal digits, or 1 to 20 decimal digits, in 64
-/// bits.
+/// Reads a number: `0x` and 1 to 16 hexadecimal digits, or 1 to 20 decimal digits that fit 64 bits.
 #[tactic(auto, using(crate::proofs::Numerals::number_steps))]
 pub fn number(word: &[u8]) -> Option<u64>
     ensures value { result ≡ number_of word.now }
@@ -84,28 +83,28 @@ pub fn number(word: &[u8]) -> Option<u64>
     }
 }
 
-/// The number of a word, where it is below 2^32.
+/// Reads a number below 2^32.
 pub fn small(word: &[u8]) -> Option<u32>
     ensures { result ≡ small_of word.now }
 {
     u32::try_from(number(word)?).ok()
 }
 
-/// The number of an item of a list of numbers: 1 to 10 decimal digits, below 2^32.
+/// Reads an item of a list of numbers: 1 to 10 decimal digits, below 2^32.
 pub fn small_item(item: &[u8]) -> Option<u32>
     ensures { result ≡ item_of item.now }
 {
     u32::try_from(numeral(item, 10, 10)?).ok()
 }
 
-/// The distance of an item of a distance table: 1 to 10 decimal digits, at most 255.
+/// Reads an item of a distance table: 1 to 10 decimal digits, at most 255.
 pub fn distance(item: &[u8]) -> Option<u8>
     ensures { result ≡ below 256 (item_of item.now) }
 {
     u8::try_from(small_item(item)?).ok()
 }
 
-/// The page of an address, which is in bytes: the address divided by 4,096.
+/// Reads an address in bytes, and returns its page: the address divided by 4,096.
 pub fn page(word: &[u8]) -> Option<u64>
     ensures { result ≡ page_of word.now }
 {
@@ -113,21 +112,21 @@ pub fn page(word: &[u8]) -> Option<u64>
     Some(address / PAGE_BYTES)
 }
 
-/// The number of a node, where it is below 256.
+/// Reads the number of a node, below 256.
 pub fn node(word: &[u8]) -> Option<u8>
     ensures { result ≡ node_of word.now }
 {
     u8::try_from(number(word)?).ok()
 }
 
-/// The number of a frame of a node, where it is below 65,536.
+/// Reads the number of a frame of a node, below 65,536.
 pub fn frame_number(word: &[u8]) -> Option<u16>
     ensures { result ≡ frame_number_of word.now }
 {
     u16::try_from(number(word)?).ok()
 }
 
-/// So many pages, where a span may have them: at most 65,536.
+/// A number of pages of a span, if it is at most 65,536.
 pub(crate) fn few_pages(pages: u64) -> Option<u32>
     ensures { result ≡ few_of pages }
 {
@@ -137,7 +136,7 @@ pub(crate) fn few_pages(pages: u64) -> Option<u32>
     u32::try_from(pages).ok()
 }
 
-/// The pages of a span, where they are at most 65,536.
+/// Reads the number of pages of a span, at most 65,536.
 pub fn span_pages(word: &[u8]) -> Option<u32>
     ensures { result ≡ span_pages_of word.now }
 {

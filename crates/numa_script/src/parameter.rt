@@ -1,4 +1,4 @@
-//! The words that a line has behind its first.
+//! The words of a line after its keyword.
 ghost use Rattle.std.specs.Prelude.{◌≡◌, ℕ, List, Option};
 ghost use Rattle.numa_script.specs.Causes.{parameters_of, form_of, misfit_of};
 
@@ -8,7 +8,7 @@ use crate::number::number;
 use crate::rules::read_rules;
 use Parameter::*;
 
-/// A word behind the first of a line.
+/// A word after the keyword of a line.
 #[derive(Clone, Copy, Debug, PartialEq, Eq)]
 pub enum Parameter {
     /// R, the most ranges.
@@ -17,19 +17,19 @@ pub enum Parameter {
     Tasks,
     /// C, the most accepted commands.
     Commands,
-    /// RULES, whose rules count.
+    /// RULES, whose rules apply.
     Rules,
-    /// NODES, how many nodes the machine has.
+    /// NODES, the number of nodes of the machine.
     Nodes,
     /// MEM, the nodes with memory.
     Memory,
     /// FRAMES, the frames of the nodes.
     Frames,
-    /// DIST, the distances between the nodes, and whose orders are made of them.
+    /// DIST, the distances between the nodes, and whose fallback orders are made of them.
     Distances,
     /// START, the address at which a span begins, in bytes.
     Start,
-    /// LENGTH, how long a span is, in bytes.
+    /// LENGTH, the length of a span, in bytes.
     Length,
     /// OFFSET, the index of a mapping's first page, in pages.
     Offset,
@@ -39,15 +39,15 @@ pub enum Parameter {
     Node,
     /// WEIGHT, the weight of a node.
     Weight,
-    /// LIST, the nodes that are allowed, or those with CPUs.
+    /// LIST, the allowed nodes, or those with CPUs.
     List,
     /// TASK, the number of a task.
     Task,
     /// FROM, the number of the task whose policy another takes.
     From,
-    /// ADDR, any address of a page, in bytes.
+    /// ADDR, any address in a page, in bytes.
     Address,
-    /// CPU, the number of the node of a CPU.
+    /// CPU, the node of a CPU.
     Cpu,
     /// PAGES of `counts`.
     Pages,
@@ -63,33 +63,33 @@ pub enum Parameter {
     Frame,
 }
 
-/// What a word has to be for its line not to be malformed.
+/// The form that a word must have for its line not to be malformed.
 #[derive(Clone, Copy, Debug, PartialEq, Eq)]
 pub enum Form {
-    /// A number of at most so much.
+    /// A number up to this one.
     Number(u64),
     /// `document` or `linux`.
     Rules,
-    /// Decimal numbers below 2^32, with commas between them.
+    /// Decimal numbers below 2^32, separated by commas.
     Frames,
-    /// `flat`, or decimal numbers of at most 255, with commas and semicolons between them; either
-    /// may stand behind `kernel:`.
+    /// `flat`, or decimal numbers up to 255, separated by commas and semicolons; either may follow
+    /// `kernel:`.
     Distances,
-    /// Anything: a node list or a policy, whose faults have names of their own.
+    /// Anything: a node list or a policy, whose errors have names of their own.
     Any,
 }
 
-/// How a word isn't of its form.
+/// How a word deviates from its form.
 #[derive(Clone, Copy, Debug, PartialEq, Eq)]
 pub enum Misfit {
-    /// It is written otherwise.
+    /// It isn't written in that form.
     Unreadable,
-    /// It is a number above the greatest.
+    /// It is a number above the greatest one.
     TooGreat,
 }
 
 impl Parameter {
-    /// What the word has to be.
+    /// The form that the word must have.
     pub fn form(self) -> Form
         ensures { result ≡ form_of self }
     {
@@ -150,7 +150,7 @@ impl Parameter {
     }
 }
 
-/// How a number isn't one of at most `greatest`; none where it is.
+/// How a word deviates from a number up to `greatest`; `None` if it is one.
 fn number_misfit(greatest: u64, word: &[u8]) -> Option<Misfit>
     ensures { result ≡ misfit_of (Form.Number greatest) word.now }
 {
@@ -161,7 +161,7 @@ fn number_misfit(greatest: u64, word: &[u8]) -> Option<Misfit>
     }
 }
 
-/// How a word isn't of the form; none where it is.
+/// How a word deviates from a form; `None` if it has it.
 pub fn read_misfit(form: Form, word: &[u8]) -> Option<Misfit>
     ensures { result ≡ misfit_of form word.now }
 {
@@ -174,7 +174,7 @@ pub fn read_misfit(form: Form, word: &[u8]) -> Option<Misfit>
     }
 }
 
-/// The words that a line of the keyword has behind its first, in their order.
+/// The words of a line after this keyword, in order.
 pub fn parameters(keyword: Keyword) -> &'static [Parameter]
     ensures { result.now ≡ parameters_of keyword }
 {

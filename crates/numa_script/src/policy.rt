@@ -1,4 +1,4 @@
-//! Policy words: NAME, then `=static` or not, then `=relative` or not, then `:LIST` or not.
+//! Policy words: NAME, then optionally `=static`, `=relative` and `:LIST`, in this order.
 ghost use Rattle.std.specs.Prelude.{◌≡◌, ◌==◌, ℕ, true, Ok};
 ghost use Rattle.numa_mode.specs.Flags.{has_static, has_relative};
 ghost use Rattle.numa_script.specs.Policies.{mode_of, form_with, form_of, form_of_two};
@@ -11,16 +11,16 @@ use numa_mask::parts::first_place;
 use numa_mask::{ListFault, NodeMask, read_list};
 use numa_mode::{Mode, PolicyFlags, PolicySpec, SpecError};
 
-/// What is wrong with a word for nodes or for a policy.
+/// What is wrong with a word for nodes or a policy.
 #[derive(Clone, Copy, Debug, PartialEq, Eq)]
 pub enum WordError {
-    /// The list of nodes is faulty.
+    /// The list of nodes is invalid.
     List(ListFault),
     /// There is no such policy.
     Policy(SpecError),
 }
 
-/// What a policy word says before its first colon.
+/// The part of a policy word before its first colon.
 #[derive(Clone, Copy, Debug, PartialEq, Eq)]
 pub struct PolicyForm {
     pub mode: Mode,
@@ -39,7 +39,7 @@ static MODE_NAMES: [(&[u8], Mode); 7] = [
     (b"weighted", Mode::WeightedInterleave),
 ];
 
-/// The mode of a name.
+/// The mode with this name.
 #[tactic(auto, unfolding(crate::specs::Policies::mode_of))]
 fn read_mode(name: &[u8]) -> Option<Mode>
     ensures { result ≡ mode_of name.now }
@@ -84,7 +84,7 @@ fn form_of_three(name: &[u8], first: &[u8], second: &[u8]) -> Option<PolicyForm>
     None
 }
 
-/// What a policy word says before its first colon, where it is of that form.
+/// The part of a policy word before its first colon, if it has the right form.
 fn read_form(text: &[u8]) -> Option<PolicyForm>
     ensures { result ≡ form_of text.now }
 {
@@ -115,7 +115,7 @@ fn flags(is_static: bool, is_relative: bool) -> PolicyFlags
     }
 }
 
-/// The policy of a form and its nodes. The form is judged first, then the list, and then the two
+/// The policy of a form and its nodes. The form is checked first, then the list, and then both
 /// together.
 fn policy(
     form: Option<PolicyForm>,
@@ -136,9 +136,18 @@ fn policy(
     }
 }
 
-/// The policy of a word, which is cut at its first colon. A part before it that is not of the form
-/// is `UnknownMode`; then a fault of the list is answered; then those of [`PolicySpec::new`].
-/// Without a colon there are no nodes.
+/// Reads a policy word, such as `bind=static:0,2-3`: a mode's name, flags, and after the first
+/// colon a list of nodes. Without a colon there are no nodes.
+///
+/// # Errors
+/// The first that applies: `Policy(UnknownMode)`, the part before the colon isn't a mode's name
+/// with flags; `List`, what is wrong with the list; `Policy`, as [`PolicySpec::new`] refuses the
+/// mode, the flags and the nodes.
+///
+/// # Errors
+/// The first that applies: `Policy(UnknownMode)`, the part before the colon isn't a mode's name
+/// with flags; `List`, what is wrong with the list; `Policy`, as [`PolicySpec::new`] refuses the
+/// mode, the flags and the nodes.
 #[tactic(auto, unfolding(crate::specs::Policies::policy_of))]
 pub fn read_policy(word: &[u8]) -> Result<PolicySpec, WordError>
     ensures { result ≡ policy_of word.now }

@@ -1,4 +1,4 @@
-//! Numbers, where a line has just so many words left.
+//! Reading a fixed number of words as numbers.
 ghost use Rattle.std.specs.Prelude.{◌≡◌, ℕ, List, Option};
 ghost use Rattle.numa_script.specs.Numbers.{number_of, small_of};
 ghost use Rattle.numa_script.specs.Present.{two_of, three_of, four_of, two_words, three_words};
@@ -8,11 +8,11 @@ ghost use Rattle.std.specs.Option.{option_map};
 use crate::number::{number, small};
 use crate::parts::Parts;
 
-/// A number of so many bits.
+/// A number type.
 pub(crate) trait Number: Copy {
     ghost of_word: { List ℕ → Option Self };
 
-    /// The number of a word, where it has one of so many bits.
+    /// Reads a number that fits the type.
     fn of(word: &[u8]) -> Option<Self>
         ensures { result ≡ of_word word.now };
 }
@@ -33,7 +33,7 @@ impl Number for u64 {
     }
 }
 
-/// The words, where they are two.
+/// The words, if they are two.
 #[inline(always)]
 pub(crate) fn two_words<'a>(mut words: Parts<'a>) -> Option<(&'a [u8], &'a [u8])>
     ensures { option_map (λ v. (v.0.now, v.1.now)) result ≡ two_words words.entry }
@@ -43,7 +43,7 @@ pub(crate) fn two_words<'a>(mut words: Parts<'a>) -> Option<(&'a [u8], &'a [u8])
     Some((first, second))
 }
 
-/// The words, where they are three.
+/// The words, if they are three.
 #[inline(always)]
 pub(crate) fn three_words<'a>(mut words: Parts<'a>) -> Option<(&'a [u8], &'a [u8], &'a [u8])>
     ensures { option_map (λ v. (v.0.now, v.1.now, v.2.now)) result ≡ three_words words.entry }
@@ -54,7 +54,7 @@ pub(crate) fn three_words<'a>(mut words: Parts<'a>) -> Option<(&'a [u8], &'a [u8
     Some((first, second, third))
 }
 
-/// The words, where they are four.
+/// The words, if they are four.
 #[inline(always)]
 pub(crate) fn four_words<'a>(
     mut words: Parts<'a>,
@@ -69,7 +69,7 @@ pub(crate) fn four_words<'a>(
     Some((first, second, third, fourth))
 }
 
-/// The numbers of the words, where they are two.
+/// The numbers of the words, if they are two.
 #[inline(always)]
 pub(crate) fn two<A: Number, B: Number>(words: Parts) -> Option<(A, B)>
     ensures { result ≡ two_of A.of_word B.of_word words.entry }
@@ -78,7 +78,7 @@ pub(crate) fn two<A: Number, B: Number>(words: Parts) -> Option<(A, B)>
     Some((A::of(first)?, B::of(second)?))
 }
 
-/// The numbers of the words, where they are three.
+/// The numbers of the words, if they are three.
 #[inline(always)]
 pub(crate) fn three<A: Number, B: Number, C: Number>(words: Parts) -> Option<(A, B, C)>
     ensures { result ≡ three_of A.of_word B.of_word C.of_word words.entry }
@@ -87,7 +87,7 @@ pub(crate) fn three<A: Number, B: Number, C: Number>(words: Parts) -> Option<(A,
     Some((A::of(first)?, B::of(second)?, C::of(third)?))
 }
 
-/// The numbers of the words, where they are four.
+/// The numbers of the words, if they are four.
 #[inline(always)]
 pub(crate) fn four<A: Number, B: Number, C: Number, D: Number>(words: Parts) -> Option<(A, B, C, D)>
     ensures { result ≡ four_of A.of_word B.of_word C.of_word D.of_word words.entry }

@@ -1,4 +1,4 @@
-//! What a line is answered.
+//! Replies to lines.
 ghost use Rattle.std.specs.Prelude.{◌≡◌};
 ghost use Rattle.numa_script.specs.Replies.{done_reply, reply_to, win_of};
 
@@ -6,8 +6,8 @@ use crate::policy::WordError;
 use numa_machine::{Frame, MachineFault};
 use numa_space::{CoreRefusal, CoreReply, Placement};
 
-/// A frame that was won: the version of the list of nodes that led to it, its node, its number on
-/// that node, and the node's place in the list, from 0.
+/// A frame that was won: the version of the node list that led to it, its node, its number on that
+/// node, and the node's place in the list, from 0.
 #[derive(Clone, Copy, Debug, PartialEq, Eq)]
 pub struct Win {
     pub version: u64,
@@ -17,7 +17,7 @@ pub struct Win {
 }
 
 impl Win {
-    /// What a line says of a placement that was won.
+    /// The parts of a placement that a reply shows.
     pub fn of(placement: &Placement) -> Win
         ensures { result ≡ win_of placement.now }
     {
@@ -30,32 +30,32 @@ impl Win {
     }
 }
 
-/// What a line is answered that is neither a question nor `maps`.
+/// The reply to a line that is neither a question nor `maps`.
 #[derive(Clone, Copy, Debug, PartialEq, Eq)]
 pub enum Reply {
     /// Nothing: the line is empty or a comment.
     Silent,
-    /// The line is no line of a script.
+    /// The line is malformed.
     BadWords,
-    /// A machine is ready and the line may come only before, or none is and it may come only after.
+    /// The line may come only before the machine is ready, or only after.
     BadState,
-    /// The limits are taken.
+    /// The limits are accepted.
     LimitsOk,
     /// The limits are too high.
     BadLimits,
-    /// The rules are taken.
+    /// The rules are accepted.
     RulesOk,
-    /// The nodes with CPUs are taken.
+    /// The nodes with CPUs are accepted.
     CpusOk,
     /// The machine is ready.
     Ready,
     /// The machine is refused.
     BadMachine(MachineFault),
-    /// A list of nodes or a policy is faulty.
+    /// A list of nodes or a policy is invalid.
     BadWord(WordError),
-    /// The command is accepted: how many are now.
+    /// The command is accepted: the number of accepted commands.
     Accepted(u64),
-    /// The commands are published: how many.
+    /// The commands are published: their number.
     Published(u64),
     /// The worker has a current node, and goes on.
     Still,
@@ -66,7 +66,7 @@ pub enum Reply {
     Won(Win),
     /// The frame is free.
     Given,
-    /// The page has a placement already, and the frame that was won is free again.
+    /// The page already has a placement, and the frame that was won is free again.
     Back(Frame),
     /// The command or the worker's step is refused.
     Refused(CoreRefusal),
@@ -87,7 +87,7 @@ fn done_reply(done: &CoreReply) -> Reply
 }
 
 impl Reply {
-    /// The reply to an event, by the core's answer.
+    /// The reply to an event, from the core's.
     pub fn to_event(answer: &Result<CoreReply, CoreRefusal>) -> Reply
         ensures { result ≡ reply_to answer.now }
     {

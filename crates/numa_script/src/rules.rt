@@ -1,10 +1,10 @@
-//! Whose rules count, as a word.
+//! Rules as a word.
 ghost use Rattle.std.specs.Prelude.{◌≡◌};
 ghost use Rattle.numa_script.specs.Machines.{rules_of};
 
 use numa_machine::Rules;
 
-/// The rules that a word names: `document`, or `linux`.
+/// The rules that a word names: `document` or `linux`.
 pub(crate) fn read_rules(word: &[u8]) -> Option<Rules>
     ensures { result ≡ rules_of word.now }
 {

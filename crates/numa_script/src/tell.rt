@@ -1,5 +1,5 @@
-//! Answers as text, said to a watched writer: replies, and what questions are answered. Once a
-//! write has failed, nothing more is written.
+//! Writing replies and the answers to questions to a watched writer. Once a write has failed,
+//! nothing more is written.
 ghost use Rattle.std.specs.Prelude.{◌≡◌, ℕ, ◌+◌, ◌≤◌, ◌++◌, List, Option, length, decimal, codes};
 ghost use Rattle.std.specs.Prelude.{flat_map, slice_index};
 ghost use Rattle.line_server.specs.Written.{Said};
@@ -18,7 +18,7 @@ use numa_machine::Frame;
 use numa_space::{CoreRefusal, PlaceRefusal, Refusal};
 use std::io::Write;
 
-/// Says two texts as a line.
+/// Writes two texts as a line.
 fn say_line<W: Write>(output: &mut Watched<W>, text: &[u8], name: &[u8])
     ensures { Said W.contents output.old output.new (text.now ++ name.now ++ codes "\n") }
 {
@@ -27,7 +27,7 @@ fn say_line<W: Write>(output: &mut Watched<W>, text: &[u8], name: &[u8])
     output.say(b"\n");
 }
 
-/// Says a text and a number.
+/// Writes a text and a number.
 fn say_number<W: Write>(output: &mut Watched<W>, text: &[u8], number: u64)
     ensures { Said W.contents output.old output.new (text.now ++ decimal number) }
 {
@@ -35,7 +35,7 @@ fn say_number<W: Write>(output: &mut Watched<W>, text: &[u8], number: u64)
     output.say_number(number);
 }
 
-/// Says a text and a number as a line.
+/// Writes a text and a number as a line.
 fn say_count<W: Write>(output: &mut Watched<W>, text: &[u8], count: u64)
     ensures { Said W.contents output.old output.new (text.now ++ decimal count ++ codes "\n") }
 {
@@ -44,7 +44,7 @@ fn say_count<W: Write>(output: &mut Watched<W>, text: &[u8], count: u64)
     output.say(b"\n");
 }
 
-/// Says what is wrong with a list of nodes or a policy.
+/// Writes what is wrong with a list of nodes or a policy.
 fn say_word_fault<W: Write>(output: &mut Watched<W>, fault: WordError)
     ensures { Said W.contents output.old output.new (word_text fault ++ codes "\n") }
 {
@@ -54,28 +54,28 @@ fn say_word_fault<W: Write>(output: &mut Watched<W>, fault: WordError)
     }
 }
 
-/// Says a refusal without an error number.
+/// Writes a refusal without an error number.
 fn say_refused<W: Write>(output: &mut Watched<W>, name: &[u8])
     ensures { Said W.contents output.old output.new (refused_text name.now) }
 {
     say_line(output, b"refused ", name);
 }
 
-/// Says that memory was wanting: `refused NoMemory`.
+/// Writes that memory ran out: `refused NoMemory`.
 pub fn say_starved<W: Write>(output: &mut Watched<W>)
     ensures { Said W.contents output.old output.new (refused_text (codes "NoMemory")) }
 {
     say_refused(output, b"NoMemory");
 }
 
-/// Says a question's refusal: `refused` and its name.
+/// Writes a question's refusal: `refused` and its name.
 pub fn say_place_refusal<W: Write>(output: &mut Watched<W>, refusal: PlaceRefusal)
     ensures { Said W.contents output.old output.new (refused_text (place_name refusal)) }
 {
     say_refused(output, Named::Place(refusal).name());
 }
 
-/// Says a command's refusal.
+/// Writes a command's refusal.
 fn say_refusal<W: Write>(output: &mut Watched<W>, refusal: Refusal)
     ensures { Said W.contents output.old output.new
         (codes "refused " ++ refusal_name refusal ++ codes " " ++ errno_name (errno_of refusal)
@@ -86,7 +86,7 @@ fn say_refusal<W: Write>(output: &mut Watched<W>, refusal: Refusal)
     say_line(output, b" ", Named::Errno(refusal.errno()).name());
 }
 
-/// Says why a command or a worker's step is refused.
+/// Writes why a command or a worker's step is refused.
 fn say_cause<W: Write>(output: &mut Watched<W>, cause: CoreRefusal)
     ensures { Said W.contents output.old output.new (refused_text (cause_name cause)) }
 {
@@ -103,7 +103,7 @@ fn say_cause<W: Write>(output: &mut Watched<W>, cause: CoreRefusal)
     }
 }
 
-/// Says a frame: its node, and its number on that node.
+/// Writes a frame: its node, and its number on that node.
 fn say_frame<W: Write>(output: &mut Watched<W>, node: u8, number: u16)
     ensures { Said W.contents output.old output.new (frame_text node number) }
 {
@@ -111,7 +111,7 @@ fn say_frame<W: Write>(output: &mut Watched<W>, node: u8, number: u16)
     say_number(output, b" frame ", u64::from(number));
 }
 
-/// Says a frame that was won.
+/// Writes a frame that was won.
 fn say_win<W: Write>(output: &mut Watched<W>, win: &Win)
     ensures { Said W.contents output.old output.new (win_answer win.now) }
 {
@@ -120,7 +120,7 @@ fn say_win<W: Write>(output: &mut Watched<W>, win: &Win)
     say_count(output, b" rank ", u64::from(win.rank));
 }
 
-/// Says a frame that was given back.
+/// Writes a frame that was given back.
 fn say_back<W: Write>(output: &mut Watched<W>, frame: Frame)
     ensures { Said W.contents output.old output.new
         (codes "back" ++ frame_text frame.node frame.number ++ codes "\n") }
@@ -130,7 +130,7 @@ fn say_back<W: Write>(output: &mut Watched<W>, frame: Frame)
     output.say(b"\n");
 }
 
-/// Says a version, as answers to questions begin.
+/// Writes a version, with which answers to questions begin.
 fn say_version<W: Write>(output: &mut Watched<W>, version: u64)
     ensures { Said W.contents output.old output.new (codes "v" ++ decimal version ++ codes ":") }
 {
@@ -138,7 +138,7 @@ fn say_version<W: Write>(output: &mut Watched<W>, version: u64)
     output.say(b":");
 }
 
-/// Says the nodes of a page, or of pages, at a version: `v2: 0 1`.
+/// Writes the nodes of a page, or of pages, at a version: `v2: 0 1`.
 pub fn say_nodes<W: Write>(output: &mut Watched<W>, version: u64, nodes: &[u8])
     ensures { Said W.contents output.old output.new (nodes_answer version nodes.now) }
 {
@@ -151,7 +151,7 @@ pub fn say_nodes<W: Write>(output: &mut Watched<W>, version: u64, nodes: &[u8])
     output.say(b"\n");
 }
 
-/// Says a node and its pages, where it has some.
+/// Writes a node and its number of pages, if it has any.
 fn say_count_of<W: Write>(output: &mut Watched<W>, node: usize, pages: u64)
     ensures { Said W.contents output.old output.new (count_of_node node pages) }
 {
@@ -161,7 +161,7 @@ fn say_count_of<W: Write>(output: &mut Watched<W>, node: usize, pages: u64)
     }
 }
 
-/// Says each node that has pages, the lowest first.
+/// Writes each node that has pages, in ascending order.
 fn say_each_count<W: Write>(output: &mut Watched<W>, pages: &[u64; 256])
     ensures { Said W.contents output.old output.new
         (counts_text (λ node. slice_index pages.now node)) }
@@ -171,8 +171,8 @@ fn say_each_count<W: Write>(output: &mut Watched<W>, pages: &[u64; 256])
     }
 }
 
-/// Says how many pages each node has, where it has some, at a version: `v2: N0=3 N1=1`. The entry
-/// of a node is its pages.
+/// Writes the number of pages of each node that has any, at a version: `v2: N0=3 N1=1`. `pages[n]`
+/// is the number for node n.
 pub fn say_counts<W: Write>(output: &mut Watched<W>, version: u64, pages: &[u64; 256])
     ensures { Said W.contents output.old output.new
         (counts_answer version (λ node. slice_index pages.now node)) }
@@ -182,14 +182,14 @@ pub fn say_counts<W: Write>(output: &mut Watched<W>, version: u64, pages: &[u64;
     output.say(b"\n");
 }
 
-/// Says how many ranges there are: `ranges 3`.
+/// Writes the number of ranges: `ranges 3`.
 pub fn say_ranges<W: Write>(output: &mut Watched<W>, count: u64)
     ensures { Said W.contents output.old output.new (ranges_answer count) }
 {
     say_count(output, b"ranges ", count);
 }
 
-/// Says the line that a reply is written as; nothing for `Silent`.
+/// Writes a reply as a line; nothing for `Silent`.
 #[tactic(auto, unfolding(crate::specs::Texts::text_of))]
 pub fn say_reply<W: Write>(output: &mut Watched<W>, reply: &Reply)
     ensures { Said W.contents output.old output.new (text_of reply.now) }

@@ -1,4 +1,4 @@
-//! What the lines of workers ask for.
+//! The lines of workers.
 ghost use Rattle.std.specs.Prelude.{◌≡◌, ℕ, List, Option};
 ghost use Rattle.numa_script.specs.Workers.{request_of, frame_of, publish_work, begin_work};
 ghost use Rattle.numa_script.specs.Workers.{look_work, try_work, give_work, touch_work};
@@ -13,12 +13,11 @@ use numa_space::{Event, PAGE_BYTES, Request};
 /// Work for a worker, or the publication of the commands so far. Workers are numbered from 0.
 #[derive(Clone, Copy, Debug, PartialEq, Eq)]
 pub enum Work {
-    /// One event of the core: `publish`, `begin`, `look`, `try` and `give` ask for one. A command
-    /// is none of them.
+    /// One event of the core, for `publish`, `begin`, `look`, `try` and `give`; never a command.
     Event(Event),
-    /// The worker is to find a frame for the request, and the page is to keep it.
+    /// The worker finds a frame for the request, and the page keeps it.
     Touch(u32, Request),
-    /// The worker is to give back the frame that the page, by its number, has kept.
+    /// The worker gives back the frame of the page with this number.
     Release(u32, u64),
 }
 

@@ -1,4 +1,4 @@
-//! The cells of a picture: where the first pages of each range go, one by one.
+//! The cells of a picture: the node of each of the first pages of each range.
 
 ghost use Rattle.std.specs.Prelude.{◌+◌, ◌<◌, ◌^◌, IfErr};
 ghost use Rattle.numa_plan.specs.Meaning.{RefusesSpan};
@@ -13,12 +13,11 @@ use numa_plan::Plan;
 use numa_space::{PlaceRefusal, RangeRecord, Run, Space};
 use std::alloc::Global;
 
-/// How many pages of a range have a cell.
+/// The most pages of a range that have a cell.
 pub(crate) const CELLS: usize = 64;
 
-/// Writes the nodes of the first pages of a range, [`CELLS`] places; those behind its last page are
-/// 0, and those of pages that find no node with a free page. Where free pages are counted, each
-/// page takes one.
+/// Writes the nodes of the first [`CELLS`] pages of a range; places past its last page are 0, and
+/// so are those of pages that find no free page. If free pages are counted, each page takes one.
 fn put_cells(
     space: &Space,
     plan: &Plan,
@@ -50,7 +49,7 @@ fn put_cells(
     Ok(())
 }
 
-/// How many free pages each node has; None where no node is named, and they aren't counted.
+/// The number of free pages of each node; `None` if no node is named, so that they aren't counted.
 fn free_where_named(named: &[FreePages]) -> Option<[u64; 256]> {
     if named.is_empty() {
         return None;
@@ -58,8 +57,7 @@ fn free_where_named(named: &[FreePages]) -> Option<[u64; 256]> {
     Some(free_of(named))
 }
 
-/// The nodes of the first pages of each range, as [`put_cells`] has them, where these nodes have so
-/// many free pages.
+/// The nodes of the first pages of each range, as [`put_cells`] writes them, with these free pages.
 pub(crate) fn first_cells(
     alloc: Global,
     space: &Space,

@@ -19,7 +19,7 @@ use numa_plan::Plan;
 use numa_space::PlaceRefusal;
 use std::alloc::{AllocError, Global};
 
-/// How many pages go from a node to another, of those that weren't told before.
+/// The number of pages that go from a node to another, without those already reported.
 fn entry(table: &[u64], told: &[u64], from: u32, to: u32) -> u64 {
     let place = from as usize * 256 + to as usize;
     let Some(pages) = table.get(place) else {
@@ -31,7 +31,7 @@ fn entry(table: &[u64], told: &[u64], from: u32, to: u32) -> u64 {
     }
 }
 
-/// How many pages go from a node to another one, for each such two nodes between which some go.
+/// Writes the number of pages that go from a node to each other node, where it isn't 0.
 fn put_from(text: &mut Written, table: &[u64], told: &[u64], nodes: u32, from: u32) {
     for to in 0..nodes {
         let pages = entry(table, told, from, to);
@@ -41,7 +41,7 @@ fn put_from(text: &mut Written, table: &[u64], told: &[u64], nodes: u32, from: u
     }
 }
 
-/// How many pages go from a node to another one.
+/// The number of pages that go from a node to another one.
 fn moved_from(table: &[u64], told: &[u64], nodes: u32, from: u32) -> u64 {
     let mut sum = 0u64;
     for to in 0..nodes {
@@ -52,7 +52,7 @@ fn moved_from(table: &[u64], told: &[u64], nodes: u32, from: u32) -> u64 {
     sum
 }
 
-/// How many pages go to another node.
+/// The number of pages that go to another node.
 fn moved(table: &[u64], told: &[u64], nodes: u32) -> u64 {
     let mut sum = 0u64;
     for from in 0..nodes {
@@ -61,8 +61,8 @@ fn moved(table: &[u64], told: &[u64], nodes: u32) -> u64 {
     sum
 }
 
-/// The end of a line: how many pages go to another node, and from each node to each other, where
-/// some go.
+/// Writes the end of a line: the number of pages that go to another node, and from each node to
+/// each other, where it isn't 0.
 fn put_moves(text: &mut Written, table: &[u64], told: &[u64], nodes: u32) {
     text.put_form(b" moved=$", &[moved(table, told, nodes)]);
     for from in 0..nodes {
@@ -71,7 +71,7 @@ fn put_moves(text: &mut Written, table: &[u64], told: &[u64], nodes: u32) {
     text.put(b"\n");
 }
 
-/// The line of a span; nothing where none of its pages goes to another node.
+/// Writes the line of a span; nothing if none of its pages goes to another node.
 fn put_line(text: &mut Written, span: PageSpan, table: &[u64], told: &[u64], nodes: u32) {
     if moved(table, told, nodes) == 0 {
         return;
@@ -81,7 +81,7 @@ fn put_line(text: &mut Written, span: PageSpan, table: &[u64], told: &[u64], nod
     put_moves(text, table, told, nodes);
 }
 
-/// Notes that what goes from a node to others is told.
+/// Notes that the pages that go from a node to others are reported.
 fn note_from(told: &mut Vec<u64>, table: &[u64], nodes: u32, from: u32) {
     for to in 0..nodes {
         let place = from as usize * 256 + to as usize;
@@ -91,15 +91,15 @@ fn note_from(told: &mut Vec<u64>, table: &[u64], nodes: u32, from: u32) {
     }
 }
 
-/// Notes that what goes from each node to others is told.
+/// Notes that the pages that go from each node to others are reported.
 fn note_all(told: &mut Vec<u64>, table: &[u64], nodes: u32) {
     for from in 0..nodes {
         note_from(told, table, nodes, from);
     }
 }
 
-/// The lines so far, how many pages of all spans go from each node to each, and how many of them
-/// were told. So many pages more have room.
+/// The lines so far, the number of pages of all spans that go from each node to each, and the
+/// number of those already reported.
 #[derive(Drop)]
 struct Difference {
     text: Written,
@@ -136,7 +136,7 @@ impl Difference {
         self.text.checked()
     }
 
-    /// Writes the last line, and gives the text.
+    /// Writes the last line, and returns the text.
     fn end(&mut self, nodes: u32) -> Result<Vec<u8>, AllocError> {
         self.text.put(b"total");
         put_moves(&mut self.text, self.total.as_slice(), &[], nodes);
@@ -144,8 +144,8 @@ impl Difference {
     }
 }
 
-/// Whether each page of a block, as many as both lists have places, goes to the same node by both
-/// plans. It is false where a plan lacks one.
+/// Whether each page of a block that fits both lists goes to the same node by both plans. False if
+/// a plan lacks one.
 fn block_stays(
     before: &Plan,
     after: &Plan,
@@ -163,8 +163,7 @@ fn block_stays(
     *old == *new
 }
 
-/// Whether each page of a span goes to the same node by both plans. It is false where a plan lacks
-/// one.
+/// Whether each page of a span goes to the same node by both plans. False if a plan lacks one.
 fn stays(before: &Plan, after: &Plan, touch: Touch, span: PageSpan) -> bool {
     let mut old = [0u8; BLOCK];
     let mut new = [0u8; BLOCK];
@@ -212,7 +211,7 @@ fn count_span(
     Ok(())
 }
 
-/// Adds the line of a span, and its pages to those of all; nothing where all of them stay.
+/// Adds the line of a span, and its pages to the total; nothing if all of them stay.
 fn push_span(
     before: &Plan,
     after: &Plan,
@@ -235,13 +234,13 @@ fn push_span(
     Ok(())
 }
 
-/// Which pages go to another node, if the task touched each of them on a CPU of node `cpu` after
-/// and not before: a line for each span of pages of which some do, with how many go from which node
-/// to which, and a last line with all.
+/// The pages that go to another node, if the task touched each of them on a CPU of node `cpu` after
+/// the change instead of before it: a line for each span with such pages, with the number that go
+/// from which node to which, and a last line with the total.
 ///
 /// # Errors
-/// `Refused(BadCpu)` where the machine has no node `cpu`; `Refused(Unmapped)` only where an outlook
-/// has a page that its plan lacks; `Memory` where there was none for the text.
+/// `Refused(BadCpu)`: the machine has no node `cpu`. `Refused(Unmapped)`: an outlook has a page
+/// that its plan lacks. `Memory`: there is no memory for the text.
 pub fn difference_text(
     alloc: Global,
     before: &Outlook,

@@ -3,8 +3,8 @@
 use crate::sheet::nodes::NodePages;
 use numa_space::PAGE_BYTES;
 
-/// How many bytes so many pages have; the first page behind them has its address there. The pages
-/// of a space end below 2^47 bytes.
+/// The size of this many pages in bytes, which is also the address of page number `pages`. The
+/// pages of a space end below 2^47 bytes.
 pub(crate) fn bytes(pages: u64) -> u64 {
     pages.saturating_mul(PAGE_BYTES)
 }
@@ -12,15 +12,15 @@ pub(crate) fn bytes(pages: u64) -> u64 {
 /// Pages by node.
 #[derive(Clone, Copy)]
 pub(crate) struct Placed<'a> {
-    /// Each node that gets pages, the lowest first.
+    /// Each node that gets pages, in ascending order.
     pub(crate) nodes: &'a [NodePages],
-    /// How many pages all nodes get.
+    /// The number of pages of all nodes.
     pub(crate) pages: u64,
-    /// How many pages find no node with a free page; none where free pages aren't counted.
+    /// The number of pages that find no free page; `None` if free pages aren't counted.
     pub(crate) exhausted: Option<u64>,
 }
 
-/// How many pages all nodes have together.
+/// The total number of pages of all nodes.
 fn sum(nodes: &[NodePages]) -> u64 {
     let mut sum = 0u64;
     for one in nodes {
@@ -29,8 +29,8 @@ fn sum(nodes: &[NodePages]) -> u64 {
     sum
 }
 
-/// So many mapped pages, of which these nodes get some; `fills` says whether those that find no
-/// node with a free page are counted.
+/// `pages` mapped pages, of which these nodes get some; `fills` says whether those that find no
+/// free page are counted.
 pub(crate) fn placed_of(nodes: &[NodePages], pages: u64, fills: bool) -> Placed<'_> {
     if !fills {
         return Placed {
@@ -48,7 +48,7 @@ pub(crate) fn placed_of(nodes: &[NodePages], pages: u64, fills: bool) -> Placed<
 }
 
 impl Placed<'_> {
-    /// How many pages find no node, none where that is none.
+    /// The number of pages that find no free page; `None` if it is 0.
     pub(crate) fn lacking(&self) -> Option<u64> {
         match self.exhausted {
             Some(0) => None,
@@ -57,12 +57,12 @@ impl Placed<'_> {
     }
 }
 
-/// What is said of a range.
+/// The row of a range.
 #[derive(Clone, Copy)]
 pub(crate) struct RangeRow<'a> {
     /// The address of its first byte.
     pub(crate) start: u64,
-    /// The address behind its last byte.
+    /// The address after its last byte.
     pub(crate) end: u64,
     /// The policy as numa_maps shows it.
     pub(crate) policy: &'a str,

@@ -4,14 +4,14 @@ use crate::sheet::fields::{Placed, RangeRow};
 use crate::sheet::nodes::{NodePages, put_nodes};
 use crate::sheet::written::Written;
 
-/// How many pages find no node with a free page, where there are some.
+/// Writes the number of pages that find no free page, if there are any.
 pub(crate) fn put_lacking(text: &mut Written, placed: Placed<'_>) {
     if let Some(pages) = placed.lacking() {
         text.put_form(b" exhausted=$", &[pages]);
     }
 }
 
-/// All pages, and each node that has some with them.
+/// Writes the number of pages, and each node that has some.
 fn put_pages(text: &mut Written, placed: Placed<'_>) {
     text.put(b" anon=");
     text.put_number(placed.pages);
@@ -20,8 +20,8 @@ fn put_pages(text: &mut Written, placed: Placed<'_>) {
     text.put(b" kernelpagesize_kB=4\n");
 }
 
-/// The line of a range: its first address and the one behind its last, the policy, and its pages by
-/// node.
+/// Writes the line of a range: its first address and the one after its last, the policy, and its
+/// pages by node.
 pub(crate) fn put_range(text: &mut Written, row: RangeRow<'_>) {
     text.put_addresses(row.start, row.end);
     text.put(b" ");
@@ -29,7 +29,7 @@ pub(crate) fn put_range(text: &mut Written, row: RangeRow<'_>) {
     put_pages(text, row.placed);
 }
 
-/// The last line, where some nodes are named: what is left on each of them.
+/// Writes the last line, if nodes are named: the free pages left on each of them.
 fn put_left(text: &mut Written, left: &[NodePages]) {
     if left.is_empty() {
         return;
@@ -39,7 +39,7 @@ fn put_left(text: &mut Written, left: &[NodePages]) {
     text.put(b"\n");
 }
 
-/// The line of all pages by node, and that of what is left.
+/// Writes the line of all pages by node, and that of the free pages left.
 pub(crate) fn put_total(text: &mut Written, placed: Placed<'_>, left: &[NodePages]) {
     text.put(b"total");
     put_pages(text, placed);

@@ -3,14 +3,14 @@
 use crate::sheet::written::Written;
 use std::alloc::AllocError;
 
-/// So many pages of a node.
+/// A number of pages of a node.
 #[derive(Clone, Copy)]
 pub(crate) struct NodePages {
     pub(crate) node: u64,
     pub(crate) pages: u64,
 }
 
-/// Puts each node that has pages into a list, the lowest first, in the place of what it held.
+/// Replaces a list by the nodes that have pages, in ascending order.
 pub(crate) fn list_nodes(nodes: &mut Vec<NodePages>, counts: &[u64]) -> Result<(), AllocError> {
     nodes.clear();
     for node in 0..counts.len() {

@@ -1,9 +1,9 @@
-//! JSON objects, whose members stand in the order of their names.
+//! JSON objects, with their members in the order of their names.
 
 use serde_json::{Map, Value, put};
 use std::alloc::{AllocError, Global};
 
-/// An object that is made member by member. Once there was no memory for one, no more is added.
+/// An object that is built member by member. After it ran out of memory nothing more is added.
 #[derive(Drop)]
 pub struct Object {
     alloc: Global,
@@ -21,12 +21,12 @@ impl Object {
         }
     }
 
-    /// Where its memory comes from.
+    /// Its allocator.
     pub fn alloc(&self) -> Global {
         self.alloc
     }
 
-    /// Adds a member, if there was memory for its value.
+    /// Adds a member, unless its value is an error.
     pub fn put(&mut self, name: &str, value: Result<Value, AllocError>) {
         if self.lacks_memory {
             return;
@@ -44,10 +44,10 @@ impl Object {
         self.put(name, Ok(Value::from(number)));
     }
 
-    /// The object, if there was memory for all its members.
+    /// Returns the object, if there was memory for all its members.
     ///
     /// # Errors
-    /// `AllocError`: out of memory. It may have happened while the members were put in.
+    /// `AllocError`: out of memory, now or when a member was added.
     pub fn made(self) -> Result<Value, AllocError> {
         if self.lacks_memory {
             return Err(AllocError);

@@ -1,5 +1,5 @@
-//! Reports as JSON, whose objects are serde_json's: their members stand in the order of their
-//! names. The pages that find no node stand behind them.
+//! Reports as JSON. Objects are serde_json's, with their members in the order of their names; the
+//! number of pages that find no free page comes after them.
 
 use crate::sheet::fields::{Placed, RangeRow};
 use crate::sheet::nodes::NodePages;
@@ -9,7 +9,7 @@ use crate::touch::Touch;
 use serde_json::{ToValue, Value};
 use std::alloc::{AllocError, Global};
 
-/// The object begins, and its list of ranges.
+/// Begins the object, and its list of ranges.
 pub(crate) fn put_head(text: &mut Written, version: u64, touch: Touch) {
     let asked = [version, touch.task as u64, touch.cpu as u64];
     text.put_form(b"{\"version\":$,\"task\":$,\"cpu\":$,", &asked);
@@ -33,13 +33,13 @@ fn list(alloc: Global, nodes: &[NodePages]) -> Result<Value, AllocError> {
     Ok(Value::from(items))
 }
 
-/// Adds all pages, and each node that has some.
+/// Adds the number of pages, and each node that has some.
 fn put_placed(object: &mut Object, placed: Placed<'_>) {
     object.put_number("anon", placed.pages);
     object.put("nodes", list(object.alloc(), placed.nodes));
 }
 
-/// Writes a value; the pages that find no node stand behind its other members, where they are
+/// Writes a value, with the number of pages that find no free page as its last member, if they are
 /// counted.
 fn put_item(text: &mut Written, item: &[u8], exhausted: Option<u64>) {
     let (Some(pages), Some((_, open))) = (exhausted, item.split_last()) else {
@@ -50,7 +50,7 @@ fn put_item(text: &mut Written, item: &[u8], exhausted: Option<u64>) {
     text.put_form(b",\"exhausted\":$}", &[pages]);
 }
 
-/// The same of an object that was made, if there was memory for it.
+/// The same for an object, unless it is an error.
 fn put_made(text: &mut Written, made: Result<Value, AllocError>, exhausted: Option<u64>) {
     let Ok(value) = made else {
         text.lack();
@@ -62,7 +62,7 @@ fn put_made(text: &mut Written, made: Result<Value, AllocError>, exhausted: Opti
     }
 }
 
-/// The object of a range, but for the pages that find no node.
+/// The object of a range, without the number of pages that find no free page.
 fn range_object(alloc: Global, row: RangeRow<'_>) -> Result<Value, AllocError> {
     let mut object = Object::new(alloc);
     put_placed(&mut object, row.placed);
@@ -72,7 +72,7 @@ fn range_object(alloc: Global, row: RangeRow<'_>) -> Result<Value, AllocError> {
     object.made()
 }
 
-/// The object of all pages by node, but for those that find none.
+/// The object of all pages by node, without the number of those that find no free page.
 fn total_object(alloc: Global, placed: Placed<'_>) -> Result<Value, AllocError> {
     let mut object = Object::new(alloc);
     put_placed(&mut object, placed);
@@ -86,7 +86,7 @@ pub(crate) fn put_range(text: &mut Written, row: RangeRow<'_>, is_first: bool) {
     put_made(text, range_object(text.alloc(), row), row.placed.exhausted);
 }
 
-/// What is left on each node, where some are named.
+/// Writes the free pages left on each node, if nodes are named.
 fn put_left(text: &mut Written, left: &[NodePages]) {
     if !left.is_empty() {
         text.put(b",\"left\":");
@@ -94,8 +94,8 @@ fn put_left(text: &mut Written, left: &[NodePages]) {
     }
 }
 
-/// The list of ranges ends, and the object with all pages by node, and with what is left where some
-/// nodes are named.
+/// Ends the list of ranges, and the object, with all pages by node and, if nodes are named, the
+/// free pages left.
 pub(crate) fn put_total(text: &mut Written, placed: Placed<'_>, left: &[NodePages]) {
     text.put(b"\n],\"total\":");
     put_made(text, total_object(text.alloc(), placed), placed.exhausted);

@@ -1,4 +1,4 @@
-//! A prediction, part by part, in the format that was asked for.
+//! Writing a prediction part by part, in any format.
 ghost use Rattle.std.specs.Prelude.{◌≡◌, ◌≤◌, Err};
 ghost use Rattle.numa_space.specs.declared.refusal.PlaceRefusal.TheVariants.{BadCpu};
 ghost use Rattle.numa_reports.specs.declared.fault.ReportError.TheVariants.{Refused};
@@ -22,17 +22,17 @@ use std::alloc::{AllocError, Global};
 #[derive(Drop)]
 struct PredictionWriter {
     format: Format,
-    // How many nodes the machine has.
+    // The number of nodes of the machine.
     nodes: usize,
     policies: PolicyTexts,
-    // Whether pages that find no node with a free page are counted.
+    // Whether pages that find no free page are counted.
     fills: bool,
-    // How many ranges are told of, with how many pages, and as many bytes for each range as a
+    // The number of ranges written and of their pages, and for each range as many bytes as a
     // picture has cells.
     ranges: usize,
     pages: u64,
     cells: Vec<u8>,
-    // The nodes that get pages of what is told of.
+    // The nodes that get pages of the range being written.
     listed: Vec<NodePages>,
     text: Written,
 }
@@ -42,7 +42,7 @@ fn shown(counts: &[u64; 256], nodes: usize) -> &[u64] {
     &counts[..nodes.min(256)]
 }
 
-/// The cells of a range of so many pages, behind so many ranges.
+/// The cells of range number `ranges`, which has `pages` pages.
 fn cells_of(cells: &[u8], ranges: usize, pages: u64) -> &[u8] {
     let first = ranges.saturating_mul(CELLS);
     let end = first.saturating_add(pages.min(CELLS as u64) as usize);
@@ -50,8 +50,8 @@ fn cells_of(cells: &[u8], ranges: usize, pages: u64) -> &[u8] {
 }
 
 impl PredictionWriter {
-    /// Writes what stands behind the last range: how many pages each node gets in all, and what is
-    /// left on those that are named.
+    /// Writes the part after the last range: the total pages of each node, and the free pages left
+    /// on named nodes.
     fn put_total(&mut self, counts: &[u64; 256], left: &[NodePages]) {
         let counts = shown(counts, self.nodes);
         if let Err(_) = list_nodes(&mut self.listed, counts) {
@@ -69,7 +69,7 @@ impl PredictionWriter {
     }
 }
 
-/// Writes what is said of a range, with so many before it; the cells are those of all ranges.
+/// Writes the row of a range, with `before` ranges before it; the cells are those of all ranges.
 fn put_range(text: &mut Written, format: Format, row: RangeRow<'_>, before: usize, cells: &[u8]) {
     match format {
         Format::Text => lines::put_range(text, row),
@@ -98,8 +98,8 @@ impl TakeRange for PredictionWriter {
     }
 }
 
-/// What is asked: where the pages of a space go by a plan, if they are touched so, and the named
-/// nodes have so many free pages.
+/// A request: where the pages of a space go by a plan, if they are touched so and named nodes have
+/// these free pages.
 #[derive(Clone, Copy)]
 struct PredictionRequest<'a> {
     space: &'a Space,
@@ -108,7 +108,7 @@ struct PredictionRequest<'a> {
     free: &'a [FreePages],
 }
 
-/// What stands before the first range.
+/// The part before the first range.
 fn head(alloc: Global, asked: PredictionRequest<'_>, format: Format) -> Written {
     let mut text = Written::new(alloc);
     let (space, touch) = (asked.space, asked.touch);
@@ -149,7 +149,7 @@ fn begin(
     })
 }
 
-/// What is left on the nodes that are named.
+/// The free pages left on named nodes.
 fn left_on(
     alloc: Global,
     named: &[FreePages],
@@ -165,7 +165,7 @@ fn left_on(
     Ok(left)
 }
 
-/// Writes what is said of each range, and of all, where some nodes are named.
+/// Writes each range and the total, if nodes are named.
 fn write_filled(
     parts: &mut PredictionWriter,
     asked: PredictionRequest<'_>,
@@ -182,7 +182,7 @@ fn write_filled(
     Ok(())
 }
 
-/// Writes what is said of each range, and of all, and gives the text.
+/// Writes each range and the total, and returns the text.
 fn write_all(
     parts: &mut PredictionWriter,
     asked: PredictionRequest<'_>,
@@ -200,15 +200,15 @@ fn write_all(
     Ok(parts.text.take()?)
 }
 
-/// Where all mapped pages would go, if the task touched each of them now on a CPU of node `cpu`,
-/// those of lower addresses first, and the named nodes had so many free pages; the others never run
-/// out. Tells how many pages find no node with a free page (`exhausted`), and what is left on the
-/// nodes that are named. The plan is one of the space. The time grows with the pages where a node
-/// is named, and else with the ranges.
+/// Where all mapped pages would go, if the task touched each of them now on a CPU of node `cpu`, in
+/// ascending order, and named nodes had these free pages; others never run out. The text has the
+/// number of pages that find no free page (`exhausted`), and the free pages left on named nodes.
+/// The plan is one of the space. The time depends on the number of ranges and, if nodes are named,
+/// on the cycles of their policies.
 ///
 /// # Errors
-/// `Refused(BadCpu)` where the machine has no node `cpu`; `Refused(Unmapped)` only where the plan
-/// isn't one of the space; `Memory` where there was none for the text.
+/// `Refused(BadCpu)`: the machine has no node `cpu`. `Refused(Unmapped)`: the plan isn't one of the
+/// space. `Memory`: there is no memory for the text.
 pub fn filling_text(
     alloc: Global,
     space: &Space,
@@ -236,8 +236,7 @@ pub fn filling_text(
 }
 
 /// Where all mapped pages would go, if the task touched each of them now on a CPU of node `cpu`, as
-/// [`filling_text`] tells it where no node is named. The time grows with the ranges and not with
-/// their pages.
+/// [`filling_text`] without named nodes. The time depends on the number of ranges, not of pages.
 ///
 /// # Errors
 /// As [`filling_text`].

@@ -1,7 +1,7 @@
 //! Predictions as a picture: SVG 1.1, which browsers show.
 //!
-//! A range is a line of text and a bar with a cell for each page, in which the node's number
-//! stands; below the ranges stand the nodes with what they get. So nothing hangs on the colours.
+//! A range is a line of text and a bar with a cell for each page that shows the node's number;
+//! below the ranges are the nodes with their pages. So nothing depends on colours.
 
 use crate::sheet::fields::{Placed, RangeRow, bytes};
 use crate::sheet::lines::put_lacking;
@@ -9,22 +9,22 @@ use crate::sheet::nodes::{NodePages, put_nodes};
 use crate::sheet::written::Written;
 use crate::touch::Touch;
 
-/// Colours that black letters are read on; nodes whose numbers are eight apart share one.
+/// Background colours for black letters; nodes whose numbers differ by a multiple of 8 share one.
 static COLOURS: [&str; 8] = [
     "#a6cee3", "#fdbf6f", "#b2df8a", "#fb9a99", "#cab2d6", "#ffff99", "#dddddd", "#ffffff",
 ];
 
-/// How many nodes are named in the line of a range, at most.
+/// The most nodes that are named in the line of a range.
 const NAMED: usize = 8;
 
-/// The first row of pixels of the ranges, how many a range has, and how many a node.
+/// The first row of pixels of the ranges, and the rows of a range and of a node.
 const TOP: u64 = 40;
 
 const RANGE_ROWS: u64 = 40;
 
 const NODE_ROWS: u64 = 20;
 
-/// How high the picture of so many ranges and nodes is, in pixels.
+/// The height of the picture in pixels.
 fn height(ranges: usize, nodes: usize) -> u64 {
     let ranges = (ranges as u64).saturating_mul(RANGE_ROWS);
     let nodes = (nodes as u64).saturating_mul(NODE_ROWS);
@@ -33,7 +33,7 @@ fn height(ranges: usize, nodes: usize) -> u64 {
         .saturating_add(60)
 }
 
-/// The cell of a page that a node gets, to be used by its name.
+/// Defines the cell of a node's page, to be used by its name.
 fn put_cell(text: &mut Written, node: usize) {
     let size = if node < 100 { 8 } else { 6 };
     let number = node as u64;
@@ -58,7 +58,7 @@ fn put_cells(text: &mut Written, nodes: usize) {
     text.put(b"</defs>\n");
 }
 
-/// The picture begins.
+/// Begins the picture.
 pub(crate) fn put_head(
     text: &mut Written,
     version: u64,
@@ -84,7 +84,7 @@ pub(crate) fn put_head(
     );
 }
 
-/// The nodes that get pages, each with its pages, or how many there are.
+/// Writes the nodes that get pages, each with its pages, or their number.
 fn put_counts(text: &mut Written, nodes: &[NodePages]) {
     if nodes.len() > NAMED {
         text.put_form(b" on $ nodes", &[nodes.len() as u64]);
@@ -93,7 +93,7 @@ fn put_counts(text: &mut Written, nodes: &[NodePages]) {
     }
 }
 
-/// A bar: a cell for each of the first pages, and how many pages more there are.
+/// Writes a bar: a cell for each of the first pages, and the number of further pages.
 fn put_bar(text: &mut Written, cells: &[u8], pages: u64) {
     let mut left = 0u64;
     for node in cells {
@@ -108,14 +108,14 @@ fn put_bar(text: &mut Written, cells: &[u8], pages: u64) {
     }
 }
 
-/// How far below the picture's top so many ranges end.
+/// The row of pixels at which this many ranges end.
 fn below(ranges: usize) -> u64 {
     (ranges as u64)
         .saturating_mul(RANGE_ROWS)
         .saturating_add(TOP)
 }
 
-/// The range with so many before it: its line and its bar.
+/// Writes a range, with `before` ranges before it: its line and its bar.
 pub(crate) fn put_range(text: &mut Written, before: usize, row: RangeRow<'_>, cells: &[u8]) {
     text.put_form(
         b"<g class=\"range\" transform=\"translate(16,$)\"><text y=\"11\">",
@@ -132,7 +132,7 @@ pub(crate) fn put_range(text: &mut Written, before: usize, row: RangeRow<'_>, ce
     text.put(b"</g>\n");
 }
 
-/// What is left on a node, where it is named.
+/// Writes the free pages left on a node, if it is named.
 fn put_left(text: &mut Written, node: usize, left: &[NodePages]) {
     for one in left {
         if one.node == node as u64 {
@@ -141,7 +141,7 @@ fn put_left(text: &mut Written, node: usize, left: &[NodePages]) {
     }
 }
 
-/// What a node gets in all.
+/// Writes the total pages of a node.
 fn put_node(text: &mut Written, node: usize, pages: u64, top: u64, left: &[NodePages]) {
     let number = node as u64;
     text.put_form(
@@ -159,7 +159,7 @@ fn put_node(text: &mut Written, node: usize, pages: u64, top: u64, left: &[NodeP
     text.put(b"</text>\n");
 }
 
-/// The picture ends: what each node of the machine gets.
+/// Ends the picture with the total pages of each node.
 pub(crate) fn put_total(
     text: &mut Written,
     placed: Placed<'_>,

@@ -5,13 +5,14 @@ use indexmap::IndexMap;
 use numa_mode::Record;
 use std::alloc::{AllocError, Global};
 
-/// How many guesses at places of texts there are.
+/// The number of guesses at places of texts.
 const GUESSES: usize = 64;
 
-/// 2^64 over the golden ratio: a product with it has bits of every factor in its middle.
+/// 2^64 divided by the golden ratio: the middle bits of a product with it depend on every bit of
+/// the other factor.
 const SPREAD: u64 = 0x9E37_79B9_7F4A_7C15;
 
-/// Which guess is a policy's: policies of different modes or nodes mostly have different ones.
+/// The guess of a policy: policies with different modes or nodes mostly have different ones.
 fn guess_of(policy: &Record) -> usize
     ensures { result < 64 }
 {
@@ -23,13 +24,14 @@ fn guess_of(policy: &Record) -> usize
     (mixed >> 32) as usize % GUESSES
 }
 
-/// The texts of policies; each is made once, since making one takes longer than all else that is
-/// said of a range.
+/// The texts of policies. Each is made once, since that takes longer than the rest of a range's
+/// row.
 #[derive(Drop)]
 pub(crate) struct PolicyTexts {
     alloc: Global,
     texts: IndexMap<Record, String>,
-    // Where policies were found last: looked at before it is believed, which spares a hash.
+    // Where policies were found last. A guess is checked before it is used; a right one saves a
+    // hash.
     guesses: [usize; GUESSES],
 }
 
@@ -43,7 +45,7 @@ impl PolicyTexts {
         }
     }
 
-    /// Makes a policy's text, and tells its place.
+    /// Makes a policy's text, and returns its place.
     fn add(&mut self, policy: Record) -> Result<usize, AllocError> {
         let text = String::from_str(self.alloc, policy.policy_text().as_str())?;
         let place = self.texts.len();
@@ -51,7 +53,7 @@ impl PolicyTexts {
         Ok(place)
     }
 
-    /// Whether a policy's text stands at a place.
+    /// Whether a place has a policy's text.
     fn is_at(&self, place: usize, policy: &Record) -> bool {
         match self.texts.get_index(place) {
             Some((other, _)) => *other == *policy,
@@ -59,8 +61,8 @@ impl PolicyTexts {
         }
     }
 
-    /// The place of a policy's text, by a guess where that is right; the text is made where there
-    /// is none yet.
+    /// The place of a policy's text, by a guess if that is right. The text is made if there is
+    /// none.
     fn place(&mut self, policy: Record) -> Result<usize, AllocError> {
         let guess = guess_of(&policy);
         let place = self.guesses[guess];
@@ -75,7 +77,7 @@ impl PolicyTexts {
         Ok(place)
     }
 
-    /// The policy as numa_maps shows it; `default` where there is none.
+    /// The policy as numa_maps shows it; `default` without one.
     pub(crate) fn text(&mut self, policy: Option<Record>) -> Result<&str, AllocError> {
         let Some(policy) = policy else {
             return Ok("default");

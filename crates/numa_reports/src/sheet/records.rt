@@ -1,5 +1,5 @@
-//! Reports as CSV: one record for each node of each range, and one for each node of all. Pages that
-//! find no node with a free page have a record without a node.
+//! Reports as CSV: one record for each node of each range, and one for each node's total. Pages
+//! that find no free page have a record without a node.
 
 use crate::sheet::fields::{Placed, RangeRow, placed_of};
 use crate::sheet::nodes::NodePages;
@@ -8,12 +8,12 @@ use csv::{Writer, WriterBuilder};
 use itoa::Buffer;
 use std::alloc::Global;
 
-/// The record of the names.
+/// Writes the header record.
 pub(crate) fn put_head(text: &mut Written) {
     text.put(b"start,end,policy,anon,node,pages\n");
 }
 
-/// What all records of a range begin with.
+/// The common beginning of the records of a range.
 #[derive(Clone, Copy)]
 struct RowPrefix<'a> {
     start: &'a str,
@@ -22,7 +22,7 @@ struct RowPrefix<'a> {
     all: &'a str,
 }
 
-/// Records that are written one by one. Once there was no memory for one, no more are written.
+/// Records that are written one by one. After it ran out of memory no more are written.
 #[derive(Drop)]
 struct Records {
     writer: Writer<Vec<u8>>,
@@ -74,7 +74,7 @@ impl Records {
         }
     }
 
-    /// Puts the records into a text.
+    /// Appends the records to a text.
     fn end(self, text: &mut Written) {
         match self.writer.into_inner() {
             Ok(part) if !self.lacks_memory => text.put(part.as_slice()),
@@ -104,8 +104,7 @@ pub(crate) fn put_range(text: &mut Written, row: RangeRow<'_>) {
     put_all(text, &front, row.placed);
 }
 
-/// Records that are none of a range: a word stands in the place of their policy, and they have no
-/// addresses.
+/// Writes records that belong to no range: a word instead of their policy, and no addresses.
 fn put_apart(text: &mut Written, policy: &str, placed: Placed<'_>) {
     let mut all = Buffer::new();
     let front = RowPrefix {
@@ -117,8 +116,8 @@ fn put_apart(text: &mut Written, policy: &str, placed: Placed<'_>) {
     put_all(text, &front, placed);
 }
 
-/// The records of all pages, `total`; behind them those of what is left, `left`, where some nodes
-/// are named.
+/// Writes the records of all pages, `total`, and after them those of the free pages left, `left`,
+/// if nodes are named.
 pub(crate) fn put_total(text: &mut Written, placed: Placed<'_>, left: &[NodePages]) {
     put_apart(text, "total", placed);
     for one in left {

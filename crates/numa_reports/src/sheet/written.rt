@@ -10,13 +10,14 @@ fn last_digits(number: u64) -> [u8; 8] {
     let halves = (low | (low << 16)) & 0x0000_FFFF_0000_FFFF;
     let pairs = (halves | (halves << 8)) & 0x00FF_00FF_00FF_00FF;
     let values = (pairs | (pairs << 4)) & 0x0F0F_0F0F_0F0F_0F0F;
-    // Has 1 in each byte whose digit is a letter. The letters stand 39 places behind the digit 9.
+    // Has 1 in each byte whose digit is a letter. In ASCII the letters a to f are 39 codes further
+    // on than the digits would continue.
     let letters = (values.wrapping_add(0x0606_0606_0606_0606) >> 4) & 0x0101_0101_0101_0101;
     let digits = values.wrapping_add(letters.wrapping_mul(39));
     digits.wrapping_add(0x3030_3030_3030_3030).to_be_bytes()
 }
 
-/// What is written so far. Once there was no memory for a part, no more is written.
+/// A text that is written part by part. After it ran out of memory nothing more is written.
 #[derive(Drop)]
 pub struct Written {
     alloc: Global,
@@ -34,12 +35,12 @@ impl Written {
         }
     }
 
-    /// Where its memory comes from.
+    /// Its allocator.
     pub fn alloc(&self) -> Global {
         self.alloc
     }
 
-    /// Remembers that there was no memory for a part.
+    /// Notes that there was no memory for a part.
     pub fn lack(&mut self) {
         self.lacks_memory = true;
     }
@@ -62,7 +63,7 @@ impl Written {
         self.put(buffer.format(number).as_bytes());
     }
 
-    /// Writes a number in hexadecimal digits, eight at least.
+    /// Writes a number in at least eight hexadecimal digits.
     pub(crate) fn put_address(&mut self, number: u64) {
         let zeros = (number.leading_zeros() / 4) as usize;
         if zeros < 8 {
@@ -72,14 +73,14 @@ impl Written {
         self.put(&last_digits(number));
     }
 
-    /// Writes the address of a first byte, and that behind the last.
+    /// Writes the address of a first byte, and that after the last.
     pub(crate) fn put_addresses(&mut self, start: u64, end: u64) {
         self.put_address(start);
         self.put(b"-");
         self.put_address(end);
     }
 
-    /// Writes a form, with the next of the numbers for each `$`.
+    /// Writes a format in which each `$` stands for the next of the numbers.
     pub fn put_form(&mut self, form: &[u8], numbers: &[u64]) {
         let mut rest = numbers;
         for byte in form {
@@ -92,7 +93,7 @@ impl Written {
         }
     }
 
-    /// That there was memory for all of it.
+    /// Whether there was memory for all of it.
     pub(crate) fn checked(&self) -> Result<(), AllocError> {
         if self.lacks_memory {
             return Err(AllocError);
@@ -100,10 +101,10 @@ impl Written {
         Ok(())
     }
 
-    /// The whole text, which is empty then.
+    /// Takes the whole text out; it is empty afterwards.
     ///
     /// # Errors
-    /// `AllocError`: out of memory. It may have happened while the text was written.
+    /// `AllocError`: out of memory, now or when the text was written.
     pub fn take(&mut self) -> Result<Vec<u8>, AllocError> {
         self.checked()?;
         Ok(replace(&mut self.text, Vec::new(self.alloc)))
