@@ -15,10 +15,10 @@ use clap::error::ErrorKind;
 use clap::{ArgMatches, Command, Error};
 use std::alloc::Global;
 
-/// What is told where there is no command.
+/// The message without a command.
 const NO_COMMAND: &str = "error: a command is missing\n\nFor more information, try '--help'.\n";
 
-/// A word that does something with scripts.
+/// A subcommand that works with scripts.
 #[derive(Clone, Copy)]
 pub(crate) enum Subcommand {
     Run,
@@ -30,7 +30,7 @@ pub(crate) enum Subcommand {
     Replay,
 }
 
-/// The word of this name.
+/// The subcommand with this name.
 fn word_of(name: &str) -> Option<Subcommand>
     ensures { result ≡ word_named name.now }
 {
@@ -46,7 +46,7 @@ fn word_of(name: &str) -> Option<Subcommand>
     }
 }
 
-/// What an error of the command line is.
+/// The result of an error of the parse.
 fn fault(alloc: Global, error: &Error) -> JobFault
     ensures { IsTold error.now result }
 {
@@ -61,7 +61,7 @@ fn fault(alloc: Global, error: &Error) -> JobFault
     }
 }
 
-/// What a word asks to be done with scripts.
+/// What a subcommand does with scripts.
 fn work_of(alloc: Global, word: Subcommand, matches: &ArgMatches<'_>) -> Result<ScriptJob, JobFault>
     ensures { IsMade work_of (work_asked word (rows_of (found_of matches.now))) result }
 {
@@ -78,7 +78,7 @@ fn work_of(alloc: Global, word: Subcommand, matches: &ArgMatches<'_>) -> Result<
     }
 }
 
-/// The job of a word that does something with scripts.
+/// The job of a subcommand that works with scripts.
 fn scripts_job(alloc: Global, word: Subcommand, matches: &ArgMatches<'_>) -> Result<Job, JobFault>
     ensures can { IfOk result CanBeDone }
     ensures asked { IsMade doings_of
@@ -101,7 +101,7 @@ fn scripts_job(alloc: Global, word: Subcommand, matches: &ArgMatches<'_>) -> Res
     }
 }
 
-/// The job of the word of a name.
+/// The job of the subcommand with a name.
 fn named_job(alloc: Global, name: &str, matches: &ArgMatches<'_>) -> Result<Job, JobFault>
     ensures can { IfOk result CanBeDone }
     ensures asked { IsMade doings_of
@@ -116,7 +116,7 @@ fn named_job(alloc: Global, name: &str, matches: &ArgMatches<'_>) -> Result<Job,
     }
 }
 
-/// The job of a command line that the parse takes.
+/// The job of a command line that the parse accepts.
 fn known_job(alloc: Global, words: &[String], matches: &ArgMatches<'_>) -> Result<Job, JobFault>
     ensures can { IfOk result CanBeDone }
     ensures asked { IsMade doings_of (doings_found (map string_bytes words.now)
@@ -148,12 +148,11 @@ fn job_by<'a>(alloc: Global, command: Command<'a>, words: &'a [String]) -> Resul
     }
 }
 
-/// The job that the words of a command line ask for; the first word is the program's name, and the
-/// second says which job it is.
+/// The job of a command line. Its first word is the program's name, and the second the subcommand.
 ///
 /// # Errors
-/// `Help` where they ask for help or the version, `Usage` where they are faulty, as where there are
-/// none beside the name; `NoMemory`.
+/// `Help`: help or the version is asked for. `Usage`: the command line is invalid, as without a
+/// subcommand. `NoMemory`: out of memory.
 pub fn job(alloc: Global, words: &[String]) -> Result<Job, JobFault>
     ensures can { IfOk result CanBeDone }
     ensures asked { Answers (map string_bytes words.now) result }

@@ -1,4 +1,4 @@
-//! What the parse found for arguments.
+//! The values of arguments in a parse.
 ghost use Rattle.std.specs.Prelude.{◌≡◌, ◌++◌, IfOk, OnOk, map, option_map};
 ghost use Rattle.std.specs.String.{string_bytes};
 ghost use Rattle.clap.specs.Words.{first_of, found_of, rows_of};
@@ -7,7 +7,7 @@ ghost use Rattle.numa_command_line.specs.Values.{is_on, small_at, texts_at};
 use clap::ArgMatches;
 use std::alloc::{AllocError, Global};
 
-/// Adds copies of texts.
+/// Appends copies of texts.
 fn add_texts(alloc: Global, said: &[&str], texts: &mut Vec<String>) -> Result<(), AllocError>
     ensures { OnOk result (map string_bytes texts.new.items
         ≡ map string_bytes texts.old.items ++ map (λ text. text.now) said.now) }
@@ -30,7 +30,7 @@ fn copies(alloc: Global, said: &[&str]) -> Result<Vec<String>, AllocError>
     }
 }
 
-/// The values of an argument, as they were given.
+/// The values of an argument, as given.
 ///
 /// # Errors
 /// `AllocError`: out of memory.
@@ -48,7 +48,7 @@ pub fn texts_at(
     }
 }
 
-/// The first value of an argument, as it was given.
+/// The first value of an argument, as given.
 pub fn text_at<'a>(matches: &ArgMatches<'a>, id: &str) -> Option<&'a str>
     ensures { option_map (λ text. text.now) result
         ≡ first_of id.now (rows_of (found_of matches.now)) }
@@ -66,7 +66,7 @@ pub fn is_on(matches: &ArgMatches<'_>, id: &str) -> bool
     }
 }
 
-/// The value of an argument, where it is a number below 2^32.
+/// The value of an argument, if it is a number below 2^32.
 pub fn small_at(matches: &ArgMatches<'_>, id: &str) -> Option<u32>
     ensures { result ≡ small_at id.now (rows_of (found_of matches.now)) }
 {

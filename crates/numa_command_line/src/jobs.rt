@@ -1,4 +1,4 @@
-//! What the program is asked to do.
+//! The jobs of the program.
 ghost use Rattle.numa_command_line.specs.Jobs.{IsRefusal};
 
 use numa_machine::Rules;
@@ -6,39 +6,39 @@ use numa_reports::{Format, FreePages, Touch};
 use numa_traces::Shape;
 use std::alloc::{AllocError, Global};
 
-/// What is asked of pages that a task would touch.
+/// A question about pages that a task would touch.
 #[derive(Drop)]
 pub enum PageQuestion {
-    /// Where pages would go, where nodes are named in `free`, with so many free pages on these.
+    /// Where pages would go; nodes that `free` names have that many free pages.
     Predict {
         format: Format,
         free: Vec<FreePages>,
     },
-    /// Which pages would go elsewhere if these lines were added to the scripts.
+    /// Which pages would go elsewhere after these further lines.
     Diff(Vec<String>),
     /// Why this page goes where it goes.
     Explain(u64),
 }
 
-/// What is done with scripts, which are read in turn.
+/// What to do with scripts, which are read in order.
 #[derive(Drop)]
 pub enum ScriptJob {
-    /// To answer them; each line beside its answer, where `echo` says so.
+    /// Answer them; with `echo`, write each line beside its answer.
     Run {
         echo: bool,
     },
-    /// To compare worked scripts with what their lines are answered.
+    /// Compare worked scripts with the answers to their lines.
     Expect,
-    /// To tell what is wrong with them.
+    /// Report what is wrong with them.
     Check,
-    /// To answer a question about the state that they lead to. Faulty and refused lines are let
-    /// pass, where `lenient` says so.
+    /// Answer a question about the state that they lead to. With `lenient`, malformed and refused
+    /// lines are no error.
     Ask {
         asked: Touch,
         question: PageQuestion,
         lenient: bool,
     },
-    /// To replay the trace of the one file that `trace` names after them, as lenient.
+    /// Replay the trace of the file `trace` after them, leniently.
     Replay {
         trace: Vec<String>,
         format: Shape,
@@ -46,33 +46,33 @@ pub enum ScriptJob {
     },
 }
 
-/// What the program is asked to do.
+/// The jobs of the program.
 #[derive(Drop)]
 pub enum Job {
-    /// To do this with the scripts of these files, `-` being standard input, which is read where
-    /// none is named. These rules count where no line of a script gives others.
+    /// Do this with the scripts of these files; `-` is standard input, which is also read without
+    /// files. These rules apply unless a line of a script says otherwise.
     Scripts {
         files: Vec<String>,
         rules: Rules,
         work: ScriptJob,
     },
-    /// To let so many workers place pages while policies change.
+    /// Let this many workers place pages while policies change.
     Storm(u32),
 }
 
-/// Why there is no job, or it was not begun.
+/// Why there is no job, or it wasn't begun.
 #[derive(Drop)]
 pub enum JobFault {
-    /// Help, or the version, was asked for: its text.
+    /// Help or the version was asked for: its text.
     Help(String),
-    /// The command line is faulty: what to tell.
+    /// The command line is invalid: the message.
     Usage(String),
     /// There was no memory.
     NoMemory,
 }
 
 impl JobFault {
-    /// A faulty command line, and what to tell.
+    /// An invalid command line with its message.
     pub fn usage(alloc: Global, words: &str) -> JobFault
         ensures { IsRefusal result }
     {

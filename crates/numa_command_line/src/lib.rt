@@ -1,8 +1,7 @@
-//! The command line of the program: the words that it knows, what their help says, and the job that
-//! a command line asks for.
+//! The command line of the program: its subcommands, their help, and the job of a command line.
 //!
-//! [`job`] reads a command line, by what is said of each word in a file of its own. What a job is
-//! stands in [`Job`]; the program does it.
+//! [`job`] parses a command line. Each subcommand has a file of its own, with its help and its
+//! arguments. A [`Job`] is a value; the program does it.
 #![tactic(auto)]
 
 mod command;

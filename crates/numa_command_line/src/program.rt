@@ -1,4 +1,4 @@
-//! The program as a command of clap: its words in the order in which help names them.
+//! The program as a clap command: its subcommands in the order of the help.
 ghost use Rattle.std.specs.Prelude.{◌≡◌, IfOk};
 ghost use Rattle.clap.specs.Words.{app_of};
 ghost use Rattle.numa_command_line.specs.Grammar.{IsProgram, bare_program};
@@ -9,23 +9,23 @@ use crate::words::{check, diff, expect, explain, predict, replay, rules, run, st
 use clap::Command;
 use std::alloc::{AllocError, Global};
 
-/// The version, which the file VERSION has too, and the kit that it is proved with.
+/// The version, as in the file VERSION, and the kit with which it is proved.
 const VERSION: &str = "0.10.0 (proved with rattle-kit-13f)";
 
-/// What the help of the program says.
+/// The help of the program.
 const PROGRAM: &str =
     "Says where Linux would place memory under NUMA memory policies: which nodes a page may come \
 from, in which order, and which frame each fault gets. It reads scripts and writes the answer to \
 each line to standard output; or it shows that this holds while threads place pages and change \
 policies.";
 
-/// What stands at the end of the help of the program.
+/// The end of the help of the program.
 const MORE: &str =
     "Example, from the top of the repository:\n  ./numaplan run examples/first-run.numaplan\n\nThe \
 language of scripts is told in docs/SCRIPT.md of the repository, the commands in \
 docs/COMMANDS.md.";
 
-/// The program before its first word.
+/// The program without subcommands.
 fn bare<'a>(alloc: Global) -> Command<'a>
     ensures app { app_of result ≡ bare_program }
     ensures local { IsLocal result }
@@ -38,7 +38,7 @@ fn bare<'a>(alloc: Global) -> Command<'a>
         .arg_required_else_help(true)
 }
 
-/// The program, with its words.
+/// The program with its subcommands.
 ///
 /// # Errors
 /// `AllocError`: out of memory.

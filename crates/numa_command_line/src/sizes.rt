@@ -1,11 +1,11 @@
-//! Numbers of pages, as options have them.
+//! Numbers of pages in options.
 ghost use Rattle.std.specs.Prelude.{◌≡◌, ◌*◌};
 ghost use Rattle.numa_command_line.specs.Values.{pages_in, unit_of, whole_pages};
 
 use numa_script::number::number;
 use numa_space::PAGE_BYTES;
 
-/// How many bytes the unit of this letter has: a power of 1,024.
+/// The bytes of the unit with this letter: a power of 1,024.
 fn unit_of(letter: u8) -> Option<u64>
     ensures { result ≡ unit_of letter }
 {
@@ -18,7 +18,7 @@ fn unit_of(letter: u8) -> Option<u64>
     }
 }
 
-/// The pages of so many units of bytes, where they are whole pages.
+/// The pages of `count` units of bytes, if they are whole pages.
 fn units_as_pages(count: u64, unit: u64) -> Option<u64>
     ensures { result ≡ whole_pages (count * unit) }
 {
@@ -28,8 +28,8 @@ fn units_as_pages(count: u64, unit: u64) -> Option<u64>
     }
 }
 
-/// The pages that a text says: a number of pages, or, with K, M, G or T behind it, of so many times
-/// 1,024, 1,024^2, 1,024^3 or 1,024^4 bytes, which must be whole pages of 4,096 bytes.
+/// Reads a number of pages: a plain number, or a number with K, M, G or T, in units of 1,024,
+/// 1,024^2, 1,024^3 or 1,024^4 bytes, which must be whole pages of 4,096 bytes.
 pub(crate) fn pages_of(text: &[u8]) -> Option<u64>
     ensures { result ≡ pages_in text.now }
 {

@@ -1,4 +1,4 @@
-//! How words are used: their names, their arguments, and what their help says.
+//! The subcommands: their names, arguments, and help.
 ghost use Rattle.std.specs.Prelude.{◌≡◌, [], IfOk, false, map, take};
 ghost use Rattle.clap.specs.declared.builder.action.ArgAction.TheVariants.{Set};
 ghost use Rattle.clap.specs.declared.builder.texts.Texts.TheVariants.{One};
@@ -9,19 +9,19 @@ ghost use Rattle.numa_command_line.specs.Usage.{IsLocal, app_said, own_app, rule
 use clap::{Arg, ArgAction, Command, value_parser};
 use std::alloc::{AllocError, Global};
 
-/// What an argument takes.
+/// The values that an argument takes.
 pub enum Takes {
     /// `--NAME` alone.
     Nothing,
-    /// A text behind `--NAME`.
+    /// A text after `--NAME`.
     Text,
-    /// A text behind each `--NAME`.
+    /// A text after each `--NAME`.
     Texts,
-    /// A number behind `--NAME`.
+    /// A number after `--NAME`.
     Number,
-    /// A number behind `--NAME`, or behind this other name.
+    /// A number after `--NAME`, or after this other name.
     NumberOr(&'static str),
-    /// One of these names behind `--NAME`, and this one where it isn't given.
+    /// One of these names after `--NAME`, and by default this one.
     OneOf(&'static str, &'static [&'static str]),
     /// One word.
     Bare,
@@ -29,20 +29,20 @@ pub enum Takes {
     Files,
 }
 
-/// An argument of a word.
+/// An argument of a subcommand.
 pub struct Argument {
     pub name: &'static str,
-    /// What help calls its value, where it has a `--NAME`.
+    /// The name of its value in the help, if it has a `--NAME`.
     pub value: &'static str,
     pub help: &'static str,
     pub is_required: bool,
     pub takes: Takes,
 }
 
-/// A word of the command line.
+/// A subcommand.
 pub struct SubcommandHelp {
     pub name: &'static str,
-    /// What its help says in a line, in full, and at its end.
+    /// Its help: in a line, in full, and at the end.
     pub line: &'static str,
     pub about: &'static str,
     pub more: &'static str,
@@ -74,7 +74,7 @@ fn option<'a>(argument: Arg<'a>, said: &'a Argument) -> Arg<'a>
         .action(ArgAction::Set)
 }
 
-/// An argument, by what is said of it.
+/// The clap argument of an argument.
 fn arg_of<'a>(alloc: Global, said: &'a Argument) -> Result<Arg<'a>, AllocError>
     ensures rule { IfOk result (λ arg. rule_of arg ≡ rule_said said.entry.now) }
     ensures local { IfOk result (λ arg. arg.global ≡ false) }
@@ -102,7 +102,7 @@ fn arg_of<'a>(alloc: Global, said: &'a Argument) -> Result<Arg<'a>, AllocError>
     }
 }
 
-/// The command of a word, with an argument more.
+/// A subcommand with one more argument.
 fn with_argument<'a>(
     alloc: Global,
     command: Command<'a>,
@@ -122,7 +122,7 @@ fn with_argument<'a>(
     }
 }
 
-/// The command of a word, before its arguments.
+/// The clap command of a subcommand, without arguments.
 fn bare_command<'a>(alloc: Global, word: &'a SubcommandHelp) -> Command<'a>
     ensures app { app_of result ≡ new_app word.entry.now.name.now }
     ensures local { IsLocal result }
@@ -133,7 +133,7 @@ fn bare_command<'a>(alloc: Global, word: &'a SubcommandHelp) -> Command<'a>
         .after_help(word.more)
 }
 
-/// The command of a word, with its own arguments.
+/// The clap command of a subcommand, with its own arguments.
 fn own_command<'a>(alloc: Global, word: &'a SubcommandHelp) -> Result<Command<'a>, AllocError>
     ensures app { IfOk result (λ command. app_of command ≡ own_app word.entry.now) }
     ensures local { IfOk result IsLocal }
@@ -145,7 +145,7 @@ fn own_command<'a>(alloc: Global, word: &'a SubcommandHelp) -> Result<Command<'a
     Ok(command)
 }
 
-/// The command of a word; `rules` is the argument `--rules`.
+/// The clap command of a subcommand; `rules` is the argument `--rules`.
 fn command_of<'a>(
     alloc: Global,
     word: &'a SubcommandHelp,
@@ -162,7 +162,7 @@ fn command_of<'a>(
     Ok(command)
 }
 
-/// A program with a word more; `rules` is the argument `--rules`.
+/// A program with one more subcommand; `rules` is the argument `--rules`.
 ///
 /// # Errors
 /// `AllocError`: out of memory.

@@ -1,4 +1,4 @@
-//! The words of the command line, a file for each: what its help says, and its job.
+//! The subcommands, a file for each, with its help and its job.
 pub mod asked;
 pub mod check;
 pub mod diff;

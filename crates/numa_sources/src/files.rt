@@ -1,4 +1,4 @@
-//! The files that a word is given: `-` is standard input, which is also read where none is named.
+//! The files of a command line: `-` is standard input, which is also read without files.
 use numa_command_line::JobFault;
 use std::alloc::{AllocError, Global};
 use std::fs::OpenFile;
@@ -6,7 +6,7 @@ use std::io::{ErrorKind, IsTerminal, Read};
 use std::rt::Files;
 use std::{fs, io};
 
-/// What is told on a terminal.
+/// The message at a terminal.
 const AWAITED: &str = "numaplan: a script is awaited, line by line; Ctrl-D ends it";
 
 /// A file, standard input, or nothing.
@@ -27,7 +27,7 @@ impl<F: Read, I: Read> Read for Source<F, I> {
     }
 }
 
-/// Standard input. On a terminal a line says that a script is awaited.
+/// Standard input. At a terminal a message says that a script is awaited.
 fn standard_input<R: Input + Eprint>(rt: &R) -> R::Reader
 where
     R::Reader: IsTerminal,
@@ -48,7 +48,7 @@ pub(crate) fn open_file<R: Files>(rt: &R, name: &str) -> io::Result<R::File> {
     Ok(file)
 }
 
-/// Why a file of this name can't be opened.
+/// The error of a file that can't be opened.
 pub(crate) fn open_fault(alloc: Global, name: &str, error: &io::Error) -> JobFault {
     if error.kind() == ErrorKind::OutOfMemory {
         return JobFault::NoMemory;
@@ -59,7 +59,7 @@ pub(crate) fn open_fault(alloc: Global, name: &str, error: &io::Error) -> JobFau
     }
 }
 
-/// Opens what has this name.
+/// Opens a file, or standard input, by its name.
 fn open<R>(rt: &R, name: &str) -> Result<Source<R::File, R::Reader>, JobFault>
 where
     R: Files + Input + Eprint + AllocGlobal,
@@ -74,10 +74,10 @@ where
     }
 }
 
-/// The files that are open, each with its name.
+/// The open files, each with its name.
 pub type Texts<R> = Vec<(String, Source<<R as Files>::File, <R as Input>::Reader>)>;
 
-/// Opens what has this name, behind what is open.
+/// Opens a file by its name, and appends it to the open ones.
 pub(crate) fn add_file<R>(rt: &R, name: &str, texts: &mut Texts<R>) -> Result<(), JobFault>
 where
     R: Files + Input + Eprint + AllocGlobal,
@@ -98,7 +98,7 @@ where
     }
 }
 
-/// Opens the files in turn, and standard input where none is named.
+/// Opens the files in order, or standard input without files.
 fn add_files<R>(rt: &R, names: &[String], texts: &mut Texts<R>) -> Result<(), JobFault>
 where
     R: Files + Input + Eprint + AllocGlobal,
@@ -113,10 +113,10 @@ where
     Ok(())
 }
 
-/// Opens the files, and standard input where none is named, each with its name.
+/// Opens the files, or standard input without files, each with its name.
 ///
 /// # Errors
-/// `Usage` where a file can't be opened, with its name and the cause.
+/// `Usage`: a file can't be opened, with its name and the cause.
 pub fn open_all<R>(
     rt: &R,
     names: &[String],
@@ -132,7 +132,7 @@ where
     }
 }
 
-/// What was opened, without the names.
+/// The open files without their names.
 ///
 /// # Errors
 /// `AllocError`: out of memory.

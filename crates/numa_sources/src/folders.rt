@@ -7,7 +7,7 @@ use std::io::IsTerminal;
 use std::rt::Files;
 use std::{fs, io};
 
-/// Whether a folder has this name.
+/// Whether this is the name of a folder.
 fn is_folder<R: Files>(rt: &R, name: &str) -> bool {
     match fs::metadata(rt, name) {
         Ok(metadata) => metadata.is_dir(),
@@ -15,8 +15,8 @@ fn is_folder<R: Files>(rt: &R, name: &str) -> bool {
     }
 }
 
-/// Whether the script of this path holds an answer. One that can't be read is taken, and told when
-/// it is opened.
+/// Whether the script of this path holds an answer. One that can't be read counts as if it did, and
+/// is reported when it is opened.
 fn holds_answer<R: Files + AllocGlobal>(rt: &R, path: &str) -> Result<bool, AllocError> {
     let Ok(file) = open_file(rt, path) else {
         return Ok(true);
@@ -28,8 +28,8 @@ fn holds_answer<R: Files + AllocGlobal>(rt: &R, path: &str) -> Result<bool, Allo
     }
 }
 
-/// Whether the file of this name in a folder, and of this path, is a worked script: one that is
-/// named `*.answers`, or `*.numaplan` where it holds an answer. Hidden files are none.
+/// Whether a file in a folder is a worked script: one named `*.answers`, or `*.numaplan` if it
+/// holds an answer. Hidden files aren't.
 fn is_taken<R: Files + AllocGlobal>(rt: &R, name: &str, path: &str) -> Result<bool, AllocError> {
     if name.starts_with('.') {
         return Ok(false);
@@ -54,8 +54,8 @@ fn worked_in<R: Files + AllocGlobal>(rt: &R, folder: &str) -> io::Result<Vec<Str
     Ok(paths)
 }
 
-/// Opens a folder's worked scripts, behind what is open. A folder without one is a script without a
-/// line.
+/// Opens a folder's worked scripts, and appends them to the open files. A folder without one counts
+/// as a script without a line.
 fn add_folder<R>(rt: &R, folder: &str, texts: &mut Texts<R>) -> Result<(), JobFault>
 where
     R: Files + Input + Eprint + AllocGlobal,
@@ -77,7 +77,7 @@ where
     Ok(())
 }
 
-/// Opens files and folders in turn.
+/// Opens files and folders in order.
 fn add_worked<R>(rt: &R, names: &[String], texts: &mut Texts<R>) -> Result<(), JobFault>
 where
     R: Files + Input + Eprint + AllocGlobal,
@@ -96,7 +96,7 @@ where
 /// Opens worked scripts, each with its name: files, standard input, and those of folders.
 ///
 /// # Errors
-/// `Usage` where a file or a folder can't be opened, with its name and the cause.
+/// `Usage`: a file or a folder can't be opened, with its name and the cause.
 pub fn open_worked<R>(rt: &R, names: &[String]) -> Result<Texts<R>, JobFault>
 where
     R: Files + Input + Eprint + AllocGlobal,

@@ -1,5 +1,5 @@
-//! What scripts are read from, and where answers go: files, the worked scripts of folders, standard
-//! input, and a writer that notes whether its reader has gone.
+//! The inputs and the output of the program: files, the worked scripts of folders, standard input,
+//! and a writer that notes whether its reader has gone.
 #![tactic(auto)]
 
 mod files;

@@ -1,29 +1,29 @@
-//! Standard output, whose reader may have gone.
+//! Standard output, whose reader may go away.
 use std::io;
 use std::io::{ErrorKind, Write};
 use std::sync::atomic::{AtomicU64, Ordering};
 
-/// Where answers go: a pipe, whose reader may go, or something else.
+/// Where answers are written, which may be a pipe whose reader goes away.
 #[derive(Drop)]
 pub struct Outlet {
-    // Whether a write found that nobody reads any more: then 1.
+    // 1 once a write has found that nobody reads any more.
     is_shut: AtomicU64,
 }
 
 impl Outlet {
-    /// Before the first write.
+    /// The state before the first write.
     pub fn new() -> Outlet {
         Outlet {
             is_shut: AtomicU64::new(0),
         }
     }
 
-    /// Whether a write found that nobody reads any more.
+    /// Whether a write has found that nobody reads any more.
     pub fn is_shut(&self) -> bool {
         self.is_shut.load(Ordering::SeqCst) == 1
     }
 
-    /// A writer that notes here whether its reader has gone.
+    /// A writer that notes here if its reader has gone.
     pub fn writer<W>(&self, writer: W) -> Output<'_, W> {
         Output {
             writer,

@@ -7,7 +7,7 @@ use crate::fault::AccessError;
 use numa_script::number::{page, small};
 use numa_script::parts::{Parts, words};
 
-/// Accesses of a task to a page, from a CPU of a node, one behind another.
+/// Consecutive accesses of a task to a page, from a CPU of a node.
 #[derive(Clone, Copy)]
 pub struct Access {
     pub task: u32,
@@ -15,14 +15,14 @@ pub struct Access {
     pub page: u64,
     /// The node of the CPU.
     pub cpu: u32,
-    /// How many accesses there are.
+    /// The number of accesses.
     pub count: u32,
 }
 
-/// The access by its four numbers.
+/// The access of four words.
 ///
 /// # Errors
-/// The first that is none.
+/// The first word that isn't a valid number.
 fn access_with(
     task: Option<u32>,
     page: Option<u64>,
@@ -51,7 +51,7 @@ fn access_with(
     })
 }
 
-/// The access of three words or four.
+/// The access of three or four words.
 fn read_words(mut words: Parts<'_>) -> Result<Access, AccessError>
     ensures { result ≡ access_by words.entry }
 {
@@ -83,12 +83,13 @@ fn is_silent(line: &[u8]) -> bool
     }
 }
 
-/// The access of a line `TASK ADDRESS CPU [COUNT]`, its words between single spaces, each number in
-/// decimal or, behind `0x`, in hexadecimal; without COUNT one. An empty line, and one that begins
-/// with `#`, says none.
+/// Parses a line `TASK ADDRESS CPU [COUNT]`: numbers, decimal or hexadecimal with `0x`, separated
+/// by single spaces; the address is in bytes, and COUNT is 1 if it is missing. `None` for an empty
+/// line, and one that begins with `#`.
 ///
 /// # Errors
-/// The first word that isn't what it has to be; `WordCount` before it.
+/// The first that applies: `WordCount`, there aren't three or four words; `BadTask`, `BadAddress`,
+/// `BadCpu`, `BadCount`: that word isn't a valid number.
 pub fn read_access(line: &[u8]) -> Result<Option<Access>, AccessError>
     ensures { result ≡ access_of line.now }
 {

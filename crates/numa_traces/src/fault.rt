@@ -2,31 +2,31 @@
 
 use numa_space::PlaceRefusal;
 
-/// Why a line says no access.
+/// Why a line isn't an access.
 #[derive(Clone, Copy, Debug)]
 pub enum AccessError {
     /// There are fewer than three words, or more than four.
     WordCount,
-    /// The task is no number below 2^32.
+    /// The task isn't a number below 2^32.
     BadTask,
-    /// The address is no number below 2^64.
+    /// The address isn't a number below 2^64.
     BadAddress,
-    /// The CPU's node is no number below 2^32.
+    /// The CPU's node isn't a number below 2^32.
     BadCpu,
-    /// The count is no number below 2^32.
+    /// The count isn't a number below 2^32.
     BadCount,
 }
 
 /// Why a trace can't be replayed.
 #[derive(Clone, Copy, Debug)]
 pub enum ReplayError {
-    /// The line says no access.
+    /// The line isn't an access.
     Malformed(AccessError),
-    /// The machine has no such node, or the page isn't mapped.
+    /// The machine lacks the node, or the page isn't mapped.
     Refused(PlaceRefusal),
-    /// There are 2^64 accesses or more of one kind.
+    /// There are 2^64 or more accesses of one kind.
     TooMany,
-    /// There was no memory.
+    /// Out of memory.
     NoMemory,
 }
 

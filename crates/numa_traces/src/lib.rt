@@ -1,10 +1,10 @@
-//! Traces of accesses that are replayed: where each page is placed when it is first touched, and
-//! how many accesses go where.
+//! Replaying traces of accesses: where each page is placed when it is first touched, and how many
+//! accesses go where.
 //!
-//! A [`Memory`] has the frames of a machine and the pages that lie in them. A [`Replay`] takes the
-//! accesses of a trace in turn: the first touch of a page places it on the first node of its list
-//! that has a frame left, and later accesses go there, whichever task makes them. [`replay_lines`]
-//! reads a trace from a reader.
+//! A [`Memory`] has the frames of a machine and the pages in them. A [`Replay`] takes the accesses
+//! of a trace in order: the first touch of a page places it on the first node of its list that has
+//! a frame left, and later accesses go there, whichever task makes them. [`replay_lines`] reads a
+//! trace from a reader.
 #![tactic(auto)]
 
 mod access;

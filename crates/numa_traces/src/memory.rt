@@ -1,4 +1,4 @@
-//! The frames of a machine, and the pages that lie in them.
+//! The frames of a machine, and the pages in them.
 ghost use Rattle.std.specs.Prelude.{◌≡◌, ◌<◌, ℕ, IfOk, OnOk, OnErr, None, [], slice_index};
 ghost use Rattle.numa_machine.specs.Machine.{frames_of};
 ghost use Rattle.numa_traces.specs.Placing.{first_free, node_of, frames_with_page};
@@ -8,7 +8,7 @@ use std::alloc::{AllocError, Global};
 use std::collections::BTreeMap;
 use std::marker::Model;
 
-/// How many frames each node has left, and on which node each placed page lies.
+/// The number of frames that each node has left, and the node of each placed page.
 #[derive(Drop)]
 pub struct Memory {
     nodes: BTreeMap<u64, u8>,
@@ -23,7 +23,7 @@ impl Model for Memory {
     ghost view = { λ a. record { pages = a.nodes.entries; free = a.free.items } };
 }
 
-/// How many frames each node of a machine has.
+/// The number of frames of each node of a machine.
 fn all_frames(alloc: Global, machine: &Machine) -> Result<Vec<u32>, AllocError>
     ensures { IfOk result (λ frames. (node : ℕ) → node < machine.now.nodes
         → slice_index frames.items node ≡ frames_of machine.now node) }
@@ -38,7 +38,7 @@ fn all_frames(alloc: Global, machine: &Machine) -> Result<Vec<u32>, AllocError>
 }
 
 impl Memory {
-    /// The memory of a machine on which no page is placed.
+    /// The memory of a machine, with no page placed.
     ///
     /// # Errors
     /// `AllocError`: out of memory.
@@ -54,14 +54,14 @@ impl Memory {
         })
     }
 
-    /// The node on which a page lies, where it is placed.
+    /// The node of a page, if it is placed.
     pub fn node_of(&self, page: u64) -> Option<u8>
         ensures { result ≡ node_of self.now.pages page }
     {
         self.nodes.get(&page).copied()
     }
 
-    /// How many frames a node has left.
+    /// The number of frames that a node has left.
     fn frames_left(&self, node: u8) -> u32
         ensures { result ≡ slice_index self.now.free node }
     {
@@ -80,11 +80,11 @@ impl Memory {
         None
     }
 
-    /// Places a page that isn't placed yet on the first node of its list that has a frame left.
-    /// None where no node of the list has one; nothing has changed then.
+    /// Places a page that isn't placed yet on the first node of its list that has a frame left, and
+    /// returns the node. `None` if no node has one; then nothing has changed.
     ///
     /// # Errors
-    /// `AllocError`: out of memory. Nothing has changed then.
+    /// `AllocError`: out of memory. Then nothing has changed.
     pub fn place(&mut self, page: u64, nodes: &[u8]) -> Result<Option<u8>, AllocError>
         requires { node_of self.old.pages page ≡ None }
         ensures node { IfOk result (λ node. node ≡ first_free self.old.free nodes.now) }

@@ -1,4 +1,4 @@
-//! Traces that are read, line by line.
+//! Reading traces, line by line.
 ghost use Rattle.std.specs.Prelude.{◌≡◌, None, IfOk, IfErr, IsSome, OnOk};
 ghost use Rattle.numa_files.specs.declared.reading.Stop.TheVariants as stop;
 ghost use Rattle.numa_traces.specs.Accesses.{access_of};
@@ -14,7 +14,7 @@ use numa_plan::Plan;
 use std::alloc::{AllocError, Global};
 use std::io::Read;
 
-/// The lines of a trace, replayed by a plan up to the first one that can't be.
+/// The replay of a trace by a plan, up to the first line that can't be replayed.
 #[derive(Drop)]
 pub struct Replaying<'a> {
     plan: &'a Plan,
@@ -24,7 +24,8 @@ pub struct Replaying<'a> {
 }
 
 impl<'a> Replaying<'a> {
-    /// Before the first line: no page of the machine is placed. The plan is the machine's.
+    /// The state before the first line: no page of the machine is placed. The plan is for the
+    /// machine.
     ///
     /// # Errors
     /// `AllocError`: out of memory.
@@ -45,21 +46,21 @@ impl<'a> Replaying<'a> {
         }
     }
 
-    /// The replay of the lines so far, or of those before the first fault.
+    /// The replay of the lines so far, or of those before the first that can't be replayed.
     pub fn replay(&self) -> &Replay
         ensures { result.now ≡ self.now.replay }
     {
         &self.replay
     }
 
-    /// The first line that can't be replayed, from 1, and why.
+    /// The number of the first line that can't be replayed, from 1, and why.
     pub fn fault(&self) -> Option<(u64, ReplayError)>
         ensures { result ≡ self.now.fault }
     {
         self.fault
     }
 
-    /// Takes the access of a line.
+    /// Replays the access of a line.
     fn take_access(&mut self, line: &[u8]) -> Result<(), ReplayError>
         ensures ok { OnOk result (ReplaysLine (access_of line.now) self.old self.new) }
         ensures err { IfErr result (EndsAtLine (access_of line.now) self.old) }
@@ -94,10 +95,10 @@ impl TakeLine for Replaying<'_> {
     }
 }
 
-/// Reads a trace and replays its lines, up to the first one that can't be.
+/// Reads a trace and replays its lines, up to the first that can't be replayed.
 ///
 /// # Errors
-/// Where a read failed, or there was no memory.
+/// `Read`: a read failed; `Memory`: out of memory.
 pub fn replay_lines<'a, R: Read + Drop>(
     alloc: Global,
     trace: Vec<(String, R)>,

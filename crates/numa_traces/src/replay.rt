@@ -1,4 +1,4 @@
-//! A trace that is replayed, access by access.
+//! Replaying a trace, access by access.
 ghost use Rattle.std.specs.Prelude.{◌≡◌, ◌<◌, ◌∷◌, [], List, Some, IfOk, IfErr, OnOk};
 ghost use Rattle.numa_machine.specs.Machine.{Hardware};
 ghost use Rattle.numa_plan.specs.Meaning.{PlanData, place_refusal, planned_list};
@@ -15,7 +15,7 @@ use numa_space::PlaceRefusal;
 use std::alloc::{AllocError, Global};
 use std::marker::Model;
 
-/// A trace that is replayed.
+/// A trace being replayed.
 #[derive(Drop)]
 pub struct Replay {
     memory: Memory,
@@ -41,7 +41,7 @@ fn nodes_for(plan: &Plan, access: Access) -> Result<&[u8], PlaceRefusal>
 }
 
 impl Replay {
-    /// Before the first access: no page is placed.
+    /// The state before the first access: no page is placed.
     ///
     /// # Errors
     /// `AllocError`: out of memory.
@@ -55,19 +55,19 @@ impl Replay {
         })
     }
 
-    /// How many accesses went which way.
+    /// The numbers of accesses by their ways.
     pub fn tallies(&self) -> &Tallies
         ensures { result.now ≡ self.now.tallies }
     {
         &self.tallies
     }
 
-    /// Takes an access: where its page isn't placed, its first touch places it by the plan.
+    /// Replays an access: if its page isn't placed, its first touch places it by the plan.
     ///
     /// # Errors
-    /// `Refused` where the plan has no such node, else where the page isn't mapped; else `TooMany`
-    /// where a count would pass 2^64 - 1, `NoMemory` where there was none. The replay has ended
-    /// then.
+    /// The first that applies: `Refused`, the plan has no such node or the page isn't mapped;
+    /// `TooMany`, a count would exceed 2^64 - 1; `NoMemory`, out of memory. Then the replay has
+    /// ended.
     pub fn take(&mut self, plan: &Plan, access: Access) -> Result<(), ReplayError>
         ensures ok { (machine : Hardware) (trace : List Access)
             → IsReplay machine plan.now trace self.old

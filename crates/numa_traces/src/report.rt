@@ -1,4 +1,4 @@
-//! What a replayed trace met, as text or JSON.
+//! The report of a replay, as text or JSON.
 use crate::replay::Replay;
 use crate::summary::Summary;
 use crate::tallies::{Tally, Way};
@@ -7,26 +7,26 @@ use numa_reports::{Object, Written};
 use serde_json::Value;
 use std::alloc::{AllocError, Global};
 
-/// How a report is written.
+/// The format of a report.
 #[derive(Clone, Copy)]
 pub enum Shape {
-    /// A line for each task, and one for all.
+    /// A line for each task, and one for the total.
     Text,
     /// One JSON object (RFC 8259).
     Json,
 }
 
-/// What tells the parts of a summary. Once there was no memory for one, no more is told.
+/// Writes the parts of a summary. After it ran out of memory nothing more is written.
 trait Tell {
-    /// Tells a number under its name.
+    /// Writes a number under its name.
     fn tell_number(&mut self, name: &str, number: u64);
 
-    /// Tells each count that isn't 0, with its number: by the names of all and of one, or in a form
-    /// with both.
+    /// Writes each count that isn't 0, with its index: under the names of the list and of an entry,
+    /// or in a format with both.
     fn tell_counts(&mut self, all: &str, one: &str, form: &[u8], counts: &[u64; 256]);
 }
 
-/// Tells what a task met, or all.
+/// Writes the summary of a task, or the total.
 fn tell_summary<T: Tell>(teller: &mut T, said: &Summary) {
     teller.tell_number("accesses", said.accesses);
     teller.tell_counts("nodes", "node", b" N$=$", &said.nodes);
@@ -53,7 +53,7 @@ impl Tell for Written {
     }
 }
 
-/// A count, with its number under this name.
+/// A count, with its index under this name.
 fn count_value(alloc: Global, name: &str, number: usize, count: u64) -> Result<Value, AllocError> {
     let mut object = Object::new(alloc);
     object.put_number(name, number as u64);
@@ -61,7 +61,7 @@ fn count_value(alloc: Global, name: &str, number: usize, count: u64) -> Result<V
     object.made()
 }
 
-/// Appends each count that isn't 0, with its number under this name.
+/// Appends each count that isn't 0, with its index under this name.
 fn push_values(
     alloc: Global,
     items: &mut Vec<Value>,
@@ -76,7 +76,7 @@ fn push_values(
     Ok(())
 }
 
-/// The counts that aren't 0, each with its number under this name.
+/// The counts that aren't 0, each with its index under this name.
 fn count_values(alloc: Global, name: &str, counts: &[u64; 256]) -> Result<Value, AllocError> {
     let mut items = Vec::new(alloc);
     match push_values(alloc, &mut items, name, counts) {
@@ -98,7 +98,7 @@ impl Tell for Object {
     }
 }
 
-/// The object of a task, or of all.
+/// The object of a task, or of the total.
 fn summary_text(alloc: Global, task: Option<u32>, said: &Summary) -> Result<Vec<u8>, AllocError> {
     let mut object = Object::new(alloc);
     if let Some(task) = task {
@@ -111,19 +111,19 @@ fn summary_text(alloc: Global, task: Option<u32>, said: &Summary) -> Result<Vec<
     }
 }
 
-/// A report that is being written.
+/// A report being written.
 #[derive(Drop)]
 struct Sheet {
     format: Shape,
     written: Written,
-    // The task whose accesses are added up, if there is one, and what stands before its object.
+    // The task whose accesses are being added up, if there is one, and the text before its object.
     task: Option<u32>,
     before: &'static str,
     of_task: Summary,
     of_all: Summary,
 }
 
-/// Says an object of a task, or of all.
+/// Writes the object of a task, or of the total.
 fn say_object(written: &mut Written, task: Option<u32>, said: &Summary) {
     match summary_text(written.alloc(), task, said) {
         Ok(object) => written.put(object.as_slice()),
@@ -131,14 +131,14 @@ fn say_object(written: &mut Written, task: Option<u32>, said: &Summary) {
     }
 }
 
-/// Says a line of a task, or of all, behind these words.
+/// Writes the rest of the line of a task, or of the total.
 fn say_line(written: &mut Written, said: &Summary) {
     tell_summary(written, said);
     written.put(b"\n");
 }
 
 impl Sheet {
-    /// Before the first task.
+    /// The state before the first task.
     fn new(alloc: Global, format: Shape) -> Sheet {
         Sheet {
             format,
@@ -150,7 +150,7 @@ impl Sheet {
         }
     }
 
-    /// Says the task whose accesses are added up, if there is one.
+    /// Writes the task whose accesses were added up, if there is one.
     fn end_task(&mut self) {
         let Some(task) = self.task else {
             return;
@@ -169,7 +169,7 @@ impl Sheet {
         }
     }
 
-    /// Adds the accesses that went a way; those of a task stand together.
+    /// Adds the accesses of a way; those of a task come together.
     fn add(&mut self, machine: &Machine, way: &Way, tally: &Tally) {
         let (task, cpu, node) = *way;
         if self.task != Some(task) {
@@ -182,7 +182,7 @@ impl Sheet {
         self.of_all.add(place, tally);
     }
 
-    /// Says what all tasks met.
+    /// Writes the total.
     fn end(&mut self) {
         self.end_task();
         let written = &mut self.written;
@@ -199,7 +199,7 @@ impl Sheet {
         }
     }
 
-    /// Says what a replayed trace met.
+    /// Writes the report of a replay.
     fn say(&mut self, machine: &Machine, replay: &Replay) {
         if let Shape::Json = self.format {
             self.written.put(b"{\"tasks\":[");
@@ -211,8 +211,7 @@ impl Sheet {
     }
 }
 
-/// Where the page of an access lies, and how far that is from the CPU's node; both nodes are the
-/// machine's.
+/// The node of an access's page, and its distance from the CPU's node; the machine has both nodes.
 fn place_of(machine: &Machine, cpu: u32, node: Option<u8>) -> Option<(u8, u8)> {
     let Some(node) = node else {
         return None;
@@ -224,9 +223,9 @@ fn place_of(machine: &Machine, cpu: u32, node: Option<u8>) -> Option<(u8, u8)> {
     Some((node, 255))
 }
 
-/// What a replayed trace met, by task and in all: the accesses by the page's node and by its
-/// distance from the CPU's, the faults that placed a page and those that found no frame, and the
-/// accesses that went nowhere for that. The machine is that of the replay.
+/// The report of a replay, by task and in total: the accesses by the page's node and by its
+/// distance from the CPU's node, the faults that placed a page and those that found no frame, and
+/// the accesses that therefore went nowhere. The machine is that of the replay.
 ///
 /// # Errors
 /// `AllocError`: out of memory.

@@ -1,20 +1,20 @@
-//! The accesses of a task, or of all, added up.
+//! Sums of the accesses of a task, or of all.
 use crate::tallies::Tally;
 
 /// The accesses of a task, or of all.
 #[derive(Drop)]
 pub(crate) struct Summary {
-    /// How many accesses there were.
+    /// The number of accesses.
     pub(crate) accesses: u64,
-    /// How many went to a page on each node.
+    /// The number that went to a page on each node.
     pub(crate) nodes: [u64; 256],
-    /// How many went to a page at each distance from the CPU's node.
+    /// The number that went to a page at each distance from the CPU's node.
     pub(crate) distances: [u64; 256],
-    /// How many faults placed a page.
+    /// The number of faults that placed a page.
     pub(crate) placed: u64,
-    /// How many faults found no frame.
+    /// The number of faults that found no frame.
     pub(crate) exhausted: u64,
-    /// How many accesses those made, which went nowhere.
+    /// The number of accesses that therefore went nowhere.
     pub(crate) unserved: u64,
 }
 

@@ -1,4 +1,4 @@
-//! How many accesses went which way.
+//! The numbers of accesses by their ways.
 ghost use Rattle.std.specs.Prelude.{◌≡◌, [], IfErr, OnOk, OnErr, if◌then◌else◌};
 ghost use Rattle.numa_traces.specs.Tallies.{Counts, IsFull, IsRoomFault, tally_at};
 ghost use Rattle.numa_traces.specs.declared.fault.ReplayError.TheVariants as fault;
@@ -9,19 +9,19 @@ use std::collections::BTreeMap;
 use std::collections::btree_map::Iter;
 use std::marker::Model;
 
-/// How many accesses went one way, and how many of them were the fault that placed the page, or
-/// that found no frame.
+/// The number of accesses of one way, and of those among them that were a fault, which placed the
+/// page or found no frame.
 #[derive(Clone, Copy, Drop)]
 pub struct Tally {
     pub accesses: u64,
     pub faults: u64,
 }
 
-/// Which way an access went: the task, the CPU's node, and the node of the page; None where the
-/// page found no frame.
+/// The way of an access: the task, the CPU's node, and the node of the page, `None` if the page
+/// found no frame.
 pub type Way = (u32, u32, Option<u8>);
 
-/// How many accesses went which way.
+/// The numbers of accesses by their ways.
 #[derive(Drop)]
 pub struct Tallies {
     tallies: BTreeMap<Way, Tally>,
@@ -35,7 +35,7 @@ impl Model for Tallies {
     ghost view = { λ a. a.tallies.entries };
 }
 
-/// How many faults an access is.
+/// The number of faults that an access is.
 fn fault_count(is_fault: bool) -> u64
     ensures { result ≡ if is_fault then 1 else 0 }
 {
@@ -46,7 +46,7 @@ fn fault_count(is_fault: bool) -> u64
 }
 
 impl Tallies {
-    /// Nothing went anywhere. Takes no memory.
+    /// No accesses. It doesn't allocate.
     pub fn new(alloc: Global) -> Tallies
         ensures { result ≡ [] }
     {
@@ -68,19 +68,19 @@ impl Tallies {
         }
     }
 
-    /// The ways that something went, each with its tally: by task, then by the CPU's node, then by
-    /// the page's.
+    /// The ways of the accesses so far, each with its tally, ordered by task, then by the CPU's
+    /// node, then by the page's.
     pub fn iter(&self) -> Iter<'_, Way, Tally>
         ensures { result ≡ self.now }
     {
         self.tallies.iter()
     }
 
-    /// Counts accesses that went a way, the first of them a fault or not.
+    /// Counts accesses of a way, the first of which is a fault or not.
     ///
     /// # Errors
-    /// `TooMany` where a number would pass 2^64 - 1, else `NoMemory` where there was none; nothing
-    /// has changed.
+    /// `TooMany`: a number would exceed 2^64 - 1; else `NoMemory`: out of memory. Then nothing has
+    /// changed.
     pub fn add(&mut self, way: Way, count: u32, is_fault: bool) -> Result<(), ReplayError>
         ensures counts { OnOk result (Counts self.old way count is_fault self.new) }
         ensures err { IfErr result IsRoomFault }

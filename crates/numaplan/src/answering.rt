@@ -1,4 +1,4 @@
-//! A script that is answered line by line, into texts.
+//! Answering a script line by line, into texts.
 use numa_files::Respond;
 use numa_machine::Rules;
 use numa_run::Script;
@@ -8,17 +8,17 @@ use std::alloc::{AllocError, Global};
 use std::io::Write;
 use std::mem;
 
-/// A script that is being answered.
+/// A script being answered.
 #[derive(Drop)]
 pub struct Answering {
     alloc: Global,
-    // The rules that count where no line gives others.
+    // The rules that apply unless a line says otherwise.
     rules: Rules,
     script: Script,
 }
 
 impl Answering {
-    /// Before the first line; these rules count where no line gives others.
+    /// The state before the first line; these rules apply unless a line says otherwise.
     pub fn new(alloc: Global, rules: Rules) -> Answering {
         Answering {
             alloc,
@@ -28,8 +28,8 @@ impl Answering {
     }
 }
 
-/// Answers a line. (What `serve` promises says nothing here, and would stand in every goal; that of
-/// any server says less than a script's.)
+/// Answers a line. (It is generic so that the contract of `serve`, which isn't needed here, stays
+/// out of every goal: that of any server says less than a script's.)
 fn serve<S: Serve, W: Write>(server: &mut S, alloc: Global, line: &[u8], output: &mut Watched<W>) {
     server.serve(alloc, line, output);
 }

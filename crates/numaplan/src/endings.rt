@@ -1,4 +1,4 @@
-//! How the program ends.
+//! Exit statuses and messages.
 use numa_command_line::JobFault;
 use numa_files::Stop;
 use numa_reports::Touch;
@@ -9,14 +9,14 @@ use std::io;
 use std::io::{ErrorKind, Write};
 use std::process::ExitCode;
 
-/// The status where lines of the scripts are faulty or refused, where they make no machine, or a
+/// The status if lines of the scripts are malformed or refused, if they make no machine, or if a
 /// line of the trace can't be replayed.
 const NOT_AS_ASKED: u8 = 3;
 
-/// What is told where no machine is ready.
+/// The message if no machine is ready.
 const NO_MACHINE: &str = "error: no machine is ready after the scripts";
 
-/// What is told where the page that is asked of isn't mapped.
+/// The message if the page in question isn't mapped.
 const NO_PAGE: &str = "error: the page of '<ADDRESS>' isn't mapped after the scripts";
 
 /// Standard error, as a writer of UTF-8.
@@ -39,14 +39,14 @@ impl<R: Eprint> Write for StandardError<'_, R> {
     }
 }
 
-/// Ends with a fault's text on standard error, and status 1.
+/// Ends with the text of an I/O error on standard error, and status 1.
 pub fn fail(rt: &impl Eprint, fault: RunFault) -> ExitCode {
     let _ = eprintln!(rt; "numaplan: {fault}");
     ExitCode::FAILURE
 }
 
-/// Ends where there is no job: with status 0 after a help that was asked for, with 2 where the
-/// command line is faulty.
+/// Ends without a job: with status 0 after help was asked for, with 2 if the command line is
+/// invalid.
 pub fn tell_fault<R: Print + Eprint>(rt: &R, fault: JobFault) -> ExitCode {
     match fault {
         JobFault::Help(text) => match print!(rt; "{text}") {
@@ -62,7 +62,7 @@ pub fn tell_fault<R: Print + Eprint>(rt: &R, fault: JobFault) -> ExitCode {
     }
 }
 
-/// Ends where a reading ended early.
+/// Ends after reading ended early.
 pub fn stop(rt: &impl Eprint, why: Stop) -> ExitCode {
     match why {
         Stop::Read => fail(rt, RunFault::Read),
@@ -71,7 +71,7 @@ pub fn stop(rt: &impl Eprint, why: Stop) -> ExitCode {
     }
 }
 
-/// Ends where a reading ended early, without a word where nobody reads the answer any more.
+/// Ends after reading ended early; silently if nobody reads the answer any more.
 pub fn stop_quietly(rt: &impl Eprint, why: Stop, outlet: &Outlet) -> ExitCode {
     match why {
         Stop::Write if outlet.is_shut() => ExitCode::FAILURE,
@@ -79,26 +79,28 @@ pub fn stop_quietly(rt: &impl Eprint, why: Stop, outlet: &Outlet) -> ExitCode {
     }
 }
 
-/// Ends with words on standard error, and this status.
+/// Ends with a message on standard error, and this status.
 fn end_with(rt: &impl Eprint, status: u8, words: &str) -> ExitCode {
     let _ = eprintln!(rt; "{words}");
     ExitCode::from(status)
 }
 
-/// Ends where an option names a node, between these words, that the machine of so many lacks.
+/// Ends because an option, named by the words before the node, has a node that a machine with
+/// `nodes` nodes lacks.
 fn lack_node(rt: &impl Eprint, words: &str, node: u32, behind: &str, nodes: u32) -> ExitCode {
     let last = nodes.saturating_sub(1);
     let _ = eprintln!(rt; "error: '{words}{node}{behind}': the machine's nodes are 0 to {last}");
     ExitCode::from(2)
 }
 
-/// Ends where a line of the trace of this name can't be replayed.
+/// Ends because a line of this trace can't be replayed.
 fn end_trace(rt: &impl Eprint, trace: &str, place: u64, why: &str) -> ExitCode {
     let _ = eprintln!(rt; "{trace}:{place}: {why}");
     ExitCode::from(NOT_AS_ASKED)
 }
 
-/// The status of an answer that was come to by such lines; faulty ones are let pass, or not.
+/// The status of an answer after lines that ended so; with `lenient`, malformed and refused ones
+/// don't matter.
 pub fn status_of(ended: Ended, lenient: bool) -> ExitCode {
     match ended {
         Ended::Faulty if !lenient => ExitCode::from(NOT_AS_ASKED),
@@ -106,7 +108,7 @@ pub fn status_of(ended: Ended, lenient: bool) -> ExitCode {
     }
 }
 
-/// Ends with the answer to a question about played scripts, or with why there is none.
+/// Ends with the answer to a question about played scripts, or the reason why there is none.
 pub fn answered(
     rt: &impl Eprint,
     asked: Touch,
@@ -120,7 +122,7 @@ pub fn answered(
     ended(rt, "", answer, lenient, outlet)
 }
 
-/// Ends with an answer about played scripts and the trace of this name, or with why there is none.
+/// Ends with an answer about played scripts and this trace, or the reason why there is none.
 pub fn ended(
     rt: &impl Eprint,
     trace: &str,

@@ -1,7 +1,8 @@
-//! `numaplan run` answers scripts, and `numaplan expect` compares the answers that scripts hold
-//! with those that they get. `numaplan predict` and `numaplan diff` tell where pages would go after
-//! scripts, `numaplan explain` tells why, and `numaplan replay` what a trace of accesses meets.
-//! `numaplan storm` lets workers place pages while policies change.
+//! The program. `numaplan run` answers scripts, `numaplan expect` compares the answers in scripts
+//! with the actual ones, `numaplan check` reports what is wrong with scripts. `numaplan predict`
+//! and `numaplan diff` report where pages would go after scripts, `numaplan explain` why, and
+//! `numaplan replay` replays a trace of accesses. `numaplan storm` lets workers place pages while
+//! policies change.
 #![tactic(auto)]
 
 ghost use Rattle.std.specs.Prelude.{IfOk};
@@ -26,10 +27,10 @@ use std::thread::Threads;
 use std::{env, io};
 use words::{asked, check, expect, replay, run, storm};
 
-/// What is told of an argument that isn't UTF-8.
+/// The message for an argument that isn't UTF-8.
 const NOT_UTF_8: &str = "error: an argument isn't UTF-8\n\nFor more information, try '--help'.\n";
 
-/// The words of the command line, the program's name first. `Usage` where one of them isn't UTF-8.
+/// The words of the command line, the program's name first. `Usage` if one of them isn't UTF-8.
 fn command_words<R: Env + AllocGlobal>(rt: &R) -> Result<Vec<String>, JobFault> {
     match env::args(rt) {
         Ok(words) => match words.collect(rt.alloc()) {
@@ -41,7 +42,7 @@ fn command_words<R: Env + AllocGlobal>(rt: &R) -> Result<Vec<String>, JobFault> 
     }
 }
 
-/// The job that the command line asks for.
+/// The job of the command line.
 fn asked_job<R: Env + AllocGlobal>(rt: &R) -> Result<Job, JobFault>
     ensures { IfOk result CanBeDone }
 {
@@ -49,7 +50,7 @@ fn asked_job<R: Env + AllocGlobal>(rt: &R) -> Result<Job, JobFault>
     job(rt.alloc(), words.as_slice())
 }
 
-/// Does work with scripts.
+/// Works with scripts.
 fn work_done<R, S>(rt: &R, scripts: Scripts<S>, work: &ScriptJob) -> Result<ExitCode, JobFault>
 where
     R: Files + Input + Print + Eprint + AllocGlobal,
@@ -73,7 +74,7 @@ where
     }
 }
 
-/// Whether a script is to be answered that is typed.
+/// Whether the job is to answer a script that is typed.
 fn is_typed<R: Input>(rt: &R, names: &[String], work: &ScriptJob) -> bool
 where
     R::Reader: IsTerminal,
@@ -84,7 +85,7 @@ where
     }
 }
 
-/// Answers a script that is typed, where there is a prompt; else does work with scripts.
+/// Answers a typed script with a prompt, or else works with scripts.
 fn scripts_done<R, S>(
     rt: &R,
     scripts: Scripts<S>,
@@ -103,8 +104,7 @@ where
     work_done(rt, scripts, work)
 }
 
-/// Does work with the scripts of files. Where standard output is a terminal, a script that is typed
-/// has a prompt.
+/// Works with the scripts of files. If standard output is a terminal, a typed script gets a prompt.
 fn files_done<R>(
     rt: &R,
     names: &[String],
@@ -127,7 +127,7 @@ where
     }
 }
 
-/// Does a job, where standard output is a terminal or not.
+/// Does a job; `is_terminal` says whether standard output is a terminal.
 fn done<R>(rt: &R, job: &Job, is_terminal: bool) -> Result<ExitCode, JobFault>
 where
     R: Threads + Wait + Sync + Files + Input + Print + Eprint + AllocGlobal,

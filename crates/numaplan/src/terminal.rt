@@ -1,4 +1,4 @@
-//! A script that is typed at a terminal.
+//! Scripts that are typed at a terminal.
 use crate::answering::Answering;
 use crate::endings::{StandardError, stop};
 use numa_diagnose::{judge, say_line};
@@ -10,10 +10,10 @@ use std::io;
 use std::io::{Read, Write};
 use std::process::ExitCode;
 
-/// What stands before each line that is typed.
+/// The prompt before each line.
 const PROMPT: &str = "numaplan> ";
 
-/// What is told of the lines.
+/// The help on lines.
 const LINES: &str = "\
 limits R T C                   at most R ranges, T tasks, C commands; before machine
 rules RULES                    document or linux: whose rules count; before machine
@@ -40,7 +40,7 @@ try W NODE FRAME                 one try at a frame, and
 give W NODE FRAME                to give a frame back
 ";
 
-/// What is told of the words of lines.
+/// The help on the words of lines.
 const WORDS: &str = "\
 A POLICY is default, local, or a mode and nodes: bind:0-1 prefer:1 many:0,2 interleave:0-3
 weighted:0-1; =static or =relative may follow the mode, as in bind=static:0-1. Numbers are decimal,
@@ -48,14 +48,14 @@ or 0x and hexadecimal; START, LENGTH and ADDR count bytes, OFFSET and PAGES page
 is the node of a CPU. Words stand between single spaces. A line that begins with # says nothing.
 ";
 
-/// A script that is typed, line by line.
+/// A typed script.
 #[derive(Drop)]
 struct Typed<W, T> {
     alloc: Global,
     answering: Answering,
-    // The same script, by which it is found what is wrong with a line.
+    // The same script, for finding what is wrong with a line.
     judged: Script,
-    // What is to be written, and what is to be told.
+    // The texts for standard output and standard error.
     text: Vec<u8>,
     output: W,
     told: T,
@@ -69,7 +69,7 @@ fn put<W: Write>(output: &mut W, bytes: &[u8]) -> Result<(), Stop> {
     }
 }
 
-/// Appends what is wrong with a line, if something is.
+/// Appends what is wrong with a line, if anything.
 fn find(
     alloc: Global,
     script: &mut Script,
@@ -88,7 +88,7 @@ fn find(
 }
 
 impl<W: Write, T: Write> Typed<W, T> {
-    /// Writes the answer to a line, and tells what is wrong with it.
+    /// Writes the answer to a line, and what is wrong with it.
     fn answer(&mut self, name: &str, place: u64, line: &[u8]) -> Result<(), Stop> {
         self.text.clear();
         if let Err(_) = self.answering.respond(line, &mut self.text) {
@@ -101,7 +101,7 @@ impl<W: Write, T: Write> Typed<W, T> {
         put(&mut self.told, self.text.as_slice())
     }
 
-    /// Tells the lines, and their words.
+    /// Writes the help.
     fn help(&mut self) -> Result<(), Stop> {
         put(&mut self.output, LINES.as_bytes())?;
         put(&mut self.output, WORDS.as_bytes())
@@ -119,7 +119,7 @@ impl<W: Write, T: Write> TakeLine for Typed<W, T> {
     }
 }
 
-/// Answers a script that is typed, with a prompt before each line.
+/// Answers a typed script, with a prompt before each line.
 fn answer_all<R, S>(rt: &R, texts: Vec<(String, S)>, rules: Rules) -> Result<(), Stop>
 where
     R: Print + Eprint + AllocGlobal,
@@ -142,8 +142,8 @@ where
     read
 }
 
-/// Answers a script that is typed at a terminal: with a prompt before each line, and with what is
-/// wrong with a line, in the words of `check`, on standard error; a line `help` tells the lines.
+/// Answers a script that is typed at a terminal, with a prompt before each line, and reports what
+/// is wrong with a line on standard error, as `check` does. A line `help` shows help.
 pub fn answer<R, S>(rt: &R, texts: Vec<(String, S)>, rules: Rules) -> ExitCode
 where
     R: Print + Eprint + AllocGlobal,

@@ -1,4 +1,4 @@
-//! How the jobs of words are done, a file for each.
+//! Doing the jobs of subcommands, a file for each.
 pub mod asked;
 pub mod check;
 pub mod expect;

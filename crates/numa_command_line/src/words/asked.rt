@@ -1,4 +1,4 @@
-//! Words that ask about pages that a task would touch, by `--task T --node N`.
+//! Subcommands that ask about pages that a task would touch, by `--task T --node N`.
 ghost use Rattle.std.specs.Prelude.{Some, codes};
 ghost use Rattle.numa_command_line.specs.Asked.{asked_in};
 ghost use Rattle.numa_command_line.specs.Jobs.{IsMade, question_of, work_of};
@@ -12,7 +12,7 @@ use clap::ArgMatches;
 use numa_reports::Touch;
 use std::alloc::Global;
 
-/// What is told where a number is missing.
+/// The message if a number is missing.
 const MISSING: &str = "error: '--task <T>' and '--node <N>' are wanted\n";
 
 /// The option `--task T`.
@@ -33,7 +33,7 @@ pub const NODE: Argument = Argument {
     takes: Takes::NumberOr("cpu"),
 };
 
-/// What the options say.
+/// The values of the options.
 fn asked(alloc: Global, matches: &ArgMatches<'_>) -> Result<Touch, JobFault>
     ensures { IsMade (λ touch. touch) (touch_in (rows_of (found_of matches.now))) result }
 {
@@ -43,10 +43,10 @@ fn asked(alloc: Global, matches: &ArgMatches<'_>) -> Result<Touch, JobFault>
     }
 }
 
-/// To ask a question by the options.
+/// The job of asking a question by the options.
 ///
 /// # Errors
-/// `Usage` where `--task` or `--node` has no number; `NoMemory`.
+/// `Usage`: `--task` or `--node` has no number. `NoMemory`: out of memory.
 pub fn work(
     alloc: Global,
     matches: &ArgMatches<'_>,

@@ -1,10 +1,10 @@
-//! `numaplan check [FILE]..`: tells what is wrong with scripts.
+//! `numaplan check [FILE]..`: reports what is wrong with scripts.
 ghost use Rattle.std.specs.Prelude.{codes, true};
 ghost use Rattle.numa_command_line.specs.Grammar.{IsWord, check_arguments};
 
 use crate::usage::{FILES, SubcommandHelp};
 
-/// What is said of the word.
+/// The help of the subcommand.
 static WORD: SubcommandHelp = SubcommandHelp {
     name: "check",
     line: "Tells what is wrong with scripts, and what to do about it",
@@ -18,7 +18,7 @@ examples/why-refused.numaplan",
     arguments: &[FILES],
 };
 
-/// The word.
+/// The subcommand.
 pub fn word() -> &'static SubcommandHelp
     ensures { IsWord (codes "check") check_arguments true result.now }
 {

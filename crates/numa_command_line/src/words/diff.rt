@@ -1,4 +1,4 @@
-//! `numaplan diff --task T --node N --then LINE [FILE]..`: tells which pages would go elsewhere.
+//! `numaplan diff --task T --node N --then LINE [FILE]..`: reports which pages would go elsewhere.
 ghost use Rattle.std.specs.Prelude.{codes, true};
 ghost use Rattle.numa_command_line.specs.Grammar.{IsWord, diff_arguments};
 ghost use Rattle.clap.specs.Words.{found_of, rows_of};
@@ -24,7 +24,7 @@ const THEN: Argument = Argument {
     takes: Takes::Texts,
 };
 
-/// What is said of the word.
+/// The help of the subcommand.
 static WORD: SubcommandHelp = SubcommandHelp {
     name: "diff",
     line: "Tells which pages would go elsewhere if lines were added to scripts",
@@ -40,17 +40,17 @@ ready after the scripts.",
     arguments: &[TASK, NODE, THEN, LENIENT, FILES],
 };
 
-/// The word.
+/// The subcommand.
 pub fn word() -> &'static SubcommandHelp
     ensures { IsWord (codes "diff") diff_arguments true result.now }
 {
     &WORD
 }
 
-/// What its words ask for.
+/// The job of a command line with this subcommand.
 ///
 /// # Errors
-/// `Usage` where `--task` or `--node` has no number; `NoMemory`.
+/// `Usage`: `--task` or `--node` has no number. `NoMemory`: out of memory.
 pub fn work(alloc: Global, matches: &ArgMatches<'_>) -> Result<ScriptJob, JobFault>
     ensures { IsMade work_of (work_asked word.Diff (rows_of (found_of matches.now))) result }
 {

@@ -1,4 +1,4 @@
-//! `numaplan expect FILE..`: compares worked scripts with what their lines are answered.
+//! `numaplan expect FILE..`: compares worked scripts with the answers to their lines.
 ghost use Rattle.std.specs.Prelude.{codes, true};
 ghost use Rattle.numa_command_line.specs.Grammar.{IsWord, expect_arguments};
 
@@ -13,7 +13,7 @@ const WORKED: Argument = Argument {
     takes: Takes::Files,
 };
 
-/// What is said of the word.
+/// The help of the subcommand.
 static WORD: SubcommandHelp = SubcommandHelp {
     name: "expect",
     line: "Compares the answers that scripts hold with those that they get",
@@ -31,7 +31,7 @@ repository:\n  ./numaplan expect examples/*.answers",
     arguments: &[WORKED],
 };
 
-/// The word.
+/// The subcommand.
 pub fn word() -> &'static SubcommandHelp
     ensures { IsWord (codes "expect") expect_arguments true result.now }
 {

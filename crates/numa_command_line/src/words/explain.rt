@@ -1,4 +1,4 @@
-//! `numaplan explain --task T --node N ADDRESS [FILE]..`: tells why a page goes where it goes.
+//! `numaplan explain --task T --node N ADDRESS [FILE]..`: says why a page goes where it goes.
 ghost use Rattle.std.specs.Prelude.{codes, true};
 ghost use Rattle.numa_command_line.specs.Grammar.{IsWord, explain_arguments};
 ghost use Rattle.clap.specs.Words.{found_of, rows_of};
@@ -16,7 +16,7 @@ use clap::ArgMatches;
 use numa_script::number::number;
 use std::alloc::Global;
 
-/// What is told where the address is faulty.
+/// The message for an invalid address.
 const BAD_ADDRESS: &str =
     "error: '<ADDRESS>' takes a number below 2^64, decimal or 0x and hexadecimal\n\nFor more \
 information, try '--help'.\n";
@@ -30,7 +30,7 @@ const ADDRESS: Argument = Argument {
     takes: Takes::Bare,
 };
 
-/// What is said of the word.
+/// The help of the subcommand.
 static WORD: SubcommandHelp = SubcommandHelp {
     name: "explain",
     line: "Tells why a page goes where it goes",
@@ -46,17 +46,17 @@ are, unless --lenient is given, and where no machine is ready after the scripts.
     arguments: &[TASK, NODE, LENIENT, ADDRESS, FILES],
 };
 
-/// The word.
+/// The subcommand.
 pub fn word() -> &'static SubcommandHelp
     ensures { IsWord (codes "explain") explain_arguments true result.now }
 {
     &WORD
 }
 
-/// What its words ask for.
+/// The job of a command line with this subcommand.
 ///
 /// # Errors
-/// `Usage` where the address is faulty, or an option has no number; `NoMemory`.
+/// `Usage`: the address is invalid, or an option has no number. `NoMemory`: out of memory.
 pub fn work(alloc: Global, matches: &ArgMatches<'_>) -> Result<ScriptJob, JobFault>
     ensures { IsMade work_of (work_asked word.Explain (rows_of (found_of matches.now))) result }
 {

@@ -1,4 +1,4 @@
-//! How many free pages nodes have: `--free NODE=PAGES,..`.
+//! The number of free pages of nodes: `--free NODE=PAGES,..`.
 ghost use Rattle.std.specs.Prelude.{◌≡◌, ◌==◌, [], IfOk, option_map};
 ghost use Rattle.std.specs.List.{list_any};
 ghost use Rattle.clap.specs.Words.{found_of, rows_of};
@@ -16,7 +16,7 @@ use numa_script::number::node;
 use numa_script::parts::{Parts, items};
 use std::alloc::{AllocError, Global};
 
-/// What is told where the value isn't as it should be.
+/// The message for an invalid value.
 const BAD: &str =
     "error: '--free <NODE=PAGES,..>': nodes from 0 to 255, each once, with numbers of pages, or of \
 bytes in K, M, G or T that make whole pages, as in 0=1000,1=4G\n";
@@ -57,7 +57,7 @@ fn has(named: &[FreePages], node: u8) -> bool
     named.iter().any(|one| one.node == node)
 }
 
-/// The nodes that a text names; none where it isn't as it should be.
+/// The nodes that a text names; `None` if it is invalid.
 fn read(alloc: Global, text: &str) -> Result<Option<Vec<FreePages>>, AllocError>
     ensures { IfOk result (λ read. option_map (λ named. named.items) read
         ≡ frees_from [] (parts_of 44 text.now)) }
@@ -75,10 +75,10 @@ fn read(alloc: Global, text: &str) -> Result<Option<Vec<FreePages>>, AllocError>
     Ok(Some(named))
 }
 
-/// The nodes that are named, and their free pages; none where the option isn't there.
+/// The named nodes and their free pages; none without the option.
 ///
 /// # Errors
-/// `Usage` where the option is faulty; `NoMemory`.
+/// `Usage`: the option is invalid. `NoMemory`: out of memory.
 pub fn named(alloc: Global, matches: &ArgMatches<'_>) -> Result<Vec<FreePages>, JobFault>
     ensures { IsMade (λ named. named.items) (frees_in (rows_of (found_of matches.now))) result }
 {

@@ -1,4 +1,4 @@
-//! Whether faulty and refused lines are let pass: `--lenient`.
+//! Whether malformed and refused lines are no error: `--lenient`.
 use crate::usage::{Argument, Takes};
 
 /// The option `--lenient`.

@@ -1,5 +1,5 @@
-//! `numaplan predict --task T --node N [--free NODE=PAGES,..] [FILE]..`: tells where pages would go
-//! after scripts.
+//! `numaplan predict --task T --node N [--free NODE=PAGES,..] [FILE]..`: reports where pages would
+//! go after scripts.
 ghost use Rattle.std.specs.Prelude.{◌≡◌, codes, true};
 ghost use Rattle.numa_command_line.specs.Grammar.{AreNames, IsWord, format_names};
 ghost use Rattle.numa_command_line.specs.Grammar.{predict_arguments};
@@ -30,7 +30,7 @@ const FORMAT: Argument = Argument {
     takes: Takes::OneOf("text", &["text", "json", "csv", "svg"]),
 };
 
-/// What is said of the word.
+/// The help of the subcommand.
 static WORD: SubcommandHelp = SubcommandHelp {
     name: "predict",
     line: "Tells where pages would go after scripts, if a task touched them",
@@ -47,7 +47,7 @@ examples/interleaved-range.numaplan",
     arguments: &[TASK, NODE, FORMAT, FREE, LENIENT, FILES],
 };
 
-/// The word.
+/// The subcommand.
 pub fn word() -> &'static SubcommandHelp
     ensures { (formats : Names) × AreNames format_names formats
         × IsWord (codes "predict") (predict_arguments formats) true result.now }
@@ -55,7 +55,7 @@ pub fn word() -> &'static SubcommandHelp
     &WORD
 }
 
-/// The format of this name.
+/// The format with this name.
 fn format_of(name: &str) -> Format
     ensures { result ≡ format_named name.now }
 {
@@ -67,7 +67,7 @@ fn format_of(name: &str) -> Format
     }
 }
 
-/// The format that is asked for.
+/// The requested format.
 fn format_in(matches: &ArgMatches<'_>) -> Format
     ensures { result ≡ format_in (rows_of (found_of matches.now)) }
 {
@@ -77,10 +77,10 @@ fn format_in(matches: &ArgMatches<'_>) -> Format
     }
 }
 
-/// What its words ask for.
+/// The job of a command line with this subcommand.
 ///
 /// # Errors
-/// `Usage` where an option has no number, or `--free` is faulty; `NoMemory`.
+/// `Usage`: an option has no number, or `--free` is invalid. `NoMemory`: out of memory.
 pub fn work(alloc: Global, matches: &ArgMatches<'_>) -> Result<ScriptJob, JobFault>
     ensures { IsMade work_of (work_asked word.Predict (rows_of (found_of matches.now))) result }
 {

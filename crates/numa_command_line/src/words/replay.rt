@@ -1,4 +1,4 @@
-//! `numaplan replay --trace TRACE [FILE]..`: tells what a trace of accesses meets.
+//! `numaplan replay --trace TRACE [FILE]..`: replays a trace of accesses.
 ghost use Rattle.std.specs.Prelude.{◌≡◌, codes, true};
 ghost use Rattle.numa_command_line.specs.Grammar.{AreNames, IsWord, shape_names, replay_arguments};
 ghost use Rattle.numa_command_line.specs.Usage.{Names};
@@ -34,7 +34,7 @@ const FORMAT: Argument = Argument {
     takes: Takes::OneOf("text", &["text", "json"]),
 };
 
-/// What is said of the word.
+/// The help of the subcommand.
 static WORD: SubcommandHelp = SubcommandHelp {
     name: "replay",
     line: "Tells what a trace of accesses meets after scripts",
@@ -53,7 +53,7 @@ examples/replayed.trace examples/interleaved-range.numaplan",
     arguments: &[TRACE, FORMAT, LENIENT, FILES],
 };
 
-/// The word.
+/// The subcommand.
 pub fn word() -> &'static SubcommandHelp
     ensures { (shapes : Names) × AreNames shape_names shapes
         × IsWord (codes "replay") (replay_arguments shapes) true result.now }
@@ -61,7 +61,7 @@ pub fn word() -> &'static SubcommandHelp
     &WORD
 }
 
-/// The format of this name.
+/// The format with this name.
 fn shape_of(name: &str) -> Shape
     ensures { result ≡ shape_named name.now }
 {
@@ -71,7 +71,7 @@ fn shape_of(name: &str) -> Shape
     }
 }
 
-/// The format that is asked for.
+/// The requested format.
 fn shape_in(matches: &ArgMatches<'_>) -> Shape
     ensures { result ≡ shape_in (rows_of (found_of matches.now)) }
 {
@@ -81,10 +81,10 @@ fn shape_in(matches: &ArgMatches<'_>) -> Shape
     }
 }
 
-/// What its words ask for.
+/// The job of a command line with this subcommand.
 ///
 /// # Errors
-/// `NoMemory`.
+/// `NoMemory`: out of memory.
 pub fn work(alloc: Global, matches: &ArgMatches<'_>) -> Result<ScriptJob, JobFault>
     ensures { IsMade work_of (work_asked word.Replay (rows_of (found_of matches.now))) result }
 {

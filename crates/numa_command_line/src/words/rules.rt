@@ -1,4 +1,4 @@
-//! Whose rules count where a script says nothing of them: `--rules document|linux`.
+//! Whose rules apply unless a script says so: `--rules document|linux`.
 ghost use Rattle.std.specs.Prelude.{◌≡◌};
 ghost use Rattle.numa_command_line.specs.Grammar.{AreNames, rules, rules_names};
 ghost use Rattle.numa_command_line.specs.Usage.{Names, rule_said};
@@ -10,7 +10,7 @@ use crate::usage::{Argument, Takes};
 use clap::ArgMatches;
 use numa_machine::Rules;
 
-/// What is said of the option `--rules RULES`.
+/// The argument `--rules RULES`.
 static RULES: Argument = Argument {
     name: "rules",
     value: "RULES",
@@ -27,7 +27,7 @@ pub fn argument() -> &'static Argument
     &RULES
 }
 
-/// The rules that are asked for.
+/// The requested rules.
 pub fn rules_in(matches: &ArgMatches<'_>) -> Rules
     ensures { result ≡ rules_in (rows_of (found_of matches.now)) }
 {

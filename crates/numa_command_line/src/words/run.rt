@@ -13,7 +13,7 @@ const ECHO: Argument = Argument {
     takes: Takes::Nothing,
 };
 
-/// What is said of the word.
+/// The help of the subcommand.
 static WORD: SubcommandHelp = SubcommandHelp {
     name: "run",
     line: "Answers the scripts of files, or of standard input",
@@ -28,7 +28,7 @@ repository.",
     arguments: &[ECHO, FILES],
 };
 
-/// The word.
+/// The subcommand.
 pub fn word() -> &'static SubcommandHelp
     ensures { IsWord (codes "run") run_arguments true result.now }
 {

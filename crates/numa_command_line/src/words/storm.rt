@@ -11,7 +11,7 @@ use crate::usage::{Argument, SubcommandHelp, Takes};
 use clap::ArgMatches;
 use std::alloc::Global;
 
-/// What is told where the number of workers is faulty.
+/// The message for an invalid number of workers.
 const BAD_WORKERS: &str =
     "error: '--workers <K>' takes a number from 1 to 16\n\nFor more information, try '--help'.\n";
 
@@ -24,7 +24,7 @@ const WORKERS: Argument = Argument {
     takes: Takes::Text,
 };
 
-/// What is said of the word.
+/// The help of the subcommand.
 static WORD: SubcommandHelp = SubcommandHelp {
     name: "storm",
     line: "Lets workers place pages while policies change, and compares each placement",
@@ -39,17 +39,17 @@ status is 0 where all is as it must be whichever thread is first, and else 1.",
     arguments: &[WORKERS],
 };
 
-/// The word.
+/// The subcommand.
 pub fn word() -> &'static SubcommandHelp
     ensures { IsWord (codes "storm") storm_arguments false result.now }
 {
     &WORD
 }
 
-/// The job that its words ask for.
+/// The job of a command line with this subcommand.
 ///
 /// # Errors
-/// `Usage` where the number of workers is faulty; `NoMemory`.
+/// `Usage`: the number of workers is invalid. `NoMemory`: out of memory.
 pub fn job(alloc: Global, matches: &ArgMatches<'_>) -> Result<Job, JobFault>
     ensures can { IfOk result CanBeDone }
     ensures asked { IsMade doings_of

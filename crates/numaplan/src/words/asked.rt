@@ -1,4 +1,4 @@
-//! Words that ask about pages that a task would touch.
+//! Subcommands that ask about pages that a task would touch.
 use crate::endings::{StandardError, answered};
 use numa_command_line::PageQuestion;
 use numa_reports::Touch;

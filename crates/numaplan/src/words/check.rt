@@ -1,4 +1,4 @@
-//! Tells what is wrong with scripts.
+//! Reports what is wrong with scripts.
 use crate::endings::{status_of, stop_quietly};
 use numa_sources::Outlet;
 use numa_words::Scripts;

@@ -1,4 +1,4 @@
-//! Compares worked scripts with what their lines are answered.
+//! Compares worked scripts with the answers to their lines.
 use crate::answering::Answering;
 use crate::endings::stop_quietly;
 use numa_files::{Expect, Stop, read_all};
@@ -8,10 +8,10 @@ use std::io;
 use std::io::{Read, Write};
 use std::process::ExitCode;
 
-/// The status where an answer is not as wanted, or a worked script wants none.
+/// The status if an answer isn't as expected, or a worked script expects none.
 const DIFFERENT: u8 = 3;
 
-/// Reads worked scripts, and tells the counts. Whether all answers are as wanted.
+/// Reads worked scripts, writes the counts, and returns whether all answers are as expected.
 fn compare_by<S: Read + Drop, W: Write>(
     texts: Vec<(String, S)>,
     expect: &mut Expect<Answering, W>,
@@ -21,7 +21,7 @@ fn compare_by<S: Read + Drop, W: Write>(
     Ok(expect.counts().are_as_wanted())
 }
 
-/// Compares worked scripts. Whether all answers are as wanted.
+/// Compares worked scripts, and returns whether all answers are as expected.
 fn compare<R, S>(rt: &R, scripts: Scripts<S>, outlet: &Outlet) -> Result<bool, Stop>
 where
     R: Print + AllocGlobal,
@@ -35,7 +35,7 @@ where
     is_same
 }
 
-/// Compares worked scripts, each of which is a script of its own.
+/// Compares worked scripts, each as a separate script.
 pub fn check<R, S>(rt: &R, scripts: Scripts<S>) -> ExitCode
 where
     R: Print + Eprint + AllocGlobal,

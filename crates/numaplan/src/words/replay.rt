@@ -1,4 +1,4 @@
-//! Tells what a trace of accesses meets.
+//! Replays a trace of accesses.
 use crate::endings::{StandardError, ended};
 use numa_command_line::JobFault;
 use numa_sources::{Outlet, open_all};
@@ -9,7 +9,7 @@ use std::io::{IsTerminal, Read};
 use std::process::ExitCode;
 use std::rt::Files;
 
-/// Replays a trace of this name after scripts.
+/// Replays a trace after scripts.
 fn replay<R, S, T>(
     rt: &R,
     scripts: Scripts<S>,
@@ -37,6 +37,9 @@ where
 }
 
 /// Replays the trace of a file after scripts.
+///
+/// # Errors
+/// `Usage`: the trace can't be opened. `NoMemory`: out of memory.
 pub fn answer<R, S>(
     rt: &R,
     scripts: Scripts<S>,

@@ -10,7 +10,7 @@ use std::io;
 use std::io::Read;
 use std::process::ExitCode;
 
-/// Answers what these readers hold, as one script, by these rules where no line gives others.
+/// Answers what these readers hold, as one script, by these rules unless a line says otherwise.
 fn answer_sources<R, S>(rt: &R, sources: Vec<S>, rules: Rules) -> Result<(), RunFault>
 where
     R: Print + AllocGlobal,
@@ -52,7 +52,7 @@ where
     read
 }
 
-/// Answers scripts, and says each line too, where `echo` says so.
+/// Answers scripts; with `echo`, writes each line too.
 pub fn answer<R, S>(rt: &R, scripts: Scripts<S>, echo: bool) -> ExitCode
 where
     R: Print + Eprint + AllocGlobal,

@@ -8,7 +8,7 @@ use std::process::ExitCode;
 use std::sync::Wait;
 use std::thread::Threads;
 
-/// Lets so many workers place pages while policies change.
+/// Lets this many workers place pages while policies change.
 pub fn show<R: Threads + Wait + Sync + Print + Eprint + AllocGlobal>(
     rt: &R,
     workers: u32,
