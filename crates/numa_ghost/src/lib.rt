@@ -1,10 +1,10 @@
-//! A number that contracts alone read.
+//! Numbers and lists that only contracts see.
 //!
-//! A promise about work, such as how many pages a search compares, is a promise about a number, and
-//! a program that carried the number would pay for it at each step. A [`Count`] carries none: it
-//! has no bytes, and code can begin one and count on, but never read it. A contract sees it as a
-//! natural number. So a call that counts takes what holds the count by `&mut`, and its contract
-//! says how much greater the number is afterwards.
+//! A promise about work, such as the number of pages that a search compares, needs a number, and a
+//! program that stored it would pay for it at each step. A [`Count`] stores nothing: it has no
+//! bytes, and code can start one and increment it, but never read it. Contracts see a natural
+//! number. So a call that counts takes the count by `&mut`, and its contract says how much greater
+//! it is afterwards.
 #![tactic(auto)]
 
 ghost use Rattle.std.specs.Prelude.{◌≡◌, ◌+◌};
@@ -15,17 +15,17 @@ use logbook::{Opening, Seen, Start};
 pub use rule::{BareRule, Holding};
 use std::marker::Model;
 
-/// Between the words and the list anything holds.
+/// Holds between any words and any list.
 pub struct Anything;
 
 impl<E> Holding<E> for Anything {
     ghost holds = { λ cells log. Unit {0} };
 }
 
-/// A list that contracts alone see, and of which nothing is asked.
+/// A list that only contracts see, with no condition on it.
 pub type GhostList<E> = Seen<E, u64, BareRule<Anything>>;
 
-/// A list with one entry more than that of another book.
+/// A list with one more entry than that of another book.
 struct Longer;
 
 impl Opening<GhostList<()>, ()> for Longer {
@@ -34,9 +34,9 @@ impl Opening<GhostList<()>, ()> for Longer {
     ghost log = { λ n s. tt ∷ s.log };
 }
 
-/// A natural number without bytes, which nothing but a contract can read: as great as a list is
-/// long that contracts alone see. It has no upper bound, since nothing stores it, and it can go to
-/// another thread.
+/// A natural number without bytes that only contracts can read: the length of a list that only
+/// contracts see. It has no upper bound, since nothing stores it, and it can be sent to another
+/// thread.
 #[derive(Drop)]
 pub struct Count {
     list: GhostList<()>,
@@ -59,7 +59,7 @@ impl Count {
         Count { list }
     }
 
-    /// The number that is one greater. This one stays as it is.
+    /// The number plus 1.
     pub fn next(&self) -> Count
         ensures { result ≡ self.now + 1 }
     {

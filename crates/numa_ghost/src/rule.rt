@@ -1,16 +1,16 @@
-//! Rules of logbooks that show nothing and keep nothing.
+//! Rules of logbooks that keep nothing.
 ghost use Rattle.std.specs.Prelude.{ℕ, List};
 ghost use Rattle.logbook.specs.Pages.{Cell};
 
 use logbook::Rule;
 use std::marker::PhantomData;
 
-/// What holds between the words of a book and its list at each step.
+/// A relation that holds between the words of a book and its list at each step.
 pub trait Holding<E> {
     ghost holds: { List Cell → List E → Type 0 };
 }
 
-/// The rule of a book by which that holds, and nothing else is asked.
+/// The rule of a book that this relation holds, and nothing else.
 pub struct BareRule<H> {
     of: PhantomData<H>,
 }

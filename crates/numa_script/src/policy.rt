@@ -143,11 +143,6 @@ fn policy(
 /// The first that applies: `Policy(UnknownMode)`, the part before the colon isn't a mode's name
 /// with flags; `List`, what is wrong with the list; `Policy`, as [`PolicySpec::new`] refuses the
 /// mode, the flags and the nodes.
-///
-/// # Errors
-/// The first that applies: `Policy(UnknownMode)`, the part before the colon isn't a mode's name
-/// with flags; `List`, what is wrong with the list; `Policy`, as [`PolicySpec::new`] refuses the
-/// mode, the flags and the nodes.
 #[tactic(auto, unfolding(crate::specs::Policies::policy_of))]
 pub fn read_policy(word: &[u8]) -> Result<PolicySpec, WordError>
     ensures { result ≡ policy_of word.now }

@@ -1,4 +1,4 @@
-//! The numbers by which the library answers.
+//! The result codes of the library.
 ghost use Rattle.std.specs.Prelude.{◌≡◌, ◌≢◌};
 ghost use Rattle.numaplan_c.specs.Codes.{refusal_code, cause_code, answer_code, machine_code};
 ghost use Rattle.numaplan_c.specs.Codes.{list_code, word_code, place_code};
@@ -9,40 +9,40 @@ use numa_mask::ListFault;
 use numa_script::WordError;
 use numa_space::{PlaceRefusal, Refusal};
 
-/// The answers that have a name here, by the numbers that the header gives them. The refusals of
-/// commands and questions, and the faults of machines, lists and policies, are counted from the
-/// first of their kind.
+/// The result codes that need a name here, as in the header. Those of refusals of commands and
+/// questions, and of errors in machines, lists and policies, are counted from the first of their
+/// kind.
 #[derive(Clone, Copy)]
 pub(crate) enum Code {
-    /// The handle keeps nothing.
+    /// The handle is closed: it keeps nothing.
     Closed = 1,
-    /// The handle keeps something.
+    /// The handle is open: it keeps something.
     Open = 2,
     /// Out of memory.
     NoMemory = 3,
-    /// The answer is longer than the room for it.
+    /// The answer is longer than the buffer.
     NoRoom = 4,
-    /// No answer has this number.
+    /// No result has this code.
     Unknown = 5,
-    /// The line was served, and there was no memory for its whole answer.
+    /// The line was served, but there was no memory for its whole answer.
     AnswerLost = 6,
-    /// There are not so many workers.
+    /// There is no worker with this number.
     NoSuchWorker = 30,
-    /// The worker still looks for a frame.
+    /// The worker is still searching for a frame.
     Busy = 31,
-    /// The worker looks for no frame.
+    /// The worker isn't searching for a frame.
     Idle = 32,
     /// A frame, or a word of frames, that the worker can't try now.
     BadTry = 33,
     /// The frame isn't the worker's, or the seat doesn't hold it.
     NotOwned = 34,
-    /// The faulting node is none of the machine's.
+    /// The machine lacks the faulting node.
     BadCpu = 35,
     /// The page isn't mapped.
     Unmapped = 36,
     /// There is no range at this place.
     NoRange = 37,
-    /// Two placements are of one page.
+    /// Two placements are of the same page.
     PlacedTwice = 38,
     /// The worker goes on.
     Still = 40,
@@ -50,7 +50,7 @@ pub(crate) enum Code {
     Exhausted = 41,
     /// Each frame of each listed node was found taken.
     AllTaken = 42,
-    /// There are too many nodes.
+    /// The number of nodes is 0 or too high, or doesn't fit the description.
     BadNodeCount = 50,
     /// The limits are above those of any core.
     BadLimits = 54,
@@ -60,13 +60,13 @@ pub(crate) enum Code {
     BadRules = 56,
     /// No orders have this number.
     BadOrders = 57,
-    /// The policy word says that there is no policy.
+    /// The policy word is that of no policy.
     NoPolicy = 75,
     /// No node is allowed.
     NoNodeAllowed = 76,
 }
 
-/// The number of a command's refusal: most stand in order from 10; a later one has a later number.
+/// The code of a command's refusal: most are in order from 10; a later one has a later number.
 pub(crate) fn refusal_code(refusal: Refusal) -> u32
     ensures { result ≡ refusal_code refusal }
 {
@@ -79,7 +79,7 @@ pub(crate) fn refusal_code(refusal: Refusal) -> u32
     }
 }
 
-/// The number of an event's refusal.
+/// The code of an event's refusal.
 fn cause_code(cause: CoreRefusal) -> u32
     ensures { result ≡ cause_code cause }
 {
@@ -96,7 +96,7 @@ fn cause_code(cause: CoreRefusal) -> u32
     }
 }
 
-/// The number of an event's answer.
+/// The code of an event's reply.
 pub(crate) fn answer_code(answer: &Result<CoreReply, CoreRefusal>) -> u32
     ensures { result ≡ answer_code answer.now }
 {
@@ -108,7 +108,7 @@ pub(crate) fn answer_code(answer: &Result<CoreReply, CoreRefusal>) -> u32
     }
 }
 
-/// The number of a question's refusal: they stand in order from 35.
+/// The code of a question's refusal: in order from 35.
 pub(crate) fn place_code(refusal: PlaceRefusal) -> u32
     ensures code { result ≡ place_code refusal }
     ensures refused { result ≢ 0 }
@@ -116,7 +116,7 @@ pub(crate) fn place_code(refusal: PlaceRefusal) -> u32
     35 + refusal as u32
 }
 
-/// The number of a list's fault: they stand in order from 60.
+/// The code of an error in a list: in order from 60.
 pub(crate) fn list_code(fault: ListFault) -> u32
     ensures code { result ≡ list_code fault }
     ensures refused { result ≢ 0 }
@@ -124,7 +124,7 @@ pub(crate) fn list_code(fault: ListFault) -> u32
     60 + fault as u32
 }
 
-/// The number of a machine's fault: but for want of memory they stand in order from 50.
+/// The code of an error in a machine: in order from 50, apart from out of memory.
 pub(crate) fn machine_code(fault: MachineFault) -> u32
     ensures code { result ≡ machine_code fault }
     ensures refused { result ≢ 0 }
@@ -135,7 +135,7 @@ pub(crate) fn machine_code(fault: MachineFault) -> u32
     }
 }
 
-/// The number of a policy word's fault: a policy's stand in order from 70.
+/// The code of an error in a policy word: a policy's are in order from 70.
 pub(crate) fn word_code(fault: WordError) -> u32
     ensures code { result ≡ word_code fault }
     ensures refused { result ≢ 0 }

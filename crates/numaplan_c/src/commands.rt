@@ -1,4 +1,4 @@
-//! Commands, and what publishes them.
+//! Commands, and their publication.
 ghost use Rattle.numa_mask.specs.Lists.{list_of};
 ghost use Rattle.numa_script.specs.Policies.{policy_of};
 ghost use Rattle.numa_space.specs.declared.event.Event.{Event};
@@ -15,7 +15,7 @@ use numa_space::Command;
 use numaplan_handles::CoreHandle;
 use std::alloc::Global;
 
-/// An event of the kept core, by the number of its answer.
+/// Carries out an event of the core in a handle, and returns the code of its reply.
 pub(crate) fn answer(alloc: Global, core: &mut CoreHandle, event: Event) -> u32
     ensures { Answers (core_in core.old) event result (core_in core.new) }
 {
@@ -25,7 +25,7 @@ pub(crate) fn answer(alloc: Global, core: &mut CoreHandle, event: Event) -> u32
     }
 }
 
-/// A command of the kept core, by the number of its answer.
+/// Carries out a command of the core in a handle, and returns the code of its reply.
 fn accept(alloc: Global, core: &mut CoreHandle, command: Command) -> u32
     ensures { Answers (core_in core.old) (Event.Accept command) result (core_in core.new) }
 {
@@ -66,7 +66,7 @@ pub extern "C" fn np_core_unmap(
     accept(alloc, core, Command::Unmap { start, length })
 }
 
-/// Gives the pages of a span a policy of their own.
+/// Sets the policy of a span's pages.
 #[unsafe(no_mangle)]
 pub extern "C" fn np_core_mbind(
     alloc: Global,
@@ -90,7 +90,7 @@ pub extern "C" fn np_core_mbind(
     accept(alloc, core, command)
 }
 
-/// Gives a task its policy.
+/// Sets the policy of a task.
 #[unsafe(no_mangle)]
 pub extern "C" fn np_core_set_task(
     alloc: Global,
@@ -117,7 +117,7 @@ pub extern "C" fn np_core_inherit(alloc: Global, core: &mut CoreHandle, task: u3
     accept(alloc, core, Command::Inherit { task, from })
 }
 
-/// Gives the policies of a span's pages a home node.
+/// Sets the home node of the policies of a span's pages.
 #[unsafe(no_mangle)]
 pub extern "C" fn np_core_set_home(
     alloc: Global,
@@ -137,7 +137,7 @@ pub extern "C" fn np_core_set_home(
     accept(alloc, core, command)
 }
 
-/// Gives a node its weight.
+/// Sets the weight of a node.
 #[unsafe(no_mangle)]
 pub extern "C" fn np_core_set_weight(
     alloc: Global,
@@ -151,7 +151,7 @@ pub extern "C" fn np_core_set_weight(
     accept(alloc, core, Command::SetWeight { node, weight })
 }
 
-/// Changes the nodes on which memory may be placed.
+/// Sets the nodes on which memory may be placed.
 #[unsafe(no_mangle)]
 pub extern "C" fn np_core_set_mems(alloc: Global, core: &mut CoreHandle, nodes: &[u8]) -> u32
     ensures { AnswersRead (list_of nodes.now) list_code (λ mask. Command.SetMems mask)

@@ -1,10 +1,10 @@
-//! What is answered where a handle is to keep something.
+//! Results of calls that open a handle.
 ghost use Rattle.std.specs.Prelude.{◌≡◌};
 ghost use Rattle.numaplan_c.specs.Codes.{kept_code, memory_code};
 
 use crate::codes::Code;
 
-/// Answers that a handle is open, where it is and the call is to open it.
+/// Returns `Open` if the handle that a call is to open is already open.
 macro_rules! ensure_closed {
     ($handle:expr) => {
         if $handle.handle.is_open() {
@@ -15,7 +15,7 @@ macro_rules! ensure_closed {
 
 pub(crate) use ensure_closed;
 
-/// The number of an answer that is refused for want of memory alone.
+/// The code of a result that can only be out of memory.
 pub(crate) fn memory_code<E: Drop>(answer: Result<(), E>) -> u32
     ensures { result ≡ memory_code answer }
 {
@@ -25,7 +25,7 @@ pub(crate) fn memory_code<E: Drop>(answer: Result<(), E>) -> u32
     }
 }
 
-/// The same of an answer that a closed handle doesn't give.
+/// The same, for a result that is missing if the handle is closed.
 pub(crate) fn kept_code<E: Drop>(answer: Option<Result<(), E>>) -> u32
     ensures { result ≡ kept_code answer }
 {

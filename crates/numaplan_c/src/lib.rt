@@ -1,7 +1,7 @@
 //! The C library: the functions that `c/numaplan.h` declares, each one call of a library below.
 //!
-//! What a C caller owes is told in the header: pointers that aren't null and hold for the call,
-//! handles that begin as zero bytes and are given to one call at a time.
+//! The header says what a C caller has to ensure: pointers that aren't null and are valid during
+//! the call, and handles that begin as zero bytes and are passed to one call at a time.
 #![tactic(auto)]
 
 mod codes;

@@ -1,4 +1,4 @@
-//! The ranges of a core as a text.
+//! Listings of a core's ranges.
 ghost use Rattle.std.specs.Prelude.{◌≡◌, ◌≢◌, Some, None, is_some, true, Result, List, ℕ};
 ghost use Rattle.std.specs.Prelude.{IfOk, IfErr, OnOk, OnErr, IsSome};
 ghost use Rattle.numa_core.specs.Standing.{CoreState};
@@ -17,16 +17,16 @@ use numa_maps::{RecordRefusal, Resident};
 use numaplan_handles::CoreHandle;
 use std::alloc::Global;
 
-/// Why there is no listing.
+/// Why a listing is refused.
 #[derive(Clone, Copy)]
 pub enum MapsRefusal {
-    /// Two placements are of one page.
+    /// Two placements are of the same page.
     Twice,
     /// Out of memory.
     NoMemory,
 }
 
-/// A placement as C has it.
+/// The placement of a C struct.
 fn placement_of(placed: &NpPlacement) -> Placement
     ensures { result ≡ placement_of placed.now }
 {
@@ -43,7 +43,7 @@ fn placement_of(placed: &NpPlacement) -> Placement
     }
 }
 
-/// Keeps a placement.
+/// Records a placement.
 fn keep(kept: &mut Resident, placed: &NpPlacement) -> Result<(), MapsRefusal>
     ensures free { OnOk result (placed_at kept.old placed.now.page ≡ None) }
     ensures kept { OnOk result
@@ -61,7 +61,7 @@ fn keep(kept: &mut Resident, placed: &NpPlacement) -> Result<(), MapsRefusal>
     }
 }
 
-/// The placements, by page.
+/// Records the placements by page.
 fn keep_all(alloc: Global, placements: &[NpPlacement]) -> Result<Resident, MapsRefusal>
     ensures placed { IfOk result (λ kept. ArePlaced placements.now kept) }
     ensures refused { IfErr result (λ refusal. RefusesPlaced placements.now refusal) }
@@ -75,7 +75,7 @@ fn keep_all(alloc: Global, placements: &[NpPlacement]) -> Result<Resident, MapsR
     Ok(kept)
 }
 
-/// The listing of a core that is open.
+/// Writes the listing of an open core.
 fn list(
     alloc: Global,
     core: &mut CoreHandle,
@@ -101,7 +101,7 @@ fn list(
     }
 }
 
-/// The ranges as numa_maps shows them to a task, with the pages that are placed.
+/// Writes the ranges as numa_maps shows them for a task, with the placed pages.
 #[unsafe(no_mangle)]
 pub extern "C" fn np_core_maps(
     alloc: Global,

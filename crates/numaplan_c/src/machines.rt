@@ -1,4 +1,4 @@
-//! The machines of descriptions.
+//! Machines from their descriptions.
 ghost use Rattle.std.specs.Prelude.{◌≡◌, ◌≢◌, None};
 ghost use Rattle.std.specs.Prelude.{IfOk, IfErr, IfSome, OnOk, MatchOption};
 ghost use Rattle.numa_mask.specs.Lists.{list_of};
@@ -11,14 +11,14 @@ use numa_machine::{Fallback, Machine, MachineFault};
 use numa_mask::{NodeMask, read_list};
 use std::alloc::Global;
 
-/// Whether a set has a node that is none of so many.
+/// Whether a set has a node that a machine with `nodes` nodes lacks.
 fn has_other_node(nodes: u32, set: &NodeMask) -> bool
     ensures { result ≡ has_other_node nodes set.now }
 {
     set.iter().any(|node| nodes <= u32::from(node.number()))
 }
 
-/// What is wrong with the orders of a machine of so many nodes.
+/// What is wrong with the fallback orders of a machine with `nodes` nodes.
 fn fallback_fault(nodes: u32, fallback: Fallback) -> Option<MachineFault>
     ensures { result ≡ fallback_fault nodes fallback }
 {
@@ -33,8 +33,8 @@ fn fallback_fault(nodes: u32, fallback: Fallback) -> Option<MachineFault>
     }
 }
 
-/// The machine of a description, by these options, or the number of the first cause against it. What
-/// is wrong with `others` that are asked for is judged in front of the orders and the machine.
+/// The machine of a description with these options, or the code of the first cause against it.
+/// `others`, another cause, comes before those of the orders and the machine.
 pub(crate) fn machine_of(
     alloc: Global,
     memory: &[u8],

@@ -1,4 +1,4 @@
-//! The names of the answers, and their error numbers.
+//! The names of result codes, and their error numbers.
 ghost use Rattle.std.specs.Prelude.{◌≡◌, ◌≢◌, [], map};
 ghost use Rattle.numaplan_c.specs.Names.{answer_name, answer_errno, errno_number};
 ghost use Rattle.numaplan_c.specs.Names.{name_in, refusal_numbered, row_of};
@@ -9,7 +9,7 @@ use crate::texts::write;
 use numa_script::names::Named;
 use numa_space::{Errno, Refusal};
 
-/// The refusal of a command that has this number.
+/// The command's refusal with this code.
 fn refusal_numbered(code: u32) -> Option<Refusal>
     ensures { result ≡ refusal_numbered code }
 {
@@ -33,7 +33,7 @@ fn refusal_numbered(code: u32) -> Option<Refusal>
     }
 }
 
-/// The names of the answers below 50 that are no refusals of commands.
+/// The names of the codes below 50 that aren't refusals of commands.
 static CALL_NAMES: [(u32, &[u8]); 18] = [
     (0, b"Ok"),
     (1, b"Closed"),
@@ -55,7 +55,7 @@ static CALL_NAMES: [(u32, &[u8]); 18] = [
     (42, b"AllTaken"),
 ];
 
-/// The names of faults of machines, lists and policy words.
+/// The names of the codes of errors in machines, lists and policy words.
 static FAULT_NAMES: [(u32, &[u8]); 19] = [
     (50, b"BadNodeCount"),
     (51, b"NoMemoryNode"),
@@ -78,7 +78,7 @@ static FAULT_NAMES: [(u32, &[u8]); 19] = [
     (76, b"NoNodeAllowed"),
 ];
 
-/// The name of a number in a table, without a byte where it has none.
+/// The name of a code in a table, empty if it has none.
 fn name_in(names: &[(u32, &'static [u8])], code: u32) -> &'static [u8]
     ensures { result.now ≡ name_in (map row_of names.now) code }
 {
@@ -90,7 +90,7 @@ fn name_in(names: &[(u32, &'static [u8])], code: u32) -> &'static [u8]
     b""
 }
 
-/// The name of an answer, without a byte where no answer has this number.
+/// The name of a code, empty if there is none.
 #[tactic(auto, unfolding(crate::specs::Names::answer_name))]
 fn answer_name(code: u32) -> &'static [u8]
     ensures { result.now ≡ answer_name code }
@@ -107,7 +107,7 @@ fn answer_name(code: u32) -> &'static [u8]
     name_in(&FAULT_NAMES, code)
 }
 
-/// Writes the name of an answer.
+/// Writes the name of a result code.
 #[unsafe(no_mangle)]
 pub extern "C" fn np_answer_name(code: u32, room: &mut [u8], length: &mut usize) -> u32
     ensures known { answer_name code ≢ [] →
@@ -122,7 +122,7 @@ pub extern "C" fn np_answer_name(code: u32, room: &mut [u8], length: &mut usize)
     write(name, room, length)
 }
 
-/// The number of an error number's name (errno(3)).
+/// The number of an error (errno(3)).
 fn errno_number(errno: Errno) -> u32
     ensures { result ≡ errno_number errno }
 {
@@ -137,7 +137,7 @@ fn errno_number(errno: Errno) -> u32
     }
 }
 
-/// The error number of an answer, 0 where there is none.
+/// The error number of a result code, 0 if there is none.
 fn answer_errno(code: u32) -> u32
     ensures { result ≡ answer_errno code }
 {
@@ -152,7 +152,7 @@ fn answer_errno(code: u32) -> u32
     }
 }
 
-/// Tells the error number of an answer.
+/// Returns the error number of a result code.
 #[unsafe(no_mangle)]
 pub extern "C" fn np_answer_errno(code: u32, number: &mut u32) -> u32
     ensures known { answer_name code ≢ [] → (result ≡ 0) × (number.new ≡ answer_errno code) }

@@ -9,7 +9,7 @@ use crate::codes::list_code;
 use crate::texts::write;
 use numa_mask::{NodeMask, list_text, read_list};
 
-/// A set of nodes: node n is a member where bit n % 64 of word n / 64 is 1.
+/// A set of nodes: node n is a member if bit n % 64 of word n / 64 is 1.
 #[repr(C)]
 #[derive(Clone, Copy)]
 pub struct NpNodes {

@@ -1,4 +1,4 @@
-//! Opening and closing of cores, their versions, and their copies.
+//! Opening, copying and closing cores.
 ghost use Rattle.std.specs.Prelude.{◌≡◌, ◌≢◌, ◌≤◌, [], Some, None, true, is_some};
 ghost use Rattle.std.specs.Prelude.{IfOk, IfErr, IfSome, MatchOption, MatchResult, is_ok};
 ghost use Rattle.numaplan_handles.specs.Handles.{core_in};
@@ -18,7 +18,7 @@ use numa_space::Limits;
 use numaplan_handles::CoreHandle;
 use std::alloc::Global;
 
-/// How large a core may grow: ranges, tasks with a policy, accepted commands.
+/// The limits of a core: the most ranges, tasks with a policy, and accepted commands.
 #[repr(C)]
 #[derive(Clone, Copy)]
 pub struct NpLimits {
@@ -29,7 +29,7 @@ pub struct NpLimits {
 
 const _: () = prove!(size_of::<NpLimits>() == 12);
 
-/// Why limits, or a number of workers, are refused.
+/// Why limits or a number of workers are refused.
 fn limits_cause(limits: NpLimits, workers: u32) -> Option<u32>
     ensures cause { result ≡ limits_cause (bounds_of limits) workers }
     ensures workers { result ≡ None → (1 ≤ workers) × (workers ≤ 16) }
@@ -45,7 +45,7 @@ fn limits_cause(limits: NpLimits, workers: u32) -> Option<u32>
     None
 }
 
-/// The core of a description, or the number of what is wrong with it.
+/// The core of a description, or the code of what is wrong with it.
 fn make(
     alloc: Global,
     memory: &[u8],
@@ -149,7 +149,7 @@ pub extern "C" fn np_core_open_by(
     }
 }
 
-/// How many commands are accepted, and how many of them are published.
+/// Returns the number of accepted commands, and of those that are published.
 #[unsafe(no_mangle)]
 pub extern "C" fn np_core_versions(
     alloc: Global,
@@ -180,7 +180,7 @@ pub extern "C" fn np_core_close(alloc: Global, core: &mut CoreHandle)
     core.handle.close(alloc)
 }
 
-/// Keeps a copy of a core in another handle.
+/// Opens another handle with a copy of a core.
 #[unsafe(no_mangle)]
 pub extern "C" fn np_core_copy(alloc: Global, core: &mut CoreHandle, copy: &mut CoreHandle) -> u32
     ensures { Shares core_in core.old copy.old result core.new copy.new }

@@ -1,4 +1,4 @@
-//! Whose rules count on a machine, and whose orders it has, by the numbers of the header.
+//! Options of a machine: its rules and its fallback orders, by the numbers of the header.
 ghost use Rattle.std.specs.Prelude.{◌≡◌, ◌≢◌, IfErr};
 ghost use Rattle.numa_mask.specs.Words.{number_of};
 ghost use Rattle.numaplan_c.specs.Options.{documents, fallback_of, options_of, rules_of};
@@ -8,8 +8,8 @@ use crate::nodes::NpNodes;
 use numa_machine::{Fallback, Rules};
 use numa_mask::NodeMask;
 
-/// What a machine can be opened by: whose rules count on it, whose orders it has, and the nodes that
-/// have CPUs, which count for a kernel's orders.
+/// The options of a machine: its rules, its fallback orders, and the nodes with CPUs, which matter
+/// for a kernel's orders.
 #[repr(C)]
 #[derive(Clone, Copy)]
 pub struct NpOptions {
@@ -20,14 +20,14 @@ pub struct NpOptions {
 
 const _: () = prove!(size_of::<NpOptions>() == 40);
 
-/// The same as the crates below have it.
+/// The same, in the types of the crates below.
 #[derive(Clone, Copy)]
 pub struct Options {
     pub rules: Rules,
     pub fallback: Fallback,
 }
 
-/// The rules of the documents, and the nearest node first.
+/// The documents' rules, and the nearest node first.
 pub(crate) fn documents() -> Options
     ensures { result ≡ documents }
 {
@@ -37,7 +37,7 @@ pub(crate) fn documents() -> Options
     }
 }
 
-/// The rules that have this number.
+/// The rules with this number.
 pub(crate) fn rules_of(number: u32) -> Option<Rules>
     ensures { result ≡ rules_of number }
 {
@@ -48,7 +48,7 @@ pub(crate) fn rules_of(number: u32) -> Option<Rules>
     }
 }
 
-/// The orders that have this number, where these nodes have CPUs.
+/// The orders with this number, if these nodes have CPUs.
 fn fallback_of(number: u32, cpus: &NpNodes) -> Option<Fallback>
     ensures { result ≡ fallback_of number (number_of cpus.now.words) }
 {
@@ -59,7 +59,7 @@ fn fallback_of(number: u32, cpus: &NpNodes) -> Option<Fallback>
     }
 }
 
-/// What options ask for, or the number of what is wrong with them.
+/// The meaning of options, or the code of what is wrong with them.
 pub(crate) fn options_of(options: &NpOptions) -> Result<Options, u32>
     ensures options { result ≡ options_of options.now }
     ensures refused { IfErr result (λ code. code ≢ 0) }

@@ -20,12 +20,12 @@ use numa_space::PlaceRefusal;
 use numaplan_handles::{ChoiceRefusal, CoreHandle, PlanHandle};
 use std::alloc::Global;
 
-/// Which commands of a core a plan is of.
+/// The commands of a core for which a plan is made.
 #[derive(Clone, Copy)]
 pub enum Commands {
-    /// All that were accepted.
+    /// All accepted commands.
     Accepted,
-    /// Those that are published.
+    /// The published commands.
     Published,
 }
 
@@ -46,7 +46,7 @@ fn plan_by(
     }
 }
 
-/// Keeps a plan that was made of a core, where there is one.
+/// Opens a handle with a plan that was made, if there is one.
 fn keep(alloc: Global, made: Option<Result<Plan, NoMemory>>, plan: &mut PlanHandle) -> u32
     requires closed { plan_in plan.old ≡ None }
     ensures opens { Opens (plan_in plan.old) result (plan_in plan.new) }
@@ -61,7 +61,7 @@ fn keep(alloc: Global, made: Option<Result<Plan, NoMemory>>, plan: &mut PlanHand
     }
 }
 
-/// Keeps the plan of these commands of a core, where the handle for it is closed.
+/// Opens a handle, if it is closed, with the plan of these commands of a core.
 fn keep_plan(alloc: Global, core: &mut CoreHandle, commands: Commands, plan: &mut PlanHandle) -> u32
     ensures same { core_in core.new ≡ core_in core.old }
     ensures opens { Opens (plan_in plan.old) result (plan_in plan.new) }
@@ -74,7 +74,7 @@ fn keep_plan(alloc: Global, core: &mut CoreHandle, commands: Commands, plan: &mu
     keep(alloc, made, plan)
 }
 
-/// Keeps the plan of the published commands of a core.
+/// Opens a handle with the plan of the published commands of a core.
 #[unsafe(no_mangle)]
 pub extern "C" fn np_core_plan(alloc: Global, core: &mut CoreHandle, plan: &mut PlanHandle) -> u32
     ensures same { core_in core.new ≡ core_in core.old }
@@ -84,7 +84,7 @@ pub extern "C" fn np_core_plan(alloc: Global, core: &mut CoreHandle, plan: &mut 
     keep_plan(alloc, core, Commands::Published, plan)
 }
 
-/// Compiles the accepted commands of a core.
+/// Opens a handle with the plan of all accepted commands of a core.
 #[unsafe(no_mangle)]
 pub extern "C" fn np_core_compile(
     alloc: Global,
@@ -98,7 +98,7 @@ pub extern "C" fn np_core_compile(
     keep_plan(alloc, core, Commands::Accepted, plan)
 }
 
-/// Keeps a plan in another handle too.
+/// Opens another handle of the same plan.
 #[unsafe(no_mangle)]
 pub extern "C" fn np_plan_share(alloc: Global, plan: &mut PlanHandle, other: &mut PlanHandle) -> u32
     ensures { Shares plan_in plan.old other.old result plan.new other.new }
@@ -107,7 +107,7 @@ pub extern "C" fn np_plan_share(alloc: Global, plan: &mut PlanHandle, other: &mu
     kept_code(plan.share(alloc, other))
 }
 
-/// The version of a plan.
+/// Returns the version of a plan.
 #[unsafe(no_mangle)]
 pub extern "C" fn np_plan_version(alloc: Global, plan: &mut PlanHandle, version: &mut u64) -> u32
     ensures { Asked (plan_in plan.old) (plan_in plan.new) result (version.new ≡ version.old)
@@ -122,7 +122,7 @@ pub extern "C" fn np_plan_version(alloc: Global, plan: &mut PlanHandle, version:
     }
 }
 
-/// The number of an answer to a question for a list.
+/// The code of the result of a question for a list.
 fn choice_code(answer: Result<usize, ChoiceRefusal>) -> u32
     ensures { result ≡ choice_code answer }
 {
@@ -133,7 +133,7 @@ fn choice_code(answer: Result<usize, ChoiceRefusal>) -> u32
     }
 }
 
-/// How many nodes a list has, where there is one.
+/// The number of nodes of a list, if there is one.
 fn told(answer: Result<usize, ChoiceRefusal>, count: usize) -> usize
     ensures { AreTold answer count result }
 {
@@ -144,7 +144,7 @@ fn told(answer: Result<usize, ChoiceRefusal>, count: usize) -> usize
     }
 }
 
-/// The list of nodes of a page.
+/// Copies the node list of a page.
 #[unsafe(no_mangle)]
 pub extern "C" fn np_plan_choice(
     alloc: Global,
@@ -170,7 +170,7 @@ pub extern "C" fn np_plan_choice(
     }
 }
 
-/// The number of an answer to a question about a span.
+/// The code of the result of a question about a span.
 fn fill_code(answer: Result<(), PlaceRefusal>) -> u32
     ensures { result ≡ fill_code answer }
 {
@@ -180,7 +180,7 @@ fn fill_code(answer: Result<(), PlaceRefusal>) -> u32
     }
 }
 
-/// The first node of each page's list.
+/// Writes the first node of each page's list.
 #[unsafe(no_mangle)]
 pub extern "C" fn np_plan_fill(
     alloc: Global,
@@ -200,7 +200,7 @@ pub extern "C" fn np_plan_fill(
     }
 }
 
-/// How many pages of a span have each node as the first of their list.
+/// Counts, for each node, the pages of a span whose list begins with it.
 #[unsafe(no_mangle)]
 pub extern "C" fn np_plan_counts(
     alloc: Global,
@@ -230,7 +230,7 @@ pub extern "C" fn np_plan_counts(
     }
 }
 
-/// Lets go of a plan.
+/// Closes a handle of a plan; the plan is freed with its last handle.
 #[unsafe(no_mangle)]
 pub extern "C" fn np_plan_close(alloc: Global, plan: &mut PlanHandle)
     ensures { plan_in plan.new ≡ None }
@@ -238,7 +238,7 @@ pub extern "C" fn np_plan_close(alloc: Global, plan: &mut PlanHandle)
     plan.handle.close(alloc)
 }
 
-/// How many pages have each node first: as many numbers as there can be nodes.
+/// For each node that there can be, the number of pages whose list begins with it.
 #[repr(C)]
 #[derive(Clone, Copy)]
 pub struct NpCounts {

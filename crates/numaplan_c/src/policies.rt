@@ -1,4 +1,4 @@
-//! Policy words: the nodes that they have, and how numa_maps shows them.
+//! Policy words: their effective sets, and their text in numa_maps.
 ghost use Rattle.std.specs.Prelude.{◌≡◌, MatchOption, MatchResult};
 ghost use Rattle.numa_mask.specs.Lists.{list_of};
 ghost use Rattle.numa_mode.specs.Policy.{policy_text};
@@ -16,7 +16,7 @@ use numa_mode::{PolicySpec, Record};
 use numa_script::policy::read_policy;
 use numa_space::Refusal;
 
-/// The record of a policy that is set where these nodes are allowed.
+/// The record of a policy that is set while these nodes are allowed.
 fn record_of(spec: PolicySpec, allowed: &NodeMask) -> Result<Record, u32>
     ensures { result ≡ record_of spec allowed.now }
 {
@@ -32,7 +32,7 @@ fn record_of(spec: PolicySpec, allowed: &NodeMask) -> Result<Record, u32>
     }
 }
 
-/// The same of a word and a list of nodes.
+/// The same, for a policy word and a list of nodes.
 fn standing(policy: &[u8], allowed: &[u8]) -> Result<Record, u32>
     ensures { result ≡ standing policy.now allowed.now }
 {
@@ -46,7 +46,7 @@ fn standing(policy: &[u8], allowed: &[u8]) -> Result<Record, u32>
     }
 }
 
-/// The record once the allowed nodes have changed, by these rules.
+/// The record after a change of the allowed nodes, by these rules.
 fn rebound(
     rules: Rules,
     standing: Result<Record, u32>,
@@ -73,7 +73,7 @@ fn rebound(
     Ok(standing.rebind(rules, &old, &new))
 }
 
-/// Tells the nodes of a record, where there is one.
+/// Writes the effective set of a record, if there is one.
 fn tell_nodes(found: Result<Record, u32>, nodes: &mut NpNodes) -> u32
     ensures { TellsNodes found result nodes.old nodes.new }
 {
@@ -86,7 +86,7 @@ fn tell_nodes(found: Result<Record, u32>, nodes: &mut NpNodes) -> u32
     }
 }
 
-/// The nodes that a policy has once it is set.
+/// Writes the effective set of a policy that is set while these nodes are allowed.
 #[unsafe(no_mangle)]
 pub extern "C" fn np_policy_effective(policy: &[u8], allowed: &[u8], nodes: &mut NpNodes) -> u32
     ensures { TellsNodes (standing policy.now allowed.now) result nodes.old nodes.new }
@@ -94,7 +94,8 @@ pub extern "C" fn np_policy_effective(policy: &[u8], allowed: &[u8], nodes: &mut
     tell_nodes(standing(policy, allowed), nodes)
 }
 
-/// The nodes that a policy has once the allowed nodes have changed, by the documents' rules.
+/// Writes the effective set of a policy after a change of the allowed nodes, by the documents'
+/// rules.
 #[unsafe(no_mangle)]
 pub extern "C" fn np_policy_rebind(
     policy: &[u8],
@@ -109,7 +110,7 @@ pub extern "C" fn np_policy_rebind(
     tell_nodes(rebound(documents, standing(policy, old), old, new), nodes)
 }
 
-/// The same by the rules that have a number.
+/// The same by the rules with this number.
 #[unsafe(no_mangle)]
 pub extern "C" fn np_policy_rebind_by(
     rules: u32,
@@ -128,7 +129,7 @@ pub extern "C" fn np_policy_rebind_by(
     tell_nodes(rebound(rules, standing(policy, old), old, new), nodes)
 }
 
-/// A policy as numa_maps shows it once it is set.
+/// Writes a policy that is set while these nodes are allowed, as numa_maps shows it.
 #[unsafe(no_mangle)]
 pub extern "C" fn np_policy_text(
     policy: &[u8],

@@ -30,7 +30,7 @@ pub struct NpFrame {
 
 const _: () = prove!(size_of::<NpFrame>() == 4);
 
-/// The first seat at new pools of the frames of a described machine, or the number of what is wrong
+/// The first seat at new pools of the frames of a described machine, or the code of what is wrong
 /// with the description.
 fn make(alloc: Global, memory: &[u8], frames: &[u32], distances: &[u8]) -> Result<OwnedSeat, u32>
     ensures first { IfOk result (λ seat. seat ≡ at_first frames.now seat.seat.table) }
@@ -79,7 +79,7 @@ pub extern "C" fn np_seat_open(
     }
 }
 
-/// Splits off a seat at the same pools.
+/// Opens another handle with a new seat at the same pools.
 #[unsafe(no_mangle)]
 pub extern "C" fn np_seat_split(alloc: Global, seat: &mut SeatHandle, other: &mut SeatHandle) -> u32
     ensures code { AnswersKeeping (seat_in seat.old) (seat_in other.old) result }
@@ -140,7 +140,7 @@ pub extern "C" fn np_seat_give(alloc: Global, seat: &mut SeatHandle, node: u8, n
     }
 }
 
-/// Gives the frames of a seat to another one at the same pools.
+/// Moves the frames of a seat to another one at the same pools.
 #[unsafe(no_mangle)]
 pub extern "C" fn np_seat_join(alloc: Global, seat: &mut SeatHandle, other: &mut SeatHandle) -> u32
     requires together { AreTogether (seat_in seat.old) (seat_in other.old) }
@@ -159,7 +159,7 @@ pub extern "C" fn np_seat_join(alloc: Global, seat: &mut SeatHandle, other: &mut
     Code::Closed as u32
 }
 
-/// Lets go of a seat.
+/// Closes a handle of a seat. Frames that it holds stay taken.
 #[unsafe(no_mangle)]
 pub extern "C" fn np_seat_close(alloc: Global, seat: &mut SeatHandle)
     ensures { seat_in seat.new ≡ None }

@@ -19,7 +19,7 @@ use numa_space::{PAGE_BYTES, RangeRecord, Run};
 use numaplan_handles::CoreHandle;
 use std::alloc::Global;
 
-/// How many ranges of pages there are.
+/// Returns the number of ranges.
 #[unsafe(no_mangle)]
 pub extern "C" fn np_core_ranges(alloc: Global, core: &mut CoreHandle, count: &mut usize) -> u32
     ensures { Asked (core_in core.old) (core_in core.new) result (count.new ≡ count.old)
@@ -34,7 +34,7 @@ pub extern "C" fn np_core_ranges(alloc: Global, core: &mut CoreHandle, count: &m
     }
 }
 
-/// A range of pages: its address and length in bytes, and the index of its first page.
+/// A range of pages: its address and length in bytes, and the index of its first page, in pages.
 #[repr(C)]
 #[derive(Clone, Copy)]
 pub struct NpRange {
@@ -45,7 +45,7 @@ pub struct NpRange {
 
 const _: () = prove!(size_of::<NpRange>() == 24);
 
-/// Tells the policy of a range's own as a word.
+/// Writes the own policy of a range as a word.
 fn tell_word(policy: Option<Record>, room: &mut [u8], length: &mut usize) -> u32
     ensures { IsWritten (own_word policy) result room.old room.new length.new }
 {
@@ -55,7 +55,7 @@ fn tell_word(policy: Option<Record>, room: &mut [u8], length: &mut usize) -> u32
     }
 }
 
-/// Tells a range, and the word of its policy.
+/// Writes a range, and its own policy as a word.
 fn tell_range(
     found: &Run<RangeRecord>,
     range: &mut NpRange,
@@ -79,7 +79,7 @@ fn tell_range(
     0
 }
 
-/// The range at a place, and the policy of its own.
+/// Returns the range at a place, and its own policy as a word.
 #[unsafe(no_mangle)]
 pub extern "C" fn np_core_range(
     alloc: Global,

@@ -1,4 +1,4 @@
-//! Scripts: whole ones, and those that are given line by line.
+//! Scripts: whole ones, and line by line.
 ghost use Rattle.std.specs.Prelude.{◌≡◌, ◌≢◌, ℕ, Bool, List, None, Some, true, Result};
 ghost use Rattle.std.specs.Prelude.{is_some, IfSome, MatchOption};
 ghost use Rattle.numaplan_handles.specs.Handles.{dialog_in};
@@ -20,7 +20,7 @@ use numa_run::run;
 use numaplan_handles::{LineRefusal, ScriptHandle};
 use std::alloc::Global;
 
-/// The answers to a whole script, where there is memory for them.
+/// The answers to a whole script, if there is memory for them.
 fn answers_to(alloc: Global, script: &[u8]) -> Option<Vec<u8>>
     ensures { IfSome result (λ answers. AreAnswers script.now answers.items) }
 {
@@ -63,7 +63,8 @@ pub extern "C" fn np_script_open(alloc: Global, script: &mut ScriptHandle) -> u3
     memory_code(script.open(alloc, Rules::Document))
 }
 
-/// Opens a script before its first line, with the rules of a number where no line gives others.
+/// Opens a script before its first line, with the rules of this number unless a line says
+/// otherwise.
 #[unsafe(no_mangle)]
 pub extern "C" fn np_script_open_by(alloc: Global, script: &mut ScriptHandle, rules: u32) -> u32
     ensures opens { Opens (dialog_in script.old) result (dialog_in script.new) }
@@ -80,7 +81,7 @@ pub extern "C" fn np_script_open_by(alloc: Global, script: &mut ScriptHandle, ru
     memory_code(script.open(alloc, rules))
 }
 
-/// The number of an answer to a line.
+/// The code of the result of a line.
 fn line_code(answer: Result<usize, LineRefusal>) -> u32
     ensures { result ≡ line_code answer }
 {
@@ -91,7 +92,7 @@ fn line_code(answer: Result<usize, LineRefusal>) -> u32
     }
 }
 
-/// How long the answer to a line is, where there is one.
+/// The length of the answer to a line, if there is one.
 fn length_told(answer: Result<usize, LineRefusal>, length: usize) -> usize
     ensures { result ≡ length_told answer length }
 {

@@ -1,4 +1,4 @@
-//! Policies as they stand, of ranges and of tasks, and the range of an address.
+//! Policies in force, of ranges and of tasks, and the range of an address.
 ghost use Rattle.std.specs.Prelude.{◌≡◌, Option, Some, None, List, slice_get};
 ghost use Rattle.numa_core.specs.Standing.{CoreState};
 ghost use Rattle.numaplan_handles.specs.Handles.{core_in};
@@ -20,8 +20,8 @@ use numa_space::PAGE_BYTES;
 use numaplan_handles::CoreHandle;
 use std::alloc::Global;
 
-/// A policy as it stands: its mode with its flag, its home node, the nodes that were asked for, and
-/// those that it has.
+/// A policy in force: its mode with its flag, its home node, the requested nodes, and the effective
+/// set.
 #[repr(C)]
 #[derive(Clone, Copy)]
 pub struct NpPolicy {
@@ -33,14 +33,14 @@ pub struct NpPolicy {
 
 const _: () = prove!(size_of::<NpPolicy>() == 72);
 
-/// A set as C has it.
+/// The C struct of a set.
 fn nodes_of(set: &NodeMask) -> NpNodes
     ensures { number_of result.words ≡ set.now }
 {
     NpNodes { words: set.words() }
 }
 
-/// The number of a home node, 256 where there is none.
+/// The number of a home node, 256 if there is none.
 fn home_number(home: Option<u8>) -> u32
     ensures { result ≡ home_number home }
 {
@@ -50,7 +50,7 @@ fn home_number(home: Option<u8>) -> u32
     }
 }
 
-/// A policy as C has it.
+/// The C struct of a policy.
 fn policy_told(policy: &Record) -> NpPolicy
     ensures { TellsPolicy (Some policy.now) result }
 {
@@ -63,7 +63,7 @@ fn policy_told(policy: &Record) -> NpPolicy
     }
 }
 
-/// The same of no policy.
+/// The C struct of no policy.
 fn none_told() -> NpPolicy
     ensures { TellsPolicy None result }
 {
@@ -76,7 +76,7 @@ fn none_told() -> NpPolicy
     }
 }
 
-/// A policy as C has it, or none.
+/// The C struct of a policy, or of none.
 fn told(policy: Option<Record>) -> NpPolicy
     ensures { TellsPolicy policy result }
 {
@@ -86,7 +86,7 @@ fn told(policy: Option<Record>) -> NpPolicy
     }
 }
 
-/// The place of the range that has an address, or else of the next one.
+/// Returns the place of the range that has an address, or else of the next one.
 #[unsafe(no_mangle)]
 pub extern "C" fn np_core_range_at(
     alloc: Global,
@@ -106,7 +106,7 @@ pub extern "C" fn np_core_range_at(
     }
 }
 
-/// The policy that the range at a place has of its own.
+/// Returns the own policy of the range at a place.
 #[unsafe(no_mangle)]
 pub extern "C" fn np_core_range_policy(
     alloc: Global,
@@ -131,7 +131,7 @@ pub extern "C" fn np_core_range_policy(
     }
 }
 
-/// The policy of a task.
+/// Returns the policy of a task.
 #[unsafe(no_mangle)]
 pub extern "C" fn np_core_task_policy(
     alloc: Global,

@@ -1,11 +1,11 @@
-//! Texts that are copied out.
+//! Copying texts into a caller's buffer.
 ghost use Rattle.std.specs.Prelude.{◌≡◌};
 ghost use Rattle.numaplan_c.specs.Texts.{IsWritten, copy_code, length_copied};
 
 use crate::codes::Code;
 use numaplan_handles::copy_bytes;
 
-/// The number of an answer to a copy.
+/// The code of the result of a copy.
 pub(crate) fn copy_code(told: Result<usize, usize>) -> u32
     ensures { result ≡ copy_code told }
 {
@@ -15,7 +15,7 @@ pub(crate) fn copy_code(told: Result<usize, usize>) -> u32
     }
 }
 
-/// How long what was to be copied is.
+/// The length of what was to be copied.
 pub(crate) fn length_copied(told: Result<usize, usize>) -> usize
     ensures { result ≡ length_copied told }
 {
@@ -25,7 +25,7 @@ pub(crate) fn length_copied(told: Result<usize, usize>) -> usize
     }
 }
 
-/// Copies a text into the room for it, tells how long it is, and answers by a number.
+/// Copies a text into the buffer, writes its length, and returns a code.
 pub(crate) fn write(text: &[u8], room: &mut [u8], length: &mut usize) -> u32
     ensures { IsWritten text.now result room.old room.new length.new }
 {

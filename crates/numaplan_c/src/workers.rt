@@ -25,7 +25,7 @@ pub struct NpPlacement {
 
 const _: () = prove!(size_of::<NpPlacement>() == 32);
 
-/// Tells where a page was placed, where it was, and the number of the answer.
+/// Writes where a page was placed, if it was, and returns the code of the reply.
 fn tell(answer: Option<Result<CoreReply, CoreRefusal>>, placed: &mut NpPlacement) -> u32
     ensures { MatchOption answer ((result ≡ 1) × (placed.new ≡ placed.old))
         (λ it. (result ≡ answer_code it) × Places it placed.old placed.new) }
@@ -67,7 +67,7 @@ pub extern "C" fn np_core_touch(
     )
 }
 
-/// A worker takes up a request.
+/// A worker begins a request.
 #[unsafe(no_mangle)]
 pub extern "C" fn np_core_begin(
     alloc: Global,

@@ -18,7 +18,7 @@ pub struct CoreHandle {
     ghost kind: { is_core handle.held.kept ≡ true },
 }
 
-/// An event of a kept core.
+/// Carries out an event of a core.
 fn step_kept(kept: &mut Kept, event: Event) -> Result<CoreReply, CoreRefusal>
     requires core { is_core (Some kept.old) ≡ true }
     ensures { CallsKept is_core core_of (Steps event) kept.old result kept.new }
@@ -29,7 +29,7 @@ fn step_kept(kept: &mut Kept, event: Event) -> Result<CoreReply, CoreRefusal>
     }
 }
 
-/// A touch of a kept core.
+/// Carries out a touch of a core.
 fn touch_kept(kept: &mut Kept, worker: u32, request: Request) -> Result<CoreReply, CoreRefusal>
     requires core { is_core (Some kept.old) ≡ true }
     ensures { CallsKept is_core core_of (Touches worker request) kept.old result kept.new }
@@ -40,7 +40,7 @@ fn touch_kept(kept: &mut Kept, worker: u32, request: Request) -> Result<CoreRepl
     }
 }
 
-/// A kept core makes the plan of its accepted commands, where it keeps none.
+/// Makes the plan of a core's accepted commands, if it has none.
 fn prepare_kept(kept: &mut Kept) -> Result<(), NoMemory>
     requires core { is_core (Some kept.old) ≡ true }
     ensures { kept.new ≡ kept.old }
@@ -51,7 +51,7 @@ fn prepare_kept(kept: &mut Kept) -> Result<(), NoMemory>
     }
 }
 
-/// A copy of the plan that a kept core keeps.
+/// A copy of the plan of a core.
 fn copy_kept(kept: &Kept, alloc: Global) -> Result<Plan, NoMemory>
     requires core { is_core (Some kept.now) ≡ true }
     ensures plan { IfOk result (Compiles (core_of (Some kept.now))) }
@@ -62,7 +62,7 @@ fn copy_kept(kept: &Kept, alloc: Global) -> Result<Plan, NoMemory>
     }
 }
 
-/// The plan of a kept core's accepted commands: a copy of the one that it keeps.
+/// The plan of a core's accepted commands: a copy of the one that it keeps.
 fn compile_kept(kept: &mut Kept, alloc: Global) -> Result<Plan, NoMemory>
     requires core { is_core (Some kept.old) ≡ true }
     ensures same { kept.new ≡ kept.old }
@@ -75,10 +75,10 @@ fn compile_kept(kept: &mut Kept, alloc: Global) -> Result<Plan, NoMemory>
 impl CoreHandle {
     ghost use Rattle.numaplan_handles.specs.Handles.{core_in};
 
-    /// Keeps a core, where it keeps none.
+    /// Puts a core into a closed handle.
     ///
     /// # Errors
-    /// There was no memory for it, and the core is dropped.
+    /// `AllocError`: out of memory; the core is dropped.
     pub fn open(&mut self, alloc: Global, core: Core) -> Result<(), AllocError>
         requires closed { core_in self.old ≡ None }
         ensures { Keeps core result (core_in self.new) }
@@ -86,7 +86,10 @@ impl CoreHandle {
         self.handle.keep(alloc, Kept::Core(core))
     }
 
-    /// An event of the core, with its answer; None where it keeps no core.
+    /// Carries out an event and returns its reply. `None` if the handle is closed.
+    ///
+    /// # Errors
+    /// In the `Some`, as [`Core::step`].
     pub fn step(&mut self, alloc: Global, event: Event) -> Option<Result<CoreReply, CoreRefusal>>
         ensures { Calls (Steps event) (core_in self.old) result (core_in self.new) }
     {
@@ -96,7 +99,11 @@ impl CoreHandle {
         Some(answer)
     }
 
-    /// A touch of a page by a worker, with its answer; None where it keeps no core.
+    /// Carries out a touch of a page by a worker and returns its reply. `None` if the handle is
+    /// closed.
+    ///
+    /// # Errors
+    /// In the `Some`, as [`Core::touch`].
     pub fn touch(
         &mut self,
         alloc: Global,
@@ -111,11 +118,11 @@ impl CoreHandle {
         Some(answer)
     }
 
-    /// The plan of all accepted commands, a copy of the one that the core keeps from its first plan
-    /// on; None where this keeps no core.
+    /// The plan of all accepted commands: a copy of the one that the core keeps after the first.
+    /// `None` if the handle is closed.
     ///
     /// # Errors
-    /// `NoMemory` where there is none for the plan.
+    /// `NoMemory`: there is no memory for the plan.
     pub fn compile(&mut self, alloc: Global) -> Option<Result<Plan, NoMemory>>
         ensures { Asks (λ answer. IfOk answer (Compiles (core_in self.old))) (core_in self.old)
             result (core_in self.new) }
@@ -126,8 +133,8 @@ impl CoreHandle {
         Some(answer)
     }
 
-    /// How many commands were accepted, and how many of them are published; None where it keeps no
-    /// core.
+    /// The number of accepted commands, and of those that are published. `None` if the handle is
+    /// closed.
     pub fn versions(&mut self, alloc: Global) -> Option<(u64, u64)>
         ensures { Asks (λ both. HasVersions (core_in self.old) both.0 both.1) (core_in self.old)
             result (core_in self.new) }

@@ -1,4 +1,4 @@
-//! What a handle of a core answers: a copy of the core, its ranges, and their listing.
+//! Questions to a handle of a core: a copy of the core, its ranges, and their listing.
 ghost use Rattle.std.specs.Prelude.{◌≡◌, ◌≤◌, ◌^◌, Some, None, true, IfSome, List};
 ghost use Rattle.std.specs.Prelude.{IfOk, length, slice_get};
 ghost use Rattle.numa_maps.specs.Listing.{AreRangesOf, IsListing, listing_in};
@@ -23,7 +23,7 @@ use numa_plan::Plan;
 use numa_space::{RangeRecord, Run, Space};
 use std::alloc::{AllocError, Global};
 
-/// A core that is kept.
+/// The core that is kept.
 pub(crate) fn core_kept(kept: &Kept) -> &Core
     requires core { is_core (Some kept.now) ≡ true }
     ensures core { core_of (Some kept.now) ≡ Some result.now }
@@ -34,14 +34,14 @@ pub(crate) fn core_kept(kept: &Kept) -> &Core
     core
 }
 
-/// The range at a place, the lowest being at 0.
+/// The range at a place, counted from 0 in ascending order.
 fn range_of(space: &Space, place: usize) -> Option<Run<RangeRecord>>
     ensures range { result ≡ slice_get space.now.ranges place }
     ensures end { IfSome result (λ range. end_of range ≤ 2 ^ 35) }
     ensures meaning { (history : List Command) → StandsFor space.now history
         → AreRangesOf space.now.machine history space.now.ranges }
 {
-    // Tells the proof what the ranges mean.
+    // Tells the proof what the ranges are.
     let _ = space.range_iter();
     space.range_at(place)
 }
@@ -67,11 +67,11 @@ fn listing_of(
 }
 
 impl CoreHandle {
-    /// Keeps a copy of the core in another handle, where that keeps none; None where this keeps
-    /// none. What happens to one of the two leaves the other as it is.
+    /// Puts a copy of the core into another, closed handle. Later events of one of the two don't
+    /// affect the other. `None` if this handle is closed.
     ///
     /// # Errors
-    /// There was no memory for it.
+    /// `AllocError`: out of memory.
     pub fn copy(&mut self, alloc: Global, other: &mut CoreHandle) -> Option<Result<(), AllocError>>
         requires closed { core_in other.old ≡ None }
         ensures same { core_in self.new ≡ core_in self.old }
@@ -80,11 +80,11 @@ impl CoreHandle {
         self.handle.share(alloc, &mut other.handle)
     }
 
-    /// The plan of the published commands, once more; None where it keeps no core. It takes no
-    /// compiling: the copy shares the plan's runs and rules.
+    /// A copy of the plan of the published commands, which shares its runs and rules, so that
+    /// nothing is compiled. `None` if the handle is closed.
     ///
     /// # Errors
-    /// There was no memory for it.
+    /// `NoMemory`: out of memory.
     pub fn published_plan(&mut self, alloc: Global) -> Option<Result<Plan, NoMemory>>
         ensures { Asks (λ answer. IfOk answer (Publishes (core_in self.old))) (core_in self.old)
             result (core_in self.new) }
@@ -95,7 +95,7 @@ impl CoreHandle {
         Some(answer)
     }
 
-    /// How many ranges of pages there are, by all accepted commands; None where it keeps no core.
+    /// The number of ranges by all accepted commands. `None` if the handle is closed.
     pub fn ranges(&mut self, alloc: Global) -> Option<usize>
         ensures { Asks (HasRanges (core_in self.old)) (core_in self.old) result (core_in self.new) }
     {
@@ -105,7 +105,8 @@ impl CoreHandle {
         Some(count)
     }
 
-    /// The range at a place, the lowest being at 0, or no range; None where it keeps no core.
+    /// The range at a place, counted from 0 in ascending order, or no range. `None` if the handle
+    /// is closed.
     pub fn range(&mut self, alloc: Global, place: usize) -> Option<Option<Run<RangeRecord>>>
         ensures range { Asks (HasRangeAt (core_in self.old) place) (core_in self.old) result
             (core_in self.new) }
@@ -117,8 +118,8 @@ impl CoreHandle {
         Some(found)
     }
 
-    /// The place of the range that has a page, or else of the next one, as many as there are ranges
-    /// where there is none; None where it keeps no core.
+    /// The place of the range that has a page, or else of the next one; the number of ranges if
+    /// there is none. `None` if the handle is closed.
     pub fn place_of(&mut self, alloc: Global, page: u64) -> Option<usize>
         ensures { Asks (HasPlaceOf (core_in self.old) page) (core_in self.old) result
             (core_in self.new) }
@@ -129,7 +130,7 @@ impl CoreHandle {
         Some(place)
     }
 
-    /// The policy of a task, or none; None where it keeps no core.
+    /// The policy of a task, or no policy. `None` if the handle is closed.
     pub fn task_policy(&mut self, alloc: Global, task: u32) -> Option<Option<Record>>
         ensures { Asks (HasTaskPolicy (core_in self.old) task) (core_in self.old) result
             (core_in self.new) }
@@ -140,11 +141,11 @@ impl CoreHandle {
         Some(policy)
     }
 
-    /// The ranges as a text, for a task and with the pages that are placed, as [`write_maps`]
-    /// writes it; None where it keeps no core.
+    /// The listing of the ranges for a task, with the placed pages, as [`write_maps`] writes it.
+    /// `None` if the handle is closed.
     ///
     /// # Errors
-    /// There was no memory for the text.
+    /// `AllocError`: out of memory.
     pub fn listing(
         &mut self,
         alloc: Global,

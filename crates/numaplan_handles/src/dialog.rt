@@ -1,4 +1,4 @@
-//! A script that is given line by line.
+//! Scripts that are given line by line.
 ghost use Rattle.std.specs.Prelude.{◌≡◌, [], Ok, Err, Bool, MatchOption};
 ghost use Rattle.numa_run.specs.Answers.{State, answer_to, after_bytes};
 ghost use Rattle.numa_run.specs.Scripts.{ScriptStandsFor};
@@ -10,16 +10,16 @@ use numa_machine::Rules;
 use numa_run::Script;
 use std::alloc::Global;
 
-/// How many bytes of an answer there is memory for before its line is served: more than any but
-/// the answer to a question, or to `maps`, which change nothing.
+/// The bytes of an answer for which memory is reserved before its line is served: enough for any
+/// answer but those to a question and to `maps`, which change nothing.
 const ROOM: usize = 4096;
 
 /// Why a line has no answer.
 #[derive(Clone, Copy, Debug, PartialEq, Eq)]
 pub enum LineRefusal {
-    /// There was no memory, and the line was not served.
+    /// Out of memory; the line was not served.
     NoMemory,
-    /// The line was served, and there was no memory for its whole answer.
+    /// The line was served, but there was no memory for its whole answer.
     AnswerLost,
 }
 
@@ -30,7 +30,7 @@ pub struct Dialog {
     pub(crate) answer: Vec<u8>,
 }
 
-/// Serves a line, and gives its answer, where there is memory for it.
+/// Serves a line, and returns its answer, if there is memory for it.
 fn serve(script: &mut Script, alloc: Global, line: &[u8], room: Vec<u8>) -> Option<Vec<u8>>
     requires empty { room.items ≡ [] }
     ensures { (state : State) → ScriptStandsFor script.old state → (refused : Bool)
@@ -47,7 +47,7 @@ fn serve(script: &mut Script, alloc: Global, line: &[u8], room: Vec<u8>) -> Opti
 }
 
 impl Dialog {
-    /// Before the first line, with these rules where no line gives others.
+    /// The state before the first line, with these rules unless a line says otherwise.
     pub(crate) fn new(alloc: Global, rules: Rules) -> Dialog
         ensures { IsFresh rules result }
     {
@@ -57,10 +57,10 @@ impl Dialog {
         }
     }
 
-    /// Serves a line, keeps its answer, and tells how long that is.
+    /// Serves a line, keeps its answer, and returns the answer's length in bytes.
     ///
     /// # Errors
-    /// `NoMemory` where nothing has changed, and `AnswerLost` where the line was served.
+    /// `NoMemory`: out of memory, and nothing has changed. `AnswerLost`: the line was served.
     pub(crate) fn line(&mut self, alloc: Global, line: &[u8]) -> Result<usize, LineRefusal>
         ensures { Serves self.old line.now result self.new }
     {
@@ -80,10 +80,10 @@ impl Dialog {
         }
     }
 
-    /// Copies the answer to the last line, and tells how long it is.
+    /// Copies the answer to the last line into `room`, and returns its length in bytes.
     ///
     /// # Errors
-    /// How long it is, where it is longer than the room for it.
+    /// The answer's length, if it is longer than `room`.
     pub(crate) fn copy(&self, room: &mut [u8]) -> Result<usize, usize>
         ensures { Copies self.now.answer.items result room.old room.new }
     {

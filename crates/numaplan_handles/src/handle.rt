@@ -1,4 +1,4 @@
-//! A handle of any kind.
+//! Handles of any kind.
 ghost use Rattle.std.specs.Prelude.{◌≡◌, Some, None, MatchOption, is_some, true};
 ghost use Rattle.std.specs.Prelude.{Ok, Err, MatchResult, OnOk, OnErr};
 ghost use Rattle.numaplan_handles.specs.Calls.{IsShared};
@@ -10,7 +10,8 @@ use crate::place::RawBox;
 use std::alloc::{AllocError, Global};
 use std::mem::replace;
 
-/// A value on the heap that a C caller keeps, or none: a handle whose bytes are all 0 is closed.
+/// A value on the heap that belongs to a C caller, or nothing: a handle whose bytes are all 0 is
+/// closed.
 #[repr(C)]
 pub struct Handle {
     is_open: bool,
@@ -19,7 +20,7 @@ pub struct Handle {
 }
 
 impl Handle {
-    /// A handle that keeps nothing.
+    /// A closed handle.
     fn closed() -> Handle
         ensures { result.held.kept ≡ None }
     {
@@ -29,7 +30,7 @@ impl Handle {
         }
     }
 
-    /// A handle that keeps this.
+    /// An open handle with this value.
     fn open(kept: Box<Kept>) -> Handle
         ensures { result.held.kept ≡ Some kept.value }
     {
@@ -39,14 +40,14 @@ impl Handle {
         }
     }
 
-    /// Whether it keeps something.
+    /// Whether it is open: it keeps something.
     pub fn is_open(&self) -> bool
         ensures { result ≡ is_some self.now.held.kept }
     {
         self.is_open
     }
 
-    /// What it keeps, where it keeps something.
+    /// The value, if it is open.
     fn into_kept(self, alloc: Global) -> Option<Box<Kept>>
         ensures { MatchOption result (self.held.kept ≡ None)
             (λ kept. self.held.kept ≡ Some kept.value) }
@@ -59,7 +60,7 @@ impl Handle {
         None
     }
 
-    /// Takes out what it keeps, which closes it.
+    /// Takes the value out, which closes it.
     pub(crate) fn take(&mut self, alloc: Global) -> Option<Box<Kept>>
         ensures taken { MatchOption result (self.old.held.kept ≡ None)
             (λ kept. self.old.held.kept ≡ Some kept.value) }
@@ -68,14 +69,14 @@ impl Handle {
         replace(self, Handle::closed()).into_kept(alloc)
     }
 
-    /// Frees what it keeps, where it keeps something.
+    /// Frees the value, if it is open.
     pub fn close(&mut self, alloc: Global)
         ensures { self.new.held.kept ≡ None }
     {
         drop(self.take(alloc));
     }
 
-    /// Puts in what it is to keep, where it is closed.
+    /// Puts a value into a closed handle.
     pub(crate) fn put(&mut self, kept: Box<Kept>)
         requires closed { self.old.held.kept ≡ None }
         ensures kept { self.new.held.kept ≡ Some kept.value }
@@ -84,7 +85,7 @@ impl Handle {
         held.spent();
     }
 
-    /// Puts in what was made, where there is such, and else stays closed.
+    /// Puts a value that was made into a closed handle; on an error it stays closed.
     pub(crate) fn put_made<E: Drop>(&mut self, made: Result<Box<Kept>, E>) -> Result<(), E>
         requires closed { self.old.held.kept ≡ None }
         ensures made { MatchResult made (λ kept. (result ≡ Ok tt) × (self.new.held.kept
@@ -99,7 +100,7 @@ impl Handle {
         }
     }
 
-    /// Keeps this, where it is closed and there is memory for it; else it is dropped.
+    /// Puts a value into a closed handle, if there is memory for it; else the value is dropped.
     pub(crate) fn keep(&mut self, alloc: Global, kept: Kept) -> Result<(), AllocError>
         requires closed { self.old.held.kept ≡ None }
         ensures ok { OnOk result (self.new.held.kept ≡ Some kept) }
@@ -108,8 +109,8 @@ impl Handle {
         self.put_made(kept.on_heap(alloc).ok_or(AllocError))
     }
 
-    /// Keeps the core or the plan once more in another handle, which is closed; None where this
-    /// keeps nothing.
+    /// Puts a copy of the core, or the same plan, into another, closed handle. `None` if this one
+    /// is closed.
     pub(crate) fn share(
         &mut self,
         alloc: Global,

@@ -1,4 +1,4 @@
-//! What a C caller holds: a value on the heap, or nothing.
+//! The pointer in a handle: a value on the heap, or nothing.
 ghost use Rattle.std.specs.Prelude.{◌≡◌, Option, Some, None, is_some, true};
 ghost use Rattle.std.specs.Coded.{coded_option};
 ghost use Rattle.numaplan_handles.specs.declared.kept.Kept.{Kept};
@@ -10,8 +10,8 @@ use crate::place::RawBox;
 use std::marker::Model;
 use std::ptr::null_mut;
 
-/// A value on the heap, or nothing: one pointer, of which nothing is told but that C keeps it.
-/// It isn't `Drop`, so a body that lets go of a value without freeing it is refused.
+/// A value on the heap, or nothing: one pointer, of which only is known that C keeps it. It isn't
+/// `Drop`, so a body that forgets a value without freeing it is refused.
 #[repr(C)]
 pub struct HeapSlot {
     at: *mut u8,
@@ -30,7 +30,7 @@ impl HeapSlot {
         HeapSlot { at: null_mut() }
     }
 
-    /// The value at a place.
+    /// The value at this pointer.
     pub(crate) fn of(place: RawBox<Kept>) -> HeapSlot
         ensures { result.kept ≡ Some place.value }
     {
@@ -38,14 +38,14 @@ impl HeapSlot {
         HeapSlot { at: at as *mut u8 }
     }
 
-    /// Lets go of nothing.
+    /// Consumes an empty slot.
     pub(crate) fn spent(self)
         requires { self.kept ≡ None }
     {
         let HeapSlot { at: _ } = self;
     }
 
-    /// The place of the value.
+    /// The pointer to the value.
     pub(crate) fn into_place(self) -> RawBox<Kept>
         requires { is_some self.kept ≡ true }
         ensures { self.kept ≡ Some result.value }

@@ -1,4 +1,4 @@
-//! What a handle may keep.
+//! The values that a handle can keep.
 ghost use Rattle.std.specs.Prelude.{◌≡◌, Some, IfSome, true};
 
 use crate::dialog::Dialog;
@@ -8,10 +8,10 @@ use numa_pool::OwnedSeat;
 use std::alloc::Global;
 use std::sync::Arc;
 
-/// What a handle keeps, by its kind.
+/// The value of a handle.
 #[derive(Drop)]
 pub enum Kept {
-    /// A core, which the handle alone has.
+    /// A core, which belongs to the handle alone.
     Core(Core),
     /// A plan, which handles of several threads share.
     Plan(Arc<Plan, Global>),
@@ -24,14 +24,14 @@ pub enum Kept {
 impl Kept {
     ghost use Rattle.numaplan_handles.specs.Kinds.{core_of, is_core, is_plan, plan_of};
 
-    /// The same on the heap, where there is memory for it; else it is dropped.
+    /// Moves the value to the heap, if there is memory for it; else it is dropped.
     pub(crate) fn on_heap(self, alloc: Global) -> Option<Box<Kept>>
         ensures { IfSome result (λ kept. kept.value ≡ self) }
     {
         Box::new(alloc, self).ok()
     }
 
-    /// A core or a plan once more, where there is memory for it: a copy of the core, the same plan.
+    /// A copy of the core, or the same plan shared, if there is memory for it.
     pub(crate) fn again(&self, alloc: Global) -> Option<Box<Kept>>
         ensures core { is_core (Some self.now) ≡ true → IfSome result (λ other.
             (is_core (Some other.value) ≡ true)

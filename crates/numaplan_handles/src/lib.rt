@@ -1,7 +1,7 @@
-//! Handles: what a C caller keeps of a core, of a plan, of pools of frames, or of a script. A
-//! handle is sixteen bytes, which begin as 0: whether it is open, and one pointer. What it keeps
-//! lies on the heap, and the handle owns it. Whether one is open, and its closing, are the same for
-//! all kinds: calls of its `handle`.
+//! Handles for C callers: of a core, a plan, a seat at pools of frames, or a script. A handle is 16
+//! bytes, initially 0: a flag that says whether it is open, and a pointer to a value on the heap,
+//! which the handle owns. The calls that ask whether it is open and that close it are the same for
+//! all kinds: those of its `handle`.
 #![tactic(auto)]
 
 mod core_handle;

@@ -1,11 +1,11 @@
-//! A value on the heap as the place where it lies.
+//! Values on the heap by their pointers.
 ghost use Rattle.std.specs.Prelude.{◌≡◌};
 ghost use Rattle.numaplan_handles.specs.Ownership.{owns_at};
 
 use std::alloc::Global;
 use std::marker::Model;
 
-/// The place of a value on the heap, with the right to free it.
+/// The pointer to a value on the heap, with the right to free it.
 pub(crate) struct RawBox<T> {
     pub(crate) at: *mut T,
     pub(crate) ghost value: { T },
@@ -16,7 +16,7 @@ impl<T> Model for RawBox<T> {
 }
 
 impl<T: Drop> RawBox<T> {
-    /// The place of a boxed value.
+    /// The pointer of a boxed value.
     pub(crate) fn of(value: Box<T>) -> RawBox<T>
         ensures { result.value ≡ value.value }
     {

@@ -1,4 +1,4 @@
-//! A handle of a plan.
+//! Handles of plans.
 ghost use Rattle.std.specs.Prelude.{◌≡◌, Some, None, IfSome, true};
 ghost use Rattle.numaplan_handles.specs.Calls.{Asks, IsShared, Keeps};
 ghost use Rattle.numaplan_handles.specs.Kinds.{plan_of, is_plan};
@@ -12,23 +12,23 @@ use numa_space::PlaceRefusal;
 use std::alloc::{AllocError, Global};
 use std::sync::Arc;
 
-/// A plan that a C caller keeps, or none. Handles of several threads may keep the same plan.
+/// Handles of plans. Handles of several threads can share one plan.
 #[repr(C)]
 pub struct PlanHandle {
     pub handle: Handle,
     ghost kind: { is_plan handle.held.kept ≡ true },
 }
 
-/// Why the list of a page was not copied.
+/// Why the list of a page wasn't copied.
 #[derive(Clone, Copy, Debug, PartialEq, Eq)]
 pub enum ChoiceRefusal {
     /// There is no list.
     RawBox(PlaceRefusal),
-    /// The list has so many nodes, and there is no room for them.
+    /// The list has this many nodes, more than there is room for.
     TooShort(usize),
 }
 
-/// A plan that is kept.
+/// The plan that is kept.
 fn plan_kept(kept: &Kept) -> &Plan
     requires plan { is_plan (Some kept.now) ≡ true }
     ensures plan { plan_of (Some kept.now) ≡ Some result.now }
@@ -39,7 +39,7 @@ fn plan_kept(kept: &Kept) -> &Plan
     plan
 }
 
-/// Copies the list of a page of a kept plan.
+/// Copies the list of a page.
 fn choose_kept(
     kept: &Kept,
     task: u32,
@@ -60,10 +60,10 @@ fn choose_kept(
 impl PlanHandle {
     ghost use Rattle.numaplan_handles.specs.Handles.{plan_in};
 
-    /// Keeps a plan, where it keeps none.
+    /// Puts a plan into a closed handle.
     ///
     /// # Errors
-    /// There was no memory for it, and the plan is freed.
+    /// `AllocError`: out of memory; the plan is freed.
     pub fn open(&mut self, alloc: Global, plan: Plan) -> Result<(), AllocError>
         requires closed { plan_in self.old ≡ None }
         ensures { Keeps plan result (plan_in self.new) }
@@ -74,10 +74,10 @@ impl PlanHandle {
         self.handle.keep(alloc, Kept::Plan(plan))
     }
 
-    /// Keeps the same plan in another handle, where that keeps none; None where this keeps none.
+    /// Puts the same plan into another, closed handle. `None` if this one is closed.
     ///
     /// # Errors
-    /// There was no memory for it, or as many handles keep the plan as can.
+    /// `AllocError`: out of memory, or the plan has as many handles as it can.
     pub fn share(&mut self, alloc: Global, other: &mut PlanHandle) -> Option<Result<(), AllocError>>
         requires closed { plan_in other.old ≡ None }
         ensures same { plan_in self.new ≡ plan_in self.old }
@@ -86,7 +86,7 @@ impl PlanHandle {
         self.handle.share(alloc, &mut other.handle)
     }
 
-    /// The version of the plan; None where it keeps none.
+    /// The version of the plan. `None` if the handle is closed.
     pub fn version(&mut self, alloc: Global) -> Option<u64>
         ensures { Asks (λ version. IfSome (plan_in self.old) (λ plan. version ≡ plan.version))
             (plan_in self.old) result (plan_in self.new) }
@@ -97,11 +97,11 @@ impl PlanHandle {
         Some(version)
     }
 
-    /// Copies the list of nodes of a page, and answers how many there are; None where it keeps no
-    /// plan.
+    /// Copies the node list of a page, and returns the number of nodes. `None` if the handle is
+    /// closed.
     ///
     /// # Errors
-    /// As [`Plan::choice`], and `TooShort` where there is no room for the list.
+    /// As [`Plan::choice`], and `TooShort`: there is no room for the list.
     pub fn choose(
         &mut self,
         alloc: Global,
@@ -121,8 +121,8 @@ impl PlanHandle {
         Some(answer)
     }
 
-    /// Writes the first node of each page's list, for as many pages from `first` on as there are
-    /// places; None where it keeps no plan.
+    /// Writes the first node of each page's list, for as many pages from page `first` on as there
+    /// are places. `None` if the handle is closed.
     ///
     /// # Errors
     /// As [`Plan::fill`].
@@ -145,8 +145,8 @@ impl PlanHandle {
         Some(answer)
     }
 
-    /// How many pages of a span have each node as the first of their list; None where it keeps no
-    /// plan.
+    /// Counts, for each node, the pages of a span whose list begins with it. `None` if the handle
+    /// is closed.
     ///
     /// # Errors
     /// As [`Plan::counts`].

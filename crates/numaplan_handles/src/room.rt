@@ -1,10 +1,10 @@
-//! Copies into the room that a C caller has.
+//! Copying into a C caller's buffer.
 ghost use Rattle.numaplan_handles.specs.Dialogs.{Copies};
 
-/// Copies bytes into the room for them, and tells how many they are.
+/// Copies bytes into `room`, and returns their number.
 ///
 /// # Errors
-/// How many they are, where there is no room for them.
+/// Their number, if `room` is too short.
 pub fn copy_bytes(bytes: &[u8], room: &mut [u8]) -> Result<usize, usize>
     ensures { Copies bytes.now result room.old room.new }
 {

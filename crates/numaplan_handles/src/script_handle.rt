@@ -1,4 +1,4 @@
-//! A handle of a script.
+//! Handles of scripts.
 ghost use Rattle.std.specs.Prelude.{◌≡◌, Some, None, true, IfSome};
 ghost use Rattle.std.specs.Prelude.{is_some, is_ok};
 ghost use Rattle.numaplan_handles.specs.Calls.{Asks, Calls};
@@ -11,14 +11,14 @@ use crate::kept::Kept;
 use numa_machine::Rules;
 use std::alloc::{AllocError, Global};
 
-/// A script that a C caller is giving, line by line, or none.
+/// A handle of a script that is given line by line.
 #[repr(C)]
 pub struct ScriptHandle {
     pub handle: Handle,
     ghost kind: { is_script handle.held.kept ≡ true },
 }
 
-/// Serves a line of a kept script.
+/// Serves a line of the script.
 fn line_kept(kept: &mut Kept, alloc: Global, line: &[u8]) -> Result<usize, LineRefusal>
     requires script { is_script (Some kept.old) ≡ true }
     ensures { CallsKept is_script dialog_of (ServesKept line.now) kept.old result kept.new }
@@ -29,7 +29,7 @@ fn line_kept(kept: &mut Kept, alloc: Global, line: &[u8]) -> Result<usize, LineR
     }
 }
 
-/// Copies the answer of a kept script.
+/// Copies the answer of the script.
 fn copy_kept(kept: &Kept, room: &mut [u8]) -> Result<usize, usize>
     requires script { is_script (Some kept.now) ≡ true }
     ensures copies { CopiesKept (dialog_of (Some kept.now)) result room.old room.new }
@@ -43,11 +43,11 @@ fn copy_kept(kept: &Kept, room: &mut [u8]) -> Result<usize, usize>
 impl ScriptHandle {
     ghost use Rattle.numaplan_handles.specs.Handles.{dialog_in};
 
-    /// Keeps a script before its first line, with these rules where no line gives others, where it
-    /// keeps none.
+    /// Puts a script before its first line into a closed handle, with these rules unless a line
+    /// says otherwise.
     ///
     /// # Errors
-    /// There was no memory for it.
+    /// `AllocError`: out of memory.
     pub fn open(&mut self, alloc: Global, rules: Rules) -> Result<(), AllocError>
         requires closed { dialog_in self.old ≡ None }
         ensures kept { is_some (dialog_in self.new) ≡ is_ok result }
@@ -57,11 +57,12 @@ impl ScriptHandle {
             .keep(alloc, Kept::Script(Dialog::new(alloc, rules)))
     }
 
-    /// Serves a line, keeps its answer, and tells how long that is; None where it keeps no script.
+    /// Serves a line, keeps its answer, and returns the answer's length in bytes. `None` if the
+    /// handle is closed.
     ///
     /// # Errors
-    /// `NoMemory` where nothing has changed; `AnswerLost` where the line was served and there was
-    /// no memory for its answer: then no answer is kept.
+    /// `NoMemory`: out of memory, and nothing has changed. `AnswerLost`: the line was served, but
+    /// there was no memory for its answer, and none is kept.
     pub fn line(&mut self, alloc: Global, line: &[u8]) -> Option<Result<usize, LineRefusal>>
         ensures { Calls (ServesKept line.now) (dialog_in self.old) result (dialog_in self.new) }
     {
@@ -71,10 +72,11 @@ impl ScriptHandle {
         Some(answer)
     }
 
-    /// Copies the answer to the last line, and tells how long it is; None where it keeps no script.
+    /// Copies the answer to the last line into `room`, and returns its length in bytes. `None` if
+    /// the handle is closed.
     ///
     /// # Errors
-    /// How long it is, where it is longer than the room for it.
+    /// The answer's length, if it is longer than `room`.
     pub fn answer(&mut self, alloc: Global, room: &mut [u8]) -> Option<Result<usize, usize>>
         ensures copies { Asks (λ told. CopiesKept (dialog_in self.old) told room.old room.new)
             (dialog_in self.old) result (dialog_in self.new) }

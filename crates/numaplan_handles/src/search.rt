@@ -1,4 +1,4 @@
-//! A range by an address, in one search.
+//! Finding a range by an address, in one search.
 ghost use Rattle.std.specs.Prelude.{◌≡◌, ◌<◌, ◌≤◌, ◌+◌, Option, length, get_or, true, false};
 ghost use Rattle.numa_mode.specs.Policy.{PolicyRecord};
 ghost use Rattle.numa_ranges.specs.Runs.{AreApart, end_of};
@@ -7,7 +7,7 @@ ghost use Rattle.numaplan_handles.specs.Asked.{IsPlaceOf};
 
 use numa_space::{RangeRecord, Run, Space};
 
-/// The range at a place where there is one.
+/// The range at a place; there is one.
 fn range_there(space: &Space, place: usize) -> Run<RangeRecord>
     requires place { place < length space.now.ranges }
     ensures there { (d : Run (Option PolicyRecord)) → get_or space.now.ranges place d ≡ result }
@@ -19,7 +19,7 @@ fn range_there(space: &Space, place: usize) -> Run<RangeRecord>
     range
 }
 
-/// Whether a range has no page behind this one, nor this one.
+/// Whether a range ends at or before this page.
 fn is_before(range: &Run<RangeRecord>, page: u64) -> bool
     ensures before { result ≡ true → end_of range.now ≤ page }
     ensures reaches { result ≡ false → page < end_of range.now }
@@ -27,8 +27,8 @@ fn is_before(range: &Run<RangeRecord>, page: u64) -> bool
     range.first <= page && range.pages <= page - range.first
 }
 
-/// The place of the first range that ends behind a page: the one that has it, where it is mapped,
-/// else the next, and as many as there are ranges where there is none. The search is by halves.
+/// The place of the first range that ends after a page: the one that has it, if it is mapped, else
+/// the next; the number of ranges if there is none. The search is binary.
 pub(crate) fn place_of(space: &Space, page: u64) -> usize
     ensures { IsPlaceOf space.now.ranges page result }
 {

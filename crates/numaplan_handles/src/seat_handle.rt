@@ -1,4 +1,4 @@
-//! A handle of a seat at pools of frames.
+//! Handles of seats at pools of frames.
 ghost use Rattle.std.specs.Prelude.{◌≡◌, ◌&&◌, Some, None, MatchOption, IfOk, OnOk, OnErr, is_some};
 ghost use Rattle.std.specs.Prelude.{true, false};
 ghost use Rattle.numaplan_handles.specs.Calls.{Calls, Keeps};
@@ -12,14 +12,14 @@ use numa_machine::{Frame, NoMemory};
 use numa_pool::OwnedSeat;
 use std::alloc::{AllocError, Global};
 
-/// A seat at pools of frames that a C caller keeps, or none.
+/// Handles of seats at pools of frames.
 #[repr(C)]
 pub struct SeatHandle {
     pub handle: Handle,
     ghost kind: { is_seat handle.held.kept ≡ true },
 }
 
-/// A frame of the first listed node that has one, for a kept seat.
+/// Takes a frame of the first listed node that has one, for the seat.
 fn take_kept(kept: &mut Kept, nodes: &[u8]) -> Option<(usize, Frame)>
     requires seat { is_seat (Some kept.old) ≡ true }
     ensures { CallsKept is_seat seat_of (Takes nodes.now) kept.old result kept.new }
@@ -30,7 +30,7 @@ fn take_kept(kept: &mut Kept, nodes: &[u8]) -> Option<(usize, Frame)>
     }
 }
 
-/// A frame given back by a kept seat, where it holds it.
+/// Gives a frame back, if the seat holds it.
 fn give_kept(kept: &mut Kept, frame: Frame) -> bool
     requires seat { is_seat (Some kept.old) ≡ true }
     ensures { CallsKept is_seat seat_of (Returns frame) kept.old result kept.new }
@@ -41,7 +41,7 @@ fn give_kept(kept: &mut Kept, frame: Frame) -> bool
     }
 }
 
-/// A seat split off a kept one.
+/// Splits a seat off.
 fn split_kept(kept: &mut Kept, alloc: Global) -> Result<Box<Kept>, NoMemory>
     requires seat { is_seat (Some kept.old) ≡ true }
     ensures seat { is_seat (Some kept.new) ≡ true }
@@ -60,7 +60,7 @@ fn split_kept(kept: &mut Kept, alloc: Global) -> Result<Box<Kept>, NoMemory>
     Kept::Seat(made).on_heap(alloc).ok_or(NoMemory)
 }
 
-/// A kept seat gets what another held.
+/// Moves the frames of another seat to this one.
 fn join_kept(kept: &mut Kept, other: Kept)
     requires seat { is_seat (Some kept.old) ≡ true }
     requires other { is_seat (Some other) ≡ true }
@@ -81,10 +81,10 @@ fn join_kept(kept: &mut Kept, other: Kept)
 impl SeatHandle {
     ghost use Rattle.numaplan_handles.specs.Handles.{seat_in};
 
-    /// Keeps a seat, where it keeps none.
+    /// Puts a seat into a closed handle.
     ///
     /// # Errors
-    /// There was no memory for it, and the seat is dropped.
+    /// `AllocError`: out of memory; the seat is dropped.
     pub fn open(&mut self, alloc: Global, seat: OwnedSeat) -> Result<(), AllocError>
         requires closed { seat_in self.old ≡ None }
         ensures { Keeps seat result (seat_in self.new) }
@@ -92,8 +92,8 @@ impl SeatHandle {
         self.handle.keep(alloc, Kept::Seat(seat))
     }
 
-    /// Takes a frame of the first listed node that has one, as [`Seat::take`]; None where it keeps
-    /// no seat.
+    /// Takes a frame of the first listed node that has one, as [`OwnedSeat::take`]. `None` if the
+    /// handle is closed.
     pub fn take(&mut self, alloc: Global, nodes: &[u8]) -> Option<Option<(usize, Frame)>>
         ensures { Calls (Takes nodes.now) (seat_in self.old) result (seat_in self.new) }
     {
@@ -103,8 +103,8 @@ impl SeatHandle {
         Some(found)
     }
 
-    /// Gives back a frame, as [`Seat::give`], and tells whether the seat held it; None where it
-    /// keeps no seat.
+    /// Gives back a frame, as [`OwnedSeat::give`], and returns whether the seat held it. `None` if
+    /// the handle is closed.
     pub fn give(&mut self, alloc: Global, frame: Frame) -> Option<bool>
         ensures { Calls (Returns frame) (seat_in self.old) result (seat_in self.new) }
     {
@@ -114,11 +114,10 @@ impl SeatHandle {
         Some(held)
     }
 
-    /// Splits off a seat at the same pools, and keeps it in another handle, where that keeps none;
-    /// None where this keeps none.
+    /// Puts a new seat at the same pools into another, closed handle. `None` if this one is closed.
     ///
     /// # Errors
-    /// There was no memory for it, or as many seats share the pools as can.
+    /// `NoMemory`: out of memory, or the pools have as many seats as they can.
     pub fn split(&mut self, alloc: Global, other: &mut SeatHandle) -> Option<Result<(), NoMemory>>
         requires closed { seat_in other.old ≡ None }
         ensures closed { seat_in self.old ≡ None →
@@ -136,8 +135,8 @@ impl SeatHandle {
         Some(other.handle.put_made(made))
     }
 
-    /// Gets the frames that the seat of another handle holds, which is closed, and tells so; where
-    /// either keeps no seat nothing is done. Seats of both are of the same pools.
+    /// Takes over the frames of another handle's seat, and closes that handle. Returns false, and
+    /// does nothing, if either handle is closed. Both seats are of the same pools.
     pub fn join(&mut self, alloc: Global, other: &mut SeatHandle) -> bool
         requires together { AreTogether (seat_in self.old) (seat_in other.old) }
         ensures told { result ≡ (is_some (seat_in self.old) && is_some (seat_in other.old)) }

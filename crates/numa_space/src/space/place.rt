@@ -72,10 +72,6 @@ impl Space {
     /// # Errors
     /// The first that applies: `BadCpu`, the machine has no node `cpu`; `Unmapped`, the page isn't
     /// mapped.
-    ///
-    /// # Errors
-    /// The first that applies: `BadCpu`, the machine has no node `cpu`; `Unmapped`, the page isn't
-    /// mapped.
     pub fn list_at(&self, task: u32, page: u64, cpu: u32) -> Result<ArrayVec<u8, 256>, PlaceRefusal>
         ensures answer { MatchResult result
             (λ list. (place_refusal_in self.now.machine.nodes
