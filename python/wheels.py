@@ -16,6 +16,7 @@ import zipfile
 
 HERE = os.path.dirname(os.path.abspath(__file__))
 NAME = "libnumaplan.so.0"  # (as the package looks for it in its own folder)
+TOOL = os.path.join(HERE, "..", "tools", "machine-line")  # (Core.from_hardware runs it)
 MODULES = glob.glob(os.path.join(HERE, "numaplan", "*.py")) + [os.path.join(HERE, "numaplan", "py.typed")]
 
 
@@ -48,6 +49,7 @@ def write_wheel(library, folder):
     tag = f"py3-none-{platform_of(library)}"
     stem = f"{project('name')}-{project('version')}"
     parts = {f"numaplan/{os.path.basename(path)}": path for path in MODULES}
+    parts["numaplan/machine-line"] = TOOL
     parts[f"numaplan/{NAME}"] = library
     texts = {
         "METADATA": metadata(),

@@ -44,7 +44,7 @@ def replay(policy, accesses):
                 counts = plan.counts(1, cpu, FIRST, pages)
                 assert counts == {node: row.count(node) for node in sorted(set(row))}
     home, far = {}, {}
-    for cpu, page in accesses:
+    for cpu, page in numaplan.progress(accesses, f"accesses by {policy}"):
         node = home.setdefault(page, rows[cpu][page - FIRST])
         distance = DISTANCES[cpu][node]
         far[distance] = far.get(distance, 0) + 1

@@ -8,14 +8,15 @@ from typing import Iterator, NamedTuple, Sequence
 from ._calls import STILL, Owner, call, encoded, members, written
 from ._judged import list_of, u8, u16, u32, u64
 from ._library import Limits, PlacedPage, Span, StandingPolicy
-from ._machines import description, options_of
+from ._machines import description, options_of, read_hardware
 from ._plans import Plan
 
 NO_HOME = 256  # (NP_NO_HOME)
 
 
 class Placement(NamedTuple):
-    """Where a page was placed: by this version, on this frame of this node, at this rank."""
+    """Where a page was placed: by this version, the page of this number (address / 4096), for this
+    task, on this frame of this node, which is at this rank of the page's list, from 0."""
 
     version: int
     page: int
@@ -26,8 +27,8 @@ class Placement(NamedTuple):
 
 
 class Range(NamedTuple):
-    """A range of pages: address and length in bytes, the index of its first page, and the policy of
-    its own as a word, None where it has none."""
+    """A range of pages: address and length in bytes, the index of its first page in pages, and the
+    policy of its own as a word, None where it has none."""
 
     start: int
     length: int
@@ -65,6 +66,20 @@ class Core(Owner):
         call("core_open_by", self._at, *description(frames, distances, memory), byref(limits),
              u32("workers", workers), byref(options_of(rules, orders, cpus)))
 
+    @classmethod
+    def from_hardware(cls, text: str, frames: "Sequence[int] | None" = None, *, workers: int = 1,
+                      rules: str = "document", kernel_orders: bool = False,
+                      memory_added: bool = False) -> Core:
+        """A core of the machine that `numactl --hardware` or `lstopo --of xml` (hwloc 2) printed,
+        as numaplan-machine-line reads it. Frames are pages of 4,096 bytes; unless they are handed
+        in, a node of more than 4,096 leaves all without any, since questions don't ask for them. By
+        `kernel_orders` the machine has a kernel's orders, and by `memory_added` too those that it
+        made again once memory came to a node after the boot. A text of another form, and a machine
+        that numaplan can't hold, is a ValueError."""
+        found = read_hardware(text, kernel_orders, memory_added)
+        return cls(found.frames if frames is None else frames, found.distances, found.memory,
+                   workers, rules=rules, orders=found.orders, cpus=found.cpus)
+
     def _shown(self) -> str:
         return " of version {}, published {}".format(*self.versions)
 
@@ -77,21 +92,23 @@ class Core(Owner):
         return other
 
     def map(self, start: int, length: int, offset: "int | None" = None) -> None:
-        """Maps a span; without an offset as private anonymous memory, at start / 4096."""
+        """Maps `length` bytes of unmapped pages from address `start` on. The first page has the
+        index `offset`, in pages; without one start / 4096, as private anonymous memory has."""
         start = u64("start", start)
         offset = start // 4096 if offset is None else u64("offset", offset)
         call("core_map", self._at, start, u64("length", length), offset)
 
     def unmap(self, start: int, length: int) -> None:
-        """Unmaps the pages of a span."""
+        """Unmaps the pages of `length` bytes from address `start` on, those that are mapped."""
         call("core_unmap", self._at, u64("start", start), u64("length", length))
 
     def mbind(self, start: int, length: int, policy: str) -> None:
-        """Gives the pages of a span a policy of their own, as "bind:0-1"."""
+        """Gives the pages of `length` bytes from address `start` on a policy of their own, as
+        "bind:0-1" or "interleave=static:0-3" (mbind(2)); "default" takes it away."""
         call("core_mbind", self._at, u64("start", start), u64("length", length), *encoded(policy))
 
     def set_task(self, task: int, policy: str) -> None:
-        """Gives a task its policy."""
+        """Gives a task its policy (set_mempolicy(2)); "default" takes it away."""
         call("core_set_task", self._at, u32("task", task), *encoded(policy))
 
     def inherit(self, task: int, from_task: int) -> None:
@@ -99,21 +116,22 @@ class Core(Owner):
         call("core_inherit", self._at, u32("task", task), u32("from_task", from_task))
 
     def set_home(self, start: int, length: int, node: int) -> None:
-        """Gives the policies of a span's pages a home node."""
+        """Gives the policies of the pages of `length` bytes from address `start` on a home node
+        (set_mempolicy_home_node(2))."""
         call("core_set_home", self._at, u64("start", start), u64("length", length),
               u32("node", node))
 
     def set_weight(self, node: int, weight: int) -> None:
-        """Gives a node its weight for weighted interleaving."""
+        """Gives a node its weight for weighted interleaving, from 1 to 255."""
         call("core_set_weight", self._at, u32("node", node), u32("weight", weight))
 
     def set_mems(self, nodes: "str | Sequence[int]") -> None:
-        """Changes the nodes on which memory may be placed."""
+        """Changes the nodes on which memory may be placed, as "0-1" or [0, 1] (cpuset.mems)."""
         text = list_of("nodes", nodes)
         call("core_set_mems", self._at, text, len(text))
 
     def publish(self) -> None:
-        """Publishes all accepted commands."""
+        """Publishes all accepted commands: workers place pages by them from then on."""
         call("core_publish", self._at)
 
     @property
@@ -132,7 +150,8 @@ class Core(Owner):
 
     def ranges(self, start: int = 0, end: int = 2**64 - 1) -> list[Range]:
         """The ranges of pages by all accepted commands that have an address from `start` to below
-        `end`, in order of address: the first is found by one search."""
+        `end` (bytes), in order of address: the first is found by one search. `for each in core`
+        takes one after the other."""
         return list(self._ranges(self._place_of(start), end))
 
     def _place_of(self, address: int) -> int:
@@ -150,6 +169,17 @@ class Core(Owner):
             if found.start >= end:
                 return
             yield found
+
+    def __iter__(self) -> Iterator[Range]:
+        """The ranges in order of address, each as it is asked for: what changes behind it meanwhile
+        is seen."""
+        address = 0
+        while True:
+            found = next(self._ranges(self._place_of(address), 2**64 - 1), None)
+            if found is None:
+                return
+            yield found
+            address = found.start + found.length
 
     def range_at(self, address: int) -> "Range | None":
         """The range that has an address, in one search; None where it isn't mapped."""
@@ -177,14 +207,16 @@ class Core(Owner):
                         room=4096)
 
     def touch(self, worker: int, task: int, page: int, cpu: int) -> Placement:
-        """A worker places a page that a task touched on a node."""
+        """A worker places the page of a number (address / 4096) that a task touched on a CPU of
+        node `cpu`: on the lowest free frame of the first node of its list that has one. Raises
+        Exhausted where none has."""
         placed = PlacedPage()
         call("core_touch", self._at, *_request(worker, task, page, cpu), byref(placed))
         return _placement(placed)
 
     def begin(self, worker: int, task: int, page: int, cpu: int) -> None:
-        """An idle worker begins to look for a frame for a page. Raises Exhausted where no node of
-        its list has a frame."""
+        """An idle worker begins to look for a frame for the page of a number (address / 4096).
+        Raises Exhausted where no node of its list has a frame."""
         call("core_begin", self._at, *_request(worker, task, page, cpu))
 
     def look(self, worker: int, word: int) -> None:

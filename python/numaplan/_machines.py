@@ -2,13 +2,18 @@
 
 from __future__ import annotations
 
+import os
+import subprocess
+import sys
 from ctypes import byref, c_uint32
-from typing import Any, Sequence
+from typing import Any, NamedTuple, Sequence
 
 from ._calls import call
 from ._causes import BadNodeCount
 from ._judged import list_of, orders_number, rules_number, u8s, u32
 from ._library import Options
+
+HERE = os.path.dirname(os.path.abspath(__file__))
 
 
 def description(frames: Sequence[int], distances: Sequence[Sequence[int]],
@@ -33,3 +38,39 @@ def options_of(rules: str, orders: str, cpus: "str | Sequence[int] | None") -> O
         text = list_of("cpus", cpus)
         call("nodes_read", text, len(text), byref(options.cpus))
     return options
+
+
+class Hardware(NamedTuple):
+    """A machine as a core is opened by it."""
+
+    frames: list[int]
+    distances: list[list[int]]
+    memory: str
+    orders: str
+    cpus: "str | None"
+
+
+def read_hardware(text: str, kernel_orders: bool, memory_added: bool) -> Hardware:
+    """The machine of a text, as tools/machine-line writes it; ValueError with its words."""
+    options = ["--kernel-orders"] * kernel_orders + ["--memory-added"] * memory_added
+    ran = subprocess.run([sys.executable, _machine_line(), *options], input=text, text=True,
+                         encoding="utf-8", stdout=subprocess.PIPE, stderr=subprocess.PIPE)
+    if ran.returncode != 0:
+        raise ValueError(ran.stderr.strip().replace("machine-line: ", ""))
+    *others, line = ran.stdout.splitlines()
+    _, count, memory, each, table = line.split(" ")
+    frames = [int(item) for item in each.split(",")]
+    kernel, rows = table.startswith("kernel:"), table.replace("kernel:", "").split(";")
+    return Hardware(
+        frames if len(frames) == int(count) else frames * int(count),
+        [[int(item) for item in row.split(",")] for row in rows], memory,
+        "kernel" if kernel else "nearest", others[0].split(" ")[1] if others else None)
+
+
+def _machine_line() -> str:
+    """The tool: beside this module where that is installed, else in the repository."""
+    for place in ("machine-line", "../../tools/machine-line"):
+        path = os.path.join(HERE, place)
+        if os.path.exists(path):
+            return path
+    raise FileNotFoundError(f"{HERE} lacks machine-line; './numaplan library PREFIX' puts it there")

@@ -2,10 +2,11 @@
 
 from __future__ import annotations
 
-from ctypes import byref, c_size_t, c_uint8, c_uint64
-from typing import TYPE_CHECKING
+from ctypes import byref, c_size_t, c_uint8, c_uint32, c_uint64, memmove
+from typing import TYPE_CHECKING, Iterable, Iterator, SupportsIndex
 
-from ._calls import Owner, call
+from ._calls import Owner, call, untyped
+from ._causes import refusal
 from ._judged import bytes_to_write, u32, u64
 
 if TYPE_CHECKING:
@@ -22,7 +23,7 @@ class Plan(Owner):
 
     @property
     def version(self) -> int:
-        """How many commands it was made of."""
+        """How many accepted commands it was made of."""
         version = c_uint64()
         call("plan_version", self._at, byref(version))
         return version.value
@@ -34,23 +35,58 @@ class Plan(Owner):
         return other
 
     def choice(self, task: int, page: int, cpu: int) -> list[int]:
-        """The nodes on which memory is looked for, the first first."""
+        """The nodes on which memory is looked for, the first first, when `task` touches the page of
+        this number (address / 4096) on a CPU of node `cpu`. Raises BadCpu, Unmapped."""
         found, count = (c_uint8 * 256)(), c_size_t()
         call("plan_choice", self._at, u32("task", task), u64("page", page), u32("cpu", cpu),
               found, 256, byref(count))
         return list(found[:count.value])
 
+    def choice_many(self, task: int, pages: Iterable[SupportsIndex], cpu: int,
+                    nodes: "WriteableBuffer | None" = None) -> WriteableBuffer:
+        """The first node of the list of each of these pages (numbers, in any order), a byte each:
+        in a new bytearray, or in the buffer that is handed in (a bytearray, a memoryview, an
+        array('B')), which has as many unsigned bytes as there are pages. Raises BadCpu, Unmapped;
+        then the buffer is as it was."""
+        numbers = [u64("a number of pages", page) for page in pages]
+        found = (c_uint8 * max(len(numbers), 1))()
+        fill, touch = untyped("plan_fill"), (c_uint32(u32("task", task)), c_uint32(u32("cpu", cpu)))
+        for begin, count in _runs(numbers):
+            first = c_uint64(numbers[begin] if count else 0)
+            code = fill(self._at, *touch, first, byref(found, begin), c_size_t(count))
+            if code:
+                raise refusal(code)
+        into = bytearray(len(numbers)) if nodes is None else nodes
+        place, room = bytes_to_write("nodes", into)
+        if room != len(numbers):
+            raise ValueError(f"nodes has {room} bytes for {len(numbers)} pages")
+        memmove(place, found, room)
+        return into
+
     def fill(self, task: int, cpu: int, first: int, nodes: WriteableBuffer) -> None:
-        """Writes the first node of each page's list into a bytearray, an array('B') or another
-        buffer of unsigned bytes that can be written, without a copy: as many pages from `first` on
-        as it has bytes. Another buffer is a TypeError."""
+        """Writes the first node of each page's list into a bytearray, a memoryview, an array('B')
+        or another buffer of unsigned bytes that can be written, without a copy: of as many pages
+        from number `first` on as it has bytes. Another buffer is a TypeError. Raises BadCpu,
+        Unmapped."""
         place, count = bytes_to_write("nodes", nodes)
         call("plan_fill", self._at, u32("task", task), u32("cpu", cpu), u64("first", first), place,
               count)
 
     def counts(self, task: int, cpu: int, first: int, pages: int) -> dict[int, int]:
-        """How many pages of a span have each node first, for each node that is first of some."""
+        """How many of so many pages from number `first` on have each node first, for each node that
+        is first of some. The time doesn't grow with the pages. Raises BadCpu, Unmapped."""
         counts = (c_uint64 * 256)()
         call("plan_counts", self._at, u32("task", task), u32("cpu", cpu), u64("first", first),
               u64("pages", pages), byref(counts))
         return {node: count for node, count in enumerate(counts) if count}
+
+
+def _runs(numbers: list[int]) -> Iterator[tuple[int, int]]:
+    """The runs of numbers that go on by one: where each begins, and how many they are; of none, one
+    without any, so that a call judges the rest."""
+    begin = 0
+    for end in range(1, len(numbers)):
+        if numbers[end] != numbers[end - 1] + 1:
+            yield begin, end - begin
+            begin = end
+    yield begin, len(numbers) - begin

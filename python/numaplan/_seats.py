@@ -12,7 +12,8 @@ from ._machines import description
 
 
 class Frame(NamedTuple):
-    """A frame that a seat took: number of its node's frames, and the node's place in the list."""
+    """A frame that a seat took: its node, its number among the node's frames, and the node's place
+    in the list, both from 0. A frame is a unit of any size."""
 
     node: int
     number: int

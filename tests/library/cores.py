@@ -27,7 +27,7 @@ with Core([2, 1], [[10, 20], [20, 10]], workers=2) as core:
     core.map(0x10000, 0x4000)
     core.map(0x20000, 0x2000)
     core.mbind(0x11000, 0x2000, "interleave:0-1")
-    assert core.ranges() == FIRST
+    assert core.ranges() == FIRST == list(core)
     with core.copy() as copy:
         copy.mbind(0x20000, 0x2000, "bind=static:1")
         assert copy.ranges() == FIRST[:3] + [Range(0x20000, 0x2000, 32, "bind=static:1")]

@@ -69,6 +69,8 @@ CALLS = [
      {"task": 32, "page": 64, "cpu": 32}),
     (lambda task=0, cpu=0, first=16: plan.fill(task, cpu, first, bytearray(1)),
      {"task": 32, "cpu": 32, "first": 64}),
+    (lambda task=0, page=16, cpu=0: plan.choice_many(task, [page], cpu),
+     {"task": 32, "cpu": 32}),
     (lambda task=0, cpu=0, first=16, pages=1: plan.counts(task, cpu, first, pages),
      {"task": 32, "cpu": 32, "first": 64, "pages": 64}),
     (lambda node=0, number=0: seat.give(node, number), {"node": 8, "number": 16}),
@@ -77,6 +79,7 @@ CALLS = [
 ]
 # those that come in lists
 LISTS = [
+    (lambda value: plan.choice_many(0, [16, value], 0), "a number of pages", 64),
     (lambda value: core.set_mems([0, value]), "a number of nodes", 8),
     (lambda value: seat.take([value]), "a number of nodes", 8),
     (lambda value: numaplan.nodes_text([value]), "a number of numbers", 8),
@@ -125,6 +128,26 @@ with mmap.mmap(-1, 4096) as room:
     want(raised(lambda: plan.fill(9, 1, 16, memoryview(room)[:4])), None, "a fill of a mapping")
     want(room[:5], b"\1\1\1\1\0", "a mapping")
 plan.fill(9, 1, 16, bytearray())
+# the same pages, and some of them twice, in an order of their own; page 20 isn't mapped
+core.mbind(0x12000, 0x1000, "bind:0")
+with core.compile() as bound:
+    for buffer in (None, bytearray(b"####"), array("B", b"####"), (ctypes.c_uint8 * 4)(7, 7, 7, 7),
+                   memoryview(bytearray(b"########"))[2:6]):
+        answered = bound.choice_many(9, [18, 19, 18, 16], 1, buffer)
+        want(bytes(answered), b"\0\1\0\1", f"pages into {type(buffer).__name__}")
+        want(buffer is None or answered is buffer, True, "what is handed back")
+    kept = bytearray(b"##")
+    for pages, buffer, fault in (([16, 17], bytearray(3), "nodes has 3 bytes for 2 pages"),
+                                 ([16], bytearray(), "nodes has 0 bytes for 1 pages")):
+        want(raised(lambda: bound.choice_many(9, pages, 1, buffer)), ("ValueError", fault), "a room")
+    for pages, cpu, cause in (([16, 20], 1, numaplan.Unmapped), ([16, 17], 2, numaplan.BadCpu),
+                              ([], 2, numaplan.BadCpu)):
+        try:
+            bound.choice_many(9, pages, cpu, kept[:len(pages)])
+            wrong.append(f"pages {pages} from node {cpu} are answered")
+        except cause:
+            pass
+    want((bytes(kept), bound.choice_many(9, iter(()), 1)), (b"##", bytearray()), "refused pages, and none")
 FAULTY = [
     (array("q", [7, 7]), "nodes has items of the format 'q'"),
     (array("b", b"##"), "nodes has items of the format 'b'"),
@@ -136,8 +159,9 @@ FAULTY = [
     ([0, 0], ""),
 ]
 for buffer, text in FAULTY:
-    kind, said = raised(lambda: plan.fill(9, 1, 16, buffer)) or ("no fault", "")
-    want((kind, said[:len(text)]), ("TypeError", text), f"a fill of {buffer!r}")
+    for call in (lambda: plan.fill(9, 1, 16, buffer), lambda: plan.choice_many(9, [16, 17], 1, buffer)):
+        kind, said = raised(call) or ("no fault", "")
+        want((kind, said[:len(text)]), ("TypeError", text), f"a fill of {buffer!r}")
 want(list(FAULTY[0][0]), [7, 7], "items that aren't bytes")
 
 print("\n".join(wrong))
