@@ -50,6 +50,7 @@ try_tree() {
     check 'with program, libraries, header, pages, completions, documents and examples' holds \
         bin/numaplan{,-emulate,-record,-machine-line} lib/libnumaplan.{a,so,so.0} \
         lib/pkgconfig/numaplan.pc include/numaplan.h share/man/man1/numaplan{,-emulate,-record}.1 \
+        share/man/man{3/libnumaplan.3,5/numaplan-script.5} share/numaplan/numaplan/machine-line \
         share/bash-completion/completions/numaplan share/numaplan/numaplan/__init__.py \
         share/doc/numaplan/{SCRIPT,COMMANDS,ADMIN,KERNEL,EMULATE,LIBRARY,CHANGELOG}.md \
         share/doc/numaplan/examples/{first-run.numaplan,c/first.c,python/first.py}
