@@ -12,7 +12,7 @@ packed() {
 make_library() {
     mkdir -p "$top/tests/library" "$top/crates/numaplan_c/src" "$top/kit/c"
     cp "$here/archive" "$top/tests/library/archive"
-    cp -r "$here/../../"{c,python,VERSION,CHANGELOG.md} "$top/"
+    cp -r "$here/../../"{c,python,rust,VERSION,CHANGELOG.md} "$top/"
     touch "$top/tests/library-words"
     printf '!<arch>\n' >"$top/kit/c/liblibc_c.a"
     echo library >"$top/crates/numaplan_c/src/lib.rt"
@@ -51,9 +51,10 @@ try_tree() {
         bin/numaplan{,-emulate,-record,-machine-line} lib/libnumaplan.{a,so,so.0} \
         lib/pkgconfig/numaplan.pc include/numaplan.h share/man/man1/numaplan{,-emulate,-record}.1 \
         share/man/man{3/libnumaplan.3,5/numaplan-script.5} share/numaplan/numaplan/machine-line \
+        share/numaplan/rust/numaplan/{Cargo.toml,build.rs,src/lib.rs,examples/first.rs} \
         share/bash-completion/completions/numaplan share/numaplan/numaplan/__init__.py \
         share/doc/numaplan/{SCRIPT,COMMANDS,ADMIN,KERNEL,EMULATE,LIBRARY,CHANGELOG}.md \
-        share/doc/numaplan/examples/{first-run.numaplan,c/first.c,python/first.py}
+        share/doc/numaplan/examples/{first-run.numaplan,c/first.c,python/first.py,rust/first.rs}
     check 'and the record of the proof, whose sums are right' is_recorded
     answer=$("$tree/bin/numaplan" run)
     check 'its program is the proved one' answers proved

@@ -31,8 +31,8 @@ write_record() {
 # Puts a list of changes and the documents and examples for authors beside the others.
 pack_documents() {
     local documents=$1/share/doc/numaplan kind
-    for kind in c python; do
-        install -D -m 644 -t "$documents/examples/$kind" "$top/$kind/examples/"* || return
+    for kind in c python rust/numaplan; do
+        install -D -m 644 -t "$documents/examples/${kind%%/*}" "$top/$kind/examples/"* || return
     done
     sed -E -e 's@`(c|python)/examples/@`examples/\1/@g' -e 's@\bdocs/([A-Z])@\1@g' \
         "$top/docs/LIBRARY.md" >"$documents/LIBRARY.md" && cp "$top/CHANGELOG.md" "$documents/"
@@ -73,10 +73,12 @@ write_control() {
         ' need libc alone; numaplan-emulate and the other scripts need Python.'
 }
 
-# Places and forms that Debian has of its own: compressed pages and changes, zsh's completions.
+# Places and forms that Debian has of its own: compressed pages and changes, zsh's completions, and where
+# Python looks for packages.
 suit_debian() {
     local usr=$1/usr documents=$1/usr/share/doc/numaplan
-    mkdir -p "$usr/share/zsh/vendor-completions" &&
+    mkdir -p "$usr/share/zsh/vendor-completions" "$usr/lib/python3/dist-packages" &&
+        ln -s ../../../share/numaplan/numaplan "$usr/lib/python3/dist-packages/numaplan" &&
         mv "$usr/share/zsh/site-functions/_numaplan" "$usr/share/zsh/vendor-completions/" &&
         rmdir "$usr/share/zsh/site-functions" &&
         mv "$documents/CHANGELOG.md" "$documents/changelog" &&
