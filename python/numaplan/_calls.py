@@ -50,7 +50,8 @@ def written(name: str, *arguments: Any, room: int = 1024) -> str:
 
 def members(words: NodeSet) -> list[int]:
     """The nodes of a set."""
-    return [node for node in range(256) if words.words[node // 64] >> node % 64 & 1]
+    bits = int.from_bytes(bytes(words), "little")
+    return [node for node in range(bits.bit_length()) if bits >> node & 1]
 
 
 class Owner:

@@ -172,6 +172,34 @@ static void areas(void) {
     MUST(node_of(at + 4096) == 0 && node_of(at + 21 * 4096) == 1);
 }
 
+/* Many areas, each bound, touched and given back by itself: a call costs the same however many there are. */
+static void apart(void) {
+    const int count = 4000;
+    char *at = mmap(NULL, count * 8192L, PROT_NONE, MAP_PRIVATE | MAP_ANONYMOUS | MAP_NORESERVE, -1, 0);
+    MUST(at != MAP_FAILED && munmap(at, count * 8192L) == 0);
+    for (int k = 0; k < count; k++) {
+        char *one = at + k * 8192L;
+        MUST(mmap(one, 4096, PROT_READ | PROT_WRITE, MAP_PRIVATE | MAP_ANONYMOUS | MAP_FIXED_NOREPLACE, -1, 0) == one);
+        MUST(bind_to(one, 4096, 1 << k % 2) == 0);
+        *one = 1;
+    }
+    for (int k = 0; k < count; k += 99)
+        MUST(node_of(at + k * 8192L) == k % 2);
+    for (int k = 0; k < count; k++)
+        MUST(munmap(at + k * 8192L, 4096) == 0);
+}
+
+/* A page that was touched is there also while nobody may touch it. */
+static void closed(void) {
+    char *at = some_pages(1);
+    MUST(bind_to(at, 4096, 2) == 0);
+    *at = 1;
+    MUST(mprotect(at, 4096, PROT_NONE) == 0);
+    MUST(bind_to(at, 4096, 1) == 0 && node_of(at) == 1);
+    MUST(mprotect(at, 4096, PROT_READ | PROT_WRITE) == 0);
+    MUST(*at == 1 && node_of(at) == 1);
+}
+
 static int shares_memory(void *at) {
     *(char *)at = 1;
     return 5;
@@ -208,7 +236,7 @@ int main(int count, char **words) {
         void (*run)(void);
     } rows[] = {{"after-exec", after_exec}, {"vfork", by_vfork}, {"exec-from-thread", exec_from_thread},
                 {"signals", signals}, {"threads", threads}, {"children", children}, {"killed", killed},
-                {"areas", areas}, {"processes", processes}, {"rights", rights}};
+                {"areas", areas}, {"apart", apart}, {"closed", closed}, {"processes", processes}, {"rights", rights}};
     self = words[0];
     for (size_t k = 0; k < sizeof rows / sizeof rows[0]; k++)
         if (count == 2 && !strcmp(rows[k].name, words[1])) {

@@ -1,4 +1,5 @@
-/* Sequences of random calls about memory policies, and what they answer: probe FIRST LAST STEPS. Each sequence
+/* Sequences of random calls about memory policies, and what they answer: probe FIRST LAST STEPS [MODES]. MODES is 6
+ * for kernels without weighted interleaving (before 6.9), otherwise 7: that many modes are asked for. Each sequence
  * is played by a process of its own, on pages at fixed addresses, so that a real kernel and a made-up machine
  * can be held against each other, line by line:
  *
@@ -27,6 +28,7 @@
 enum { STATIC = 0x8000, RELATIVE = 0x4000 };
 
 static unsigned long dice;
+static unsigned modes = 7;
 static char mapped[PAGES];
 
 static unsigned up_to(unsigned most) {
@@ -89,9 +91,11 @@ struct policy {
     unsigned long *mask;
 };
 
-/* Mostly one that is accepted: of the modes 0 to 6, some nodes of four. */
+/* Mostly one that is accepted: of the modes from 0 on, some nodes of four. */
 static void some_policy(struct policy *policy) {
-    policy->mode = up_to(14) ? (int)up_to(7) : (int)up_to(10);
+    policy->mode = up_to(14) ? (int)up_to(modes) : (int)up_to(10);
+    if (modes == 6 && policy->mode == 6)
+        policy->mode = 3;
     policy->nodes = 1 + up_to(up_to(6) ? 15 : 63);
     policy->most = up_to(10) ? 65 : up_to(9);
     policy->mask = &policy->nodes;
@@ -230,8 +234,10 @@ static void sequence(int number, int steps) {
 }
 
 int main(int count, char **words) {
-    if (count != 4)
+    if (count != 4 && count != 5)
         return 2;
+    if (count == 5)
+        modes = atoi(words[4]);
     for (int number = atoi(words[1]); number <= atoi(words[2]); number++) {
         printf("sequence %d\n", number);
         fflush(stdout);

@@ -1,6 +1,12 @@
-"""The areas of a process, from /proc/PID/maps. Not proved."""
+"""The areas of a process: one by one by the ioctl PROCMAP_QUERY where the kernel has it (6.11 and later), else
+all of them from /proc/PID/maps. Not proved."""
 
+import ctypes
+import errno
+import fcntl
+import os
 import re
+import struct
 from collections import namedtuple
 
 from .tracing import PAGE, TOP
@@ -9,26 +15,126 @@ LINE = re.compile(r"([0-9a-f]+)-([0-9a-f]+) (....) ([0-9a-f]+) \S+ (\d+) *(.*)")
 IN_MEMORY = re.compile(r"/dev/zero \(deleted\)|\[anon_shmem:|/SYSV[0-9a-f]{8}|/memfd:|/dev/shm/")
 KERNELS_OWN = ("[vvar]", "[vvar_vclock]", "[vdso]", "[vsyscall]")
 MOST_INDEX = 1 << 35
+MOST_CLOSED = 1 << 30  # bytes: larger areas without access are mostly addresses that a program keeps for later
 
 # From start to end; index is that of the first page, by which the kernel interleaves. Pages of a file's
-# cache aren't placed by a policy: `has_cache`. Without access nothing is touched: `is_closed`.
+# cache aren't placed by a policy: `has_cache`. `is_closed` is without access, and large.
 Area = namedtuple("Area", "start end index has_cache is_closed name")
 
 
-def areas_of(task):
-    with open(f"/proc/{task}/maps", encoding="utf-8", errors="surrogateescape", newline="\n") as file:
-        lines = file.read().split("\n")
-    for found in filter(None, map(LINE.match, lines)):
-        start, end = int(found[1], 16), int(found[2], 16)
-        name = found[6]
-        if end <= TOP and name not in KERNELS_OWN:
-            is_file, is_shared, is_in_memory = found[5] != "0", found[3][3] == "s", bool(IN_MEMORY.match(name))
-            is_file |= is_in_memory  # (the inode of System V's first object is 0)
-            index = int(found[4], 16) // PAGE if is_file else start // PAGE
-            if is_shared and is_in_memory and index + int(found[5]) < MOST_INDEX:
-                index += int(found[5])
-            yield Area(start, end, index, is_file and not (is_shared and is_in_memory),
-                       found[3].startswith("---"), name)
+def area_of(start, end, is_shared, is_closed, offset, inode, name):
+    """An area as a kernel tells it; None where it is the kernel's own."""
+    if end > TOP or name in KERNELS_OWN:
+        return None
+    is_in_memory = name[:1] in "/[" and bool(IN_MEMORY.match(name))
+    is_file = inode != 0 or is_in_memory  # (the inode of System V's first object is 0)
+    index = (offset if is_file else start) // PAGE
+    if is_shared and is_in_memory and index + inode < MOST_INDEX:
+        index += inode
+    is_closed = is_closed and end - start > MOST_CLOSED
+    return Area(start, end, index, is_file and not (is_shared and is_in_memory), is_closed, name)
+
+
+class ByReading:
+    """All areas are read for each question."""
+
+    def __init__(self, task):
+        self.task, self.found = task, None
+
+    def between(self, start, end):
+        """The areas that have an address from start to end, whole."""
+        if self.found is None:
+            self.found = [area for area in map(self.area_of_line, self.lines()) if area]
+        return [area for area in self.found if area.start < end and start < area.end]
+
+    def lines(self):
+        with open(f"/proc/{self.task}/maps", encoding="utf-8", errors="surrogateescape", newline="\n") as file:
+            return file.read().split("\n")
+
+    @staticmethod
+    def area_of_line(line):
+        found = LINE.match(line)
+        return found and area_of(int(found[1], 16), int(found[2], 16), found[3][3] == "s",
+                                 found[3].startswith("---"), int(found[4], 16), int(found[5]), found[6])
+
+    def close(self):
+        """(Nothing is open.)"""
+
+
+# ---- by questions
+
+QUERY, OR_NEXT = 0xC0686611, 0x10  # PROCMAP_QUERY, PROCMAP_QUERY_COVERING_OR_NEXT_VMA
+FORM = struct.Struct("9Q4I2Q")  # struct procmap_query
+ACCESS, SHARED = 7, 8
+name_room = ctypes.create_string_buffer(4096)
+asked = bytearray(FORM.size)
+
+
+class ByQuestions:
+    """The kernel looks up each area, however many there are."""
+
+    def __init__(self, task):
+        self.file = os.open(f"/proc/{task}/maps", os.O_RDONLY)
+
+    def between(self, start, end):
+        found = []
+        while start < end:
+            told = self.at_or_behind(start)
+            if told is None or told[3] >= end:
+                break
+            start, name_size = told[4], told[11]
+            name = os.fsdecode(name_room[:name_size - 1]) if name_size else ""
+            area = area_of(told[3], told[4], bool(told[5] & SHARED), not told[5] & ACCESS, told[7], told[8], name)
+            if area:
+                found.append(area)
+        return found
+
+    def at_or_behind(self, address):
+        """What the kernel tells of the area that has the address, or of the next one."""
+        FORM.pack_into(asked, 0, FORM.size, OR_NEXT, address, *[0] * 8, len(name_room), 0,
+                       ctypes.addressof(name_room), 0)
+        try:
+            fcntl.ioctl(self.file, QUERY, asked)
+        except OSError as fault:
+            if fault.errno == errno.ENOENT:
+                return None
+            raise
+        return FORM.unpack(asked)
+
+    def close(self):
+        os.close(self.file)
+
+
+class Areas:
+    """The areas of a task's address space; `close` ends it."""
+
+    can_ask = True
+
+    def __init__(self, task):
+        self.task, self.way = task, (ByQuestions if Areas.can_ask else ByReading)(task)
+
+    def between(self, start, end):
+        try:
+            return self.way.between(start, end)
+        except OSError as fault:
+            if not Areas.can_ask or fault.errno not in (errno.ENOTTY, errno.EINVAL):
+                raise
+        Areas.can_ask = False
+        self.way.close()
+        self.way = ByReading(self.task)
+        return self.way.between(start, end)
+
+    def close(self):
+        self.way.close()
+
+    def __enter__(self):
+        return self
+
+    def __exit__(self, *_):
+        self.close()
+
+
+# ---- several areas
 
 
 def joined(areas):
@@ -47,7 +153,7 @@ def joined(areas):
 
 
 def open_spans(areas, start, end):
-    """(start, end, has_cache) of what can be touched from start to end, neighbours of a kind as one."""
+    """(start, end, has_cache) of what isn't closed from start to end, neighbours of a kind as one."""
     last = None
     for area in areas:
         first, after = max(start, area.start), min(end, area.end)
@@ -64,59 +170,15 @@ def open_spans(areas, start, end):
 
 
 def with_names(areas, names):
-    """The areas, parted where a program has named some of them: names are (start, end, name)."""
+    """The areas, parted where a program has named some of them: names are spans."""
     for area in areas:
-        inside = [one for one in names if one[0] < area.end and area.start < one[1]]
+        inside = names.between(area.start, area.end)
         if not inside or area.name and not area.name.startswith("[anon:"):
             yield area
             continue
-        ends = {area.start, area.end}.union(*((max(one[0], area.start), min(one[1], area.end)) for one in inside))
-        places = sorted(ends)
-        for start, end in zip(places, places[1:]):
-            name = next((one[2] for one in inside if one[0] <= start < one[1]), "")
+        rows = inside + [(start, end, "") for start, end in names.gaps(area.start, area.end)]
+        for start, end, name in sorted(rows):
             yield area._replace(start=start, end=end, index=area.index + (start - area.start) // PAGE, name=name)
-
-
-def without_names(names, start, end):
-    """The names, without what lies from start to end."""
-    return [(*span, name) for first, after, name in names for span in without([(first, after)], start, end)]
-
-
-def without(spans, start, end):
-    """Spans without what lies from start to end."""
-    left = []
-    for first, after in spans:
-        if first < min(after, start):
-            left.append((first, min(after, start)))
-        if max(first, end) < after:
-            left.append((max(first, end), after))
-    return left
-
-
-def merged(spans):
-    """Spans, with neighbours as one."""
-    found = []
-    for first, after in sorted(spans):
-        if found and found[-1][1] == first:
-            found[-1] = (found[-1][0], after)
-        else:
-            found.append((first, after))
-    return found
-
-
-def gaps(spans, start, end):
-    """What lies from start to end, and in none of the spans, which rise."""
-    at = start
-    for first, after in spans:
-        if after <= at:
-            continue
-        if first >= end:
-            break
-        if at < first:
-            yield at, first
-        at = max(at, after)
-    if at < end:
-        yield at, end
 
 
 def shown_name(name):

@@ -34,6 +34,7 @@ def mbind(all_, task, start, length, mode, mask, most, flags):
     all_.wake(task)
     space, astray = task.space, []
     if start % PAGE == 0 and start + length <= TOP:
+        all_.look(task, start, start + length)
         all_.sweep(task, start, start + length)
         if flags:
             pages = space.placed_between(start, start + length)
@@ -86,7 +87,7 @@ def get_mempolicy(all_, task, mode, mask, most, address, flags, *_):
 
 def policy_at(all_, task, address, flags):
     """The policy of the page's own, or with AS_NODE its node: it is touched for that."""
-    all_.wake(task)
+    all_.look(task, address, address + 1)
     if not task.space.has(address):
         fail(errno.EFAULT)
     number, nodes = told_form(task.space.core.policy_at(address))
@@ -128,6 +129,7 @@ def move_pages(all_, task, number, count, pages, nodes, status, flags):
         fail(errno.E2BIG)
     starts = struct.unpack(f"{count}Q", peek(task.number, pages, 8 * count))
     wanted = struct.unpack(f"{count}i", peek(task.number, nodes, 4 * count)) if nodes else [None] * count
+    look_at_pages(all_, other, {start // PAGE for start in starts})
     told, fault, batch = [], None, Batch()
     for start, node in zip(starts, wanted):
         fault = fault_of_node(all_.machine, node)
@@ -139,6 +141,16 @@ def move_pages(all_, task, number, count, pages, nodes, status, flags):
     if fault:
         fail(fault)
     return 0
+
+
+def look_at_pages(all_, task, pages):
+    """What is mapped there, and where it is: neighbours at once."""
+    for first in sorted(page for page in pages if page - 1 not in pages):
+        after = first + 1
+        while after in pages:
+            after += 1
+        all_.look(task, first * PAGE, after * PAGE)
+        all_.sweep(task, first * PAGE, after * PAGE)
 
 
 def fault_of_node(machine, node):
@@ -167,8 +179,6 @@ def move_page(all_, task, start, node, flags, batch):
     """The node of a page once it is moved, or an error number below 0. What isn't moved ends the batch."""
     space, page = task.space, start // PAGE
     is_twice = batch.has(page, node)
-    if space.has(start):
-        all_.sweep(task, start, start + PAGE)
     if page not in space.placed:
         told = -errno.ENOENT if space.has(start) else -errno.EFAULT
     elif node is None:
@@ -224,8 +234,8 @@ def steps_of(sources, targets):
 def set_mempolicy_home_node(all_, task, start, length, node, flags, *_):
     if flags:
         fail(errno.EINVAL)
-    all_.wake(task)
     length = whole_pages(length)
+    all_.look(task, start, start + length)
     all_.sweep(task, start, min(start + length, TOP))
     task.space.do("set_home", start, length, min(node, 2**32 - 1))
     return 0

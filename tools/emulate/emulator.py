@@ -76,12 +76,17 @@ class Emulator:
         return self.machine.cpus.node_of.get(self.machine.cpus.of(task), 0)
 
     def wake(self, task):
-        """The core of the task's address space, as it is now."""
-        words = {one.number: one.word for one in self.tasks.values() if one.space is task.space}
-        task.space.wake(task.number, words)
+        """The core of the task's address space."""
+        space = task.space
+        space.wake(lambda: [(one.number, one.word) for one in self.tasks.values() if one.space is space])
+
+    def look(self, task, start=0, end=TOP):
+        """The same, with what is mapped from start to end as it is now."""
+        self.wake(task)
+        task.space.look(task.number, start, min(end, TOP))
 
     def follows(self, task):
-        """Whether the address space is followed; its areas are then as they are now."""
+        """Whether the address space is followed."""
         if task.space.core is None and not task.word and not self.watches:
             return False
         if not self.has_begun:
@@ -90,7 +95,12 @@ class Emulator:
         return True
 
     def sweep(self, task, start=0, end=TOP):
-        task.space.sweep(task.number, task.word, self.node_of(task), start, end)
+        task.space.sweep(task.number, task.word, lambda: self.node_of(task), start, end)
+
+    def survey(self, task):
+        """All that is mapped, and where all pages are."""
+        self.look(task)
+        self.sweep(task)
 
     def other(self, task, number):
         if number in (0, task.number):
@@ -193,7 +203,7 @@ class Emulator:
     def at_exit(self, task):
         if not self.follows(task):
             return
-        self.sweep(task)
+        self.survey(task)
         if task.number != task.space.leader and task.word:
             task.space.do("set_task", task.number, "default")
             task.word = None
@@ -242,7 +252,7 @@ class Emulator:
         for task in leaders.values():
             try:
                 if self.follows(task):
-                    self.sweep(task)
+                    self.survey(task)
             except GONE:
                 pass  # (it ends just now: as it was seen last)
             if task.space.core is not None:

@@ -130,8 +130,7 @@ def pages_text(pages):
 
 def numa_maps_text(all_, task):
     """As proc_pid_numa_maps(5) says: only ranges, no names."""
-    all_.wake(task)
-    all_.sweep(task)
+    all_.survey(task)
     rows = []
     for start, _, policy, nodes in range_rows(task.space, task.word):
         placed = f" anon={len(nodes)} dirty={len(nodes)} {pages_text(Counter(nodes))} kernelpagesize_kB=4" if nodes else ""

@@ -3,7 +3,7 @@ what is to be done at the end of the call, or None. Not proved."""
 
 import errno
 
-from .areas import areas_of, without_names
+from .areas import Areas
 from .calls import whole_pages
 from .policies import to_ask
 from .tracing import MAP_FIXED, PAGE, TOP, set_registers, text_at
@@ -42,14 +42,19 @@ def madvise(all_, task, start, length, *_):
 def brk(all_, task, end, *_):
     """(A heap that grows is seen when the areas are looked at.)"""
     if end and task.space.core is not None:
-        for area in areas_of(task.number):
-            if area.name == "[heap]" and end < area.end:
-                forget(all_, task, max(whole_pages(end), area.start), area.end - max(whole_pages(end), area.start))
+        end = whole_pages(end)
+        with Areas(task.number) as areas:
+            heap = [area for area in areas.between(end, end + PAGE) if area.name == "[heap]"]
+        if heap:
+            forget(all_, task, end, heap[0].end - end)
 
 
 def shmdt(all_, task, *_):
-    if all_.follows(task):
-        all_.sweep(task)
+    """(What of it is mapped is seen at the end.)"""
+    if not all_.follows(task):
+        return None
+    all_.sweep(task)
+    return lambda registers: all_.look(task)
 
 
 def before_other_cpu(all_, task, *_):
@@ -62,16 +67,16 @@ def before_other_cpu(all_, task, *_):
 def before_exec(all_, task, *_):
     """The address space ends, if the call is a success."""
     if all_.follows(task):
-        all_.sweep(task)
+        all_.survey(task)
 
 
 def mremap(all_, task, old, old_length, new_length, *_):
-    if old % PAGE or not all_.follows(task):
-        return None
     space, old_length, new_length = task.space, whole_pages(old_length), whole_pages(new_length)
+    if old % PAGE or old + old_length > TOP or not all_.follows(task):
+        return None
+    all_.look(task, old, old + old_length)
     all_.sweep(task, old, old + old_length)
-    pieces = [(max(start, old), min(end, old + old_length), index + (max(start, old) - start) // PAGE, policy)
-              for start, end, index, policy in space.ranges() if start < old + old_length and old < end]
+    pieces = list(space.ranges(old, old + old_length))
 
     def follow(registers):
         if registers.rax < FAILED:
@@ -94,7 +99,7 @@ def moved(space, pieces, old, new):
         if first >= after:
             continue
         space.do("map", first, after - first, index)
-        space.spans = sorted(space.spans + [(first, after)])
+        space.spans.add(first, after)
         if policy:
             space.do("mbind", first, after - first, to_ask(policy))
     for page, (node, frame) in kept.items():
@@ -107,9 +112,9 @@ def prctl(all_, task, _option, what, start, length, name, *_):
     if what != 0 or start % PAGE or end > TOP:
         return None
     text = text_at(task.number, name) if name else ""
-    task.space.names = without_names(task.space.names, start, end)
+    task.space.names.remove(start, end)
     if text:
-        task.space.names.append((start, end, f"[anon:{text}]"))
+        task.space.names.add(start, end, f"[anon:{text}]")
 
     def succeed(registers):
         if registers.rax == 2**64 - errno.EINVAL:

@@ -5,7 +5,7 @@ import errno
 
 import numaplan
 
-from .areas import open_spans
+from .areas import Areas
 from .calls import MODE_BITS, whole_pages
 from .emulator import Emulator
 from .host import nodes_of
@@ -24,14 +24,10 @@ class Recorded(Space):
 
     def survey(self, task):
         """Where all pages are."""
-        pagemap, pages = Pagemap(task), []
-        try:
-            for start, end, has_cache in open_spans(self.areas, 0, TOP):
-                for first, count, is_cache in pagemap.runs(start, end):
-                    if not (is_cache and has_cache):
-                        pages += range(first, first + count)
-        finally:
-            pagemap.close()
+        pages = []
+        with Pagemap(task) as pagemap, Areas(task) as areas:
+            for first, count in self.placeable(pagemap, areas, 0, TOP):
+                pages += range(first, first + count)
         self.placed = nodes_of(task, pages)
 
 
@@ -76,7 +72,7 @@ def observed(all_, task, name, words, what, *arguments):
 
 
 def mbind(all_, task, start, length, mode, mask, most, flags):
-    all_.wake(task)
+    all_.look(task, start, start + whole_pages(length))
     word = word_of(mode & MODE_BITS, read_mask(task.number, mask, most))
     if flags & 6:
         task.space.lines.append(f"# mbind 0x{start:x} moves pages too")
@@ -91,7 +87,7 @@ def set_mempolicy(all_, task, mode, mask, most, *_):
 
 
 def set_mempolicy_home_node(all_, task, start, length, node, flags, *_):
-    all_.wake(task)
+    all_.look(task, start, start + whole_pages(length))
     return observed(all_, task, "set_mempolicy_home_node", [start, length, node, flags], "set_home", start,
                     whole_pages(length), min(node, 2**32 - 1))
 

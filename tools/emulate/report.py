@@ -2,6 +2,7 @@
 
 import os
 import re
+from bisect import bisect_left, bisect_right
 from collections import Counter
 
 from .areas import shown_name
@@ -13,8 +14,9 @@ WANTED = re.compile(r"(.+) (\d+=\d+(?:,\d+=\d+)*)$")
 
 
 def names_between(space, start, end):
-    names = dict.fromkeys(area.name for area in space.areas if area.name and area.start < end and start < area.end)
-    return list(map(shown_name, names))
+    first = bisect_right(space.areas, start, key=lambda area: area.end)
+    after = bisect_left(space.areas, end, first, key=lambda area: area.start)
+    return list(map(shown_name, dict.fromkeys(area.name for area in space.areas[first:after] if area.name)))
 
 
 class Outcome:

@@ -1,14 +1,14 @@
 """An address space: what is mapped in the library's core, which pages are placed and where, and the lines of
 a script that does the same. Not proved."""
 
-import bisect
 import errno
 
 import numaplan
 
-from .areas import areas_of, gaps, joined, merged, open_spans, shown_name, with_names, without, without_names
+from .areas import Areas, joined, open_spans, shown_name, with_names
 from .common import leave, leave_all, share, written
 from .policies import is_interleaved
+from .spans import Spans
 from .touched import Pagemap, is_own
 from .tracing import PAGE, TOP
 from .words import list_text
@@ -27,11 +27,11 @@ class Space:
         self.leader, self.name = None, "?"  # the process, and its program
         self.last_cpu = None  # of the thread that began last, where CPUs are made up
         self.placed, self.common = {}, {}  # by page its node; its frame where other processes have it too
-        self.spans = []  # what the core has mapped, merged
-        self.areas = []  # as they were when they were last looked at
-        self.names = []  # that the program gave: (start, end, name)
+        self.spans = Spans()  # what the core has mapped
+        self.areas = []  # all of them, as they were when they were last looked at as a whole
+        self.names = Spans()  # that the program gave
         self.lines, self.refused = [], {}
-        self.plan = self.kept = None
+        self.plan, self.takes_turns = None, False
 
     # ---- commands
 
@@ -44,7 +44,8 @@ class Space:
             self.lines.append(f"# {line} => refused {type(refusal).__name__} {errno.errorcode[refusal.errno]}")
             self.refuse(line, f"{type(refusal).__name__} {errno.errorcode[refusal.errno]}: {refusal}")
             raise
-        self.plan = self.kept = None
+        self.plan = None
+        self.takes_turns |= is_interleaved(str(words[-1]))
         self.lines.append(line)
 
     def would(self, what, *words):
@@ -56,36 +57,47 @@ class Space:
         """Notes a refused call for the report."""
         self.refused[what, why] = self.refused.get((what, why), 0) + 1
 
-    def wake(self, task, policies):
-        """A core of its own where there is none, with the policies of the tasks, and what is mapped."""
+    def wake(self, policies):
+        """A core of its own where there is none, with the policies of the tasks."""
         if self.core is None:
             self.core, self.lines = self.machine.core()
-            for other, word in policies.items():
+            for other, word in policies():
                 if word:
                     self.do("set_task", other, word)
-        self.look_at_areas(task)
 
-    def look_at_areas(self, task):
-        """Maps what is mapped, and not known yet."""
-        self.areas = list(with_names(areas_of(task), self.names))
-        for area in joined(self.areas):
-            for start, end in list(gaps(self.spans, area.start, area.end)):
+    def look(self, task, start, end):
+        """Maps what is mapped from start to end, and not known yet."""
+        with Areas(task) as areas:
+            found = self.look_at(areas, start, end)
+        if (start, end) == (0, TOP):
+            self.areas = found
+
+    def look_at(self, areas, start, end):
+        """The same; gives the areas there, whole."""
+        found = list(with_names(areas.between(start, end), self.names))
+        for area in joined(found):
+            for first, after in self.spans.gaps(area.start, area.end):
                 if area.name:
                     self.lines.append(f"# name: {shown_name(area.name)}")
-                self.do("map", start, end - start, area.index + (start - area.start) // PAGE)
-        now = merged((area.start, area.end) for area in self.areas)
-        for start, end in [hole for span in self.spans for hole in gaps(now, *span)]:
-            self.unmap(start, end)  # (what went by a call that isn't followed)
-        self.spans = now
+                self.do("map", first, after - first, area.index + (first - area.start) // PAGE)
+                self.spans.add(first, after)
+        now = Spans()
+        for area in found:
+            now.add(area.start, area.end)
+        for first, after, _ in self.spans.between(start, end):
+            for hole in now.gaps(first, after):
+                self.unmap(*hole)  # (what went by a call that isn't followed)
+        return found
 
     def unmap(self, start, end):
         if self.core is None or end <= start:
             return
-        self.do("unmap", start, end - start)
+        if self.spans.between(start, end):
+            self.do("unmap", start, end - start)
         for page in self.placed_between(start, end):
             self.forget(page)
-        self.spans = without(self.spans, start, end)
-        self.names = without_names(self.names, start, end)
+        self.spans.remove(start, end)
+        self.names.remove(start, end)
 
     def forget(self, page):
         del self.placed[page]
@@ -104,65 +116,89 @@ class Space:
             self.plan = self.core.compile()
         return self.plan
 
-    def ranges(self):
-        if self.kept is None:
-            self.kept = [(one.start, one.start + one.length, one.offset, one.policy)
-                         for one in self.core.ranges()]
-        return self.kept
-
-    def policy_at(self, address):
-        """The policy of its own that the page has, as the library shows it."""
-        ranges = self.ranges()
-        place = bisect.bisect_right(ranges, address, key=lambda one: one[0]) - 1
-        return ranges[place][3] if place >= 0 and ranges[place][1] > address else None
+    def ranges(self, start=0, end=TOP):
+        """(start, end, index, policy of its own) of what of the core's ranges lies from start to end."""
+        for one in self.core.ranges(start, end):
+            first = max(one.start, start)
+            yield first, min(one.start + one.length, end), one.offset + (first - one.start) // PAGE, one.policy
 
     def has(self, address):
-        return any(start <= address < end for start, end in self.spans)
+        return self.spans.has(address)
 
     # ---- first touches
 
     def sweep(self, task, word, cpu, start=0, end=TOP):
         """Places each page that is there and isn't placed yet: `task`, whose policy is `word`, touched it
-        on a CPU of the node `cpu`. Pages that are gone are forgotten."""
+        on a CPU of the node that `cpu` tells. Pages that are gone are forgotten."""
         start, end = start & -PAGE, min(-(-end // PAGE) * PAGE, TOP)
-        pagemap, seen = Pagemap(task), set()
-        try:
+        seen = set()
+        with Pagemap(task) as pagemap, Areas(task) as areas:
             if self.common:
                 for page in list(written(self, self.placed_between(start, end), pagemap)):
                     self.forget(page)
-            for low, high, has_cache in open_spans(self.areas, start, end):
-                for first, count, is_cache in pagemap.runs(low, high):
-                    if not (is_cache and has_cache):
-                        seen.update(range(first, first + count))
-                        self.place(task, word, cpu, first, count)
-        finally:
-            pagemap.close()
+            for first, count in list(self.placeable(pagemap, areas, start, end)):
+                if any(page not in self.placed for page in range(first, first + count)):
+                    self.place_run(task, word, cpu(), areas, first, count)
+                seen.update(range(first, first + count))
         for page in self.placed_between(start, end):
             if page not in seen:
                 self.forget(page)
+
+    def placeable(self, pagemap, areas, start, end):
+        """(first page, pages) of each run of pages that are there, but for those of a file's cache."""
+        for first, count, is_cache in self.runs(pagemap, areas, start, end):
+            if not is_cache:
+                yield first, count
+                continue
+            for area in areas.between(first * PAGE, (first + count) * PAGE):
+                if not area.has_cache:
+                    begin = max(first, area.start // PAGE)
+                    yield begin, min(first + count, area.end // PAGE) - begin
+
+    def runs(self, pagemap, areas, start, end):
+        """(first page, pages, whether they are of a file's cache) of each run of pages that are there. Where
+        the kernel doesn't pass over what never was touched, closed areas are taken as they were."""
+        if pagemap.can_scan:
+            try:
+                return list(pagemap.runs(start, end))
+            except OSError:
+                Pagemap.can_scan = False
+        found = areas.between(start, end)
+        closed = [(page, 1, False) for area in found if area.is_closed
+                  for page in self.placed_between(max(start, area.start), min(end, area.end))]
+        return closed + [run for span in open_spans(found, start, end) for run in pagemap.runs(*span[:2])]
+
+    def place_run(self, task, word, cpu, areas, first, count):
+        """Places the pages of a run that are in areas: others are the kernel's own."""
+        start, end = first * PAGE, (first + count) * PAGE
+        for area in self.look_at(areas, start, end):
+            begin, after = max(start, area.start) // PAGE, min(end, area.end) // PAGE
+            self.place(task, word, cpu, begin, after - begin)
 
     def place(self, task, word, cpu, first, count):
         """Places the pages of a run that aren't placed yet."""
         new = [page for page in range(first, first + count) if page not in self.placed]
         if not new:
             return
-        nodes = bytearray(count)
+        nodes, turns = bytearray(count), set()
         self.lists().fill(task, cpu, first, nodes)
-        turns = is_interleaved(word) or any(is_interleaved(one[3]) for one in self.ranges())
+        if self.takes_turns or is_interleaved(word):
+            turns = self.pages_in_turn(word, first, count)
         for page in new:
             node = self.placed[page] = nodes[page - first]
             self.machine.hits[node][0] += 1
+            self.machine.hits[node][1] += page in turns
             self.machine.hits[node][2] += node == cpu
-            if turns and is_interleaved(self.policy_at(page * PAGE) or word):
-                self.machine.hits[node][1] += 1
+
+    def pages_in_turn(self, word, first, count):
+        """Those of the pages that are interleaved."""
+        return {page for start, end, _, policy in self.ranges(first * PAGE, (first + count) * PAGE)
+                if is_interleaved(policy or word) for page in range(start // PAGE, end // PAGE)}
 
     def shared_of(self, task, pages):
         """Those of the pages that another process has too: the kernel knows."""
-        pagemap = Pagemap(task)
-        try:
+        with Pagemap(task) as pagemap:
             return {page for page, entry in pagemap.entries(pages) if entry >> 62 and not is_own(entry)}
-        finally:
-            pagemap.close()
 
     def take(self, start, end):
         """Takes the pages out: by page its node and its frame, to be put elsewhere."""
@@ -178,15 +214,12 @@ class Space:
     def copy(self, task):
         """The address space of a child of the task."""
         other = type(self)(self.machine)
-        other.placed, other.spans, other.areas = dict(self.placed), list(self.spans), list(self.areas)
-        other.lines, other.name, other.names = list(self.lines), self.name, list(self.names)
-        other.core = self.core and self.core.copy()
+        other.placed, other.spans, other.areas = dict(self.placed), self.spans.copy(), list(self.areas)
+        other.lines, other.name, other.names = list(self.lines), self.name, self.names.copy()
+        other.core, other.takes_turns = self.core and self.core.copy(), self.takes_turns
         if self.placed:
-            pagemap = Pagemap(task)
-            try:
+            with Pagemap(task) as pagemap:
                 share(self, other, pagemap)
-            finally:
-                pagemap.close()
         return other
 
     def close(self):

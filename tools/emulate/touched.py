@@ -75,12 +75,7 @@ class Pagemap:
         self.file = open(f"/proc/{task}/pagemap", "rb", 0)
 
     def runs(self, start, end):
-        if Pagemap.can_scan:
-            try:
-                return list(runs_by_scan(self.file, start, end))
-            except OSError:
-                Pagemap.can_scan = False
-        return list(runs_by_reading(self.file, start, end))
+        return (runs_by_scan if Pagemap.can_scan else runs_by_reading)(self.file, start, end)
 
     def entries(self, pages):
         """(page, its 8 bytes) of each page, in rising order."""
@@ -92,5 +87,8 @@ class Pagemap:
                 yield from zip(rows[begin:place], (entry for entry, in struct.iter_unpack("Q", raw)))
                 begin = place
 
-    def close(self):
+    def __enter__(self):
+        return self
+
+    def __exit__(self, *_):
         self.file.close()

@@ -86,9 +86,11 @@ def peek(task, start, size):
     if size > 1 << 30:
         fail(errno.EFAULT)
     try:
-        with open(f"/proc/{task}/mem", "rb", 0) as file:
-            file.seek(start)
-            data = file.read(size)
+        file = os.open(f"/proc/{task}/mem", os.O_RDONLY)
+        try:
+            data = os.pread(file, size, start)
+        finally:
+            os.close(file)
     except (OSError, OverflowError, ValueError):
         fail(errno.EFAULT)
     if len(data) < size:
@@ -99,9 +101,11 @@ def peek(task, start, size):
 def poke(task, start, data):
     """Writes to the program's memory, or EFAULT."""
     try:
-        with open(f"/proc/{task}/mem", "r+b", 0) as file:
-            file.seek(start)
-            file.write(data)
+        file = os.open(f"/proc/{task}/mem", os.O_RDWR)
+        try:
+            os.pwrite(file, data, start)
+        finally:
+            os.close(file)
     except (OSError, OverflowError, ValueError):
         fail(errno.EFAULT)
 
@@ -117,8 +121,8 @@ def text_at(task, start):
 
 def cpu_of(task):
     """The CPU on which a task runs, or ran last (proc_pid_stat(5), field 39)."""
-    with open(f"/proc/{task}/stat", encoding="utf-8", errors="replace") as file:
-        return int(file.read().rsplit(")", 1)[1].split()[36])
+    with open(f"/proc/{task}/stat", "rb", 0) as file:
+        return int(file.read(4096).rsplit(b")", 1)[1].split()[36])
 
 
 # ---- the filter
