@@ -50,6 +50,7 @@ def made_up():
     os.sched_setaffinity(0, {3, 6, 99})  # (what isn't there doesn't count)
     want(here(), (3, 1), "the CPU of a mask")
     want(status_row("Cpus_allowed_list:"), "3,6", "Cpus_allowed_list of a mask")
+    want(read("/proc/self/stat").rsplit(")", 1)[1].split()[36], "3", "the CPU in stat")
     want(int(status_row("Cpus_allowed:").replace(",", ""), 16), 0x48, "Cpus_allowed of a mask")
     seen = []
     for _ in range(3):

@@ -13,7 +13,7 @@ from .words import list_text, mask_text
 
 NODES, CPUS = "/sys/devices/system/node", "/sys/devices/system/cpu"
 WEIGHTS = "/sys/kernel/mm/mempolicy/weighted_interleave"
-PROCESS = re.compile(r"/proc/(self|thread-self|\d+)(?:/task/(\d+))?/(status|numa_maps)$")
+PROCESS = re.compile(r"/proc/(self|thread-self|\d+)(?:/task/(\d+))?/(status|stat|numa_maps)$")
 MEMS_SET, CPU_SET = (re.compile(rf"/sys/fs/cgroup/.*cpuset\.(?:{name}|{name}\.effective|effective_{name})$"
                                 rf"|/dev/cpuset/.*{name}$") for name in ("mems", "cpus"))
 OF_NODE = re.compile(re.escape(NODES) + r"/node(\d+)/(meminfo|numastat)$")
@@ -99,6 +99,15 @@ def status_text(all_, number):
     return text
 
 
+def stat_text(all_, number):
+    """/proc/PID/stat with the CPU on which the task is (proc_pid_stat(5), field 39)."""
+    with open(f"/proc/{number}/stat", encoding="utf-8", errors="surrogateescape") as file:
+        name, rest = file.read().rsplit(") ", 1)
+    words = rest.split(" ")
+    words[36] = str(all_.tasks[number].cpu)
+    return f"{name}) {' '.join(words)}"
+
+
 def cpuinfo_text(cpus):
     """/proc/cpuinfo: what this machine says of its first CPU, for each one."""
     with open("/proc/cpuinfo", encoding="utf-8", errors="replace") as file:
@@ -146,6 +155,8 @@ def text_of(all_, task, path):
         other = all_.tasks.get(number)
         if other is None:
             return None
+        if found[3] == "stat":
+            return stat_text(all_, number) if all_.machine.cpus.are_made_up else None
         return status_text(all_, number) if found[3] == "status" else numa_maps_text(all_, other)
     if MEMS_SET.match(path):
         return list_text(all_.machine.allowed) + "\n"
