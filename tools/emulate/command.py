@@ -2,7 +2,6 @@
 
 import argparse
 import os
-import platform
 import shutil
 import sys
 import tempfile
@@ -118,7 +117,7 @@ def main(is_real=False):
     room = None
     pass_early_signals()
     try:
-        if platform.machine() != "x86_64" or sys.platform != "linux":
+        if os.uname().machine != "x86_64" or sys.platform != "linux":
             raise Unfit("this runs on Linux on x86-64 alone")
         words = read_words(is_real)
         sweep_rooms()

@@ -1,8 +1,6 @@
 """The forms of a report: text, and by the end of the file's name JSON, a picture (SVG) or a page (HTML).
 Not proved."""
 
-import html
-import json
 import os
 import sys
 
@@ -73,7 +71,9 @@ def text_of(told):
 
 def json_of(told):
     """Addresses are numbers, pages are counted by node."""
-    return json.dumps(told, indent=1) + "\n"
+    from json import dumps  # (each start would take its time)
+
+    return dumps(told, indent=1) + "\n"
 
 
 # ---- pictures
@@ -81,8 +81,10 @@ def json_of(told):
 
 def escaped(text):
     """As text of a page or a picture; what isn't UTF-8 or can't be shown is a question mark."""
+    from html import escape
+
     shown = text.encode("utf-8", "replace").decode()
-    return html.escape("".join(letter if letter.isprintable() else "?" for letter in shown))
+    return escape("".join(letter if letter.isprintable() else "?" for letter in shown))
 
 
 def bar(pages, left, top):

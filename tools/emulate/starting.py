@@ -2,7 +2,6 @@
 
 import ctypes
 import os
-import socket
 import sys
 
 from .made_up import CPUS, NODES, WEIGHTS
@@ -44,17 +43,17 @@ def cover(room):
                     f"{target} can't be covered")
 
 
-def run_program(room, program, watched, parent):
-    """In the child; never comes back. It goes on once the parent traces it. With a room its files are put
-    over the machine's."""
+def run_program(room, program, watched, ready, go):
+    """In the child; never comes back. It tells the parent that it is ready, and goes on once that traces it.
+    With a room its files are put over the machine's."""
     status = OWN_FAULT
     try:
         if room:
             enter_namespace()
             cover(room)
             LIBC.prctl(NO_HUGE_PAGES, 1, 0, 0, 0)
-        parent.send(b"r")
-        if not parent.recv(1):
+        os.write(ready, b"r")
+        if not os.read(go, 1):
             return
         install_filter(watched)
         free_signals()
@@ -74,21 +73,24 @@ def run_program(room, program, watched, parent):
 
 def begin(program, room, watched):
     """The number of the child, traced, and about to become the program."""
-    mine, other = socket.socketpair()
+    ready, is_ready = os.pipe()
+    go, goes = os.pipe()
     child = os.fork()
     if child == 0:
-        mine.close()
-        run_program(room, program, watched, other)
-    other.close()
-    if not mine.recv(1):
+        os.close(ready)
+        os.close(goes)
+        run_program(room, program, watched, is_ready, go)
+    os.close(is_ready)
+    os.close(go)
+    if not os.read(ready, 1):
         os.waitpid(child, 0)
         sys.exit(OWN_FAULT)
     try:
         ptrace(SEIZE, child, 0, OPTIONS)
     except OSError as fault:
-        mine.close()
+        os.close(goes)
         os.waitpid(child, 0)
         raise Unfit(f"ptrace isn't allowed here: {fault.strerror}") from fault
-    mine.send(b"g")
-    mine.close()
+    os.write(goes, b"g")
+    os.close(goes)
     return child
