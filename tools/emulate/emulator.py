@@ -3,7 +3,6 @@
 import errno
 import os
 import signal
-import traceback
 from collections import Counter
 
 import numaplan
@@ -22,11 +21,18 @@ SHARES_MEMORY = 0x100  # CLONE_VM
 GONE = (ProcessLookupError, FileNotFoundError)
 
 
+def fault_text():
+    from traceback import format_exc  # (each start would take its time)
+
+    return format_exc()
+
+
 class Task:
     """A thread: its number, its address space, and the word of its policy."""
 
     def __init__(self, number, space, word):
-        self.number, self.space, self.word, self.at_end, self.is_still = number, space, word, None, False
+        self.number, self.space, self.word, self.at_end = number, space, word, None
+        self.is_still = self.ends = False
         space.users += 1
         space.leader = space.leader or number
 
@@ -201,9 +207,13 @@ class Emulator:
             task.space.name = file.read().rstrip("\n")
 
     def at_exit(self, task):
+        task.ends = True
         if not self.follows(task):
             return
-        self.survey(task)
+        if all(one.ends for one in self.tasks.values() if one.space is task.space):
+            self.survey(task)
+        else:
+            self.sweep(task)
         if task.number != task.space.leader and task.word:
             task.space.do("set_task", task.number, "default")
             task.word = None
@@ -274,7 +284,7 @@ class Emulator:
             except GONE:
                 continue  # (killed while it was looked at)
             except Exception:
-                self.say(traceback.format_exc())
+                self.say(fault_text())
                 raise
             if number == self.first:
                 code = os.waitstatus_to_exitcode(status)

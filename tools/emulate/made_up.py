@@ -7,7 +7,7 @@ import tempfile
 from collections import Counter
 
 from .machine import KILOBYTES
-from .policies import shown_form
+from .policies import MOST_BITS, shown_form
 from .tracing import PAGE
 from .words import list_text, mask_text
 
@@ -90,7 +90,7 @@ def hits_text(machine, node):
 def status_text(all_, number):
     with open(f"/proc/{number}/status", encoding="utf-8", errors="surrogateescape") as file:
         text = file.read()
-    rows = [("Mems", all_.machine.allowed, 0)]
+    rows = [("Mems", all_.machine.allowed, MOST_BITS - 1)]
     if all_.machine.cpus.are_made_up and number in all_.tasks:
         rows.append(("Cpus", all_.tasks[number].mask, max(all_.machine.cpus.node_of)))
     for name, members, least in rows:

@@ -35,8 +35,7 @@ def madvise(all_, task, start, length, *_):
     if start % PAGE or end > TOP or not all_.follows(task):
         return
     all_.sweep(task, start, end)
-    for page in task.space.placed_between(start, end):
-        task.space.forget(page)
+    task.space.forget(start, end)
 
 
 def brk(all_, task, end, *_):

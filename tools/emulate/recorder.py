@@ -10,6 +10,7 @@ from .calls import MODE_BITS, whole_pages
 from .emulator import Emulator
 from .host import nodes_of
 from .mappings import FAILED, FOLLOWED
+from .placed import Placed
 from .policies import read_mask, word_of
 from .space import Space
 from .touched import Pagemap
@@ -24,11 +25,11 @@ class Recorded(Space):
 
     def survey(self, task):
         """Where all pages are."""
-        pages = []
+        self.placed = Placed()
         with Pagemap(task) as pagemap, Areas(task) as areas:
             for first, count in self.placeable(pagemap, areas, 0, TOP):
-                pages += range(first, first + count)
-        self.placed = nodes_of(task, pages)
+                for page, node in nodes_of(task, range(first, first + count)).items():
+                    self.placed.add(page, [node])
 
 
 class Recorder(Emulator):

@@ -7,6 +7,7 @@ import numaplan
 
 from .areas import Areas, joined, open_spans, shown_name, with_names
 from .common import leave, leave_all, share, written
+from .placed import Placed
 from .policies import is_interleaved
 from .spans import Spans
 from .touched import Pagemap, is_own
@@ -26,7 +27,7 @@ class Space:
         self.machine, self.core, self.users = machine, None, 0
         self.leader, self.name = None, "?"  # the process, and its program
         self.last_cpu = None  # of the thread that began last, where CPUs are made up
-        self.placed, self.common = {}, {}  # by page its node; its frame where other processes have it too
+        self.placed, self.common = Placed(), {}  # by page its node; its frame where other processes have it too
         self.spans = Spans()  # what the core has mapped
         self.areas = []  # all of them, as they were when they were last looked at as a whole
         self.names = Spans()  # that the program gave
@@ -94,20 +95,17 @@ class Space:
             return
         if self.spans.between(start, end):
             self.do("unmap", start, end - start)
-        for page in self.placed_between(start, end):
-            self.forget(page)
+        self.forget(start, end)
         self.spans.remove(start, end)
         self.names.remove(start, end)
 
-    def forget(self, page):
-        del self.placed[page]
-        leave(self, page)
+    def forget(self, start, end):
+        """The pages that have an address from start to end aren't there any more."""
+        for page in self.placed.drop(start // PAGE, -(-end // PAGE)):
+            leave(self, page)
 
     def placed_between(self, start, end):
-        first, after = start // PAGE, -(-end // PAGE)
-        if after - first < len(self.placed):
-            return [page for page in range(first, after) if page in self.placed]
-        return [page for page in self.placed if first <= page < after]
+        return self.placed.between(start // PAGE, -(-end // PAGE))
 
     # ---- questions
 
@@ -131,18 +129,18 @@ class Space:
         """Places each page that is there and isn't placed yet: `task`, whose policy is `word`, touched it
         on a CPU of the node that `cpu` tells. Pages that are gone are forgotten."""
         start, end = start & -PAGE, min(-(-end // PAGE) * PAGE, TOP)
-        seen = set()
+        there = Spans()
         with Pagemap(task) as pagemap, Areas(task) as areas:
             if self.common:
                 for page in list(written(self, self.placed_between(start, end), pagemap)):
-                    self.forget(page)
+                    self.forget(page * PAGE, (page + 1) * PAGE)
             for first, count in list(self.placeable(pagemap, areas, start, end)):
-                if any(page not in self.placed for page in range(first, first + count)):
+                there.add(first, first + count)
+                if self.placed.runs.gaps(first, first + count):
                     self.place_run(task, word, cpu(), areas, first, count)
-                seen.update(range(first, first + count))
-        for page in self.placed_between(start, end):
-            if page not in seen:
-                self.forget(page)
+        for first, after, _ in self.placed.runs.between(start // PAGE, end // PAGE):
+            for low, high in there.gaps(first, after):
+                self.forget(low * PAGE, high * PAGE)
 
     def placeable(self, pagemap, areas, start, end):
         """(first page, pages) of each run of pages that are there, but for those of a file's cache."""
@@ -161,7 +159,9 @@ class Space:
         if pagemap.can_scan:
             try:
                 return list(pagemap.runs(start, end))
-            except OSError:
+            except OSError as fault:
+                if fault.errno != errno.ENOTTY:
+                    raise
                 Pagemap.can_scan = False
         found = areas.between(start, end)
         closed = [(page, 1, False) for area in found if area.is_closed
@@ -177,23 +177,24 @@ class Space:
 
     def place(self, task, word, cpu, first, count):
         """Places the pages of a run that aren't placed yet."""
-        new = [page for page in range(first, first + count) if page not in self.placed]
-        if not new:
-            return
-        nodes, turns = bytearray(count), set()
-        self.lists().fill(task, cpu, first, nodes)
-        if self.takes_turns or is_interleaved(word):
-            turns = self.pages_in_turn(word, first, count)
-        for page in new:
-            node = self.placed[page] = nodes[page - first]
-            self.machine.hits[node][0] += 1
-            self.machine.hits[node][1] += page in turns
-            self.machine.hits[node][2] += node == cpu
+        for low, high in self.placed.runs.gaps(first, first + count):
+            nodes = bytearray(high - low)
+            self.lists().fill(task, cpu, low, nodes)
+            self.placed.add(low, nodes)
+            for node in set(nodes):
+                self.machine.hits[node][0] += nodes.count(node)
+                self.machine.hits[node][2] += nodes.count(node) if node == cpu else 0
+            if self.takes_turns or is_interleaved(word):
+                self.count_turns(word, low, nodes)
 
-    def pages_in_turn(self, word, first, count):
-        """Those of the pages that are interleaved."""
-        return {page for start, end, _, policy in self.ranges(first * PAGE, (first + count) * PAGE)
-                if is_interleaved(policy or word) for page in range(start // PAGE, end // PAGE)}
+    def count_turns(self, word, first, nodes):
+        """Counts those of the pages that are interleaved."""
+        begin = first * PAGE
+        for start, end, _, policy in self.ranges(begin, begin + len(nodes) * PAGE):
+            if is_interleaved(policy or word):
+                some = nodes[(start - begin) // PAGE:(end - begin) // PAGE]
+                for node in set(some):
+                    self.machine.hits[node][1] += some.count(node)
 
     def shared_of(self, task, pages):
         """Those of the pages that another process has too: the kernel knows."""
@@ -202,11 +203,12 @@ class Space:
 
     def take(self, start, end):
         """Takes the pages out: by page its node and its frame, to be put elsewhere."""
-        pages = self.placed_between(start, end)
-        return {page: (self.placed.pop(page), self.common.pop(page, None)) for page in pages}
+        pages = {page: (self.placed[page], self.common.pop(page, None)) for page in self.placed_between(start, end)}
+        self.placed.drop(start // PAGE, -(-end // PAGE))
+        return pages
 
     def put(self, page, node, frame):
-        self.placed[page] = node
+        self.placed.add(page, [node])
         if frame is not None:
             self.common[page] = frame
             frame.holders[self] = page
@@ -214,7 +216,7 @@ class Space:
     def copy(self, task):
         """The address space of a child of the task."""
         other = type(self)(self.machine)
-        other.placed, other.spans, other.areas = dict(self.placed), self.spans.copy(), list(self.areas)
+        other.placed, other.spans, other.areas = self.placed.copy(), self.spans.copy(), list(self.areas)
         other.lines, other.name, other.names = list(self.lines), self.name, self.names.copy()
         other.core, other.takes_turns = self.core and self.core.copy(), self.takes_turns
         if self.placed:

@@ -4,7 +4,7 @@ from /proc/PID/pagemap. Only the former tells pages of zeros, which no policy pl
 import fcntl
 import struct
 
-from .tracing import PAGE
+from .tracing import PAGE, TOP
 
 SCAN = 0xC0606610  # PAGEMAP_SCAN
 IS_FILE, IS_THERE, IS_SWAPPED, IS_ZERO = 1 << 2, 1 << 3, 1 << 4, 1 << 5
@@ -16,6 +16,7 @@ def runs_by_scan(file, start, end):
     """(first page, pages, whether they are of a file's cache) of each run."""
     regions = bytearray(24 * ROOM)
     place = (bytearray_address(regions), ROOM)
+    end = min(end, TOP - PAGE)  # (the last page is the kernel's, which refuses more)
     while start < end:
         request = bytearray(struct.pack("12Q", 96, 0, start, end, 0, *place, 0, 0, 0, IS_THERE | IS_SWAPPED,
                                         IS_FILE | IS_ZERO))
