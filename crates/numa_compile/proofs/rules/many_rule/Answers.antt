@@ -1,13 +1,7 @@
-use Rattle.std.proofs.Common.{◌≡◌, ℕ, sym, ap, ◌∙◌, subst, unwrap_or}
-use Rattle.std.proofs.lemmas.Result.{IfOk-weaker}
+use Rattle.std.proofs.Common.{◌≡◌, sym, ap, ◌∙◌, subst}
 use Rattle.numa_mask.specs.NodeSet.{both}
 use Rattle.numa_mode.proofs.Subsets.{both-within}
-use Rattle.numa_space.specs.Lists.{before_others}
-use Rattle.numa_space.specs.Standing.{setting_in}
 use Rattle.numa_space.proofs.NodeLists.{within-both}
-use Rattle.numa_compile.specs.Rules.{row_from}
-use Rattle.numa_compile.specs.declared.reach.Reach.TheVariants.{First}
-use Rattle.numa_compile.proofs.RuleSteps.{gives-same}
 use Rattle.numa_compile.proofs.rules.many_rule.Goals as goal
 
 pub rule_by_home-requires-clause-allowed : goal.rule_by_home-requires-clause-allowed
