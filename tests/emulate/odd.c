@@ -200,6 +200,19 @@ static void closed(void) {
     MUST(*at == 1 && node_of(at) == 1);
 }
 
+/* Private memory that was read alone isn't placed: move_pages(2) answers EFAULT, and a write goes by the policy. (On
+ * Linux before 6.7 it counts as touched.) */
+static void only_read(void) {
+    volatile char *at = some_pages(2);
+    char *all = (char *)at;
+    int node = -1;
+    MUST(bind_to(all, 8192, 2) == 0 && at[0] == 0);
+    MUST(node_of(all) == -EFAULT || node_of(all) == 1);
+    MUST(syscall(SYS_get_mempolicy, &node, NULL, 0L, all + 4096, 3L) == 0 && (node == 0 || node == 1));
+    at[0] = at[4096] = 1;
+    MUST(node_of(all) == 1 && node_of(all + 4096) == 1);
+}
+
 static int shares_memory(void *at) {
     *(char *)at = 1;
     return 5;
@@ -236,7 +249,8 @@ int main(int count, char **words) {
         void (*run)(void);
     } rows[] = {{"after-exec", after_exec}, {"vfork", by_vfork}, {"exec-from-thread", exec_from_thread},
                 {"signals", signals}, {"threads", threads}, {"children", children}, {"killed", killed},
-                {"areas", areas}, {"apart", apart}, {"closed", closed}, {"processes", processes}, {"rights", rights}};
+                {"areas", areas}, {"apart", apart}, {"closed", closed}, {"read", only_read}, {"processes", processes},
+                {"rights", rights}};
     self = words[0];
     for (size_t k = 0; k < sizeof rows / sizeof rows[0]; k++)
         if (count == 2 && !strcmp(rows[k].name, words[1])) {

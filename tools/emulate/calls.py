@@ -86,16 +86,17 @@ def get_mempolicy(all_, task, mode, mask, most, address, flags, *_):
 
 
 def policy_at(all_, task, address, flags):
-    """The policy of the page's own, or with AS_NODE its node: it is touched for that."""
+    """The policy of the page's own, or with AS_NODE its node: it is read for that. Where private memory was
+    read alone the kernel has one page of zeros for all of it."""
     all_.look(task, address, address + 1)
     if not task.space.has(address):
         fail(errno.EFAULT)
     number, nodes = told_form(task.space.core.policy_at(address))
     if flags & AS_NODE:
         page = address // PAGE
+        peek(task.number, address, 1)
         all_.sweep(task, page * PAGE, page * PAGE + PAGE)
-        task.space.place(task.number, task.word, all_.node_of(task), page, 1)
-        number = task.space.placed[page]
+        number = task.space.placed.get(page, min(all_.machine.memory))
     return number, nodes
 
 
@@ -180,7 +181,8 @@ def move_page(all_, task, start, node, flags, batch):
     space, page = task.space, start // PAGE
     is_twice = batch.has(page, node)
     if page not in space.placed:
-        told = -errno.ENOENT if space.has(start) else -errno.EFAULT
+        is_none = space.has(start) and not space.is_zeros(task.number, page)
+        told = -errno.ENOENT if is_none else -errno.EFAULT
     elif node is None:
         return space.placed[page]
     elif is_twice:

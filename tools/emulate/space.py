@@ -201,6 +201,10 @@ class Space:
         with Pagemap(task) as pagemap:
             return {page for page, entry in pagemap.entries(pages) if entry >> 62 and not is_own(entry)}
 
+    def is_zeros(self, task, page):
+        with Pagemap(task) as pagemap:
+            return pagemap.is_zeros(page)
+
     def take(self, start, end):
         """Takes the pages out: by page its node and its frame, to be put elsewhere."""
         pages = {page: (self.placed[page], self.common.pop(page, None)) for page in self.placed_between(start, end)}

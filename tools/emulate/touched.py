@@ -12,8 +12,8 @@ ROOM = 512  # regions that one call may tell
 CHUNK = 1 << 17  # pages that are looked at in one read
 
 
-def runs_by_scan(file, start, end):
-    """(first page, pages, whether they are of a file's cache) of each run."""
+def scanned(file, start, end):
+    """(start, end, kinds) of each run of pages that are there."""
     regions = bytearray(24 * ROOM)
     place = (bytearray_address(regions), ROOM)
     end = min(end, TOP - PAGE)  # (the last page is the kernel's, which refuses more)
@@ -21,10 +21,15 @@ def runs_by_scan(file, start, end):
         request = bytearray(struct.pack("12Q", 96, 0, start, end, 0, *place, 0, 0, 0, IS_THERE | IS_SWAPPED,
                                         IS_FILE | IS_ZERO))
         count = fcntl.ioctl(file, SCAN, request)
-        for first, after, kind in struct.iter_unpack("3Q", regions[:24 * count]):
-            if not kind & IS_ZERO:
-                yield first // PAGE, (after - first) // PAGE, bool(kind & IS_FILE)
+        yield from struct.iter_unpack("3Q", bytes(regions[:24 * count]))
         start = struct.unpack("12Q", request)[4]
+
+
+def runs_by_scan(file, start, end):
+    """(first page, pages, whether they are of a file's cache) of each run, but for the page of zeros."""
+    for first, after, kind in scanned(file, start, end):
+        if not kind & IS_ZERO:
+            yield first // PAGE, (after - first) // PAGE, bool(kind & IS_FILE)
 
 
 def bytearray_address(data):
@@ -77,6 +82,11 @@ class Pagemap:
 
     def runs(self, start, end):
         return (runs_by_scan if Pagemap.can_scan else runs_by_reading)(self.file, start, end)
+
+    def is_zeros(self, page):
+        """Whether it is the page of zeros, which the kernel shows where private memory was read alone."""
+        rows = scanned(self.file, page * PAGE, page * PAGE + PAGE) if Pagemap.can_scan else ()
+        return any(kind & IS_ZERO for _, _, kind in rows)
 
     def entries(self, pages):
         """(page, its 8 bytes) of each page, in rising order."""
