@@ -3,14 +3,16 @@
 from __future__ import annotations
 
 import os
+import pickle
 import signal
+import tempfile
 import time
 from collections import deque
 from concurrent.futures import FIRST_COMPLETED, Executor, Future, ProcessPoolExecutor, wait
 from concurrent.futures.process import BrokenProcessPool
 from itertools import islice
 from operator import length_hint
-from typing import Any, Iterable, Iterator, NamedTuple, Tuple
+from typing import Any, Iterable, Iterator, Tuple
 
 from ._progress import Progress
 from ._questions import Answer, Question, answer, failure, judged
@@ -24,21 +26,22 @@ Numbered = Tuple[int, Question]
 
 def sweep(questions: "Iterable[Question | tuple[Any, ...]]", executor: "Executor | None" = None,
           *, workers: "int | None" = None) -> Iterator[Answer]:
-    """Asks each question, and yields each answer as it is there, with the number of its question
-    from 0: exactly one for each, in any order. An answer tells what failed, and why.
+    """Asks each question, and yields exactly one answer for each, as it is there and in any order,
+    with the number of its question from 0. An answer tells what failed, and why.
 
-    Without an executor the questions go to as many processes of this machine as told by `workers`,
-    else as it has processors for this one. With one (of concurrent.futures, Dask's
-    `client.get_executor()`, mpi4py's `MPIPoolExecutor()`) they go to its workers, which need this
-    package and the program numaplan; of how many there are, `workers` tells. They share nothing:
-    a question's files are read where it is answered, by names that are absolute, and what is handed
-    in as bytes is sent there.
+    The questions go to processes of this machine, as many as `workers` or one a processor. Or they
+    go to the workers of an executor that is handed in: of concurrent.futures, Dask
+    (`client.get_executor()`) or MPI (mpi4py's `MPIPoolExecutor()`). These need this package and the
+    program numaplan; `workers` is how many they are, where the executor doesn't tell. They share
+    nothing: a script or trace that is named is read where it is asked about, by its absolute name,
+    and one in bytes is sent there.
 
-    Questions are taken from the iterable as they are handed out, some ahead of their answers. A
-    faulty one raises ValueError or TypeError. What a lost worker hadn't answered is asked again,
-    up to three times, then without others beside it. An executor that takes nothing more raises what it
+    Questions are taken from the iterable some time ahead of their answers. A faulty one is a
+    ValueError or a TypeError. What a lost worker hadn't answered is asked again, without others
+    beside it, and fails after three times. An executor that is broken for good raises what it
     raises then. On a terminal a line on standard error tells how far a long sweep is."""
-    asking = _Asking(map(judged, questions), executor, workers)
+    asking = _Asking(map(judged, questions),
+                     _Workers(executor, workers) if executor else _Processes(workers))
     try:
         with Progress("answers", length_hint(questions)) as line:
             while asking.hand_out():
@@ -51,45 +54,80 @@ def sweep(questions: "Iterable[Question | tuple[Any, ...]]", executor: "Executor
         asking.end()
 
 
+class _Workers:
+    """The workers of an executor that is handed in."""
+
+    def __init__(self, executor: Executor, workers: "int | None") -> None:
+        self.workers = workers or getattr(executor, "_max_workers", None) or 32
+        self._executor = executor
+
+    def submit(self, some: list[Numbered]) -> Future[list[Answer]]:
+        """Hands out questions."""
+        return self._executor.submit(ask_all, some)
+
+    def done(self, future: Future[list[Answer]]) -> None:
+        """Their answers have come, or won't."""
+
+    def end(self) -> None:
+        """No more will be asked."""
+
+
+class _Processes(_Workers):
+    """Processes of this machine, which are made anew where one is lost. Questions go to them by
+    files: where one is lost, some Pythons (3.11.2 is one) wait for ever to write long ones to its
+    pipe."""
+
+    def __init__(self, workers: "int | None") -> None:
+        self.workers = workers or len(os.sched_getaffinity(0))
+        self._files: dict[Future[list[Answer]], str] = {}
+        self._folder = tempfile.TemporaryDirectory(prefix="numaplan-")
+        self._executor = self._pool()
+
+    def _pool(self) -> Executor:
+        return ProcessPoolExecutor(self.workers, initializer=_begin_worker)
+
+    def submit(self, some: list[Numbered]) -> Future[list[Answer]]:
+        path = os.path.join(self._folder.name, str(some[0][0]))
+        with open(path, "wb") as file:
+            pickle.dump(some, file)
+        try:
+            future = self._executor.submit(_ask_file, path)
+        except BrokenProcessPool:
+            self._executor.shutdown()
+            self._executor = self._pool()
+            future = self._executor.submit(_ask_file, path)
+        self._files[future] = path
+        return future
+
+    def done(self, future: Future[list[Answer]]) -> None:
+        os.unlink(self._files.pop(future))
+
+    def end(self) -> None:
+        self._executor.shutdown()
+        self._folder.cleanup()
+
+
 class _Asking:
     """Questions that are handed out, and their answers."""
 
-    def __init__(self, questions: Iterator[Question], executor: "Executor | None",
-                 workers: "int | None") -> None:
+    def __init__(self, questions: Iterator[Question], workers: _Workers) -> None:
         self._left = enumerate(questions)
         self._again: deque[Numbered] = deque()  # of lost workers
         self._tries: dict[int, int] = {}  # how often each of these was asked
-        self._given, self._workers = executor, workers or len(os.sched_getaffinity(0))
-        self._executor = executor or self._own()
-        told = workers or getattr(executor, "_max_workers", None)
-        self._ahead = 2 * (told or 32) if executor else 2 * self._workers
+        self._workers = workers
         self._size = 1  # of what is handed out at a time
         self._out: dict[Future[list[Answer]], list[Numbered]] = {}
-
-    def _own(self) -> Executor:
-        return ProcessPoolExecutor(self._workers, initializer=_begin_worker)
 
     # ---- what is handed out
 
     def hand_out(self) -> bool:
         """Hands out questions as far ahead as is good. Whether there is anything to wait for."""
-        while len(self._out) < (1 if self._tries else self._ahead):
+        while len(self._out) < (1 if self._tries else 2 * self._workers.workers):
             some = [self._again.popleft()] if self._again else list(islice(self._left, self._size))
             if not some:
                 break
-            self._submit(some)
+            self._out[self._workers.submit(some)] = some
         return bool(self._out)
-
-    def _submit(self, some: list[Numbered]) -> None:
-        try:
-            future = self._executor.submit(ask_all, some)
-        except BrokenProcessPool:
-            if self._given:
-                raise
-            self._executor.shutdown()
-            self._executor = self._own()
-            future = self._executor.submit(ask_all, some)
-        self._out[future] = some
 
     # ---- what is taken in
 
@@ -98,6 +136,7 @@ class _Asking:
         done, _ = wait(self._out, timeout=0.2, return_when=FIRST_COMPLETED)
         for future in done:
             some = self._out.pop(future)
+            self._workers.done(future)
             try:
                 answers = future.result()
             except Exception as fault:
@@ -129,11 +168,10 @@ class _Asking:
         return ended
 
     def end(self) -> None:
-        """Takes back what isn't begun, and ends processes of its own."""
+        """Takes back what isn't begun, and ends the processes of this sweep."""
         for future in self._out:
             future.cancel()
-        if not self._given:
-            self._executor.shutdown()
+        self._workers.end()
 
 
 # ---- in a worker
@@ -143,6 +181,13 @@ def _begin_worker() -> None:
     """An interrupt at the terminal ends the programs that answer, and the process that sweeps; a
     worker then ends with that."""
     signal.signal(signal.SIGINT, lambda *_: None)
+
+
+def _ask_file(path: str) -> list[Answer]:
+    """The answers to the questions in a file."""
+    with open(path, "rb") as file:
+        some: list[Numbered] = pickle.load(file)
+    return ask_all(some)
 
 
 def ask_all(some: list[Numbered]) -> list[Answer]:

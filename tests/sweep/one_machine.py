@@ -22,6 +22,7 @@ TOP = os.path.join(HERE, "..", "..")
 RANGE = os.path.join(TOP, "examples", "interleaved-range.numaplan")
 TRACE = os.path.join(TOP, "examples", "replayed.trace")
 failed = 0
+multiprocessing.set_start_method("fork")  # (so that processes have what is put in place here)
 
 
 def check(what, got, wanted):
@@ -147,7 +148,6 @@ def deadly(question):
     return answer_it(question)
 
 
-multiprocessing.set_start_method("fork", force=True)
 numaplan._sweeps.answer = deadly  # (which processes that begin now have, too)
 answers = list(sweep(asked + [(RANGE, None, ["deadly"])], workers=3))
 ended = [(each.number, each.failed[:35]) for each in answers if each.failed]
