@@ -26,7 +26,7 @@ Chooses plan task page cpu (Ok count) old new =
     IsListOf plan task page cpu (take count new) × (drop count new ≡ drop count old)
 Chooses plan task page cpu (Err (refused.TooShort count)) old new =
     ((list : List ℕ) × IsListOf plan task page cpu list × (count ≡ length list)) × (new ≡ old)
-Chooses plan task page cpu (Err (refused.RawBox cause)) old new =
+Chooses plan task page cpu (Err (refused.Place cause)) old new =
     HasNoList plan page cpu cause × (new ≡ old)
 
 -- the same of the first nodes of a span

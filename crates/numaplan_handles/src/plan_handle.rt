@@ -23,7 +23,7 @@ pub struct PlanHandle {
 #[derive(Clone, Copy, Debug, PartialEq, Eq)]
 pub enum ChoiceRefusal {
     /// There is no list.
-    RawBox(PlaceRefusal),
+    Place(PlaceRefusal),
     /// The list has this many nodes, more than there is room for.
     TooShort(usize),
 }
@@ -52,7 +52,7 @@ fn choose_kept(
 {
     let list = match plan_kept(kept).choice(task, page, cpu, &mut Steps::new()) {
         Ok(list) => list,
-        Err(refusal) => return Err(ChoiceRefusal::RawBox(refusal)),
+        Err(refusal) => return Err(ChoiceRefusal::Place(refusal)),
     };
     copy_bytes(list, nodes).map_err(ChoiceRefusal::TooShort)
 }
