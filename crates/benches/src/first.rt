@@ -5,7 +5,7 @@ use numa_compile::compile_commands;
 use numa_machine::Machine;
 use numa_mask::read_list;
 use numa_mode::PolicySpec;
-use numa_plan::{Plan, Steps};
+use numa_plan::Plan;
 use numa_space::{Command, Limits};
 use std::alloc::Global;
 use std::io;
@@ -34,9 +34,8 @@ fn plan_of_four_pages(alloc: Global) -> Option<Plan> {
 
 /// Prints the node of each page.
 fn print_pages(rt: &impl Print, plan: &Plan) -> io::Result<()> {
-    let mut steps = Steps::new();
     for page in 0x10..0x14u64 {
-        match plan.choice(1, page, 0, &mut steps) {
+        match plan.fallback_list(1, page, 0) {
             Ok(nodes) => println!(rt; "page {page}: node {}", nodes[0])?,
             Err(_) => println!(rt; "page {page}: not mapped")?,
         }

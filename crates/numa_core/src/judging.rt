@@ -3,7 +3,7 @@ ghost use Rattle.std.specs.Prelude.{◌≡◌, ◌<◌, ◌≤◌, None, Some, I
 ghost use Rattle.numa_core.specs.Judging.{Judges, Lists, cause_at};
 
 use crate::seat::WorkerSeat;
-use numa_plan::{Plan, Steps};
+use numa_plan::Plan;
 use numa_space::event::CoreRefusal;
 use numa_space::{PlaceRefusal, Request};
 
@@ -48,7 +48,7 @@ pub(crate) fn row_for<'a>(
     if seats[worker as usize].job.is_some() {
         return Err(CoreRefusal::Busy);
     }
-    match plan.choice(request.task, request.page, request.cpu, &mut Steps::new()) {
+    match plan.fallback_list(request.task, request.page, request.cpu) {
         Ok(row) => Ok(row),
         Err(refusal) => Err(cause_at(plan.version(), refusal)),
     }

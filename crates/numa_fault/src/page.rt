@@ -11,7 +11,6 @@ ghost use Rattle.numa_fault.specs.Fault.{list_of, refusal_of, FindsNone, Places}
 ghost use Rattle.numa_pool.specs.Seated.{frame_in};
 
 use numa_machine::Frame;
-use numa_plan::Steps;
 use numa_pool::laws::{walk_is_sparing, walks_compose};
 use numa_pool::{PoolSeat, Pools, take_along};
 use numa_publish::PlanView;
@@ -74,7 +73,7 @@ fn take_first_or_behind(
     if let Some(frame) = pools.take(seat, choice) {
         return Some((0, frame));
     }
-    let Ok(nodes) = view.choice(request, &mut Steps::new()) else {
+    let Ok(nodes) = view.fallback_list(request.task, request.page, request.cpu) else {
         unreachable!()
     };
     let Some((rank, frame)) = take_along(pools, seat, &nodes[1..]) else {

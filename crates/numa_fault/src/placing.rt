@@ -4,7 +4,6 @@ ghost use Rattle.numa_fault.specs.Fault.{Faults, IsServed};
 
 use crate::page::placement_of;
 use crate::refusal::FaultRefusal;
-use numa_plan::Steps;
 use numa_pool::laws::{walk_is_sparing, walks_compose};
 use numa_pool::{PoolSeat, Pools, take_along};
 use numa_publish::{PlanReader, PlanView};
@@ -26,7 +25,7 @@ fn place(
     walks_compose();
     walk_is_sparing();
     let version = view.version();
-    let nodes = match view.choice(request, &mut Steps::new()) {
+    let nodes = match view.fallback_list(request.task, request.page, request.cpu) {
         Ok(nodes) => nodes,
         Err(PlaceRefusal::BadCpu) => return Err(FaultRefusal::BadCpu),
         Err(PlaceRefusal::Unmapped) => return Err(FaultRefusal::Unmapped(version)),

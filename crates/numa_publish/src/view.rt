@@ -93,6 +93,28 @@ impl PlanView {
         issue.plan.choice(task, page, cpu, steps)
     }
 
+    /// The fallback list of a page, for a task and a fault on the node `cpu`, lent by the view: 1 to
+    /// 256 allowed nodes, each once, in the order in which memory is looked for on them. It is the
+    /// list of [`PlanView::choice`], without the counter of comparisons.
+    ///
+    /// # Errors
+    /// `BadCpu`: `cpu` is none of the machine's nodes. `Unmapped`: this version doesn't map the
+    /// page.
+    #[inline(always)]
+    pub fn fallback_list(&self, task: u32, page: u64, cpu: u32) -> Result<&[u8], PlaceRefusal>
+        ensures mapped { OnOk result ((cpu < self.now.desk.machine.nodes)
+            × (is_mapped self.now.history page ≡ true)) }
+        ensures ok { IfOk result (λ row. row.now
+            ≡ node_list self.now.desk.machine self.now.history task page cpu) }
+        ensures sized { IfOk result (λ row. (0 < length row.now) × (length row.now ≤ 256)) }
+        ensures list { IfOk result (λ row.
+            IsNodeList (allowed_nodes self.now.desk.machine self.now.history) row.now) }
+        ensures err { IfErr result (λ refusal. place_refusal_of self.now.desk.machine
+            self.now.history page cpu ≡ Some refusal) }
+    {
+        self.choice(Request { task, page, cpu }, &mut Steps::new())
+    }
+
     /// Writes the first node of each page's list, for the pages from `first` on, as many as `out`
     /// has places.
     ///

@@ -19,7 +19,7 @@ use crate::period::period_in;
 use crate::prediction::{RangePrediction, TakeRange, policy_of};
 use crate::touch::{Touch, has_node};
 use crate::turns::{all_left_behind, all_times_left};
-use numa_plan::{Plan, Steps};
+use numa_plan::Plan;
 use numa_space::{PlaceRefusal, RangeRecord, Run, Space};
 
 /// A number of free pages of a node.
@@ -75,7 +75,7 @@ fn fill_page(
         (first_free free.old (planned_nodes plan.now touch.task touch.cpu page))) }
     ensures err { IfErr result (λ refusal. place_refusal plan.now page touch.cpu ≡ Some refusal) }
 {
-    match plan.choice(touch.task, page, touch.cpu, &mut Steps::new()) {
+    match plan.fallback_list(touch.task, page, touch.cpu) {
         Ok(nodes) => Ok(take_first(nodes, free)),
         Err(refusal) => Err(refusal),
     }

@@ -6,7 +6,7 @@ ghost use Rattle.numa_space.specs.declared.command.Command.{Command};
 ghost use Rattle.numa_run.specs.Judged.{fault_in, question_refusal};
 ghost use Rattle.numa_run.specs.Questions.{span_refusal_of};
 
-use numa_plan::{Plan, Steps};
+use numa_plan::Plan;
 use numa_script::{Question, Reply};
 use numa_space::{PAGE_BYTES, PlaceRefusal};
 
@@ -43,7 +43,7 @@ pub(crate) fn refusal_by_plan(plan: &Plan, question: Question) -> Option<PlaceRe
 {
     match question {
         Question::Place { task, address, cpu } => {
-            match plan.choice(task, address / PAGE_BYTES, cpu, &mut Steps::new()) {
+            match plan.fallback_list(task, address / PAGE_BYTES, cpu) {
                 Ok(_) => None,
                 Err(refusal) => Some(refusal),
             }

@@ -9,7 +9,7 @@ ghost use Rattle.numa_run.specs.Questions.{count_text, place_text, question_text
 ghost use Rattle.numa_run.specs.Questions.{span_text, unless_starved};
 
 use line_server::Watched;
-use numa_plan::{Plan, Steps};
+use numa_plan::Plan;
 use numa_script::Question;
 use numa_script::tell::{say_counts, say_nodes, say_place_refusal, say_starved};
 use numa_space::{PAGE_BYTES, Request};
@@ -30,7 +30,7 @@ fn say_place<W: Write>(plan: &Plan, fault: Request, output: &mut Watched<W>)
         → Said W.contents output.old output.new
         (place_text machine history fault.task fault.page fault.cpu) }
 {
-    match plan.choice(fault.task, fault.page, fault.cpu, &mut Steps::new()) {
+    match plan.fallback_list(fault.task, fault.page, fault.cpu) {
         Ok(nodes) => say_nodes(output, plan.version(), nodes),
         Err(refusal) => say_place_refusal(output, refusal),
     }

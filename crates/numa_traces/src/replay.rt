@@ -10,7 +10,7 @@ use crate::fault::ReplayError;
 use crate::memory::Memory;
 use crate::tallies::Tallies;
 use numa_machine::Machine;
-use numa_plan::{Plan, Steps};
+use numa_plan::Plan;
 use numa_space::PlaceRefusal;
 use std::alloc::{AllocError, Global};
 use std::marker::Model;
@@ -37,7 +37,7 @@ fn nodes_for(plan: &Plan, access: Access) -> Result<&[u8], PlaceRefusal>
     ensures err { IfErr result (λ refusal. place_refusal plan.now access.page access.cpu
         ≡ Some refusal) }
 {
-    plan.choice(access.task, access.page, access.cpu, &mut Steps::new())
+    plan.fallback_list(access.task, access.page, access.cpu)
 }
 
 impl Replay {

@@ -7,7 +7,7 @@ ghost use Rattle.numaplan_handles.specs.Plans.{IsListOf, Chooses, Fills, Counts}
 use crate::handle::Handle;
 use crate::kept::Kept;
 use crate::room::copy_bytes;
-use numa_plan::{Plan, Steps};
+use numa_plan::Plan;
 use numa_space::PlaceRefusal;
 use std::alloc::{AllocError, Global};
 use std::sync::Arc;
@@ -50,7 +50,7 @@ fn choose_kept(
     requires plan { is_plan (Some kept.now) ≡ true }
     ensures chooses { Chooses (plan_of (Some kept.now)) task page cpu result nodes.old nodes.new }
 {
-    let list = match plan_kept(kept).choice(task, page, cpu, &mut Steps::new()) {
+    let list = match plan_kept(kept).fallback_list(task, page, cpu) {
         Ok(list) => list,
         Err(refusal) => return Err(ChoiceRefusal::Place(refusal)),
     };
@@ -101,7 +101,7 @@ impl PlanHandle {
     /// closed.
     ///
     /// # Errors
-    /// As [`Plan::choice`], and `TooShort`: there is no room for the list.
+    /// As [`Plan::fallback_list`], and `TooShort`: there is no room for the list.
     pub fn choose(
         &mut self,
         alloc: Global,

@@ -1,20 +1,42 @@
 //! Looks at runs whose comparisons nobody asks for. Each is counted here, on a counter that is let
 //! go. Of a plan's calls none that promises a bound makes one of them: `choice`, `number_at` and
 //! `window` search with the counter of their caller.
-ghost use Rattle.std.specs.Prelude.{◌≡◌, ◌≤◌, ◌∷◌, ◌++◌, length, slice_get, IfOk, OnErr};
+ghost use Rattle.std.specs.Prelude.{◌≡◌, ◌≤◌, ◌<◌, ◌∷◌, ◌++◌, length, slice_get, Some, IfOk, IfErr};
+ghost use Rattle.std.specs.Prelude.{OnErr};
 ghost use Rattle.std.specs.Bool.{OnTrue, OnFalse};
 ghost use Rattle.std.specs.List.{slice_range, splice};
 ghost use Rattle.numa_ranges.specs.Runs.{AreApart};
 ghost use Rattle.numa_ranges.specs.Windows.{IsWindow};
 ghost use Rattle.numa_plan.specs.Counted.{more_runs};
 ghost use Rattle.numa_plan.specs.Found.{IsFound, IsMapped, HasHole};
+ghost use Rattle.numa_plan.specs.Meaning.{place_refusal, planned_list};
 
+use crate::plan::Plan;
 use crate::runs::{Beside, Found, PlanRuns};
 use crate::search::Seen;
 use crate::steps::Steps;
 use numa_machine::NoMemory;
 use numa_ranges::Run;
+use numa_space::PlaceRefusal;
 use std::alloc::Global;
+
+impl Plan {
+    /// The fallback list of a page, for a task and a fault on the node `cpu`, lent by the plan: 1 to
+    /// 256 nodes, in the order in which memory is looked for on them. It is the list of
+    /// [`Plan::choice`], without the counter of comparisons.
+    ///
+    /// # Errors
+    /// `BadCpu`: `cpu` is none of the plan's nodes. `Unmapped`: no run has the page.
+    #[inline(always)]
+    pub fn fallback_list(&self, task: u32, page: u64, cpu: u32) -> Result<&[u8], PlaceRefusal>
+        ensures ok { IfOk result (λ row. (cpu < self.now.nodes)
+            × (planned_list self.now task page cpu ≡ Some row.now)) }
+        ensures sized { IfOk result (λ row. (0 < length row.now) × (length row.now ≤ 256)) }
+        ensures err { IfErr result (λ refusal. place_refusal self.now page cpu ≡ Some refusal) }
+    {
+        self.choice(task, page, cpu, &mut Steps::new())
+    }
+}
 
 /// `PlanRuns::walk_from`.
 pub(super) fn walk_from(runs: &PlanRuns, page: u64) -> Seen {

@@ -1,7 +1,7 @@
 //! Whether two plans answer alike: each task's lists on every page of each run and beside it, the
 //! counts of each run, and how many runs and rules there are.
 use crate::tests::same::same;
-use numa_plan::{Plan, Steps};
+use numa_plan::Plan;
 use numa_space::PlaceRefusal;
 use std::process::Abort;
 
@@ -10,7 +10,7 @@ const TASKS: [u32; 5] = [1, 2, 3, 4, 77];
 
 /// The list of a page.
 fn list_of(plan: &Plan, task: u32, page: u64, cpu: u32) -> Result<&[u8], PlaceRefusal> {
-    plan.choice(task, page, cpu, &mut Steps::new())
+    plan.fallback_list(task, page, cpu)
 }
 
 /// The lists of a page are alike, for a fault on each node and on one that is none.

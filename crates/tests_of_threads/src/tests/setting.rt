@@ -3,9 +3,8 @@ ghost use Rattle.std.specs.Prelude.{◌≡◌, ◌≤◌};
 
 use numa_examples::{flat_machine, spec_of};
 use numa_machine::Machine;
-use numa_plan::Steps;
 use numa_publish::{Desk, PlanReader, Receipt};
-use numa_space::{Command, Limits, PlaceRefusal, Request};
+use numa_space::{Command, Limits, PlaceRefusal};
 use std::alloc::Global;
 use std::fmt::Debug;
 use std::process::Abort;
@@ -125,15 +124,10 @@ pub type Seen = (u64, Result<(u8, u8), PlaceRefusal>);
 pub fn look(reader: PlanReader) -> (PlanReader, Option<Seen>)
     ensures { result.0.desk ≡ reader.desk }
 {
-    let request = Request {
-        task: 1,
-        page: 0x10,
-        cpu: 0,
-    };
     match reader.enter() {
         Ok(view) => {
             let version = view.version();
-            let row = match view.choice(request, &mut Steps::new()) {
+            let row = match view.fallback_list(1, 0x10, 0) {
                 Ok(row) => Ok((row[0], row[row.len() - 1])),
                 Err(refusal) => Err(refusal),
             };
