@@ -161,7 +161,7 @@ impl Core {
     pub fn prepare(&mut self) -> Result<(), NoMemory>
         ensures { self.new ≡ self.old }
     {
-        self.state.prepare()
+        self.state.space.prepare(self.state.alloc)
     }
 
     /// The plan of all accepted commands. The first `prepare` or Publish makes it, and each later

@@ -122,15 +122,6 @@ impl State {
         Ok(CoreReply::Accepted(self.space.space().version()))
     }
 
-    /// Makes the working plan, if there is none.
-    pub(crate) fn prepare(&mut self) -> Result<(), NoMemory>
-        requires kept { IsKept self.old }
-        ensures kept { IsKept self.new }
-        ensures shown { core_state self.new ≡ core_state self.old }
-    {
-        self.space.prepare(self.alloc)
-    }
-
     /// Publishes all accepted commands.
     pub(crate) fn publish(&mut self) -> Result<CoreReply, CoreRefusal>
         requires kept { IsKept self.old }

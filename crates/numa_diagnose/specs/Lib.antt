@@ -1,5 +1,4 @@
 pub mod Checks
 pub mod Explained
 pub mod Hints
-pub mod Lacks
 pub mod Reasons

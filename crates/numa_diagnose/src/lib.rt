@@ -2,8 +2,7 @@
 //!
 //! [`judge`] takes a line to a running script and finds something exactly where the line is
 //! answered by a fault or a refusal. [`say_finding`] tells it in a few words, with what to do, and
-//! [`say_line`] in a line of its own, with where it stands. [`lacks_memory`] and [`tells_lack`]
-//! know the answers of a line that there was no memory for.
+//! [`say_line`] in a line of its own, with where it stands.
 //!
 //! [`explain`] gives the range that has a page, which policy counts there, and the rule that puts
 //! the nodes in order, as a value, each stated by the history of accepted commands, and
@@ -23,7 +22,6 @@ pub mod finding;
 mod finding_text;
 mod hint;
 mod hint_text;
-pub mod lacks;
 mod pages;
 mod place;
 mod reason_text;
@@ -38,7 +36,6 @@ pub use finding::{Detail, Finding, judge};
 pub use finding_text::{say_finding, say_line, say_unjudged};
 pub use hint::{hint_of, reply_by_other};
 pub use hint_text::{say_by_other, say_hint};
-pub use lacks::{lacks_memory, tells_lack};
 pub use numa_rules::{ByOther, Otherwise, Owner, Parted, by_other_rules, other_rules};
 pub use place::{range_of, task_policy};
 pub use reason_text::say_explanation;

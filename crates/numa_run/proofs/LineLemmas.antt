@@ -1,5 +1,5 @@
 -- What serving a line of each kind comes to.
-use Rattle.std.specs.Prelude.{◌≡◌, ℕ, if◌then◌else◌, Bool, true, false, Option, Some, None, List, [], refl, Result, Ok, Err}
+use Rattle.std.specs.Prelude.{◌≡◌, ◌↔◌, ℕ, if◌then◌else◌, IsTrue, Bool, true, false, Option, Some, None, List, [], refl, Result, Ok, Err}
 use Rattle.std.proofs.Common.{sym, ◌∙◌, ap, subst}
 use Rattle.numa_mask.specs.declared.list.ListFault.{ListFault}
 use Rattle.numa_machine.specs.Machine.{Hardware}
@@ -12,9 +12,11 @@ use Rattle.numa_core.specs.Standing.{LeadsTo, setup_of}
 use Rattle.numa_script.specs.declared.policy.WordError.TheVariants as word_fault
 use Rattle.numa_script.specs.declared.line.MachineLine.{MachineLine}
 use Rattle.numa_script.specs.declared.line.Question.{Question}
+use Rattle.numa_script.specs.declared.line.Question.TheVariants as question
 use Rattle.numa_script.specs.declared.line.Line.{Line}
 use Rattle.numa_script.specs.declared.line.Line.TheVariants as line
 use Rattle.numa_run.specs.Answers.{State, answer_of, reply_of, after}
+use Rattle.numa_run.specs.Judged.{LacksMemory, IsStarved}
 use Rattle.numa_run.specs.Machines.{limits_fit, nodes_with_cpus, hardware_of, has_bad_nodes, first_fault}
 use Rattle.numa_run.specs.Questions.{question_text}
 use Rattle.numa_run.specs.Ranges.{listing_of}
@@ -28,6 +30,7 @@ use Rattle.numa_run.specs.declared.settings.Settings.{Settings}
 use Rattle.numa_run.specs.declared.running.Taken.TheVariants as taken
 use Rattle.numa_script.specs.declared.reply.Reply.{Reply}
 use Rattle.numa_script.specs.declared.reply.Reply.TheVariants as reply
+use Rattle.numa_run.proofs.JudgeLemmas.{told-starved, asked-starved, listed-starved}
 
 -- ---- before a machine is ready
 
@@ -171,46 +174,47 @@ text-of_reply : (answer : Answer) (told : Reply) → Some told ≡ reply_in answ
 text-of_reply (Replied other) told e = cc
 text-of_reply (Shown text) told e = cc
 
--- the line was served, and its answer was said, of which P tells
-abbrev pub IsServed : Running → Running → Line → (List ℕ → Type 0) → Type 0
-IsServed old new said P = (state : State) → RunsAs old state → (refused : Bool) × RunsAs new (after refused state said) × P (answer_of refused state said)
+-- the line was served, and its answer was said, of which P tells; and whether there was no memory
+abbrev pub IsServed : Running → Running → Line → (List ℕ → Type 0) → Bool → Type 0
+IsServed old new said P lacks =
+    (state : State) → RunsAs old state → (refused : Bool) × RunsAs new (after refused state said) × P (answer_of refused state said) × (IsTrue lacks ↔ IsStarved refused state said)
 
 -- a reply that was said
-pub told_later : (old new : Running) (said : Line) (answer : Reply) (P : List ℕ → Type 0) → Takes old said (taken.Reply answer) new → P (text_of answer) → IsServed old new said P
-told_later old new said answer P takes told =
+pub told_later : (old new : Running) (said : Line) (answer : Reply) (P : List ℕ → Type 0) (lacks : Bool) → Takes old said (taken.Reply answer) new → P (text_of answer) → (IsTrue lacks ↔ LacksMemory answer) → IsServed old new said P lacks
+told_later old new said answer P lacks takes told starved =
     λ state stands.
     let t = takes state stands in
-    (t.0, t.2, subst P (text-of_reply (outcome_of t.0 state said).answer answer t.1) told)
+    (t.0, t.2, subst P (text-of_reply (outcome_of t.0 state said).answer answer t.1) told, told-starved answer lacks t.0 state said t.1 starved)
 
-pub told_first : (settings settings_then : Settings) (running_then : Option Running) (said : Line) (answer : Reply) (P : List ℕ → Type 0) → Replies settings None said (Some answer) settings_then running_then → P (text_of answer)
-    → (state : State) → Stands settings None state → (refused : Bool) × Stands settings_then running_then (after refused state said) × P (answer_of refused state said)
-told_first settings settings_then running_then said answer P replies told =
+pub told_first : (settings settings_then : Settings) (running_then : Option Running) (said : Line) (answer : Reply) (P : List ℕ → Type 0) (lacks : Bool) → Replies settings None said (Some answer) settings_then running_then → P (text_of answer) → (IsTrue lacks ↔ LacksMemory answer)
+    → (state : State) → Stands settings None state → (refused : Bool) × Stands settings_then running_then (after refused state said) × P (answer_of refused state said) × (IsTrue lacks ↔ IsStarved refused state said)
+told_first settings settings_then running_then said answer P lacks replies told starved =
     λ state stands.
     let t = replies state stands in
-    (t.0, t.2, subst P (text-of_reply (outcome_of t.0 state said).answer answer t.1) told)
+    (t.0, t.2, subst P (text-of_reply (outcome_of t.0 state said).answer answer t.1) told, told-starved answer lacks t.0 state said t.1 starved)
 
 -- a question
-pub asked_later : (old mid new : Running) (said : Line) (asked : Question) (P : List ℕ → Type 0) → said ≡ line.Question asked → mid ≡ old
-    → ((state : State) → RunsAs mid state → (refused : Bool) × RunsAs new state × P (question_text refused (setup_of mid.core).machine state.world.history asked))
-    → IsServed old new said P
-asked_later old mid new said asked P is same h =
-    subst (λ (l : Line). IsServed old new l P) (sym is)
-    (subst (λ (r : Running). IsServed r new (line.Question asked) P) same
+pub asked_later : (old mid new : Running) (said : Line) (asked : Question) (P : List ℕ → Type 0) (lacks : Bool) → said ≡ line.Question asked → mid ≡ old
+    → ((state : State) → RunsAs mid state → RunsAs new state × P (question_text lacks (setup_of mid.core).machine state.world.history asked)) → (asked ≡ question.Ranges → lacks ≡ false)
+    → IsServed old new said P lacks
+asked_later old mid new said asked P lacks is same h ranges =
+    subst (λ (l : Line). IsServed old new l P lacks) (sym is)
+    (subst (λ (r : Running). IsServed r new (line.Question asked) P lacks) same
     (λ state stands.
     let a = h state stands in
-    let is : outcome_of a.0 state (line.Question asked) ≡ with_text (question_text a.0 (setup_of mid.core).machine state.world.history asked) state = later_is mid (line.Question asked) a.0 state stands in
-    (a.0, subst (λ (r : Served). RunsAs new r.state) (sym is) a.1, subst (λ (r : Served). P (bytes_of r.answer)) (sym is) a.2)))
+    let is : outcome_of lacks state (line.Question asked) ≡ with_text (question_text lacks (setup_of mid.core).machine state.world.history asked) state = later_is mid (line.Question asked) lacks state stands in
+    (lacks, subst (λ (r : Served). RunsAs new r.state) (sym is) a.0, subst (λ (r : Served). P (bytes_of r.answer)) (sym is) a.1, asked-starved mid asked lacks state stands ranges)))
 
 -- maps
 pub listed_later : (old mid : Running) (said : Line) (task : ℕ) (P : List ℕ → Type 0) → said ≡ line.Maps task → mid ≡ old
     → ((state : State) → RunsAs mid state → P (listing_of (setup_of mid.core).machine state.world.history task state.resident))
-    → IsServed old mid said P
+    → IsServed old mid said P false
 listed_later old mid said task P is same h =
-    subst (λ (l : Line). IsServed old mid l P) (sym is)
-    (subst (λ (r : Running). IsServed r mid (line.Maps task) P) same
+    subst (λ (l : Line). IsServed old mid l P false) (sym is)
+    (subst (λ (r : Running). IsServed r mid (line.Maps task) P false) same
     (λ state stands.
     let is : outcome_of false state (line.Maps task) ≡ with_text (listing_of (setup_of mid.core).machine state.world.history task state.resident) state = later_is mid (line.Maps task) false state stands in
-    (false, subst (λ (r : Served). RunsAs mid r.state) (sym is) stands, subst (λ (r : Served). P (bytes_of r.answer)) (sym is) (h state stands))))
+    (false, subst (λ (r : Served). RunsAs mid r.state) (sym is) stands, subst (λ (r : Served). P (bytes_of r.answer)) (sym is) (h state stands), listed-starved mid task state stands)))
 
 -- ---- a question and `maps` have no reply
 

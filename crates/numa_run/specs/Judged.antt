@@ -1,13 +1,16 @@
 -- Which lines are answered by a fault or a refusal. `refused` says whether a growth was refused
 -- while the line was served.
-use Rattle.std.specs.Prelude.{ℕ, Bool, true, false, Option, Some, None, List, length, if◌then◌else◌}
+use Rattle.std.specs.Prelude.{◌≡◌, ◌⊎◌, ℕ, Bool, true, false, Option, Some, None, List, length}
+use Rattle.std.specs.Prelude.{IsSomeAnd, if◌then◌else◌}
 use Rattle.std.specs.Option.{option_map}
 use Rattle.numa_machine.specs.Machine.{Hardware}
+use Rattle.numa_machine.specs.declared.fault.MachineFault.TheVariants as machine_fault
 use Rattle.numa_space.specs.History.{page_of}
 use Rattle.numa_space.specs.Standing.{place_refusal_of}
 use Rattle.numa_space.specs.declared.command.Command.{Command}
 use Rattle.numa_space.specs.declared.refusal.PlaceRefusal.{PlaceRefusal}
 use Rattle.numa_space.specs.declared.refusal.PlaceRefusal.TheVariants as place
+use Rattle.numa_space.specs.declared.refusal.Refusal.TheVariants as command
 use Rattle.numa_space.specs.declared.event.CoreRefusal.{CoreRefusal}
 use Rattle.numa_space.specs.declared.event.CoreRefusal.TheVariants as core
 use Rattle.numa_script.specs.declared.line.Line.{Line}
@@ -109,3 +112,17 @@ fault_or None asked = asked
 abbrev pub fault_of : Bool → State → Line → Option Reply
 fault_of refused state said =
     fault_or (reply_of refused state said) (asked_fault refused state said)
+
+-- ---- lack of memory
+
+-- the reply says that there was no memory for the line: for its machine, for a command, or for a
+-- worker's step or an answer
+abbrev pub LacksMemory : Reply → Type 0
+LacksMemory said =
+    (said ≡ reply.BadMachine machine_fault.NoMemory)
+    ⊎ (said ≡ reply.Refused (core.Command command.NoMemory))
+    ⊎ (said ≡ reply.Refused core.NoMemory)
+
+-- a line is answered so
+abbrev pub IsStarved : Bool → State → Line → Type 0
+IsStarved refused state said = IsSomeAnd (fault_of refused state said) LacksMemory

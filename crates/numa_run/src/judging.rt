@@ -1,14 +1,15 @@
 //! Replies and questions that are judged, and not answered.
-ghost use Rattle.std.specs.Prelude.{◌≡◌, List};
+ghost use Rattle.std.specs.Prelude.{◌≡◌, ◌↔◌, List, IsTrue};
 ghost use Rattle.numa_compile.specs.Standing.{PlanStandsFor};
 ghost use Rattle.numa_machine.specs.Machine.{Hardware};
 ghost use Rattle.numa_space.specs.declared.command.Command.{Command};
-ghost use Rattle.numa_run.specs.Judged.{fault_in, question_refusal};
+ghost use Rattle.numa_run.specs.Judged.{LacksMemory, fault_in, question_refusal};
 ghost use Rattle.numa_run.specs.Questions.{span_refusal_of};
 
+use numa_machine::MachineFault;
 use numa_plan::Plan;
 use numa_script::{Question, Reply};
-use numa_space::{PAGE_BYTES, PlaceRefusal};
+use numa_space::{CoreRefusal, PAGE_BYTES, PlaceRefusal, Refusal};
 
 /// The reply, where it tells a fault or a refusal.
 pub(crate) fn fault_in(reply: Reply) -> Option<Reply>
@@ -23,6 +24,15 @@ pub(crate) fn fault_in(reply: Reply) -> Option<Reply>
         | Reply::Refused(_) => Some(reply),
         _ => None,
     }
+}
+
+/// Returns whether the reply says that there was no memory for the line.
+pub fn lacks_memory(reply: Reply) -> bool
+    ensures { IsTrue result ↔ (LacksMemory reply) }
+{
+    reply == Reply::BadMachine(MachineFault::NoMemory)
+        || reply == Reply::Refused(CoreRefusal::Command(Refusal::NoMemory))
+        || reply == Reply::Refused(CoreRefusal::NoMemory)
 }
 
 /// The first cause that refuses so many pages from one on.

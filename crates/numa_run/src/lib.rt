@@ -10,5 +10,6 @@ mod settings;
 pub mod streams;
 
 pub use numa_script::{Reply, Win, names, reply};
+pub use judging::lacks_memory;
 pub use script::Script;
-pub use streams::run;
+pub use streams::{run, run_by};

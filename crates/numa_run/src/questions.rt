@@ -1,23 +1,21 @@
 //! Questions about pages, by a plan.
-ghost use Rattle.std.specs.Prelude.{◌≡◌, ◌≢◌, ℕ, Bool, List, length};
+ghost use Rattle.std.specs.Prelude.{◌≡◌, ℕ, List, length};
 ghost use Rattle.numa_compile.specs.Standing.{PlanStandsFor};
 ghost use Rattle.numa_machine.specs.Machine.{Hardware};
 ghost use Rattle.numa_space.specs.History.{page_of};
 ghost use Rattle.numa_space.specs.declared.command.Command.{Command};
 ghost use Rattle.line_server.specs.Written.{Said};
-ghost use Rattle.numa_run.specs.Questions.{count_text, place_text, question_text};
-ghost use Rattle.numa_run.specs.Questions.{span_text, unless_starved};
+ghost use Rattle.numa_run.specs.Questions.{count_text, place_text, span_text, unless_starved};
 
 use line_server::Watched;
 use numa_plan::Plan;
-use numa_script::Question;
 use numa_script::tell::{say_counts, say_nodes, say_place_refusal, say_starved};
 use numa_space::{PAGE_BYTES, Request};
 use std::alloc::Global;
 use std::io::Write;
 
 /// The fault of a task on the page of an address.
-fn fault_at(task: u32, address: u64, cpu: u32) -> Request
+pub(crate) fn fault_at(task: u32, address: u64, cpu: u32) -> Request
     ensures { result ≡ record { task = task; page = page_of address; cpu = cpu } }
 {
     let page = address / PAGE_BYTES;
@@ -25,7 +23,7 @@ fn fault_at(task: u32, address: u64, cpu: u32) -> Request
 }
 
 /// `place TASK ADDR CPU`: the list of nodes for a fault.
-fn say_place<W: Write>(plan: &Plan, fault: Request, output: &mut Watched<W>)
+pub(crate) fn say_place<W: Write>(plan: &Plan, fault: Request, output: &mut Watched<W>)
     ensures { (machine : Hardware) (history : List Command) → PlanStandsFor machine plan.now history
         → Said W.contents output.old output.new
         (place_text machine history fault.task fault.page fault.cpu) }
@@ -50,28 +48,29 @@ fn say_firsts<W: Write>(plan: &Plan, first: Request, nodes: &mut [u8], output: &
 }
 
 /// `span TASK ADDR PAGES CPU`: the first node of each page's list, for so many pages from that of
-/// the first fault on.
-fn say_span<W: Write>(
+/// the first fault on. Returns whether memory ran out; then the answer says so.
+pub(crate) fn say_span<W: Write>(
     alloc: Global,
     plan: &Plan,
     first: Request,
     pages: u32,
     output: &mut Watched<W>,
-)
+) -> bool
     ensures { (machine : Hardware) (history : List Command) → PlanStandsFor machine plan.now history
-        → (refused : Bool) × Said W.contents output.old output.new
-        (unless_starved refused (span_text machine history first.task first.page pages first.cpu)) }
+        → Said W.contents output.old output.new
+        (unless_starved result (span_text machine history first.task first.page pages first.cpu)) }
 {
     let Ok(mut nodes) = vec![in alloc; 0u8; pages as usize] else {
         say_starved(output);
-        return;
+        return true;
     };
     say_firsts(plan, first, nodes.as_mut_slice(), output);
+    false
 }
 
 /// `counts TASK ADDR PAGES CPU`: how many pages each node would get, of so many pages from that of
 /// the first fault on.
-fn say_pages<W: Write>(plan: &Plan, first: Request, pages: u64, output: &mut Watched<W>)
+pub(crate) fn say_pages<W: Write>(plan: &Plan, first: Request, pages: u64, output: &mut Watched<W>)
     ensures { (machine : Hardware) (history : List Command) → PlanStandsFor machine plan.now history
         → Said W.contents output.old output.new
         (count_text machine history first.task first.page pages first.cpu) }
@@ -79,37 +78,5 @@ fn say_pages<W: Write>(plan: &Plan, first: Request, pages: u64, output: &mut Wat
     match plan.counts(first.task, first.cpu, first.page, pages) {
         Ok(counts) => say_counts(output, plan.version(), &counts),
         Err(refusal) => say_place_refusal(output, refusal),
-    }
-}
-
-/// Answers a question about pages.
-pub(crate) fn answer_by_plan<W: Write>(
-    alloc: Global,
-    plan: &Plan,
-    question: Question,
-    output: &mut Watched<W>,
-)
-    requires { question ≢ Question.Ranges }
-    ensures { (machine : Hardware) (history : List Command) → PlanStandsFor machine plan.now history
-        → (refused : Bool) × Said W.contents output.old output.new
-        (question_text refused machine history question) }
-{
-    match question {
-        Question::Place { task, address, cpu } => {
-            say_place(plan, fault_at(task, address, cpu), output)
-        }
-        Question::Span {
-            task,
-            address,
-            pages,
-            cpu,
-        } => say_span(alloc, plan, fault_at(task, address, cpu), pages, output),
-        Question::Counts {
-            task,
-            address,
-            pages,
-            cpu,
-        } => say_pages(plan, fault_at(task, address, cpu), pages, output),
-        Question::Ranges => unreachable!(),
     }
 }

@@ -1,24 +1,25 @@
 //! A machine that is running.
-ghost use Rattle.std.specs.Prelude.{◌≡◌, Bool, [], None, Some, MatchResult};
+ghost use Rattle.std.specs.Prelude.{◌≡◌, Bool, [], None, Some, false, MatchResult};
 ghost use Rattle.line_server.specs.Written.{Said};
 ghost use Rattle.numa_core.specs.Standing.{setup_of};
-ghost use Rattle.numa_run.specs.Answers.{State, after, answer_of};
+ghost use Rattle.numa_run.specs.Answers.{State};
 ghost use Rattle.numa_run.specs.Judged.{question_cause};
 ghost use Rattle.numa_run.specs.Questions.{question_text};
 ghost use Rattle.numa_run.specs.Ranges.{listing_of};
 ghost use Rattle.numa_run.specs.Standing.{Does, RunsAs, Takes};
-ghost use Rattle.numa_run.specs.Work.{event_outcome, kept_outcome, release_outcome, touch_outcome};
-ghost use Rattle.numa_run.specs.Work.{work_outcome, won_by};
+ghost use Rattle.numa_run.specs.Work.{kept_outcome, release_outcome, touch_outcome, work_outcome};
+ghost use Rattle.numa_run.specs.Work.{won_by};
 ghost use Rattle.numa_script.specs.Replies.{reply_to};
 
 use crate::judging::refusal_by_plan;
-use crate::questions::answer_by_plan;
+use crate::questions::{fault_at, say_pages, say_place, say_span};
 use line_server::Watched;
-use numa_core::{Core, CoreRefusal, CoreReply, Event, Frame, Placement, Request};
+use numa_core::Core;
+use numa_machine::Frame;
 use numa_maps::{RecordRefusal, Resident, write_maps};
-use numa_script::tell::{say_ranges, say_reply, say_starved};
+use numa_script::tell::{say_ranges, say_starved};
 use numa_script::{Line, Question, Reply, Win, Work};
-use numa_space::PlaceRefusal;
+use numa_space::{CoreRefusal, CoreReply, Event, PlaceRefusal, Placement, Request};
 use std::alloc::Global;
 use std::io::Write;
 
@@ -66,15 +67,6 @@ impl Running {
             core,
             resident: Resident::new(alloc),
         }
-    }
-
-    /// One event of the core.
-    pub fn step(&mut self, event: Event) -> Reply
-        ensures { Does self.old result self.new (λ refused state.
-            event_outcome refused (setup_of self.old.core) state.world state.resident event) }
-    {
-        let answer = self.core.step(event);
-        Reply::to_event(&answer)
     }
 
     /// Keeps a placement that a worker won, unless its page has one or there is no memory for it:
@@ -135,33 +127,64 @@ impl Running {
             work_outcome refused (setup_of self.old.core) state.world state.resident work) }
     {
         match work {
-            Work::Event(event) => self.step(event),
+            Work::Event(event) => {
+                let answer = self.core.step(event);
+                Reply::to_event(&answer)
+            }
             Work::Touch(worker, request) => self.touch(worker, request),
             Work::Release(worker, page) => self.release(worker, page),
         }
     }
 
-    /// Answers a question.
-    fn answer<W: Write>(&mut self, alloc: Global, question: Question, output: &mut Watched<W>)
-        ensures { (state : State) → RunsAs self.old state → (refused : Bool)
-            × RunsAs self.new state × Said W.contents output.old output.new (question_text refused
+    /// Answers a question. Returns whether memory ran out; then the answer says so.
+    pub fn answer<W: Write>(
+        &mut self,
+        alloc: Global,
+        question: Question,
+        output: &mut Watched<W>,
+    ) -> bool
+        ensures answer { (state : State) → RunsAs self.old state → RunsAs self.new state
+            × Said W.contents output.old output.new (question_text result
             self.old.core.space.machine state.world.history question) }
+        ensures ranges { question ≡ Question.Ranges → result ≡ false }
     {
         if let Question::Ranges = question {
             let ranges = self.core.space().ranges() as u64;
             say_ranges(output, ranges);
-            return;
+            return false;
         }
-        // Where it finds no memory, there may be no plan to ask.
+        // On out-of-memory there may be no plan to ask.
         let _ = self.core.prepare();
-        match self.core.accepted_plan() {
-            Some(plan) => answer_by_plan(alloc, plan, question, output),
-            None => say_starved(output),
+        let Some(plan) = self.core.accepted_plan() else {
+            say_starved(output);
+            return true;
+        };
+        match question {
+            Question::Place { task, address, cpu } => {
+                say_place(plan, fault_at(task, address, cpu), output);
+                false
+            }
+            Question::Span {
+                task,
+                address,
+                pages,
+                cpu,
+            } => say_span(alloc, plan, fault_at(task, address, cpu), pages, output),
+            Question::Counts {
+                task,
+                address,
+                pages,
+                cpu,
+            } => {
+                say_pages(plan, fault_at(task, address, cpu), pages, output);
+                false
+            }
+            Question::Ranges => unreachable!(),
         }
     }
 
     /// Lists the ranges, with their policies for a task and the pages that are placed there.
-    fn list<W: Write>(&self, task: u32, output: &mut Watched<W>)
+    pub fn list<W: Write>(&self, task: u32, output: &mut Watched<W>)
         ensures { (state : State) → RunsAs self.now state
             → Said W.contents output.old output.new (listing_of self.now.core.space.machine
             state.world.history task state.resident) }
@@ -184,25 +207,15 @@ impl Running {
             Line::Cpus(_) => Taken::Reply(Reply::BadState),
             Line::Machine(_) => Taken::Reply(Reply::BadState),
             Line::Command(said) => match said {
-                Ok(command) => Taken::Reply(self.step(Event::Accept(*command))),
+                Ok(command) => {
+                    let answer = self.core.step(Event::Accept(*command));
+                    Taken::Reply(Reply::to_event(&answer))
+                }
                 Err(fault) => Taken::Reply(Reply::BadWord(*fault)),
             },
             Line::Work(work) => Taken::Reply(self.work(*work)),
             Line::Question(question) => Taken::Question(*question),
             Line::Maps(task) => Taken::Maps(*task),
-        }
-    }
-
-    /// Serves a line, and says its answer.
-    pub fn serve<W: Write>(&mut self, alloc: Global, line: &Line<'_>, output: &mut Watched<W>)
-        ensures { (state : State) → RunsAs self.old state
-            → (refused : Bool) × RunsAs self.new (after refused state line.now)
-            × Said W.contents output.old output.new (answer_of refused state line.now) }
-    {
-        match self.take(line) {
-            Taken::Reply(reply) => say_reply(output, &reply),
-            Taken::Question(question) => self.answer(alloc, question, output),
-            Taken::Maps(task) => self.list(task, output),
         }
     }
 

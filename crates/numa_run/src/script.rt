@@ -1,14 +1,15 @@
 //! A script that is being answered.
 ghost use Rattle.std.specs.Prelude.{◌≡◌, ℕ, ◌+◌, Bool, List, Option, None, Some, Ok, MatchOption};
-ghost use Rattle.std.specs.Prelude.{length};
+ghost use Rattle.std.specs.Prelude.{◌↔◌, length, IsTrue};
 ghost use Rattle.line_server.specs.Written.{Said};
 ghost use Rattle.numa_run.specs.Answers.{State, after, answer_of, start, start_by};
+ghost use Rattle.numa_run.specs.Judged.{IsStarved};
 ghost use Rattle.numa_run.specs.Scripts.{IsCoreIn, IsResidentIn, ScriptJudges, ScriptReplies};
 ghost use Rattle.numa_run.specs.Scripts.{ScriptStandsFor};
 ghost use Rattle.numa_run.specs.Standing.{Replies, Stands};
 
 use crate::build::build;
-use crate::judging::fault_in;
+use crate::judging::{fault_in, lacks_memory};
 use crate::running::{Running, Taken};
 use crate::settings::Settings;
 use line_server::{Serve, Watched};
@@ -156,18 +157,34 @@ impl Script {
         }
     }
 
-    /// Serves a line, and says its answer.
-    pub fn serve_line<W: Write>(&mut self, alloc: Global, line: &Line<'_>, output: &mut Watched<W>)
+    /// Serves a line, and says its answer. Returns whether memory ran out; then the answer says so.
+    pub fn serve_line<W: Write>(
+        &mut self,
+        alloc: Global,
+        line: &Line<'_>,
+        output: &mut Watched<W>,
+    ) -> bool
         ensures { (state : State) → ScriptStandsFor self.old state
             → (refused : Bool) × ScriptStandsFor self.new (after refused state line.now)
-            × Said W.contents output.old output.new (answer_of refused state line.now) }
+            × Said W.contents output.old output.new (answer_of refused state line.now)
+            × (IsTrue result ↔ (IsStarved refused state line.now)) }
     {
         if let Some(running) = &mut self.running {
-            running.serve(alloc, line, output);
-            return;
+            return match running.take(line) {
+                Taken::Reply(reply) => {
+                    say_reply(output, &reply);
+                    lacks_memory(reply)
+                }
+                Taken::Question(question) => running.answer(alloc, question, output),
+                Taken::Maps(task) => {
+                    running.list(task, output);
+                    false
+                }
+            };
         }
         let reply = self.reply_first(alloc, line);
         say_reply(output, &reply);
+        lacks_memory(reply)
     }
 
     /// Does what a line says where no machine is ready.
@@ -229,6 +246,6 @@ impl Serve for Script {
     ghost after = { after_bytes };
 
     fn serve<W: Write>(&mut self, alloc: Global, line: &[u8], output: &mut Watched<W>) {
-        self.serve_line(alloc, &parse(line), output);
+        let _ = self.serve_line(alloc, &parse(line), output);
     }
 }

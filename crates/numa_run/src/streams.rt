@@ -3,10 +3,12 @@ ghost use Rattle.std.specs.Prelude.{◌≤◌, ◌+◌, OnOk, IsErrOf};
 ghost use Rattle.line_server.specs.Runs.{AnswersAll, NeverBegins, StopsAtRead, StopsAtWrite};
 ghost use Rattle.line_server.specs.Runs.{most_reads};
 ghost use Rattle.line_server.specs.Watching.{read_count};
-ghost use Rattle.numa_run.specs.Answers.{start, answer_to, after_bytes};
+ghost use Rattle.numa_run.specs.Answers.{start, start_by, answer_to, after_bytes};
+ghost use Rattle.numa_run.specs.Scripts.{ScriptStandsFor};
 
 use crate::script::Script;
-use line_server::{RunFault, Watched, serve_script};
+use line_server::{RunFault, Serve, Watched, serve_script};
+use numa_machine::Rules;
 use std::alloc::Global;
 use std::io::{Read, Write};
 
@@ -33,5 +35,60 @@ pub fn run<R: Read, W: Write>(
         NeverBegins R.remaining W.contents input.old input.new output.old output.new }
     ensures reads { read_count input.new ≤ read_count input.old + most_reads }
 {
-    serve_script(alloc, Script::new(), input, output)
+    run_by(alloc, Rules::Document, input, output)
+}
+
+/// A script on which the rules of the kernel count, where no line gives others.
+#[derive(Drop)]
+struct KernelScript {
+    script: Script,
+}
+
+impl Serve for KernelScript {
+    ghost use Rattle.numa_machine.specs.declared.rules.Rules.TheVariants.{Linux};
+    ghost use Rattle.numa_run.specs.Answers.{State, start_by, answer_to, after_bytes};
+    ghost use Rattle.numa_run.specs.Scripts.{ScriptStandsFor};
+
+    ghost State = { State };
+
+    ghost start = { start_by Linux };
+
+    ghost stands_for = { λ server state. ScriptStandsFor server.script state };
+
+    ghost answer_of = { answer_to };
+
+    ghost after = { after_bytes };
+
+    fn serve<W: Write>(&mut self, alloc: Global, line: &[u8], output: &mut Watched<W>) {
+        self.script.serve(alloc, line, output);
+    }
+}
+
+/// Does what [`run`] does; these rules count where no line gives others.
+///
+/// # Errors
+/// Those of [`run`].
+pub fn run_by<R: Read, W: Write>(
+    alloc: Global,
+    rules: Rules,
+    input: &mut Watched<R>,
+    output: &mut Watched<W>,
+) -> Result<(), RunFault>
+    ensures ok { OnOk result (AnswersAll R.remaining W.contents answer_to after_bytes
+        (start_by rules) input.old input.new output.old output.new) }
+    ensures read { IsErrOf result RunFault.Read → StopsAtRead R.remaining W.contents answer_to
+        after_bytes (start_by rules) input.old input.new output.old output.new }
+    ensures write { IsErrOf result RunFault.Write → StopsAtWrite R.remaining W.contents answer_to
+        after_bytes (start_by rules) input.old input.new output.old output.new }
+    ensures memory { IsErrOf result RunFault.Memory →
+        NeverBegins R.remaining W.contents input.old input.new output.old output.new }
+    ensures reads { read_count input.new ≤ read_count input.old + most_reads }
+{
+    match rules {
+        Rules::Document => serve_script(alloc, Script::new(), input, output),
+        Rules::Linux => {
+            let script = Script::by(Rules::Linux);
+            serve_script(alloc, KernelScript { script }, input, output)
+        }
+    }
 }

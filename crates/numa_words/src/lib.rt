@@ -21,7 +21,6 @@ pub use explaining::explain;
 pub use faults::tells_fault;
 pub use findings::{Ended, Findings};
 pub use halt::Halt;
-pub use numa_diagnose::tells_lack;
 pub use playing::{Scripts, check, play};
 pub use replaying::replay;
 pub use running::run;

@@ -2,8 +2,8 @@
 use numa_files::Respond;
 use numa_machine::Rules;
 use numa_run::Script;
-use numa_script::{Serve, Watched};
-use numa_words::tells_lack;
+use numa_script::Watched;
+use numa_script::line::parse;
 use std::alloc::{AllocError, Global};
 use std::io::Write;
 use std::mem;
@@ -28,10 +28,15 @@ impl Answering {
     }
 }
 
-/// Answers a line. (It is generic so that the contract of `serve`, which isn't needed here, stays
-/// out of every goal: that of any server says less than a script's.)
-fn serve<S: Serve, W: Write>(server: &mut S, alloc: Global, line: &[u8], output: &mut Watched<W>) {
-    server.serve(alloc, line, output);
+/// Answers a line; whether it ran out of memory. (It is a function of its own so that the contract of
+/// `serve_line`, which isn't needed here, stays out of every goal.)
+fn serve<W: Write>(
+    script: &mut Script,
+    alloc: Global,
+    line: &[u8],
+    output: &mut Watched<W>,
+) -> bool {
+    script.serve_line(alloc, &parse(line), output)
 }
 
 impl Respond for Answering {
@@ -45,11 +50,11 @@ impl Respond for Answering {
 
     fn respond(&mut self, line: &[u8], answer: &mut Vec<u8>) -> Result<(), AllocError> {
         let mut output = Watched::new(mem::replace(answer, Vec::new(self.alloc)));
-        serve(&mut self.script, self.alloc, line, &mut output);
+        let is_starved = serve(&mut self.script, self.alloc, line, &mut output);
         let handed_over = output.hand_over();
         *answer = output.inner;
         match handed_over {
-            Ok(()) if !tells_lack(answer.as_slice()) => Ok(()),
+            Ok(()) if !is_starved => Ok(()),
             _ => Err(AllocError),
         }
     }

@@ -2,8 +2,11 @@ use Rattle.std.proofs.Common.{refl}
 use Rattle.std.specs.Prelude.{Ok, Err}
 use Rattle.numa_space.specs.declared.event.Event.TheVariants.{Accept}
 use Rattle.numa_run.specs.Work.{event_outcome, work_outcome}
+use Rattle.numa_script.specs.Replies.{reply_to}
 use Rattle.numa_script.specs.declared.reply.Reply.TheVariants as reply
 use Rattle.numa_script.specs.declared.line.Line.TheVariants as line
+use Rattle.numa_run.specs.declared.running.Running.{Running}
+use Rattle.numa_run.proofs.Doing.{does-event}
 use Rattle.numa_run.proofs.LineLemmas.{later_same, later_done}
 use Rattle.numa_run.proofs.running.Running.take.Goals as goal
 
@@ -27,9 +30,12 @@ returns-in-Machine c = rw c.in-Machine.is (later_same c.args.self.now _ reply.Ba
 
 pub returns-in-Ok : goal.returns-in-Ok
 returns-in-Ok c =
-    rw (c.in-Command.is, c.in-Ok.is)
-    (later_done c.args.self.now c.step.new.self (line.Command (Ok c.in-Ok.command)) c.step.result
-    (λ refused s state. event_outcome refused s state.world state.resident (Accept c.in-Ok.command)) c.step.ensures (λ refused machine state. refl))
+    let stepped : Running = record { core = c.step-answer.new.self; resident = c.args.self.now.resident } in
+    rw (c.in-Command.is, c.in-Ok.is, c.to_event.ensures)
+    (later_done c.args.self.now stepped (line.Command (Ok c.in-Ok.command)) (reply_to c.step-answer.result)
+    (λ refused s state. event_outcome refused s state.world state.resident (Accept c.in-Ok.command))
+    (does-event c.args.self.now stepped (Accept c.in-Ok.command) c.step-answer.result c.step-answer.ensures.answer c.step-answer.ensures.setup refl)
+    (λ refused machine state. refl))
 
 pub returns-in-Err : goal.returns-in-Err
 returns-in-Err c =
