@@ -1,9 +1,9 @@
 //! Scripts that are played to their end, and what is asked of the state that they lead to.
 //!
-//! [`run`] answers a script line by line. Of a script that is played, lines that are faulty or
-//! refused are passed over, and what is wrong with each is told. [`check`] does no more;
-//! [`predict`], [`diff`], [`explain`] and [`replay`] answer by the lines that were accepted, and tell
-//! by [`Ended`] whether there were others. [`tells_fault`] knows the answers of such lines.
+//! Lines that are faulty or refused are passed over, and what is wrong with each is told. [`check`]
+//! does no more; [`predict`], [`diff`], [`explain`] and [`replay`] answer by the lines that were
+//! accepted, and tell by [`Ended`] whether there were others. [`tells_fault`] knows the answers of
+//! such lines.
 #![tactic(auto)]
 
 mod asking;
@@ -14,7 +14,6 @@ mod halt;
 mod playing;
 mod question;
 mod replaying;
-mod running;
 
 pub use asking::{diff, predict};
 pub use explaining::explain;
@@ -23,4 +22,3 @@ pub use findings::{Ended, Findings};
 pub use halt::Halt;
 pub use playing::{Scripts, check, play};
 pub use replaying::replay;
-pub use running::run;

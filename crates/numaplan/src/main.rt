@@ -15,7 +15,6 @@ mod words;
 
 use endings::tell_fault;
 use numa_command_line::{Job, JobFault, ScriptJob, job};
-use numa_machine::Rules;
 use numa_sources::{open_all, open_worked};
 use numa_words::Scripts;
 use std::env::Env;
@@ -50,13 +49,22 @@ fn asked_job<R: Env + AllocGlobal>(rt: &R) -> Result<Job, JobFault>
     job(rt.alloc(), words.as_slice())
 }
 
-/// Works with scripts.
-fn work_done<R, S>(rt: &R, scripts: Scripts<S>, work: &ScriptJob) -> Result<ExitCode, JobFault>
+/// Works with scripts, or answers a typed one with a prompt.
+fn work_done<R, S>(
+    rt: &R,
+    scripts: Scripts<S>,
+    work: &ScriptJob,
+    has_prompt: bool,
+) -> Result<ExitCode, JobFault>
 where
     R: Files + Input + Print + Eprint + AllocGlobal,
     R::Reader: IsTerminal,
     S: Read + Drop,
 {
+    if has_prompt {
+        let Scripts { texts, rules } = scripts;
+        return Ok(terminal::answer(rt, texts, rules));
+    }
     match work {
         ScriptJob::Run { echo } => Ok(run::answer(rt, scripts, *echo)),
         ScriptJob::Check => Ok(check::check(rt, scripts)),
@@ -85,58 +93,25 @@ where
     }
 }
 
-/// Answers a typed script with a prompt, or else works with scripts.
-fn scripts_done<R, S>(
-    rt: &R,
-    scripts: Scripts<S>,
-    work: &ScriptJob,
-    has_prompt: bool,
-) -> Result<ExitCode, JobFault>
-where
-    R: Files + Input + Print + Eprint + AllocGlobal,
-    R::Reader: IsTerminal,
-    S: Read + Drop,
-{
-    if has_prompt {
-        let Scripts { texts, rules } = scripts;
-        return Ok(terminal::answer(rt, texts, rules));
-    }
-    work_done(rt, scripts, work)
-}
-
-/// Works with the scripts of files. If standard output is a terminal, a typed script gets a prompt.
-fn files_done<R>(
-    rt: &R,
-    names: &[String],
-    rules: Rules,
-    work: &ScriptJob,
-    is_terminal: bool,
-) -> Result<ExitCode, JobFault>
-where
-    R: Files + Input + Print + Eprint + AllocGlobal,
-    R::Reader: IsTerminal,
-{
-    let has_prompt = is_terminal && is_typed(rt, names, work);
-    let texts = match work {
-        ScriptJob::Expect => open_worked(rt, names),
-        _ => open_all(rt, names),
-    };
-    match texts {
-        Ok(texts) => scripts_done(rt, Scripts { texts, rules }, work, has_prompt),
-        Err(fault) => Err(fault),
-    }
-}
-
-/// Does a job; `is_terminal` says whether standard output is a terminal.
+/// Does a job. If standard output is a terminal, a typed script gets a prompt.
 fn done<R>(rt: &R, job: &Job, is_terminal: bool) -> Result<ExitCode, JobFault>
 where
     R: Threads + Wait + Sync + Files + Input + Print + Eprint + AllocGlobal,
     R::Reader: IsTerminal,
     requires { CanBeDone job.now }
 {
-    match job {
-        Job::Scripts { files, rules, work } => files_done(rt, files, *rules, work, is_terminal),
-        Job::Storm(workers) => Ok(storm::show(rt, *workers)),
+    let (files, rules, work) = match job {
+        Job::Scripts { files, rules, work } => (files, *rules, work),
+        Job::Storm(workers) => return Ok(storm::show(rt, *workers)),
+    };
+    let has_prompt = is_terminal && is_typed(rt, files, work);
+    let texts = match work {
+        ScriptJob::Expect => open_worked(rt, files),
+        _ => open_all(rt, files),
+    };
+    match texts {
+        Ok(texts) => work_done(rt, Scripts { texts, rules }, work, has_prompt),
+        Err(fault) => Err(fault),
     }
 }
 

@@ -2,7 +2,7 @@
 use crate::answering::Answering;
 use crate::endings::{fail, stop};
 use numa_files::{Echo, Joined, Lines, Stop, read_all};
-use numa_machine::Rules;
+use numa_run::run_by;
 use numa_script::{RunFault, Watched};
 use numa_sources::without_names;
 use numa_words::Scripts;
@@ -10,31 +10,22 @@ use std::io;
 use std::io::Read;
 use std::process::ExitCode;
 
-/// Answers what these readers hold, as one script, by these rules unless a line says otherwise.
-fn answer_sources<R, S>(rt: &R, sources: Vec<S>, rules: Rules) -> Result<(), RunFault>
-where
-    R: Print + AllocGlobal,
-    S: Read + Drop,
-{
-    let mut input = Watched::new(Joined::new(sources));
-    let mut output = Watched::new(io::writer(rt));
-    let run = numa_words::run(rt.alloc(), rules, &mut input, &mut output);
-    drop(output);
-    drop(input);
-    run
-}
-
-/// Answers scripts.
+/// Answers scripts, as one.
 fn answer_all<R, S>(rt: &R, scripts: Scripts<S>) -> Result<(), RunFault>
 where
     R: Print + AllocGlobal,
     S: Read + Drop,
 {
     let Scripts { texts, rules } = scripts;
-    match without_names(rt.alloc(), texts) {
-        Ok(sources) => answer_sources(rt, sources, rules),
-        Err(_) => Err(RunFault::Memory),
-    }
+    let Ok(sources) = without_names(rt.alloc(), texts) else {
+        return Err(RunFault::Memory);
+    };
+    let mut input = Watched::new(Joined::new(sources));
+    let mut output = Watched::new(io::writer(rt));
+    let run = run_by(rt.alloc(), rules, &mut input, &mut output);
+    drop(output);
+    drop(input);
+    run
 }
 
 /// Answers scripts, and writes each line beside its answer.
