@@ -2,7 +2,7 @@
 ghost use Rattle.std.specs.Prelude.{◌≡◌};
 ghost use Rattle.numa_reports.specs.declared.fault.ReportError.TheVariants as fault;
 
-use numa_plan::NoMemory;
+use numa_machine::NoMemory;
 use numa_space::PlaceRefusal;
 use std::alloc::AllocError;
 

@@ -20,7 +20,8 @@ use crate::prediction::{RangePrediction, TakeRange, policy_of};
 use crate::touch::{Touch, has_node};
 use crate::turns::{all_left_behind, all_times_left};
 use numa_plan::Plan;
-use numa_space::{PlaceRefusal, RangeRecord, Run, Space};
+use numa_ranges::Run;
+use numa_space::{PlaceRefusal, RangeRecord, Space};
 
 /// A number of free pages of a node.
 #[derive(Clone, Copy)]
@@ -235,6 +236,34 @@ fn fill_next<T: TakeRange>(
     Ok(())
 }
 
+/// The pages of each node that remain free, as by [`fill_all`], if the machine has the faulting node.
+///
+/// # Errors
+/// `Refused`: the plan isn't one of the space. `Memory`: the taker had none.
+pub(crate) fn fill_ranges<T: TakeRange>(
+    space: &Space,
+    plan: &Plan,
+    touch: Touch,
+    free: &mut [u64; 256],
+    taker: &mut T,
+) -> Result<(), ReportError>
+    requires known { touch.cpu < space.now.machine.nodes }
+    ensures ok { (history : List Command) → StandsFor space.now history
+        → PlanStandsFor space.now.machine plan.now history → OnOk result (free.new ≡ free_behind
+        (nodes_of space.now.machine history touch.task touch.cpu) free.old 0 (2 ^ 35)) }
+    ensures told { (history : List Command) → StandsFor space.now history
+        → PlanStandsFor space.now.machine plan.now history → OnOk result (ToldEach T.told
+        (IsFilling space.now.machine history touch.task touch.cpu free.old) space.now.ranges
+        taker.old taker.new) }
+    ensures err { FailsForNode space.now plan.now touch.cpu result }
+    ensures lack { IfErr result (λ why. why ≡ Memory → LacksOne T.lacks space.now.ranges) }
+{
+    for range in space.range_iter() {
+        fill_next(space, plan, touch, &range, free, taker)?;
+    }
+    Ok(())
+}
+
 /// The pages of each node that remain free, if the task touched all mapped pages now on a CPU of
 /// node `cpu`, in ascending order: a page takes a free page of the first node of its list that has
 /// one, or goes nowhere. The number of pages of each range that each node gets is passed to the
@@ -267,9 +296,5 @@ pub fn fill_all<T: TakeRange>(
     if !has_node(space, cpu) {
         return Err(ReportError::Refused(PlaceRefusal::BadCpu));
     }
-    let touch = Touch { task, cpu };
-    for range in space.range_iter() {
-        fill_next(space, plan, touch, &range, free, taker)?;
-    }
-    Ok(())
+    fill_ranges(space, plan, Touch { task, cpu }, free, taker)
 }

@@ -22,7 +22,8 @@ use crate::tally::{count_range, move_counts};
 use crate::touch::{Touch, has_node};
 use numa_mode::Record;
 use numa_plan::Plan;
-use numa_space::{PlaceRefusal, RangeRecord, Run, Space};
+use numa_ranges::Run;
+use numa_space::{PlaceRefusal, RangeRecord, Space};
 use std::alloc::AllocError;
 
 /// Where the pages of a range would go, if a task touched each of them now.
@@ -141,6 +142,39 @@ fn predict_next<T: TakeRange>(
     Ok(())
 }
 
+/// The number of mapped pages that would go to each node, as by [`predict_all`], if the machine has
+/// the faulting node.
+///
+/// # Errors
+/// `Refused`: the plan isn't one of the space. `Memory`: the taker had none.
+pub(crate) fn predict_ranges<T: TakeRange>(
+    space: &Space,
+    plan: &Plan,
+    touch: Touch,
+    taker: &mut T,
+) -> Result<[u64; 256], ReportError>
+    requires known { touch.cpu < space.now.machine.nodes }
+    ensures ok { (history : List Command) → StandsFor space.now history
+        → PlanStandsFor space.now.machine plan.now history
+        → IfOk result (AreFirsts space.now.machine history touch.task touch.cpu 0 (2 ^ 35)) }
+    ensures told { (history : List Command) → StandsFor space.now history
+        → PlanStandsFor space.now.machine plan.now history → OnOk result (ToldEach T.told
+        (IsPrediction space.now.machine history touch.task touch.cpu) space.now.ranges
+        taker.old taker.new) }
+    ensures err { FailsForNode space.now plan.now touch.cpu result }
+    ensures lack { IfErr result (λ why. why ≡ Memory → LacksOne T.lacks space.now.ranges) }
+{
+    let mut said = RangePrediction {
+        policy: None,
+        counts: [0; 256],
+    };
+    let mut all = [0u64; 256];
+    for range in space.range_iter() {
+        predict_next(space, plan, touch, &range, taker, &mut said, &mut all)?;
+    }
+    Ok(all)
+}
+
 /// The number of mapped pages that would go to each node, if the task touched each of them now on a
 /// CPU of node `cpu`. The prediction of each range, as by [`predict_range`], is passed to the
 /// taker, once, in ascending order (`&mut ()` ignores it and doesn't allocate). The plan is one of
@@ -169,14 +203,5 @@ pub fn predict_all<T: TakeRange>(
     if !has_node(space, cpu) {
         return Err(ReportError::Refused(PlaceRefusal::BadCpu));
     }
-    let mut said = RangePrediction {
-        policy: None,
-        counts: [0; 256],
-    };
-    let mut all = [0u64; 256];
-    let touch = Touch { task, cpu };
-    for range in space.range_iter() {
-        predict_next(space, plan, touch, &range, taker, &mut said, &mut all)?;
-    }
-    Ok(all)
+    predict_ranges(space, plan, Touch { task, cpu }, taker)
 }

@@ -2,12 +2,11 @@
 use crate::findings::{Ended, Findings};
 use crate::halt::{Halt, halt_of};
 use crate::playing::{Scripts, play};
-use crate::question::{SpaceQuestion, ask, space_of, write};
+use crate::question::{space_after, space_of, write};
 use numa_compile::compile;
 use numa_files::{Stop, TakeLine};
 use numa_reports::{Format, FreePages, Outlook, Touch, difference_text, filling_text, outlook_of};
 use numa_run::Script;
-use numa_space::Space;
 use std::alloc::Global;
 use std::io::{Read, Write};
 
@@ -34,29 +33,31 @@ fn lacking_node(free: &[FreePages], nodes: u32) -> Option<u8> {
     }
 }
 
-/// Where all mapped pages would go, if they were touched now.
-#[derive(Drop)]
-struct Prediction<'a> {
+/// Ends what is told, and returns where all mapped pages would go, if they were touched now, as a
+/// text.
+fn prediction<T: Write>(
+    alloc: Global,
+    findings: &mut Findings<T>,
     asked: Touch,
     format: Format,
-    free: &'a [FreePages],
-}
-
-impl SpaceQuestion for Prediction<'_> {
-    fn answer(self, alloc: Global, space: &Space) -> Result<Vec<u8>, Halt> {
-        let nodes = space.machine().nodes();
-        if let Some(node) = lacking_node(self.free, nodes) {
-            return Err(Halt::NoFreeNode(node, nodes));
-        }
-        let Ok(plan) = compile(alloc, space) else {
-            return Err(Halt::Stopped(Stop::Memory));
-        };
-        let text = filling_text(alloc, space, &plan, self.asked, self.format, self.free);
-        drop(plan);
-        match text {
-            Ok(text) => Ok(text),
-            Err(fault) => Err(halt_of(fault, nodes)),
-        }
+    free: &[FreePages],
+) -> Result<Vec<u8>, Halt> {
+    let space = match space_after(findings) {
+        Ok(space) => space,
+        Err(halt) => return Err(halt),
+    };
+    let nodes = space.machine().nodes();
+    if let Some(node) = lacking_node(free, nodes) {
+        return Err(Halt::NoFreeNode(node, nodes));
+    }
+    let Ok(plan) = compile(alloc, space) else {
+        return Err(Halt::Stopped(Stop::Memory));
+    };
+    let text = filling_text(alloc, space, &plan, asked, format, free);
+    drop(plan);
+    match text {
+        Ok(text) => Ok(text),
+        Err(fault) => Err(halt_of(fault, nodes)),
     }
 }
 
@@ -76,12 +77,12 @@ pub fn predict<R: Read + Drop, W: Write, T: Write + Drop>(
     output: &mut W,
     told: T,
 ) -> Result<Ended, Halt> {
-    let question = Prediction {
-        asked,
-        format,
-        free,
-    };
-    ask(alloc, scripts, question, output, told)
+    let Scripts { texts, rules } = scripts;
+    let mut findings = play(alloc, texts, Findings::new(alloc, rules, told))?;
+    let text = prediction(alloc, &mut findings, asked, format, free);
+    let ended = findings.ended();
+    drop(findings);
+    write(text, ended, output)
 }
 
 /// Plays the added lines, and ends what is told.
@@ -176,7 +177,8 @@ pub fn diff<R: Read + Drop, W: Write, T: Write + Drop>(
     output: &mut W,
     told: T,
 ) -> Result<Ended, Halt> {
-    let mut findings = play(alloc, scripts, told)?;
+    let Scripts { texts, rules } = scripts;
+    let mut findings = play(alloc, texts, Findings::new(alloc, rules, told))?;
     let text = difference(alloc, &mut findings, lines, asked);
     let ended = findings.ended();
     drop(findings);

@@ -1,7 +1,7 @@
 //! Why a page goes where it goes, after scripts.
 use crate::findings::{Ended, Findings};
 use crate::halt::Halt;
-use crate::playing::{Scripts, play_into};
+use crate::playing::{Scripts, play};
 use crate::question::{space_of, write};
 use numa_diagnose::{Explanation, ReasonError, by_other_rules, say_by_other, say_explanation};
 use numa_files::Stop;
@@ -113,7 +113,7 @@ pub fn explain<R: Read + Drop, W: Write, T: Write + Drop>(
 ) -> Result<Ended, Halt> {
     let Scripts { texts, rules } = scripts;
     let both = Findings::new(alloc, rules, told).with_other(rules);
-    let mut findings = match play_into(alloc, texts, both) {
+    let mut findings = match play(alloc, texts, both) {
         Ok(findings) => findings,
         Err(why) => return Err(Halt::Stopped(why)),
     };

@@ -36,23 +36,13 @@ impl<W: Write> TakeText for Checking<W> {
     }
 }
 
-/// Reads the scripts, plays their lines, and tells the writer what is wrong with them: the text's
-/// name, the line, for bad words the column, the answer, and its cause. How
-/// many lines weren't judged is left to be told by `end`.
+/// Reads texts in turn, plays their lines as one script, and reports what is wrong with them: the
+/// text's name, the line, for bad words the column, the answer, and its cause. `Findings::end`
+/// reports how many lines weren't judged.
 ///
 /// # Errors
-/// Where a read or a write failed, or there was no memory.
+/// `Read` or `Write`: a read or a write failed. `Memory`: out of memory.
 pub fn play<R: Read + Drop, W: Write + Drop>(
-    alloc: Global,
-    scripts: Scripts<R>,
-    output: W,
-) -> Result<Findings<W>, Stop> {
-    let Scripts { texts, rules } = scripts;
-    play_into(alloc, texts, Findings::new(alloc, rules, output))
-}
-
-/// Does so for findings that tell more, or play the lines by the other rules too.
-pub(crate) fn play_into<R: Read + Drop, W: Write + Drop>(
     alloc: Global,
     texts: Vec<(String, R)>,
     findings: Findings<W>,
@@ -89,7 +79,7 @@ pub fn check<R: Read + Drop, W: Write + Drop>(
 ) -> Result<Ended, Stop> {
     let Scripts { texts, rules } = scripts;
     let told = Findings::new(alloc, rules, output).with_hints();
-    let mut findings = match play_into(alloc, texts, told) {
+    let mut findings = match play(alloc, texts, told) {
         Ok(findings) => findings,
         Err(why) => return Err(why),
     };

@@ -1,8 +1,8 @@
 //! Traces that are replayed after scripts.
-use crate::findings::Ended;
+use crate::findings::{Ended, Findings};
 use crate::halt::Halt;
-use crate::playing::Scripts;
-use crate::question::{SpaceQuestion, ask};
+use crate::playing::{Scripts, play};
+use crate::question::{space_after, write};
 use numa_compile::compile;
 use numa_files::Stop;
 use numa_plan::Plan;
@@ -49,23 +49,28 @@ fn replayed_by<S: Read + Drop>(
     }
 }
 
-/// A trace that is to be replayed.
-#[derive(Drop)]
-struct Trace<S> {
-    texts: Vec<(String, S)>,
+/// Ends what is told, replays a trace by the plan of all accepted commands, and returns what it met
+/// as a text.
+fn replayed<S: Read + Drop, T: Write>(
+    alloc: Global,
+    findings: &mut Findings<T>,
+    trace: Vec<(String, S)>,
     format: Shape,
-}
-
-impl<S: Read + Drop> SpaceQuestion for Trace<S> {
-    fn answer(self, alloc: Global, space: &Space) -> Result<Vec<u8>, Halt> {
-        let Ok(plan) = compile(alloc, space) else {
-            drop(self);
-            return Err(Halt::Stopped(Stop::Memory));
-        };
-        let text = replayed_by(alloc, space, &plan, self.texts, self.format);
-        drop(plan);
-        text
-    }
+) -> Result<Vec<u8>, Halt> {
+    let space = match space_after(findings) {
+        Ok(space) => space,
+        Err(halt) => {
+            drop(trace);
+            return Err(halt);
+        }
+    };
+    let Ok(plan) = compile(alloc, space) else {
+        drop(trace);
+        return Err(Halt::Stopped(Stop::Memory));
+    };
+    let text = replayed_by(alloc, space, &plan, trace, format);
+    drop(plan);
+    text
 }
 
 /// Plays the scripts, and then a trace on a machine where no page is placed, by the
@@ -84,9 +89,16 @@ pub fn replay<R: Read + Drop, S: Read + Drop, W: Write, T: Write + Drop>(
     output: &mut W,
     told: T,
 ) -> Result<Ended, Halt> {
-    let question = Trace {
-        texts: trace,
-        format,
+    let Scripts { texts, rules } = scripts;
+    let mut findings = match play(alloc, texts, Findings::new(alloc, rules, told)) {
+        Ok(findings) => findings,
+        Err(why) => {
+            drop(trace);
+            return Err(Halt::Stopped(why));
+        }
     };
-    ask(alloc, scripts, question, output, told)
+    let text = replayed(alloc, &mut findings, trace, format);
+    let ended = findings.ended();
+    drop(findings);
+    write(text, ended, output)
 }

@@ -10,7 +10,8 @@ use crate::period::period_in;
 use crate::sheet::written::Written;
 use crate::touch::Touch;
 use numa_plan::Plan;
-use numa_space::{PlaceRefusal, RangeRecord, Run, Space};
+use numa_ranges::Run;
+use numa_space::{PlaceRefusal, RangeRecord, Space};
 use std::alloc::Global;
 
 /// The most pages of a range that have a cell.

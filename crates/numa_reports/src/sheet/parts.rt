@@ -1,12 +1,12 @@
 //! Writing a prediction part by part, in any format.
-ghost use Rattle.std.specs.Prelude.{◌≡◌, ◌≤◌, Err};
+ghost use Rattle.std.specs.Prelude.{◌≡◌, ◌≤◌, ◌<◌, Err};
 ghost use Rattle.numa_space.specs.declared.refusal.PlaceRefusal.TheVariants.{BadCpu};
 ghost use Rattle.numa_reports.specs.declared.fault.ReportError.TheVariants.{Refused};
 ghost use Rattle.numa_reports.specs.Failing.{FailsForNode};
 
 use crate::fault::ReportError;
-use crate::filling::{FreePages, fill_all, free_of, taken};
-use crate::prediction::{RangePrediction, TakeRange, predict_all};
+use crate::filling::{FreePages, fill_ranges, free_of, taken};
+use crate::prediction::{RangePrediction, TakeRange, predict_ranges};
 use crate::sheet::cells::{CELLS, first_cells};
 use crate::sheet::fields::{RangeRow, bytes, placed_of};
 use crate::sheet::nodes::{NodePages, list_nodes};
@@ -15,7 +15,8 @@ use crate::sheet::written::Written;
 use crate::sheet::{Format, lines, objects, pictures, records};
 use crate::touch::{Touch, has_node};
 use numa_plan::Plan;
-use numa_space::{PlaceRefusal, RangeRecord, Run, Space};
+use numa_ranges::Run;
+use numa_space::{PlaceRefusal, RangeRecord, Space};
 use std::alloc::{AllocError, Global};
 
 /// A prediction that is written range by range.
@@ -69,19 +70,6 @@ impl PredictionWriter {
     }
 }
 
-/// Writes the row of a range, with `before` ranges before it; the cells are those of all ranges.
-fn put_range(text: &mut Written, format: Format, row: RangeRow<'_>, before: usize, cells: &[u8]) {
-    match format {
-        Format::Text => lines::put_range(text, row),
-        Format::Json => objects::put_range(text, row, before == 0),
-        Format::Csv => records::put_range(text, row),
-        Format::Svg => {
-            let cells = cells_of(cells, before, row.placed.pages);
-            pictures::put_range(text, before, row, cells);
-        }
-    }
-}
-
 impl TakeRange for PredictionWriter {
     fn take(&mut self, range: &Run<RangeRecord>, said: &RangePrediction) -> Result<(), AllocError> {
         list_nodes(&mut self.listed, shown(&said.counts, self.nodes))?;
@@ -91,7 +79,16 @@ impl TakeRange for PredictionWriter {
             policy: self.policies.text(said.policy)?,
             placed: placed_of(&self.listed, range.pages, self.fills),
         };
-        put_range(&mut self.text, self.format, row, self.ranges, &self.cells);
+        let text = &mut self.text;
+        match self.format {
+            Format::Text => lines::put_range(text, row),
+            Format::Json => objects::put_range(text, row, self.ranges == 0),
+            Format::Csv => records::put_range(text, row),
+            Format::Svg => {
+                let cells = cells_of(&self.cells, self.ranges, row.placed.pages);
+                pictures::put_range(text, self.ranges, row, cells);
+            }
+        }
         self.ranges = self.ranges.saturating_add(1);
         self.pages = self.pages.saturating_add(range.pages);
         self.text.checked()
@@ -170,13 +167,13 @@ fn write_filled(
     parts: &mut PredictionWriter,
     asked: PredictionRequest<'_>,
 ) -> Result<(), ReportError>
+    requires known { asked.touch.cpu < asked.space.now.machine.nodes }
     ensures err { FailsForNode asked.entry.space.now asked.entry.plan.now
         asked.entry.touch.cpu result }
 {
     let before = free_of(asked.free);
     let mut after = before;
-    let Touch { task, cpu } = asked.touch;
-    fill_all(asked.space, asked.plan, task, cpu, &mut after, parts)?;
+    fill_ranges(asked.space, asked.plan, asked.touch, &mut after, parts)?;
     let left = left_on(parts.text.alloc(), asked.free, &after)?;
     parts.put_total(&taken(&before, &after), &left);
     Ok(())
@@ -187,12 +184,12 @@ fn write_all(
     parts: &mut PredictionWriter,
     asked: PredictionRequest<'_>,
 ) -> Result<Vec<u8>, ReportError>
+    requires known { asked.touch.cpu < asked.space.now.machine.nodes }
     ensures err { FailsForNode asked.entry.space.now asked.entry.plan.now
         asked.entry.touch.cpu result }
 {
     if asked.free.is_empty() {
-        let Touch { task, cpu } = asked.touch;
-        let counts = predict_all(asked.space, asked.plan, task, cpu, parts)?;
+        let counts = predict_ranges(asked.space, asked.plan, asked.touch, parts)?;
         parts.put_total(&counts, &[]);
     } else {
         write_filled(parts, asked)?;
