@@ -16,12 +16,12 @@ ghost use Rattle.numa_space.specs.Same.{same_record};
 ghost use Rattle.numa_space.specs.Steps.{policy_with_home, policy_after};
 
 use crate::range_record::RangeRecord;
+use crate::range_rows::RangeRows;
 use crate::refusal::Refusal;
 use numa_machine::Rules;
 use numa_mask::NodeMask;
 use numa_mode::Record;
-use numa_ranges::{RangeError, RangeIter, RangeMap, Row, Run};
-use numa_rows::{Iter, Owned};
+use numa_ranges::{RangeError, RangeIter, RangeMap, Run};
 use std::alloc::{AllocError, Global};
 use std::marker::Model;
 
@@ -89,10 +89,11 @@ impl Pages {
     }
 
     /// The ranges in ascending order, with the numbers of their records, and the records.
-    pub(crate) fn rows(&self) -> (Iter<'_, Row, Owned<Row>>, &[RangeRecord])
+    pub(crate) fn rows(&self) -> (RangeRows<'_>, &[RangeRecord])
         ensures { AreRowsOf result.1.now result.0 self.now.runs }
     {
-        self.map.rows()
+        let (rows, records) = self.map.rows();
+        (RangeRows::new(rows), records)
     }
 
     /// The range at a place, in ascending order; `None` from `len` on.

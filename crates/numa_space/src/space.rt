@@ -22,13 +22,13 @@ use crate::command::Command;
 use crate::limits::Limits;
 use crate::page_ranges::Pages;
 use crate::range_record::RangeRecord;
+use crate::range_rows::RangeRows;
 use crate::refusal::Refusal;
 use crate::task_policies::Tasks;
 use numa_machine::{Machine, NoMemory, Weights};
 use numa_mask::NodeMask;
 use numa_mode::Record;
-use numa_ranges::{RangeIter, Row, Run};
-use numa_rows::{Iter, Owned};
+use numa_ranges::{RangeIter, Run};
 use std::alloc::Global;
 use std::marker::Model;
 
@@ -233,7 +233,7 @@ impl Space {
     /// The ranges in ascending order, each with the number of its record, and the records by
     /// number: so a caller can derive something once for all ranges with one number. Equal records
     /// can have several numbers, and some records may belong to no range.
-    pub fn range_rows(&self) -> (Iter<'_, Row, Owned<Row>>, &[RangeRecord])
+    pub fn range_rows(&self) -> (RangeRows<'_>, &[RangeRecord])
         ensures { AreRowsOf result.1.now result.0 self.now.ranges }
     {
         self.pages.rows()
