@@ -2,7 +2,8 @@
 use crate::figures::{Figure, Subject, print as print_figures};
 use crate::many::{bind, bind_page, eight_nodes, map, mixed, nodes_of, spec_of_bits};
 use numa_mode::PolicySpec;
-use numa_space::{Command, Limits, RangeRecord, Run, Space};
+use numa_ranges::Run;
+use numa_space::{Command, Limits, RangeRecord, Space};
 use std::alloc::{AllocError, Global};
 use std::hint::black_box;
 use std::io;

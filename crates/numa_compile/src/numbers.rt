@@ -12,8 +12,9 @@ ghost use Rattle.numa_compile.specs.Rules.{IsReady};
 
 use crate::rules::rule_of;
 use indexmap::IndexSet;
+use numa_machine::NoMemory;
 use numa_mode::Record;
-use numa_plan::{NoMemory, Plan, Steps};
+use numa_plan::{Plan, Steps};
 use numa_space::{RangeRecord, Space};
 use std::alloc::Global;
 

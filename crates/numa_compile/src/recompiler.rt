@@ -33,7 +33,8 @@ use crate::recompiler::rewrite::rewrite_window;
 use crate::recompiler::task::recompile_task;
 use crate::recompiler::weight::recompile_weight;
 use crate::recompiler::window::open_window;
-use numa_plan::{NoMemory, Plan, Steps};
+use numa_machine::NoMemory;
+use numa_plan::{Plan, Steps};
 use numa_space::{Command, Space};
 use std::alloc::Global;
 

@@ -8,8 +8,8 @@ ghost use Rattle.numa_compile.specs.declared.reach.Reach.TheVariants.{Only};
 
 use crate::reach::Reach;
 use arrayvec::ArrayVec;
+use numa_machine::NoMemory;
 use numa_mask::NodeMask;
-use numa_plan::NoMemory;
 use numa_space::Space;
 use std::alloc::Global;
 

@@ -14,9 +14,10 @@ ghost use Rattle.numa_compile.specs.declared.reach.Reach.TheVariants.{Only, Firs
 use crate::reach::Reach;
 use crate::rows::{push_row, rows_by_member, rows_by_node};
 use crate::turns::{equal_turns, weighted_turns};
+use numa_machine::NoMemory;
 use numa_mask::NodeMask;
 use numa_mode::{Mode, Record};
-use numa_plan::{NoMemory, Rule};
+use numa_plan::Rule;
 use numa_space::Space;
 use std::alloc::Global;
 

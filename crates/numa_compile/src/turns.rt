@@ -5,9 +5,8 @@ ghost use Rattle.numa_mask.specs.NodeSet.{members, weight_of};
 ghost use Rattle.numa_machine.specs.Weights.{weight_at};
 ghost use Rattle.numa_compile.specs.Rules.{places_from};
 
-use numa_machine::Weights;
+use numa_machine::{NoMemory, Weights};
 use numa_mask::NodeMask;
-use numa_plan::NoMemory;
 use std::alloc::Global;
 
 /// One turn for each of so many places, from place 0 on.

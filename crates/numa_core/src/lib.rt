@@ -23,14 +23,9 @@ mod tables;
 
 pub use crate::judging::cause_at;
 use crate::state::State;
-use numa_machine::Machine;
-pub use numa_machine::NoMemory;
-pub use numa_machine::frame::{self, Frame};
+use numa_machine::{Machine, NoMemory};
 use numa_plan::Plan;
-pub use numa_space::event::{self, CoreRefusal, CoreReply, Event};
-pub use numa_space::placement::{self, Placement};
-pub use numa_space::request::{self, Request};
-use numa_space::{Limits, Space};
+use numa_space::{CoreRefusal, CoreReply, Event, Limits, Request, Space};
 use std::alloc::Global;
 use std::marker::Model;
 

@@ -1,13 +1,13 @@
 //! What is known of a fault or a refusal beyond its name.
 use crate::finding::Detail;
 use crate::pages::{first_mapped, first_unmapped, first_without_home, is_mapped};
-use numa_core::{Core, CoreRefusal, Event};
+use numa_core::Core;
 use numa_mask::ListFault;
 use numa_mask::parts::first_place;
-use numa_run::{Reply, Script};
+use numa_run::Script;
 use numa_script::parts::{items, words};
-use numa_script::{Line, Question, WordError, Work, why_malformed};
-use numa_space::{Command, Refusal, Space};
+use numa_script::{Line, Question, Reply, WordError, Work, why_malformed};
+use numa_space::{Command, CoreRefusal, Event, Refusal, Space};
 
 /// How many bytes a page has.
 const PAGE: u64 = 4096;

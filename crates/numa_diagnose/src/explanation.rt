@@ -11,7 +11,8 @@ use crate::scope::{Scope, scope_of};
 use arrayvec::ArrayVec;
 use numa_mask::NodeMask;
 use numa_mode::Record;
-use numa_space::{RangeRecord, Run, Space};
+use numa_ranges::Run;
+use numa_space::{RangeRecord, Space};
 use std::alloc::Global;
 
 /// Why memory for a page is looked for on these nodes, in this order, when a task faults on it.

@@ -3,9 +3,9 @@ ghost use Rattle.std.specs.Prelude.{◌≡◌, Bool};
 ghost use Rattle.numa_diagnose.specs.Checks.{Checks};
 
 use crate::details::detail_of;
-use numa_run::{Reply, Script};
-use numa_script::Malformed;
+use numa_run::Script;
 use numa_script::line::parse;
+use numa_script::{Malformed, Reply};
 use std::alloc::Global;
 
 /// What is known beyond the name of a fault or a refusal.

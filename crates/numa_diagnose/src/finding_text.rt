@@ -2,13 +2,11 @@
 use crate::finding::{Detail, Finding};
 use crate::text::Text;
 use crate::words::{list_words, machine_words, policy_words, worker_words};
-use numa_core::CoreRefusal;
-use numa_run::Reply;
-use numa_run::names::Named;
 use numa_script::keyword::Keyword;
+use numa_script::names::Named;
 use numa_script::parameter::parameters;
-use numa_script::{Cause, Form, Misfit, Parameter, WordError};
-use numa_space::Refusal;
+use numa_script::{Cause, Form, Misfit, Parameter, Reply, WordError};
+use numa_space::{CoreRefusal, Refusal};
 use std::alloc::AllocError;
 
 /// What RULES isn't.

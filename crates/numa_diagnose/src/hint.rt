@@ -6,9 +6,9 @@ ghost use Rattle.numa_run.specs.Scripts.{ScriptReplies};
 ghost use Rattle.numa_diagnose.specs.Hints.{hint_for, turned};
 
 use numa_rules::{Otherwise, other_rules, otherwise_of};
-use numa_run::{Reply, Script};
-use numa_script::Line;
+use numa_run::Script;
 use numa_script::line::parse;
+use numa_script::{Line, Reply};
 use numa_space::Space;
 use std::alloc::Global;
 

@@ -11,21 +11,21 @@
 //!
 //! Where the rules of the documents count, [`hint_of`] finds what a running kernel would do
 //! otherwise with a line, and [`say_hint`] tells it. A second script that is handed the same lines
-//! by [`reply_by_other`] goes by the other rules; [`by_other_rules`] finds what it makes of a page,
-//! and [`say_by_other`] tells it.
+//! by [`reply_by_other`] goes by the other rules; [`numa_rules::by_other_rules`] finds what it
+//! makes of a page, and [`say_by_other`] tells it.
 #![tactic(auto)]
 
 mod details;
 mod explanation;
 mod fault;
-pub mod finding;
+mod finding;
 mod finding_text;
 mod hint;
 mod hint_text;
 mod pages;
 mod place;
 mod reason_text;
-pub mod rule;
+mod rule;
 mod scope;
 mod text;
 mod words;
@@ -36,7 +36,6 @@ pub use finding::{Detail, Finding, judge};
 pub use finding_text::{say_finding, say_line, say_unjudged};
 pub use hint::{hint_of, reply_by_other};
 pub use hint_text::{say_by_other, say_hint};
-pub use numa_rules::{ByOther, Otherwise, Owner, Parted, by_other_rules, other_rules};
 pub use place::{range_of, task_policy};
 pub use reason_text::say_explanation;
 pub use rule::{OrderRule, Turn, WeightedTurn};

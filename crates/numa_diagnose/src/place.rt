@@ -7,7 +7,8 @@ ghost use Rattle.numa_space.specs.Standing.{record_of};
 ghost use Rattle.numa_diagnose.specs.Reasons.{run_with};
 
 use numa_mode::Record;
-use numa_space::{RangeRecord, Run, Space};
+use numa_ranges::Run;
+use numa_space::{RangeRecord, Space};
 
 /// Whether a run has a page.
 fn has_page(run: &Run<RangeRecord>, page: u64) -> bool

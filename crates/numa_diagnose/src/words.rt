@@ -1,10 +1,9 @@
 //! The causes of faults and refusals in a few words, each with what to do, where there is
 //! something.
-use numa_core::CoreRefusal;
 use numa_machine::MachineFault;
 use numa_mask::ListFault;
 use numa_mode::SpecError;
-use numa_space::Refusal;
+use numa_space::{CoreRefusal, Refusal};
 
 /// What is wrong with a node list.
 pub(crate) fn list_words(fault: ListFault) -> &'static str {

@@ -7,6 +7,5 @@ mod line;
 pub mod listing;
 pub mod resident;
 
-pub use line_server::watched::{self, CallFailed, Watched};
 pub use listing::{WriteFault, write_maps};
 pub use resident::{RecordRefusal, Resident};

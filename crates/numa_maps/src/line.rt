@@ -11,7 +11,8 @@ use crate::resident::Resident;
 use arrayvec::ArrayString;
 use itoa::Buffer;
 use numa_mode::Record;
-use numa_space::{PAGE_BYTES, RangeRecord, Run};
+use numa_ranges::Run;
+use numa_space::{PAGE_BYTES, RangeRecord};
 
 /// The text of a line. It has room for an address of 16 digits, a space, a policy of 1024 bytes,
 /// the number of placed pages in 26 bytes, 256 nodes of 26 bytes each, the size of a page in 20

@@ -6,7 +6,8 @@ ghost use Rattle.numa_ranges.specs.Runs.{end_of};
 ghost use Rattle.numa_maps.specs.Residents.{placed_at, with_placement, without_page, IsRefusal};
 ghost use Rattle.numa_maps.specs.Residents.{IsRising};
 
-use numa_space::{Placement, RangeRecord, Run};
+use numa_ranges::Run;
+use numa_space::{Placement, RangeRecord};
 use std::alloc::Global;
 use std::collections::BTreeMap;
 use std::collections::btree_map::Range;

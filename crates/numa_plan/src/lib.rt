@@ -26,7 +26,6 @@ mod slots;
 mod steps;
 mod tally;
 
-pub use numa_machine::NoMemory;
 pub use plan::Plan;
 pub use rule::Rule;
 pub use shared_rule::SharedRule;

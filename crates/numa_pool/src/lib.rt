@@ -19,8 +19,6 @@ pub mod view;
 
 pub use along::take_along;
 pub use closed::Closed;
-pub use numa_machine::Frame;
-pub use numa_machine::no_memory::{self, NoMemory};
 pub use owned_seat::OwnedSeat;
 pub use pools::Pools;
 pub use seat::PoolSeat;

@@ -4,8 +4,8 @@ ghost use Rattle.numa_pool.specs.Seated.{at_first, newcomer, seat_after_split, s
 ghost use Rattle.numa_pool.specs.Seated.{Gives, TakesAlong};
 
 use crate::along::take_along;
-use crate::{NoMemory, PoolSeat, Pools};
-use numa_machine::{Frame, Machine};
+use crate::{PoolSeat, Pools};
+use numa_machine::{Frame, Machine, NoMemory};
 use std::alloc::Global;
 use std::marker::Model;
 use std::sync::Arc;

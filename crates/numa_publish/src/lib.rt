@@ -19,7 +19,6 @@ pub mod shared;
 pub mod view;
 
 pub use desk::{Desk, NoReader};
-pub use numa_machine::NoMemory;
 pub use reader::PlanReader;
 pub use receipt::Receipt;
 pub use shared::{DeskName, SharedDesk, SubmitRefusal};

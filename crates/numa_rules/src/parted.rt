@@ -6,7 +6,8 @@ ghost use Rattle.numa_rules.specs.Otherwise.{parted_tasks};
 use numa_machine::Rules;
 use numa_mask::NodeMask;
 use numa_mode::Record;
-use numa_space::{RangeRecord, Run, Space};
+use numa_ranges::Run;
+use numa_space::{RangeRecord, Space};
 
 /// The owner of a policy.
 #[derive(Clone, Copy, Debug)]

@@ -7,7 +7,8 @@ ghost use Rattle.numa_space.specs.History.{page_count, page_of};
 ghost use Rattle.numa_space.specs.Refusals.{bad_span};
 ghost use Rattle.numa_rules.specs.Pages.{passes, reaches};
 
-use numa_space::{PAGE_BYTES, RangeRecord, Run, Space};
+use numa_ranges::Run;
+use numa_space::{PAGE_BYTES, RangeRecord, Space};
 
 /// A test of the pages of a span.
 #[derive(Clone, Copy)]

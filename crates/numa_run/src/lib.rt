@@ -5,11 +5,10 @@ mod build;
 mod judging;
 mod questions;
 mod running;
-pub mod script;
+mod script;
 mod settings;
-pub mod streams;
+mod streams;
 
-pub use numa_script::{Reply, Win, names, reply};
 pub use judging::lacks_memory;
 pub use script::Script;
 pub use streams::{run, run_by};

@@ -19,7 +19,6 @@ pub mod tell;
 pub mod work;
 
 pub use line::{Line, MachineLine, Question};
-pub use line_server::{CallFailed, RunFault, Serve, Watched, run, serve, serve_script};
 pub use malformed::{Cause, Malformed, why_malformed};
 pub use parameter::{Form, Misfit, Parameter};
 pub use policy::WordError;

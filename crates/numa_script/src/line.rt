@@ -10,13 +10,13 @@ ghost use Rattle.numa_script.specs.Lines.{is_silent, has_empty_word, line_of};
 use crate::keyword::{Keyword, read_keyword};
 use crate::machine::{Distances, Frames, has_kernel_orders};
 use crate::number::{few_pages, number, small};
-use crate::parts::{Parts, words};
+use crate::parts::words;
 use crate::policy::{WordError, read_policy};
 use crate::reading::{four, four_words, three, three_words, two, two_words};
 use crate::rules::read_rules;
 use crate::work::{Work, begin, give, look, publish, release, touch, try_frame};
 use numa_machine::Rules;
-use numa_mask::{ListFault, NodeMask, read_list};
+use numa_mask::{ListFault, NodeMask, Parts, read_list};
 use numa_space::Command;
 use numa_space::Command::{Inherit, Map, SetHome, SetWeight, Unmap};
 

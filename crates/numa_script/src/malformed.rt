@@ -10,7 +10,8 @@ ghost use Rattle.numa_script.specs.Parts.{words_of};
 use crate::keyword::{Keyword, read_keyword};
 use crate::line::{LIMIT, is_silent_line};
 use crate::parameter::{Misfit, Parameter, parameters, read_misfit};
-use crate::parts::{Parts, words};
+use crate::parts::words;
+use numa_mask::Parts;
 
 /// What is wrong with a malformed line.
 #[derive(Clone, Copy, Debug, PartialEq, Eq)]

@@ -2,7 +2,7 @@
 ghost use Rattle.std.specs.Prelude.{◌≡◌};
 ghost use Rattle.numa_script.specs.Parts.{words_of, items_of, rows_of};
 
-pub use numa_mask::Parts;
+use numa_mask::Parts;
 
 /// The words of a line, separated by single spaces: between two spaces in a row is an empty word.
 pub fn words(line: &[u8]) -> Parts<'_>

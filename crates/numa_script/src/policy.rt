@@ -4,11 +4,10 @@ ghost use Rattle.numa_mode.specs.Flags.{has_static, has_relative};
 ghost use Rattle.numa_script.specs.Policies.{mode_of, form_with, form_of, form_of_two};
 ghost use Rattle.numa_script.specs.Policies.{form_of_three, policy_from, policy_of};
 
-use crate::parts::Parts;
 use crate::table::meaning;
 use bitflags::Flags;
 use numa_mask::parts::first_place;
-use numa_mask::{ListFault, NodeMask, read_list};
+use numa_mask::{ListFault, NodeMask, Parts, read_list};
 use numa_mode::{Mode, PolicyFlags, PolicySpec, SpecError};
 
 /// What is wrong with a word for nodes or a policy.

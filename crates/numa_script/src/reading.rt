@@ -6,7 +6,7 @@ ghost use Rattle.numa_script.specs.Present.{four_words};
 ghost use Rattle.std.specs.Option.{option_map};
 
 use crate::number::{number, small};
-use crate::parts::Parts;
+use numa_mask::Parts;
 
 /// A number type.
 pub(crate) trait Number: Copy {

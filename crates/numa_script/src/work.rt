@@ -5,9 +5,9 @@ ghost use Rattle.numa_script.specs.Workers.{look_work, try_work, give_work, touc
 ghost use Rattle.numa_script.specs.Workers.{release_work};
 
 use crate::number::{frame_number, node, page, small};
-use crate::parts::Parts;
 use crate::reading::{three, two, two_words};
 use numa_machine::Frame;
+use numa_mask::Parts;
 use numa_space::{Event, PAGE_BYTES, Request};
 
 /// Work for a worker, or the publication of the commands so far. Workers are numbered from 0.

@@ -90,7 +90,6 @@ mod task_policies;
 pub use command::{Command, PAGE_BYTES};
 pub use event::{CoreRefusal, CoreReply, Event};
 pub use limits::Limits;
-pub use numa_ranges::Run;
 pub use placement::Placement;
 pub use range_record::RangeRecord;
 pub use range_rows::RangeRows;

@@ -4,8 +4,9 @@ ghost use Rattle.numa_script.specs.Lines.{is_silent};
 ghost use Rattle.numa_traces.specs.Accesses.{access_by, access_of, with_task};
 
 use crate::fault::AccessError;
+use numa_mask::Parts;
 use numa_script::number::{page, small};
-use numa_script::parts::{Parts, words};
+use numa_script::parts::words;
 
 /// Consecutive accesses of a task to a page, from a CPU of a node.
 #[derive(Clone, Copy)]

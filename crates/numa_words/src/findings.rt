@@ -3,12 +3,13 @@ ghost use Rattle.std.specs.Prelude.{◌≡◌};
 ghost use Rattle.numa_words.specs.Faults.{ended_by, has_faults};
 
 use numa_diagnose::{
-    Detail, Finding, Otherwise, hint_of, judge, other_rules, reply_by_other, say_hint, say_line,
-    say_unjudged,
+    Detail, Finding, hint_of, judge, reply_by_other, say_hint, say_line, say_unjudged,
 };
 use numa_files::{Stop, TakeLine};
 use numa_machine::Rules;
-use numa_run::{Reply, Script, lacks_memory};
+use numa_rules::{Otherwise, other_rules};
+use numa_run::{Script, lacks_memory};
+use numa_script::Reply;
 use numa_space::{CoreRefusal, Refusal, Space};
 use std::alloc::Global;
 use std::io::Write;

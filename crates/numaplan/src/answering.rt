@@ -1,8 +1,8 @@
 //! Answering a script line by line, into texts.
+use line_server::Watched;
 use numa_files::Respond;
 use numa_machine::Rules;
 use numa_run::Script;
-use numa_script::Watched;
 use numa_script::line::parse;
 use std::alloc::{AllocError, Global};
 use std::io::Write;
@@ -28,8 +28,8 @@ impl Answering {
     }
 }
 
-/// Answers a line; whether it ran out of memory. (It is a function of its own so that the contract of
-/// `serve_line`, which isn't needed here, stays out of every goal.)
+/// Answers a line, and returns whether memory ran out. (It is a function of its own so that the
+/// contract of `serve_line`, which isn't needed here, stays out of every goal.)
 fn serve<W: Write>(
     script: &mut Script,
     alloc: Global,

@@ -1,8 +1,8 @@
 //! Exit statuses and messages.
+use line_server::RunFault;
 use numa_command_line::JobFault;
 use numa_files::Stop;
 use numa_reports::Touch;
-use numa_script::RunFault;
 use numa_sources::Outlet;
 use numa_words::{Ended, Halt};
 use std::io;

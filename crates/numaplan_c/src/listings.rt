@@ -12,8 +12,9 @@ ghost use Rattle.numaplan_c.specs.Ranges.{placement_of};
 use crate::codes::Code;
 use crate::texts::write;
 use crate::workers::NpPlacement;
-use numa_core::{Frame, Placement};
+use numa_machine::Frame;
 use numa_maps::{RecordRefusal, Resident};
+use numa_space::Placement;
 use numaplan_handles::CoreHandle;
 use std::alloc::Global;
 

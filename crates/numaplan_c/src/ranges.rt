@@ -15,7 +15,8 @@ ghost use Rattle.numaplan_c.specs.Texts.{IsWritten};
 use crate::codes::Code;
 use crate::texts::write;
 use numa_mode::Record;
-use numa_space::{PAGE_BYTES, RangeRecord, Run};
+use numa_ranges::Run;
+use numa_space::{PAGE_BYTES, RangeRecord};
 use numaplan_handles::CoreHandle;
 use std::alloc::Global;
 

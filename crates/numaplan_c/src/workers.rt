@@ -7,7 +7,8 @@ ghost use Rattle.numaplan_c.specs.Codes.{answer_code};
 
 use crate::codes::{Code, answer_code};
 use crate::commands::answer;
-use numa_core::{CoreRefusal, CoreReply, Event, Frame, Request};
+use numa_machine::Frame;
+use numa_space::{CoreRefusal, CoreReply, Event, Request};
 use numaplan_handles::CoreHandle;
 use std::alloc::Global;
 

@@ -7,8 +7,10 @@ ghost use Rattle.numaplan_handles.specs.Steps.{Steps, Touches, Compiles, HasVers
 use crate::core_questions::core_kept;
 use crate::handle::Handle;
 use crate::kept::Kept;
-use numa_core::{Core, CoreRefusal, CoreReply, Event, NoMemory, Request};
+use numa_core::Core;
+use numa_machine::NoMemory;
 use numa_plan::Plan;
+use numa_space::{CoreRefusal, CoreReply, Event, Request};
 use std::alloc::{AllocError, Global};
 
 /// A core that a C caller keeps, or none.

@@ -15,12 +15,14 @@ ghost use Rattle.numaplan_handles.specs.Steps.{Publishes};
 use crate::core_handle::CoreHandle;
 use crate::kept::Kept;
 use crate::search::place_of;
+use line_server::Watched;
 use numa_core::Core;
 use numa_machine::NoMemory;
-use numa_maps::{Resident, Watched, write_maps};
+use numa_maps::{Resident, write_maps};
 use numa_mode::Record;
 use numa_plan::Plan;
-use numa_space::{RangeRecord, Run, Space};
+use numa_ranges::Run;
+use numa_space::{RangeRecord, Space};
 use std::alloc::{AllocError, Global};
 
 /// The core that is kept.

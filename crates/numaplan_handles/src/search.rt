@@ -5,7 +5,8 @@ ghost use Rattle.numa_ranges.specs.Runs.{AreApart, end_of};
 ghost use Rattle.numa_ranges.specs.declared.run.Run.{Run};
 ghost use Rattle.numaplan_handles.specs.Asked.{IsPlaceOf};
 
-use numa_space::{RangeRecord, Run, Space};
+use numa_ranges::Run;
+use numa_space::{RangeRecord, Space};
 
 /// The range at a place; there is one.
 fn range_there(space: &Space, place: usize) -> Run<RangeRecord>

@@ -11,9 +11,10 @@ use crate::jobs::JobFault;
 use crate::sizes::pages_of;
 use crate::usage::{Argument, Takes};
 use clap::ArgMatches;
+use numa_mask::Parts;
 use numa_reports::FreePages;
 use numa_script::number::node;
-use numa_script::parts::{Parts, items};
+use numa_script::parts::items;
 use std::alloc::{AllocError, Global};
 
 /// The message for an invalid value.

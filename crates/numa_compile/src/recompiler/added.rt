@@ -9,8 +9,9 @@ ghost use Rattle.numa_compile.specs.Recompiling.{WasAdded, WritesRules};
 ghost use Rattle.numa_compile.specs.Rules.{IsReady};
 
 use crate::numbers::{add_rule_of, has_rule};
+use numa_machine::NoMemory;
 use numa_mode::Record;
-use numa_plan::{NoMemory, Plan, Steps};
+use numa_plan::{Plan, Steps};
 use numa_space::Space;
 use std::alloc::Global;
 

@@ -9,8 +9,10 @@ ghost use Rattle.numa_compile.specs.Windows.{IsNumbered, KeepsOutside, NumbersIn
 ghost use Rattle.numa_compile.specs.declared.recompiler.window.Window.{Window};
 
 use crate::recompiler::window::{Window, begins_inside, range_there};
-use numa_plan::{NoMemory, Plan};
-use numa_space::{RangeRecord, Run, Space};
+use numa_machine::NoMemory;
+use numa_plan::Plan;
+use numa_ranges::Run;
+use numa_space::{RangeRecord, Space};
 
 /// The number of a range that begins outside the window's span: that of the run that has its first
 /// page, which is the first or the last of the window.

@@ -21,8 +21,10 @@ use crate::recompiler::gather::{number_before, push_run};
 use crate::recompiler::put::put_runs;
 use crate::recompiler::unused::take_back;
 use crate::recompiler::window::{Window, begins_inside, range_there};
-use numa_plan::{NoMemory, Plan, Steps};
-use numa_space::{RangeRecord, Run, Space};
+use numa_machine::NoMemory;
+use numa_plan::{Plan, Steps};
+use numa_ranges::Run;
+use numa_space::{RangeRecord, Space};
 use std::alloc::Global;
 
 /// Takes the rules out again that were added, the newest first: the plan is as it was before.

@@ -10,7 +10,8 @@ ghost use Rattle.numa_compile.specs.declared.recompiler.window.Window.{Window};
 use crate::compiler::survey;
 use crate::recompiler::window::{Window, find_window, range_there};
 use numa_plan::Plan;
-use numa_space::{RangeRecord, Run, Space};
+use numa_ranges::Run;
+use numa_space::{RangeRecord, Space};
 
 /// Whether a range ends at a page or before it.
 fn ends_by(range: &Run<RangeRecord>, page: u64) -> bool

@@ -12,8 +12,9 @@ use crate::recompiler::added::number_or_add;
 use crate::recompiler::rewrite::rewrite_window;
 use crate::recompiler::unused::take_back;
 use crate::recompiler::window::{Window, begins_inside, range_there};
+use numa_machine::NoMemory;
 use numa_mode::Record;
-use numa_plan::{NoMemory, Plan, Steps};
+use numa_plan::{Plan, Steps};
 use numa_space::Space;
 use std::alloc::Global;
 

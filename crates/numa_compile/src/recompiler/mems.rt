@@ -3,7 +3,8 @@ ghost use Rattle.std.specs.Prelude.{◌≡◌, OnOk, OnErr};
 ghost use Rattle.numa_compile.specs.Follows.{Follows};
 
 use crate::compiler::compile_counted;
-use numa_plan::{NoMemory, Plan, Steps};
+use numa_machine::NoMemory;
+use numa_plan::{Plan, Steps};
 use numa_space::Space;
 use std::alloc::Global;
 use std::mem::replace;

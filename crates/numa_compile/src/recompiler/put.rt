@@ -11,8 +11,10 @@ ghost use Rattle.numa_compile.specs.declared.recompiler.window.Window.{Window};
 use crate::compiler::survey;
 use crate::recompiler::unused::drop_unused;
 use crate::recompiler::window::Window;
-use numa_plan::{NoMemory, Plan, Steps};
-use numa_space::{Run, Space};
+use numa_machine::NoMemory;
+use numa_plan::{Plan, Steps};
+use numa_ranges::Run;
+use numa_space::Space;
 
 /// Drops the rules of these runs that no run and no task uses any more.
 fn drop_all(plan: &mut Plan, runs: &[Run<Option<u32>>])

@@ -9,7 +9,8 @@ use crate::compiler::survey;
 use crate::recompiler::gather::gather_runs;
 use crate::recompiler::put::put_runs;
 use crate::recompiler::window::Window;
-use numa_plan::{NoMemory, Plan, Steps};
+use numa_machine::NoMemory;
+use numa_plan::{Plan, Steps};
 use numa_space::Space;
 use std::alloc::Global;
 

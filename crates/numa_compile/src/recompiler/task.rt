@@ -7,7 +7,8 @@ ghost use Rattle.numa_compile.specs.Recompiling.{GivesTask, KeepsRuns, WritesRul
 use crate::compiler::survey;
 use crate::recompiler::added::number_or_add;
 use crate::recompiler::unused::{drop_unused, take_back};
-use numa_plan::{NoMemory, Plan, Steps};
+use numa_machine::NoMemory;
+use numa_plan::{Plan, Steps};
 use numa_space::Space;
 use std::alloc::Global;
 

@@ -15,8 +15,9 @@ ghost use Rattle.numa_compile.specs.Rules.{IsReady};
 
 use crate::compiler::survey;
 use crate::rules::rule_of;
+use numa_machine::NoMemory;
 use numa_mode::{Mode, Record};
-use numa_plan::{NoMemory, Plan, SharedRule, Steps};
+use numa_plan::{Plan, SharedRule, Steps};
 use numa_space::Space;
 use std::alloc::Global;
 

@@ -12,7 +12,8 @@ ghost use Rattle.numa_compile.specs.Windows.{IsBehindSpan, IsOpen};
 
 use crate::compiler::survey;
 use numa_plan::Plan;
-use numa_space::{PAGE_BYTES, RangeRecord, Run, Space};
+use numa_ranges::Run;
+use numa_space::{PAGE_BYTES, RangeRecord, Space};
 
 /// A span from its first page to the page behind its last, and the runs that meet it or stand
 /// beside it: from a place to the place behind the last of them, and where that last place has come

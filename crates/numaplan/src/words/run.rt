@@ -1,9 +1,9 @@
 //! Answers scripts.
 use crate::answering::Answering;
 use crate::endings::{fail, stop};
+use line_server::{RunFault, Watched};
 use numa_files::{Echo, Joined, Lines, Stop, read_all};
 use numa_run::run_by;
-use numa_script::{RunFault, Watched};
 use numa_sources::without_names;
 use numa_words::Scripts;
 use std::io;
