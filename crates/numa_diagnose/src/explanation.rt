@@ -5,7 +5,7 @@ ghost use Rattle.numa_space.specs.declared.command.Command.{Command};
 ghost use Rattle.numa_diagnose.specs.Explained.{IsExplanation, IsRefusedBy};
 
 use crate::fault::ReasonError;
-use crate::place::{range_of, task_policy};
+use crate::place::range_of;
 use crate::rule::{OrderRule, rule_for};
 use crate::scope::{Scope, scope_of};
 use arrayvec::ArrayVec;
@@ -75,7 +75,7 @@ pub fn explain(
     };
     let range = &found;
     let index = range.index + (page - range.first);
-    let task_policy = task_policy(space, task);
+    let task_policy = space.task_policy(task);
     let scope = scope_of(&own_policy(range), &task_policy);
     let policy = space.policy_at(task, page);
     let Ok(rule) = rule_for(alloc, space.weights(), &policy, cpu, index) else {

@@ -36,7 +36,7 @@ pub use finding::{Detail, Finding, judge};
 pub use finding_text::{say_finding, say_line, say_unjudged};
 pub use hint::{hint_of, reply_by_other};
 pub use hint_text::{say_by_other, say_hint};
-pub use place::{range_of, task_policy};
+pub use place::range_of;
 pub use reason_text::say_explanation;
 pub use rule::{OrderRule, Turn, WeightedTurn};
 pub use scope::Scope;

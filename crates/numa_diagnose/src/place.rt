@@ -1,12 +1,10 @@
-//! What a space holds of a page and of a task.
+//! What a space holds of a page.
 ghost use Rattle.std.specs.Prelude.{◌≡◌, ◌+◌, ◌≤◌, ◌^◌, IfSome};
 ghost use Rattle.numa_ranges.specs.Counts.{IsRange};
 ghost use Rattle.numa_ranges.specs.Runs.{in_pages, page_at};
 ghost use Rattle.numa_space.specs.Same.{same_record};
-ghost use Rattle.numa_space.specs.Standing.{record_of};
 ghost use Rattle.numa_diagnose.specs.Reasons.{run_with};
 
-use numa_mode::Record;
 use numa_ranges::Run;
 use numa_space::{RangeRecord, Space};
 
@@ -29,11 +27,4 @@ pub fn range_of(space: &Space, page: u64) -> Option<Run<RangeRecord>>
         }
     }
     None
-}
-
-/// The policy of a task, where it has one.
-pub fn task_policy(space: &Space, task: u32) -> Option<Record>
-    ensures { result ≡ record_of space.now.tasks task }
-{
-    space.task_policy(task)
 }

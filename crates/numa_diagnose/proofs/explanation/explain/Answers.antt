@@ -46,7 +46,7 @@ returns-clause-ok c history stands =
     let own : c.own_policy.result ≡ range_record space.machine history page =
     c.own_policy.ensures ∙ said-record space history page found stands range has in
     let task : c.task_policy-task_policy.result ≡ task_record space.machine history c.args.task =
-    c.task_policy-task_policy.ensures ∙ stands.tasks c.args.task in
+    c.task_policy-task_policy.ensures.meaning history stands in
     let meant = resolved_policy space.machine history c.args.task page in
     let policy : c.policy_at-policy.result ≡ meant =
     c.policy_at-policy.ensures.meaning history stands in
