@@ -56,6 +56,14 @@ impl Core {
     ///
     /// # Errors
     /// `NoMemory`: out of memory.
+    ///
+    /// # Examples
+    /// A core of four nodes with two workers:
+    ///
+    /// ```
+    /// let machine = flat_machine(alloc, &[8, 8, 8, 8]).expect(rt, "a machine");
+    /// Core::new(alloc, machine, limits(), 2).expect(rt, "a core")
+    /// ```
     pub fn new(
         alloc: Global,
         machine: Machine,

@@ -66,6 +66,14 @@ impl Machine {
     /// # Errors
     /// The first of these that applies: `NodeCount`, `NoMemoryNode`, `BadDistance`,
     /// `TooManyFrames`, as [`MachineFault`] says; `NoMemory`, there is no memory for the tables.
+    ///
+    /// # Examples
+    /// Two nodes with memory, without frames, at distance 20:
+    ///
+    /// ```
+    /// let both = read_list(b"0-1").ok()?;
+    /// let machine = Machine::new(alloc, 2, both, &[10, 20, 20, 10], &[0, 0]).ok()?;
+    /// ```
     pub fn new(
         alloc: Global,
         nodes: u32,

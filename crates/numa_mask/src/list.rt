@@ -97,6 +97,11 @@ fn insert_between(set: &mut NodeMask, first: u8, last: u8)
 /// # Errors
 /// The first cause of the first bad item, from the left: `Empty`, an item has no byte; `BadDigit`,
 /// it is neither `a` nor `a-b`; `BackRange`, a is above b; `NodeTooHigh`, a number is above 255.
+///
+/// # Examples
+/// ```
+/// let both = read_list(b"0-1").ok()?;
+/// ```
 pub fn read_list(text: &[u8]) -> Result<NodeMask, ListFault>
     ensures { result ≡ list_of text.now }
 {

@@ -92,6 +92,19 @@ fn ones_of(words: &[u64]) -> u32
 
 impl NodeMask {
     /// The empty set.
+    ///
+    /// # Examples
+    /// The set of some nodes:
+    ///
+    /// ```
+    /// let mut set = NodeMask::empty();
+    /// for number in nodes {
+    ///     let Some(node) = NodeId::new(*number) else {
+    ///         unreachable!();
+    ///     };
+    ///     set.insert(node);
+    /// }
+    /// ```
     pub fn empty() -> NodeMask
         ensures { result ≡ 0 }
     {

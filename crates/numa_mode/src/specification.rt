@@ -97,6 +97,13 @@ impl PolicySpec {
     ///
     /// # Errors
     /// `UnknownMode`: the number is above 6; otherwise as [`PolicySpec::new`].
+    ///
+    /// # Examples
+    /// `INTERLEAVE` is 3, the number of `MPOL_INTERLEAVE`:
+    ///
+    /// ```
+    /// let spec = PolicySpec::from_raw(INTERLEAVE, both).ok()?;
+    /// ```
     pub fn from_raw(word: u32, mask: NodeMask) -> Result<PolicySpec, SpecError>
         ensures { result ≡ raw_specification word mask }
     {

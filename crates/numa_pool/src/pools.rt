@@ -59,6 +59,14 @@ impl Pools {
     ///
     /// # Errors
     /// `NoMemory`: out of memory for the words or for the seat.
+    ///
+    /// # Examples
+    /// Pools with two seats:
+    ///
+    /// ```
+    /// let (pools, mut seat) = Pools::open(alloc, &machine).ok()?;
+    /// let other = pools.split(alloc, &mut seat).ok()?;
+    /// ```
     pub fn open(alloc: Global, machine: &Machine) -> Result<(Pools, PoolSeat), NoMemory>
         ensures frames { IfOk result (λ opened. opened.0.frames ≡ machine.now.frames) }
         ensures seat { IfOk result (λ opened. (opened.1.table ≡ opened.0.table)
@@ -115,6 +123,14 @@ impl Pools {
     /// was found taken at a step of this call; so also for a node without frames, or one that the
     /// machine lacks. Each word of the node is loaded at most once, and each frame tried at most
     /// once; there is no other step. It doesn't allocate.
+    ///
+    /// # Examples
+    /// ```
+    /// let Some(frame) = pools.take(seat, node) else {
+    ///     return 0;
+    /// };
+    /// pools.give(seat, frame);
+    /// ```
     pub fn take(&self, seat: &mut PoolSeat, node: u8) -> Option<Frame>
         requires { seat.old.table ≡ self.now.table }
         ensures same { seat.new.table ≡ seat.old.table }

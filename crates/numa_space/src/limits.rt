@@ -26,6 +26,11 @@ impl Model for Limits {
 impl Limits {
     /// Limits of at most 65,536 ranges, 1,024 task policies and 4,294,967,295 commands; `None`
     /// above any of these.
+    ///
+    /// # Examples
+    /// ```
+    /// let limits = Limits::new(64, 8, 1_000)?;
+    /// ```
     pub fn new(max_ranges: u32, max_tasks: u32, max_commands: u32) -> Option<Limits>
         ensures exists { IsSome result ↔ ((max_ranges ≤ 65536) × (max_tasks ≤ 1024)) }
         ensures value { IfSome result (λ limits. limits

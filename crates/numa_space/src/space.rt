@@ -112,6 +112,16 @@ impl Space {
     /// # Errors
     /// The first cause that applies, as [`Refusal`] lists them; `NoMemory` is the last. Then the
     /// space hasn't changed.
+    ///
+    /// # Examples
+    /// A space after some commands:
+    ///
+    /// ```
+    /// let mut space = Space::new(alloc, machine(alloc)?, limits()?);
+    /// for place in 0..version {
+    ///     space.apply(&command(place)?).ok()?;
+    /// }
+    /// ```
     pub fn apply(&mut self, command: &Command) -> Result<(), Refusal>
         ensures { IsApplied self.old command.now result self.new }
     {

@@ -72,6 +72,16 @@ impl Space {
     /// # Errors
     /// The first that applies: `BadCpu`, the machine has no node `cpu`; `Unmapped`, the page isn't
     /// mapped.
+    ///
+    /// # Examples
+    /// Whether a placement is at its rank of the list:
+    ///
+    /// ```
+    /// match space.list_at(request.task, request.page, request.cpu) {
+    ///     Ok(list) => list.get(placement.rank as usize) == Some(&placement.node),
+    ///     Err(_) => false,
+    /// }
+    /// ```
     pub fn list_at(&self, task: u32, page: u64, cpu: u32) -> Result<ArrayVec<u8, 256>, PlaceRefusal>
         ensures answer { MatchResult result
             (λ list. (place_refusal_in self.now.machine.nodes
