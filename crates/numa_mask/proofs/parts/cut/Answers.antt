@@ -4,4 +4,7 @@ use Rattle.numa_mask.proofs.Splits.{cut_at}
 use Rattle.numa_mask.proofs.parts.cut.Goals as goal
 
 pub returns : goal.returns
-returns c = rw take_rest (cut_at c.args.separator c.args.text.now c.in_ok-end.end (sym c.first_place.ensures ∙ c.in_ok-end.was))
+returns c =
+    rw take_rest
+    (cut_at c.args.separator c.args.text.now c.in_ok-end.end
+    (sym c.first_place.ensures ∙ c.in_ok-end.was))

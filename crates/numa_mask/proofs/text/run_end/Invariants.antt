@@ -6,7 +6,8 @@ use Rattle.numa_mask.proofs.text.run_end.Given as goal
 
 abbrev pub invariant-loop-last : goal.invariant-loop-last
 invariant-loop-last l = record {
-  ends : l.last + prefix_len (has l.set) (range_with_len (l.last + 1) (255 - l.last)) ≡ run_end l.set l.fn.first;
+  ends : l.last + prefix_len (has l.set) (range_with_len (l.last + 1) (255 - l.last))
+      ≡ run_end l.set l.fn.first;
   within : l.last ≤ 255;
 }
 

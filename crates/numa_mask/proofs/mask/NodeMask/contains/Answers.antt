@@ -6,6 +6,7 @@ use Rattle.numa_mask.proofs.mask.NodeMask.contains.Goals as goal
 
 pub returns : goal.returns
 returns c =
-    ap (λ b. nat_eq b 1) (shr_and_one _ (c.number-number.result % 64) ∙ sym (bit_at-number c.self.inside.words c.self.invariant.small c.number-number.result))
+    ap (λ b. nat_eq b 1) (shr_and_one _ (c.number-number.result % 64)
+    ∙ sym (bit_at-number c.self.inside.words c.self.invariant.small c.number-number.result))
     ∙ ap (λ s. has s c.number-number.result) c.self.view_is
     ∙ ap (has c.args.self.now) c.number-number.ensures.number
