@@ -1,5 +1,7 @@
 -- Vectors of hits, and chunks of a span, by their lists.
-use Rattle.std.proofs.Common.{◌≡◌, ℕ, ◌+◌, ◌<◌, ◌≤◌, ◌-◌, suc, List, [], ◌∷◌, length, take, drop, count_by, replicate, Bool, true, false, cond, refl, ap, sym, ◌∙◌, arith, map, get_or, inl, inr}
+use Rattle.std.proofs.Common.{◌≡◌, ℕ, ◌+◌, ◌<◌, ◌≤◌, ◌-◌, suc, List, [], ◌∷◌, length, take, drop}
+use Rattle.std.proofs.Common.{count_by, replicate, Bool, true, false, cond, refl, ap, sym, ◌∙◌}
+use Rattle.std.proofs.Common.{arith, map, get_or, inl, inr}
 use Rattle.std.specs.Simd.Lanes.{sum_l, sel_l, Each1, chunk, put_chunk}
 use Rattle.std.proofs.lemmas.List.Recursion.{is_count_by}
 use Rattle.std.proofs.lemmas.Bool.{cases_lt}
@@ -9,7 +11,8 @@ use Rattle.std.proofs.lemmas.Simd.{get_or-put_chunk_below, get_or-put_chunk_at, 
 
 -- one hit more, or none
 one_more : (b : Bool) (n : ℕ) → cond b 1 0 + n ≡ cond b (1 + n) n
-one_more b n = elim b as (λ b. cond b 1 0 + n ≡ cond b (1 + n) n) [ true ↦ refl | false ↦ omega arith ]
+one_more b n = elim b as (λ b. cond b 1 0 + n ≡ cond b (1 + n) n)
+    [ true ↦ refl | false ↦ omega arith ]
 
 -- 1 where an entry passes, and 0 elsewhere
 abbrev ones_of : {X : Type 0} (p : X → Bool) (xs : List X) → List ℕ
@@ -17,7 +20,8 @@ ones_of p xs = sel_l (map p xs) (replicate (length xs) 1) (replicate (length xs)
 
 -- their sum is the count
 pub sel_ones : {X : Type 0} (p : X → Bool) (xs : List X) → sum_l (ones_of p xs) ≡ count_by p xs
-sel_ones p xs = is_count_by (λ ys. sum_l (ones_of p ys)) p refl (λ y ys. one_more (p y) (sum_l (ones_of p ys))) xs
+sel_ones p xs = is_count_by (λ ys. sum_l (ones_of p ys)) p refl
+    (λ y ys. one_more (p y) (sum_l (ones_of p ys))) xs
 
 cond_le : (b : Bool) → cond b 1 0 ≤ 1
 cond_le b = elim b as (λ b. cond b 1 0 ≤ 1) [ true ↦ omega arith | false ↦ omega arith ]
@@ -37,11 +41,15 @@ map_same [] = refl
 map_same (x ∷ xs) = ap (λ l. x ∷ l) (map_same xs)
 
 -- the count over one chunk more
-pub count_by-more : (p : ℕ → Bool) (xs : List ℕ) (n m : ℕ) → count_by p (take (n + m) xs) ≡ count_by p (take n xs) + count_by p (chunk n m xs)
-count_by-more p xs n m = ap (count_by p) (take-add n m xs) ∙ sum_by-append (λ x. cond (p x) 1 0) (take n xs) (take m (drop n xs))
+pub count_by-more : (p : ℕ → Bool) (xs : List ℕ) (n m : ℕ) → count_by p (take (n + m) xs)
+    ≡ count_by p (take n xs) + count_by p (chunk n m xs)
+count_by-more p xs n m = ap (count_by p) (take-add n m xs) ∙ sum_by-append (λ x. cond (p x) 1 0)
+    (take n xs) (take m (drop n xs))
 
 -- 32 pages more are on the node
-pub fill_step : (y : ℕ) (out : List ℕ) (at k : ℕ) → at + 32 ≤ length out → ((j : ℕ) → j < at → get_or out j 0 ≡ y) → k < at + 32 → get_or (put_chunk at out (replicate 32 y)) k 0 ≡ y
+pub fill_step : (y : ℕ) (out : List ℕ) (at k : ℕ) → at + 32 ≤ length out
+    → ((j : ℕ) → j < at → get_or out j 0 ≡ y) → k < at + 32
+    → get_or (put_chunk at out (replicate 32 y)) k 0 ≡ y
 fill_step y out at k room before lt =
     elim (cases_lt k at) [
       | inl h ↦ get_or-put_chunk_below at out (replicate 32 y) k 0 h ∙ before k h
@@ -50,5 +58,6 @@ fill_step y out at k room before lt =
           let e : at + j ≡ k = omega arith in
           let small : j < 32 = omega arith in
           ap (λ n. get_or (put_chunk at out (replicate 32 y)) n 0) (sym e)
-          ∙ get_or-put_chunk_at at out (replicate 32 y) j 0 small room ∙ get_or-replicate 32 j y 0 small
+          ∙ get_or-put_chunk_at at out (replicate 32 y) j 0 small room
+          ∙ get_or-replicate 32 j y 0 small
     ]

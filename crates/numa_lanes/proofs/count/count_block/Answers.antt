@@ -1,4 +1,5 @@
-use Rattle.std.proofs.Common.{◌≡◌, ◌*◌, ◌+◌, ◌==◌, ℕ, Bool, List, take, count_by, arith, ◌∙◌, ap, sym}
+use Rattle.std.proofs.Common.{◌≡◌, ◌*◌, ◌+◌, ◌==◌, ℕ, Bool, List, take, count_by, arith, ◌∙◌, ap}
+use Rattle.std.proofs.Common.{sym}
 use Rattle.std.specs.Simd.Lanes.{sum_l}
 use Rattle.numa_lanes.proofs.LaneLemmas.{count_by-more}
 use Rattle.numa_lanes.proofs.count.count_block.Goals as goal
@@ -10,7 +11,8 @@ loop-round-preserved c =
     let more = count_by-more p xs (c.loop-round.round * 32) 32 in
     let next : c.loop-round.round * 32 + 32 ≡ (c.loop-round.round + 1) * 32 = omega arith in
     record {
-      sum = c.add_lanes-sums.ensures.sum ∙ ap (λ n. n + sum_l c.hits.result) c.loop-round.invariant.sum
+      sum = c.add_lanes-sums.ensures.sum ∙ ap (λ n. n + sum_l c.hits.result)
+          c.loop-round.invariant.sum
           ∙ ap (λ n. count_by p (take (c.loop-round.round * 32) xs) + n) c.hits.ensures.count
           ∙ sym more ∙ ap (λ n. count_by p (take n xs)) next;
       most = c.add_lanes-sums.ensures.most;

@@ -7,7 +7,8 @@ use Rattle.numa_lanes.proofs.counts.add_between.Goals as goal
 pub loop-node-init : goal.loop-node-init
 loop-node-init c = record {
   below = λ node lt small.
-      let none : node_count node c.args.block.now ≡ 0 = counted_nowhere node c.args.block.now (λ k here is. omega (arith, c.requires.ends k here, is)) in
+      let none : node_count node c.args.block.now ≡ 0 = counted_nowhere node c.args.block.now
+      (λ k here is. omega (arith, c.requires.ends k here, is)) in
       omega (arith, none);
   from = λ node le. refl;
   long = search rules;
@@ -18,6 +19,7 @@ returns c node small =
     elim (cases_lt node c.loop-node.node) [
       | inl lt ↦ c.loop-node.invariant.below node lt small
       | inr ge ↦
-          let none : node_count node c.args.block.now ≡ 0 = counted_nowhere node c.args.block.now (λ k here is. omega (arith, c.requires.ends k here, is)) in
+          let none : node_count node c.args.block.now ≡ 0 = counted_nowhere node c.args.block.now
+          (λ k here is. omega (arith, c.requires.ends k here, is)) in
           omega (arith, none, c.loop-node.invariant.from node ge)
     ]

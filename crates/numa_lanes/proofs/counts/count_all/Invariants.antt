@@ -4,7 +4,8 @@ use Rattle.numa_lanes.proofs.counts.count_all.Given as goal
 
 abbrev pub invariant-loop-rest : goal.invariant-loop-rest
 invariant-loop-rest l = record {
-  left : (node : ℕ) → node < 256 → get_or l.counts node 0 + node_count node l.rest ≡ node_count node l.nodes;
+  left : (node : ℕ) → node < 256 → get_or l.counts node 0 + node_count node l.rest ≡ node_count node
+      l.nodes;
   long : length l.counts ≡ 256;
 }
 

@@ -1,6 +1,8 @@
-use Rattle.std.proofs.Common.{◌≡◌, ◌≤◌, ◌+◌, ℕ, List, length, get_or, ltb, ap, sym, ◌∙◌, subst, arith, w8}
+use Rattle.std.proofs.Common.{◌≡◌, ◌≤◌, ◌+◌, ℕ, List, length, get_or, ltb, ap, sym, ◌∙◌, subst}
+use Rattle.std.proofs.Common.{arith, w8}
 use Rattle.std.specs.Simd.Lanes.{sel_l, zip2, chunk}
-use Rattle.std.proofs.lemmas.Simd.{tops_compared, length-chunk, get_or-chunk, length-zip2, length-sel_l}
+use Rattle.std.proofs.lemmas.Simd.{tops_compared, length-chunk, get_or-chunk, length-zip2}
+use Rattle.std.proofs.lemmas.Simd.{length-sel_l}
 use Rattle.numa_lanes.proofs.EndLemmas.{greater_lanes}
 use Rattle.numa_lanes.proofs.ends.greater.Goals as goal
 
@@ -9,16 +11,20 @@ returns-clause-lanes c j lt =
     let xs : List ℕ = c.args.lanes in
     let ys : List ℕ = chunk c.args.at 32 c.args.block.now in
     let long : length ys ≡ 32 = length-chunk c.args.at 32 c.args.block.now c.requires.room in
-    subst (λ ms. get_or xs j 0 ≤ get_or (sel_l ms ys xs) j 0) (sym (tops_compared w8 ltb xs ys)) (greater_lanes xs ys j (c.requires.long ∙ sym long) (omega arith)).0
+    subst (λ ms. get_or xs j 0 ≤ get_or (sel_l ms ys xs) j 0) (sym (tops_compared w8 ltb xs ys))
+    (greater_lanes xs ys j (c.requires.long ∙ sym long) (omega arith)).0
 
 pub returns-clause-entries : goal.returns-clause-entries
 returns-clause-entries c j lt =
     let xs : List ℕ = c.args.lanes in
     let ys : List ℕ = chunk c.args.at 32 c.args.block.now in
     let long : length ys ≡ 32 = length-chunk c.args.at 32 c.args.block.now c.requires.room in
-    let entry : get_or ys j 0 ≡ get_or c.args.block.now (c.args.at + j) 0 = get_or-chunk c.args.at 32 c.args.block.now j 0 lt in
-    subst (λ ms. get_or c.args.block.now (c.args.at + j) 0 ≤ get_or (sel_l ms ys xs) j 0) (sym (tops_compared w8 ltb xs ys))
-    (subst (λ y. y ≤ get_or (sel_l (zip2 ltb xs ys) ys xs) j 0) entry (greater_lanes xs ys j (c.requires.long ∙ sym long) (omega arith)).1)
+    let entry : get_or ys j 0 ≡ get_or c.args.block.now (c.args.at + j) 0 =
+    get_or-chunk c.args.at 32 c.args.block.now j 0 lt in
+    subst (λ ms. get_or c.args.block.now (c.args.at + j) 0 ≤ get_or (sel_l ms ys xs) j 0)
+    (sym (tops_compared w8 ltb xs ys))
+    (subst (λ y. y ≤ get_or (sel_l (zip2 ltb xs ys) ys xs) j 0) entry
+    (greater_lanes xs ys j (c.requires.long ∙ sym long) (omega arith)).1)
 
 pub returns-clause-long : goal.returns-clause-long
 returns-clause-long c =
@@ -27,4 +33,5 @@ returns-clause-long c =
     let long : length ys ≡ 32 = length-chunk c.args.at 32 c.args.block.now c.requires.room in
     let same : length xs ≡ length ys = c.requires.long ∙ sym long in
     let tests : length (zip2 ltb xs ys) ≡ length xs = length-zip2 ltb xs ys same in
-    ap (λ ms. length (sel_l ms ys xs)) (tops_compared w8 ltb xs ys) ∙ length-sel_l (zip2 ltb xs ys) ys xs (tests ∙ same) tests ∙ tests ∙ c.requires.long
+    ap (λ ms. length (sel_l ms ys xs)) (tops_compared w8 ltb xs ys)
+    ∙ length-sel_l (zip2 ltb xs ys) ys xs (tests ∙ same) tests ∙ tests ∙ c.requires.long

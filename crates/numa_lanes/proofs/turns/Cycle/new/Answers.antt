@@ -13,8 +13,11 @@ invariant_of-result c = record {
       let low : k % n < n = mod_below k n c.requires in
       let near : k % n < c.loop-turn.turn = omega arith in
       let far : k < c.loop-turn.turn = omega arith in
-      c.loop-turn.invariant.same k far ∙ sym (c.loop-turn.invariant.same (k % n) near ∙ ap (λ i. get_or c.args.entries.now i 0) (mod-mod k n));
+      c.loop-turn.invariant.same k far
+      ∙ sym (c.loop-turn.invariant.same (k % n) near ∙ ap (λ i. get_or c.args.entries.now i 0)
+      (mod-mod k n));
 }
 
 pub returns : goal.returns
-returns c = front_is c.args.entries.now c.loop-turn.table.items c.loop-turn.turn (omega arith) (omega arith) c.loop-turn.invariant.same
+returns c = front_is c.args.entries.now c.loop-turn.table.items c.loop-turn.turn (omega arith)
+    (omega arith) c.loop-turn.invariant.same
