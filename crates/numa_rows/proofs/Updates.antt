@@ -1,17 +1,25 @@
 -- Each row gets what a function makes of it.
-use Rattle.std.proofs.Common.{◌≡◌, ℕ, ◌+◌, ◌<◌, ◌≤◌, List, [], ◌∷◌, ◌++◌, length, take, drop, map, set, get_or, refl, sym, ap, ◌∙◌, append-nil}
+use Rattle.std.proofs.Common.{◌≡◌, ℕ, ◌+◌, ◌<◌, ◌≤◌, List, [], ◌∷◌, ◌++◌, length, take, drop, map}
+use Rattle.std.proofs.Common.{set, get_or, refl, sym, ap, ◌∙◌, append-nil}
 use Rattle.std.proofs.lemmas.List.{take_all, drop_all, map-append}
 use Rattle.std.proofs.lemmas.List.Edits.{map_over_more}
 use Rattle.numa_rows.specs.Parts.{flat}
 
 -- one more element gets its change
-pub change-more : {X : Type 0} (change : X → X) (whole now : List X) (i : ℕ) (x made : X) → i < length whole → now ≡ map change (take i whole) ++ drop i whole → x ≡ get_or now i x → made ≡ change x → set now i made ≡ map change (take (i + 1) whole) ++ drop (i + 1) whole
-change-more change whole now i x made within is read so = ap (λ y. set now i y) so ∙ map_over_more change whole now i x within is read
+pub change-more : {X : Type 0} (change : X → X) (whole now : List X) (i : ℕ) (x made : X)
+    → i < length whole → now ≡ map change (take i whole) ++ drop i whole → x ≡ get_or now i x
+    → made ≡ change x → set now i made ≡ map change (take (i + 1) whole) ++ drop (i + 1) whole
+change-more change whole now i x made within is read so = ap (λ y. set now i y) so
+    ∙ map_over_more change whole now i x within is read
 
-pub change-all : {X : Type 0} (change : X → X) (whole now : List X) (i : ℕ) → length whole ≤ i → now ≡ map change (take i whole) ++ drop i whole → now ≡ map change whole
+pub change-all : {X : Type 0} (change : X → X) (whole now : List X) (i : ℕ) → length whole ≤ i
+    → now ≡ map change (take i whole) ++ drop i whole → now ≡ map change whole
 change-all change whole now i all is =
-    is ∙ (ap (λ l. map change (take i whole) ++ l) (drop_all i whole all) ∙ (append-nil (map change (take i whole)) ∙ ap (map change) (take_all i whole all)))
+    is ∙ (ap (λ l. map change (take i whole) ++ l) (drop_all i whole all)
+    ∙ (append-nil (map change (take i whole)) ∙ ap (map change) (take_all i whole all)))
 
-pub flat-changed : {T : Type 0} (change : T → T) (parts : List (List T)) → flat (map (map change) parts) ≡ map change (flat parts)
+pub flat-changed : {T : Type 0} (change : T → T) (parts : List (List T))
+    → flat (map (map change) parts) ≡ map change (flat parts)
 flat-changed change [] = refl
-flat-changed change (part ∷ parts) = ap (λ l. map change part ++ l) (flat-changed change parts) ∙ sym (map-append change part (flat parts))
+flat-changed change (part ∷ parts) = ap (λ l. map change part ++ l) (flat-changed change parts)
+    ∙ sym (map-append change part (flat parts))

@@ -8,5 +8,10 @@ pub returns-clause-ok : goal.returns-clause-ok
 returns-clause-ok g c =
     let parts = c.args.chunks.now.items in
     let rows = c.args.rows.now in
-    let long = long-all 6144 parts (length parts - 1) [] c.requires.table.filled (λ some. omega (arith, some)) (λ some. c.requires.full some []) in
-    added-part 6144 parts c.add_piece.new.chunks.items c.args.starts.now.items c.push_reserved.new.self.items c.args.len rows rows c.requires.table refl c.in_ok-add_piece.ensures.ok (c.push_reserved.ensures.items ∙ ap (λ l. l ++ c.args.len ∷ []) c.reserve.ensures.items) c.requires.some c.requires.most c.requires.few long
+    let long = long-all 6144 parts (length parts - 1) [] c.requires.table.filled
+    (λ some. omega (arith, some)) (λ some. c.requires.full some []) in
+    added-part 6144 parts c.add_piece.new.chunks.items c.args.starts.now.items
+    c.push_reserved.new.self.items c.args.len rows rows c.requires.table refl
+    c.in_ok-add_piece.ensures.ok (c.push_reserved.ensures.items
+    ∙ ap (λ l. l ++ c.args.len ∷ []) c.reserve.ensures.items) c.requires.some c.requires.most
+    c.requires.few long

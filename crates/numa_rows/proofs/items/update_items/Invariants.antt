@@ -6,5 +6,7 @@ use Rattle.numa_rows.proofs.items.update_items.Given as goal
 abbrev pub invariant-loop-i : goal.invariant-loop-i
 invariant-loop-i g l = record {
   size : length l.items.items ≡ length l.initial.items.items;
-  made : (change : g.row.T.Denot → g.row.T.Denot) → Makes g.F.Fn l.f change → l.items.items ≡ map change (take l.i l.initial.items.items) ++ drop l.i l.initial.items.items;
+  made : (change : g.row.T.Denot → g.row.T.Denot) → Makes g.F.Fn l.f change
+      → l.items.items ≡ map change (take l.i l.initial.items.items)
+      ++ drop l.i l.initial.items.items;
 }

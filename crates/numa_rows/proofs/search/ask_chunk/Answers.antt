@@ -5,10 +5,17 @@ use Rattle.numa_rows.proofs.InParts.{some-part}
 use Rattle.numa_rows.proofs.search.ask_chunk.Goals as goal
 
 pub overflow_sub-starts : goal.overflow_sub-starts
-overflow_sub-starts g c = (some-part 6144 c.args.chunks.now c.args.starts.now c.args.len 0 c.requires.table c.requires.some).0
+overflow_sub-starts g c =
+    (some-part 6144 c.args.chunks.now c.args.starts.now c.args.len 0 c.requires.table
+    c.requires.some).0
 
 pub bounds-starts-near : goal.bounds-starts-near
-bounds-starts-near g c = omega (arith, (some-part 6144 c.args.chunks.now c.args.starts.now c.args.len 0 c.requires.table c.requires.some).0)
+bounds-starts-near g c =
+    omega (
+      arith,
+      (some-part 6144 c.args.chunks.now c.args.starts.now c.args.len 0 c.requires.table
+          c.requires.some).0,
+    )
 
 pub part_of-part-requires-clause-table : goal.part_of-part-requires-clause-table
 part_of-part-requires-clause-table g c = c.requires.table
@@ -50,7 +57,12 @@ pub ask_last-requires-clause-has : goal.ask_last-requires-clause-has
 ask_last-requires-clause-has g c = c.part_of-part.ensures.has
 
 pub ask_last-requires-clause-place : goal.ask_last-requires-clause-place
-ask_last-requires-clause-place g c = omega (arith, (some-part 6144 c.args.chunks.now c.args.starts.now c.args.len 0 c.requires.table c.requires.some).0)
+ask_last-requires-clause-place g c =
+    omega (
+      arith,
+      (some-part 6144 c.args.chunks.now c.args.starts.now c.args.len 0 c.requires.table
+          c.requires.some).0,
+    )
 
 pub ask_last-requires-clause-within : goal.ask_last-requires-clause-within
 ask_last-requires-clause-within g c = omega (arith, c.ask-left.ensures.within)
@@ -62,13 +74,15 @@ pub returns-then-left-rank-clause-within : goal.returns-then-left-rank-clause-wi
 returns-then-left-rank-clause-within g c = c.ask_firsts.ensures.within
 
 pub returns-then-left-rank-clause-narrowed : goal.returns-then-left-rank-clause-narrowed
-returns-then-left-rank-clause-narrowed g c p gives parted so = c.ask_firsts.ensures.narrowed p gives parted (c.ask-left.ensures.narrowed p gives parted so)
+returns-then-left-rank-clause-narrowed g c p gives parted so = c.ask_firsts.ensures.narrowed p gives
+    parted (c.ask-left.ensures.narrowed p gives parted so)
 
 pub returns-clause-within : goal.returns-clause-within
 returns-clause-within g c = c.ask_last.ensures.within
 
 pub returns-clause-narrowed : goal.returns-clause-narrowed
-returns-clause-narrowed g c p gives parted so = c.ask_last.ensures.narrowed p gives parted (c.ask-left.ensures.narrowed p gives parted so)
+returns-clause-narrowed g c p gives parted so = c.ask_last.ensures.narrowed p gives parted
+    (c.ask-left.ensures.narrowed p gives parted so)
 
 pub has-requires : goal.has-requires
 has-requires g c = omega (arith, c.requires.table.small)
@@ -86,7 +100,12 @@ pub ask-left-requires-clause-to : goal.ask-left-requires-clause-to
 ask-left-requires-clause-to g c = c.if-not-has.ensures.to refl
 
 pub ask_firsts-requires-clause-places : goal.ask_firsts-requires-clause-places
-ask_firsts-requires-clause-places g c = omega (arith, (some-part 6144 c.args.chunks.now c.args.starts.now c.args.len 0 c.requires.table c.requires.some).0)
+ask_firsts-requires-clause-places g c =
+    omega (
+      arith,
+      (some-part 6144 c.args.chunks.now c.args.starts.now c.args.len 0 c.requires.table
+          c.requires.some).0,
+    )
 
 pub returns-then-not-has-clause-within : goal.returns-then-not-has-clause-within
 returns-then-not-has-clause-within g c = omega arith

@@ -6,14 +6,16 @@ pub loop-low-preserved-then-left-rank : goal.loop-low-preserved-then-left-rank
 loop-low-preserved-then-left-rank g c = record {
   places = c.loop-low.invariant.places;
   within = c.ask_left-left.ensures.within;
-  narrowed = λ p gives parted so. c.ask_left-left.ensures.narrowed p gives parted (c.loop-low.invariant.narrowed p gives parted so);
+  narrowed = λ p gives parted so. c.ask_left-left.ensures.narrowed p gives parted
+      (c.loop-low.invariant.narrowed p gives parted so);
 }
 
 pub loop-low-preserved : goal.loop-low-preserved
 loop-low-preserved g c = record {
   places = omega (arith, c.loop-low.invariant.places);
   within = c.ask_left-left.ensures.within;
-  narrowed = λ p gives parted so. c.ask_left-left.ensures.narrowed p gives parted (c.loop-low.invariant.narrowed p gives parted so);
+  narrowed = λ p gives parted so. c.ask_left-left.ensures.narrowed p gives parted
+      (c.loop-low.invariant.narrowed p gives parted so);
 }
 
 pub loop-low-init : goal.loop-low-init

@@ -7,7 +7,8 @@ abbrev pub invariant-loop-low : goal.invariant-loop-low
 invariant-loop-low g l = record {
   places : l.high ≤ length l.starts;
   within : l.left.base + l.left.size ≤ l.len;
-  narrowed : Narrows g.P.Fn l.pred (flat l.chunks) l.fn.left.base l.fn.left.size l.left.base l.left.size;
+  narrowed : Narrows g.P.Fn l.pred (flat l.chunks) l.fn.left.base l.fn.left.size l.left.base
+      l.left.size;
 }
 
 abbrev pub decreases-loop-low : goal.decreases-loop-low

@@ -6,7 +6,8 @@ pub last_rank-last-requires-clause-has : goal.last_rank-last-requires-clause-has
 last_rank-last-requires-clause-has g c = c.requires.has
 
 pub last_rank-last-requires-clause-small : goal.last_rank-last-requires-clause-small
-last_rank-last-requires-clause-small g c = omega (arith, c.requires.part.within, c.requires.table.count, c.requires.table.small)
+last_rank-last-requires-clause-small g c =
+    omega (arith, c.requires.part.within, c.requires.table.count, c.requires.table.small)
 
 pub ask-left-requires-clause-callable : goal.ask-left-requires-clause-callable
 ask-left-requires-clause-callable g c = c.requires.callable

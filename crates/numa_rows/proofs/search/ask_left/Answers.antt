@@ -37,7 +37,8 @@ pub has-requires : goal.has-requires
 has-requires g c = omega (arith, c.requires.within, c.requires.table.small)
 
 pub part_of-part-requires-clause-rank : goal.part_of-part-requires-clause-rank
-part_of-part-requires-clause-rank g c = omega (arith, c.if-not-has.ensures.to refl, c.requires.within)
+part_of-part-requires-clause-rank g c =
+    omega (arith, c.if-not-has.ensures.to refl, c.requires.within)
 
 pub part_of-part-requires-clause-part : goal.part_of-part-requires-clause-part
 part_of-part-requires-clause-part g c = c.empty.ensures (flat c.args.chunks.now)

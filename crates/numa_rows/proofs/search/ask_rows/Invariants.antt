@@ -7,7 +7,8 @@ abbrev pub invariant-loop-left : goal.invariant-loop-left
 invariant-loop-left g l = record {
   within : l.left.base + l.left.size ≤ l.len;
   stands : IsChunkOf (flat l.chunks) l.part;
-  narrowed : Narrows g.P.Fn l.pred (flat l.chunks) l.fn.left.base l.fn.left.size l.left.base l.left.size;
+  narrowed : Narrows g.P.Fn l.pred (flat l.chunks) l.fn.left.base l.fn.left.size l.left.base
+      l.left.size;
 }
 
 abbrev pub decreases-loop-left : goal.decreases-loop-left

@@ -6,4 +6,7 @@ use Rattle.numa_rows.proofs.search.search_near.Goals as goal
 
 pub returns-clause-partitioned : goal.returns-clause-partitioned
 returns-clause-partitioned g c p gives parted =
-    at-end p (flat c.args.chunks.now) c.ask_rows.result 0 refl (c.ask_rows.ensures.narrowed p gives parted (c.ask_chunk-left.ensures.narrowed p gives parted (at-start p (flat c.args.chunks.now) c.args.len c.requires.table.count)))
+    at-end p (flat c.args.chunks.now) c.ask_rows.result 0 refl
+    (c.ask_rows.ensures.narrowed p gives parted
+    (c.ask_chunk-left.ensures.narrowed p gives parted
+    (at-start p (flat c.args.chunks.now) c.args.len c.requires.table.count)))

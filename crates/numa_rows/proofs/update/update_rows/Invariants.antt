@@ -8,5 +8,7 @@ abbrev pub invariant-loop-i : goal.invariant-loop-i
 invariant-loop-i g l = record {
   size : length l.chunks.items ≡ length l.initial.chunks.items;
   table : IsTable 6144 l.chunks.items l._starts l._len;
-  made : (change : g.row.T.Denot → g.row.T.Denot) → Makes g.F.Fn l.f change → l.chunks.items ≡ map (map change) (take l.i l.initial.chunks.items) ++ drop l.i l.initial.chunks.items;
+  made : (change : g.row.T.Denot → g.row.T.Denot) → Makes g.F.Fn l.f change
+      → l.chunks.items ≡ map (map change) (take l.i l.initial.chunks.items)
+      ++ drop l.i l.initial.chunks.items;
 }

@@ -8,10 +8,19 @@ pub iter_from-rest-requires : goal.iter_from-rest-requires
 iter_from-rest-requires g c = omega (arith, c.requires.rises, c.requires.within)
 
 pub next_rows-requires : goal.next_rows-requires
-next_rows-requires g c = omega (arith, ap length c.iter_from-rest.ensures, length-drop c.args.from c.args.self.now, c.requires.within)
+next_rows-requires g c =
+    omega (
+      arith,
+      ap length c.iter_from-rest.ensures,
+      length-drop c.args.from c.args.self.now,
+      c.requires.within,
+    )
 
 pub overflow_sub-to : goal.overflow_sub-to
 overflow_sub-to g c = c.requires.rises
 
 pub returns : goal.returns
-returns g c = subst (λ (l : List g.row.T.Denot). IfOk c.next_rows.result (λ rows. rows.items ≡ take (c.args.to - c.args.from) l)) c.iter_from-rest.ensures c.next_rows.ensures
+returns g c =
+    subst (λ (l : List g.row.T.Denot).
+    IfOk c.next_rows.result (λ rows. rows.items ≡ take (c.args.to - c.args.from) l))
+    c.iter_from-rest.ensures c.next_rows.ensures
