@@ -57,7 +57,9 @@ gap-of_1 = refl
 -- ---- two sockets of four nodes
 
 abbrev sockets : Hardware
-sockets = machine_of 8 (range_with_len 0 8) (λ from to. cond (eqb from to) 10 (cond (eqb (from / 4) (to / 4)) 12 21)) (Kernel 255)
+sockets =
+    machine_of 8 (range_with_len 0 8)
+    (λ from to. cond (eqb from to) 10 (cond (eqb (from / 4) (to / 4)) 12 21)) (Kernel 255)
 
 sockets-of_0 : fallback_order sockets 0 ≡ range_with_len 0 8
 unfolding members fallback_order loads_before

@@ -5,4 +5,6 @@ use Rattle.numa_machine.proofs.description.has_bad_distance.Given as goal
 
 abbrev pub invariant-loop-from : goal.invariant-loop-from
 invariant-loop-from l =
-    (from : ℕ) → from < l.from → some_node l.nodes (λ to. is_bad_distance from to (table_entry l.nodes l.distances from to)) ≡ false
+    (from : ℕ) → from < l.from
+    → some_node l.nodes
+    (λ to. is_bad_distance from to (table_entry l.nodes l.distances from to)) ≡ false

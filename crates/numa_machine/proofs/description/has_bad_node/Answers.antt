@@ -5,8 +5,12 @@ use Rattle.numa_machine.proofs.description.has_bad_node.Goals as goal
 
 pub returns-then-are_bad_frames : goal.returns-then-are_bad_frames
 returns-then-are_bad_frames c =
-    sym (some_node-one (length c.args.frames.now) (λ node. are_bad_frames c.args.memory.now node (slice_index c.args.frames.now node)) c.loop-node.node (omega arith) (search rules))
+    sym (some_node-one (length c.args.frames.now)
+    (λ node. are_bad_frames c.args.memory.now node (slice_index c.args.frames.now node))
+    c.loop-node.node (omega arith) (search rules))
 
 pub returns : goal.returns
 returns c =
-    sym (some_node-none (length c.args.frames.now) (λ node. are_bad_frames c.args.memory.now node (slice_index c.args.frames.now node)) (λ node h. c.loop-node.invariant node (omega arith)))
+    sym (some_node-none (length c.args.frames.now)
+    (λ node. are_bad_frames c.args.memory.now node (slice_index c.args.frames.now node))
+    (λ node h. c.loop-node.invariant node (omega arith)))

@@ -5,4 +5,5 @@ use Rattle.numa_machine.proofs.description.has_bad_row.Given as goal
 
 abbrev pub invariant-loop-to : goal.invariant-loop-to
 invariant-loop-to l =
-    (to : ℕ) → to < l.to → is_bad_distance l.from to (table_entry l.nodes l.distances l.from to) ≡ false
+    (to : ℕ) → to < l.to → is_bad_distance l.from to (table_entry l.nodes l.distances l.from to)
+    ≡ false

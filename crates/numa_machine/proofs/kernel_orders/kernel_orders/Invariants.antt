@@ -7,6 +7,26 @@ use Rattle.numa_machine.proofs.kernel_orders.kernel_orders.Given as goal
 
 abbrev pub invariant-loop-from : goal.invariant-loop-from
 invariant-loop-from l = record {
-  items : l.orders.items ≡ flat_map (fallback_order (record { nodes = l.nodes; memory = l.memory; distances = l.table; frames = []; rules = Document; fallback = Kernel l.cpus })) (range_with_len 0 l.from);
-  loads : l.loads ≡ loads_before (record { nodes = l.nodes; memory = l.memory; distances = l.table; frames = []; rules = Document; fallback = Kernel l.cpus }) l.cpus l.from;
+  items : l.orders.items
+      ≡ flat_map
+      (fallback_order (record {
+        nodes = l.nodes;
+        memory = l.memory;
+        distances = l.table;
+        frames =
+            [];
+        rules = Document;
+        fallback = Kernel l.cpus;
+      })) (range_with_len 0 l.from);
+  loads : l.loads
+      ≡ loads_before
+      (record {
+        nodes = l.nodes;
+        memory = l.memory;
+        distances = l.table;
+        frames = [];
+        rules =
+            Document;
+        fallback = Kernel l.cpus;
+      }) l.cpus l.from;
 }

@@ -1,4 +1,5 @@
-use Rattle.numa_machine.proofs.Nearest.{IsFallbackOrder-fallback_order, fallback_order_is, fallback_order-nearest, fallback_order-kernel}
+use Rattle.numa_machine.proofs.Nearest.{IsFallbackOrder-fallback_order, fallback_order_is}
+use Rattle.numa_machine.proofs.Nearest.{fallback_order-nearest, fallback_order-kernel}
 use Rattle.numa_machine.proofs.laws.fallback_orders.Goals as goal
 
 pub returns-clause-is_one : goal.returns-clause-is_one

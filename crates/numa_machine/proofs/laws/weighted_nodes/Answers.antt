@@ -1,4 +1,5 @@
-use Rattle.numa_machine.proofs.Blocks.{IsWeightedNode-weighted_node, weighted_node_is, length-cycle, cycle_at}
+use Rattle.numa_machine.proofs.Blocks.{IsWeightedNode-weighted_node, weighted_node_is, length-cycle}
+use Rattle.numa_machine.proofs.Blocks.{cycle_at}
 use Rattle.numa_machine.proofs.laws.weighted_nodes.Goals as goal
 
 pub returns-clause-is_one : goal.returns-clause-is_one

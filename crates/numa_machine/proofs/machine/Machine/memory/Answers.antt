@@ -9,4 +9,6 @@ returns-clause-some c = some_memory _ _ _ _ c.self.invariant.no_fault
 
 pub returns-clause-of_the_machine : goal.returns-clause-of_the_machine
 returns-clause-of_the_machine c =
-    subst (λ (hardware : Hardware). All (λ node. node < hardware.nodes) (members c.self.inside.memory)) c.self.view_is (memory_within _ _ _ _ c.self.invariant.no_fault)
+    subst (λ (hardware : Hardware). All (λ node. node < hardware.nodes)
+    (members c.self.inside.memory)) c.self.view_is
+    (memory_within _ _ _ _ c.self.invariant.no_fault)

@@ -8,22 +8,38 @@ use Rattle.numa_machine.proofs.NoFault.{few_nodes, memory_within}
 use Rattle.numa_machine.proofs.machine.Machine.new.Goals as goal
 
 pub orders_of-requires-clause-nodes : goal.orders_of-requires-clause-nodes
-orders_of-requires-clause-nodes c = few_nodes c.args.nodes c.args.memory c.args.distances.now c.args.frames.now (sym c.fault_of.ensures ∙ c.in_default.is)
+orders_of-requires-clause-nodes c = few_nodes c.args.nodes c.args.memory c.args.distances.now
+    c.args.frames.now (sym c.fault_of.ensures ∙ c.in_default.is)
 
 pub orders_of-requires-clause-memory : goal.orders_of-requires-clause-memory
-orders_of-requires-clause-memory c = memory_within c.args.nodes c.args.memory c.args.distances.now c.args.frames.now (sym c.fault_of.ensures ∙ c.in_default.is)
+orders_of-requires-clause-memory c = memory_within c.args.nodes c.args.memory c.args.distances.now
+    c.args.frames.now (sym c.fault_of.ensures ∙ c.in_default.is)
 
 pub invariant_of-result : goal.invariant_of-result
 invariant_of-result c =
-    let no_fault : machine_fault c.args.nodes c.args.memory c.args.distances.now c.args.frames.now ≡ None = sym c.fault_of.ensures ∙ c.in_default.is in
+    let no_fault : machine_fault c.args.nodes c.args.memory c.args.distances.now c.args.frames.now
+    ≡ None = sym c.fault_of.ensures ∙ c.in_default.is in
     record {
       no_fault =
-          ap (λ xs. machine_fault c.args.nodes c.args.memory xs c.in_ok-frames.frames.items) c.in_ok-distances.ensures.items
-          ∙ ap (λ xs. machine_fault c.args.nodes c.args.memory c.args.distances.now xs) c.in_ok-frames.ensures.items
+          ap (λ xs. machine_fault c.args.nodes c.args.memory xs c.in_ok-frames.frames.items)
+          c.in_ok-distances.ensures.items
+          ∙ ap (λ xs. machine_fault c.args.nodes c.args.memory c.args.distances.now xs)
+          c.in_ok-frames.ensures.items
           ∙ no_fault;
       no_fallback_fault = refl;
       orders_of_nodes =
           c.in_ok-orders.ensures
-          ∙ ap (λ xs. all_orders (record { nodes = c.args.nodes; memory = c.args.memory; distances = xs; frames = []; rules = Document; fallback = Nearest })) (sym c.in_ok-distances.ensures.items)
-          ∙ all_orders-same c.args.nodes c.args.memory c.in_ok-distances.distances.items [] c.in_ok-frames.frames.items Document Document Nearest;
+          ∙ ap
+          (λ xs.
+          all_orders (record {
+            nodes = c.args.nodes;
+            memory = c.args.memory;
+            distances = xs;
+            frames = [];
+            rules = Document;
+            fallback = Nearest;
+          }))
+          (sym c.in_ok-distances.ensures.items)
+          ∙ all_orders-same c.args.nodes c.args.memory c.in_ok-distances.distances.items []
+          c.in_ok-frames.frames.items Document Document Nearest;
     }

@@ -17,6 +17,17 @@ invariant_of-result c = record {
   no_fallback_fault = sym c.fault_of_fallback.ensures ∙ c.in_default.is;
   orders_of_nodes =
       c.in_ok-orders.ensures
-      ∙ ap (λ xs. all_orders (record { nodes = c.self.inside.nodes; memory = c.self.inside.memory; distances = xs; frames = []; rules = Document; fallback = c.args.fallback })) c.deref.ensures.value
-      ∙ all_orders-same c.self.inside.nodes c.self.inside.memory c.self.inside.distances.items [] c.self.inside.frames.items Document c.self.inside.rules c.args.fallback;
+      ∙ ap
+      (λ xs.
+      all_orders (record {
+        nodes = c.self.inside.nodes;
+        memory = c.self.inside.memory;
+        distances =
+            xs;
+        frames = [];
+        rules = Document;
+        fallback = c.args.fallback;
+      })) c.deref.ensures.value
+      ∙ all_orders-same c.self.inside.nodes c.self.inside.memory c.self.inside.distances.items []
+      c.self.inside.frames.items Document c.self.inside.rules c.args.fallback;
 }

@@ -8,5 +8,7 @@ invariant_of-result c = record {
   no_fallback_fault = c.self.invariant.no_fallback_fault;
   orders_of_nodes =
       c.self.invariant.orders_of_nodes
-      ∙ all_orders-same c.self.inside.nodes c.self.inside.memory c.self.inside.distances.items c.self.inside.frames.items c.self.inside.frames.items c.self.inside.rules c.args.rules c.self.inside.fallback;
+      ∙ all_orders-same c.self.inside.nodes c.self.inside.memory c.self.inside.distances.items
+      c.self.inside.frames.items c.self.inside.frames.items c.self.inside.rules c.args.rules
+      c.self.inside.fallback;
 }

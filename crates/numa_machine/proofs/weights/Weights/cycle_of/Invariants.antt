@@ -3,4 +3,5 @@ use Rattle.numa_machine.specs.Weights.{weight_at}
 use Rattle.numa_machine.proofs.weights.Weights.cycle_of.Given as goal
 
 abbrev pub invariant-loop-node : goal.invariant-loop-node
-invariant-loop-node l = l.cycle.items ≡ flat_map (λ node. replicate (weight_at l.self node) node) l.yielded
+invariant-loop-node l = l.cycle.items ≡ flat_map (λ node. replicate (weight_at l.self node) node)
+    l.yielded

@@ -9,7 +9,8 @@ invariant_of-result c =
     record {
       few_nodes = omega arith;
       one_for_each = length-replicate {A = ℕ} 256 1;
-      in_range = All-replicate (λ weight. (1 ≤ weight) × (weight ≤ 255)) 256 1 (omega arith, omega arith);
+      in_range = All-replicate (λ weight. (1 ≤ weight) × (weight ≤ 255)) 256 1
+          (omega arith, omega arith);
     }
 
 pub returns-clause-weights : goal.returns-clause-weights
