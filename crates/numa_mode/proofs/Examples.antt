@@ -1,11 +1,14 @@
--- What the definitions give for the examples of the kernel's "NUMA Memory Policy" document. A set is the number of its bits.
+-- What the definitions give for the examples of the kernel's "NUMA Memory Policy" document. A set
+-- is the number of its bits.
 use Rattle.std.proofs.Common.{◌≡◌, Err, Ok, refl}
 use Rattle.numa_mask.specs.NodeSet.{members}
 use Rattle.numa_machine.specs.declared.rules.Rules.TheVariants.{Document}
 use Rattle.numa_mode.specs.Policy.{Specification, effect_when_set, effect_after, raw_specification}
 use Rattle.numa_mode.specs.declared.modes.Mode.TheVariants.{Default, Bind, Interleave}
 use Rattle.numa_mode.specs.declared.modes.NodeFlag.TheVariants.{Plain, Static, Relative}
-use Rattle.numa_mode.specs.declared.specification.SpecError.TheVariants.{UnknownMode, BothFlags, FlagsForbidden, NodesMissing}
+use Rattle.numa_mode.specs.declared.specification.SpecError.TheVariants.{UnknownMode, BothFlags}
+use Rattle.numa_mode.specs.declared.specification.SpecError.TheVariants.{FlagsForbidden}
+use Rattle.numa_mode.specs.declared.specification.SpecError.TheVariants.{NodesMissing}
 
 -- relative nodes 2-5
 abbrev relative : Specification
@@ -44,7 +47,8 @@ unfolding members
 plain-third = refl
 
 -- mode words
-word-static : raw_specification 0x8002 0b10 ≡ Ok (record { mode = Bind; flag = Static; mask = 0b10 })
+word-static : raw_specification 0x8002 0b10
+    ≡ Ok (record { mode = Bind; flag = Static; mask = 0b10 })
 word-static = refl
 
 word-both : raw_specification 0xc002 0b10 ≡ Err BothFlags

@@ -231,8 +231,8 @@ stays Linux PreferredMany = true
 stays Linux Local = true
 stays Linux _ = false
 
--- by the documents a set without nodes stays so, and the policy rests. The kernel takes all that are
--- allowed in its place
+-- by the documents a set without nodes stays so, and the policy rests. The kernel takes all that
+-- are allowed in its place
 abbrev pub never_empty : Rules → ℕ → ℕ → ℕ
 never_empty Document set allowed = set
 never_empty Linux set allowed = if set == 0 then allowed else set

@@ -4,7 +4,12 @@ use Rattle.numa_mode.proofs.records.Record.policy_text.Goals as goal
 
 pub push_str-requires-then-not-is_empty : goal.push_str-requires-then-not-is_empty
 push_str-requires-then-not-is_empty c =
-    let list : length c.as_str.result.now ≤ 914 = omega (arith, ap length (c.as_str.ensures.value ∙ c.list_text.ensures.text), text_of-length c.effective-nodes.result) in
+    let list : length c.as_str.result.now ≤ 914 =
+    omega (
+      arith,
+      ap length (c.as_str.ensures.value ∙ c.list_text.ensures.text),
+      text_of-length c.effective-nodes.result,
+    ) in
     let words : length c.push_str-2.new.self.bytes ≤ 28 =
     omega (
       arith,
@@ -16,6 +21,13 @@ push_str-requires-then-not-is_empty c =
       c.text.ensures.short,
       ap length c.new-text.ensures,
     ) in
-    let colon : length c.push.new.self.bytes ≤ 29 = omega (arith, words, ap length (c.push.ensures.ascii (lit< tt)), length-append c.push_str-2.new.self.bytes (58 ∷ [])) in
-    let fits : length c.push.new.self.bytes + length c.as_str.result.now ≤ 1024 = omega (arith, list, colon) in
+    let colon : length c.push.new.self.bytes ≤ 29 =
+    omega (
+      arith,
+      words,
+      ap length (c.push.ensures.ascii (lit< tt)),
+      length-append c.push_str-2.new.self.bytes (58 ∷ []),
+    ) in
+    let fits : length c.push.new.self.bytes + length c.as_str.result.now ≤ 1024 =
+    omega (arith, list, colon) in
     (omega arith, fits)
