@@ -29,7 +29,8 @@ AreNumbered values [] = Unit {0}
 AreNumbered values (row ∷ rows) = (row.number < length values) × AreNumbered values rows
 
 -- rows, and values under their numbers, that stand for these runs
-pub record AreRowsOf {T : Type 0} (values : List T) (rows : List Row) (whole : List (Run T)) : Type 0 where
+pub record AreRowsOf {T : Type 0} (values : List T) (rows : List Row) (whole : List (Run T)) :
+    Type 0 where
   pub numbered : AreNumbered values rows
   pub runs : runs_of values rows ≡ whole
 

@@ -7,6 +7,7 @@ use Rattle.numa_ranges.proofs.edit.add_all.Given as goal
 abbrev pub invariant-loop-k : goal.invariant-loop-k
 invariant-loop-k g l = record {
   rest : l.rest ≡ drop l.k l.initial.rest;
-  gathered : (added : List (Run g.row.T.Denot)) → Gathered g.T.PartialEq.eq l.initial.pieces added → Gathered g.T.PartialEq.eq l.pieces (added ++ take l.k l.initial.rest);
+  gathered : (added : List (Run g.row.T.Denot)) → Gathered g.T.PartialEq.eq l.initial.pieces added
+      → Gathered g.T.PartialEq.eq l.pieces (added ++ take l.k l.initial.rest);
   count : l.pieces.count ≤ l.initial.pieces.count + l.k;
 }

@@ -8,6 +8,7 @@ use Rattle.numa_ranges.proofs.edit.gather_edited.Given as goal
 abbrev pub invariant-loop-k : goal.invariant-loop-k
 invariant-loop-k g l = record {
   rest : l.rest ≡ drop l.k l.initial.rest;
-  gathered : (change : g.row.T.Denot → Option g.row.T.Denot) → Makes g.F.Fn l.edit change → Gathered g.T.PartialEq.eq l.pieces (edit_of l.first l.end change (take l.k l.initial.rest));
+  gathered : (change : g.row.T.Denot → Option g.row.T.Denot) → Makes g.F.Fn l.edit change
+      → Gathered g.T.PartialEq.eq l.pieces (edit_of l.first l.end change (take l.k l.initial.rest));
   count : l.pieces.count ≤ 3 * l.k;
 }

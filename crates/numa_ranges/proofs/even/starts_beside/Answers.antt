@@ -5,13 +5,17 @@ use Rattle.numa_ranges.proofs.even.starts_beside.Goals as goal
 
 pub loop-place-preserved : goal.loop-place-preserved
 loop-place-preserved c d low =
-    subst (λ n. (get_or c.args.rows.now n d).first ≤ c.args.page) {x = c.loop-place.place} {y = c.loop-place.place + 1 - 1} (omega arith) (subst (λ (r : Row). r.first ≤ c.args.page) (c.get_near-row.ensures d) c.if-page-row.false)
+    subst (λ n. (get_or c.args.rows.now n d).first ≤ c.args.page) {x = c.loop-place.place}
+    {y = c.loop-place.place + 1 - 1} (omega arith)
+    (subst (λ (r : Row). r.first ≤ c.args.page) (c.get_near-row.ensures d) c.if-page-row.false)
 
 pub returns-then-page-row-clause-before : goal.returns-then-page-row-clause-before
-returns-then-page-row-clause-before c d = c.loop-place.invariant d (omega (arith, c.if-place-start.false, c.loop-place.auto.place))
+returns-then-page-row-clause-before c d =
+    c.loop-place.invariant d (omega (arith, c.if-place-start.false, c.loop-place.auto.place))
 
 pub returns-then-page-row-clause-behind : goal.returns-then-page-row-clause-behind
-returns-then-page-row-clause-behind c d = subst (λ (r : Row). c.args.page < r.first) (c.get_near-row.ensures d) c.if-page-row.true
+returns-then-page-row-clause-behind c d = subst (λ (r : Row). c.args.page < r.first)
+    (c.get_near-row.ensures d) c.if-page-row.true
 
 pub returns-then-place-start-clause-some : goal.returns-then-place-start-clause-some
 returns-then-place-start-clause-some c = tt

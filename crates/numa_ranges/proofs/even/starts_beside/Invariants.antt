@@ -4,4 +4,5 @@ use Rattle.numa_ranges.specs.declared.row.Row.{Row}
 use Rattle.numa_ranges.proofs.even.starts_beside.Given as goal
 
 abbrev pub invariant-loop-place : goal.invariant-loop-place
-invariant-loop-place l = (d : Row) → l.start < l.place → (get_or l.rows (l.place - 1) d).first ≤ l.page
+invariant-loop-place l = (d : Row) → l.start < l.place → (get_or l.rows (l.place - 1) d).first
+    ≤ l.page

@@ -13,6 +13,8 @@ invariant-loop-i g l = record {
   numbered : AreNumbered l.values l.rows;
   number : slice_get l.values l.number ≡ Some l.last.value;
   ahead : drop l.i (runs_of l.values l.rows) ≡ drop l.i (runs_of l.values l.initial.rows);
-  so_far : take l.kept (runs_of l.values l.rows) ++ joined_from g.T.PartialEq.eq (drop l.i (runs_of l.values l.initial.rows)) l.last ≡ maximal_runs g.T.PartialEq.eq (runs_of l.values l.initial.rows);
+  so_far : take l.kept (runs_of l.values l.rows)
+      ++ joined_from g.T.PartialEq.eq (drop l.i (runs_of l.values l.initial.rows)) l.last
+      ≡ maximal_runs g.T.PartialEq.eq (runs_of l.values l.initial.rows);
   in_range : IsInRange l.last;
 }

@@ -8,10 +8,25 @@ use Rattle.numa_ranges.proofs.join.put_run.Goals as goal
 
 pub returns-clause-numbered : goal.returns-clause-numbered
 returns-clause-numbered g c =
-    let row : Row = record { first = c.args.run.first; pages = c.args.run.pages; index = c.args.run.index; number = c.args.number } in
-    rw c.put.ensures (numbered-set c.args._values.now c.args.rows.now c.args.rank row c.requires.numbered (slice_get_within c.args._values.now c.args.number c.args.run.value c.requires.number))
+    let row : Row = record {
+      first = c.args.run.first;
+      pages = c.args.run.pages;
+      index =
+          c.args.run.index;
+      number = c.args.number;
+    } in
+    rw c.put.ensures
+    (numbered-set c.args._values.now c.args.rows.now c.args.rank row c.requires.numbered
+    (slice_get_within c.args._values.now c.args.number c.args.run.value c.requires.number))
 
 pub returns-clause-runs : goal.returns-clause-runs
 returns-clause-runs g c =
-    let row : Row = record { first = c.args.run.first; pages = c.args.run.pages; index = c.args.run.index; number = c.args.number } in
-    ap (runs_of c.args._values.now) c.put.ensures ∙ runs-set c.args._values.now c.args.rows.now c.args.rank row c.args.run c.requires.numbered (ap (run_of_row row) c.requires.number)
+    let row : Row = record {
+      first = c.args.run.first;
+      pages = c.args.run.pages;
+      index =
+          c.args.run.index;
+      number = c.args.number;
+    } in
+    ap (runs_of c.args._values.now) c.put.ensures ∙ runs-set c.args._values.now c.args.rows.now
+    c.args.rank row c.args.run c.requires.numbered (ap (run_of_row row) c.requires.number)

@@ -7,5 +7,7 @@ use Rattle.numa_ranges.proofs.row.with_value.Goals as goal
 pub returns : goal.returns
 returns g c =
     let row = c.args.row in
-    let run : g.row.T.Denot → List (Run g.row.T.Denot) = λ v. record { first = row.first; pages = row.pages; index = row.index; value = v } ∷ [] in
-    one-run c.args.values.now row c.index-values-row.result c.requires ∙ ap run (sym c.index-values-row.is)
+    let run : g.row.T.Denot → List (Run g.row.T.Denot) =
+    λ v. record { first = row.first; pages = row.pages; index = row.index; value = v } ∷ [] in
+    one-run c.args.values.now row c.index-values-row.result c.requires
+    ∙ ap run (sym c.index-values-row.is)

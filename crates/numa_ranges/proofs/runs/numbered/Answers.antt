@@ -11,13 +11,26 @@ pub loop-i-preserved : goal.loop-i-preserved
 loop-i-preserved g c =
     let inv = c.loop-i.invariant in
     let run = c.index-runs-i.result in
-    let row : Row = record { first = run.first; pages = run.pages; index = run.index; number = c.in_ok-number.number } in
-    let within = slice_get_within c.add.new.self c.in_ok-number.number run.value c.in_ok-number.ensures.number in
+    let row : Row = record {
+      first = run.first;
+      pages = run.pages;
+      index = run.index;
+      number =
+          c.in_ok-number.number;
+    } in
+    let within = slice_get_within c.add.new.self c.in_ok-number.number run.value
+    c.in_ok-number.ensures.number in
     record {
-      longer = longer-both c.args.values.now c.loop-i.values c.add.new.self inv.longer c.add.ensures.longer;
-      numbered = rw c.push_reserved.ensures.items (numbered-more c.loop-i.values c.add.new.self c.loop-i.rows.items row c.add.ensures.longer inv.numbered within);
+      longer = longer-both c.args.values.now c.loop-i.values c.add.new.self inv.longer
+          c.add.ensures.longer;
+      numbered =
+          rw c.push_reserved.ensures.items
+          (numbered-more c.loop-i.values c.add.new.self c.loop-i.rows.items row c.add.ensures.longer
+          inv.numbered within);
       so_far = ap (runs_of c.add.new.self) c.push_reserved.ensures.items
-          ∙ runs-more c.loop-i.values c.add.new.self c.loop-i.rows.items c.args.runs.now row run c.loop-i.i c.add.ensures.longer inv.numbered inv.so_far (omega arith) c.index-runs-i.is (ap (run_of_row row) c.in_ok-number.ensures.number);
+          ∙ runs-more c.loop-i.values c.add.new.self c.loop-i.rows.items c.args.runs.now row run
+          c.loop-i.i c.add.ensures.longer inv.numbered inv.so_far (omega arith) c.index-runs-i.is
+          (ap (run_of_row row) c.in_ok-number.ensures.number);
       size = c.push_reserved.ensures.len ∙ ap (λ n. n + 1) inv.size;
       room = omega (arith, c.push_reserved.ensures.capacity, inv.room);
     }
@@ -44,7 +57,8 @@ pub returns-clause-longer : goal.returns-clause-longer
 returns-clause-longer g c = c.loop-i.invariant.longer
 
 pub returns-in_err-number-clause-longer : goal.returns-in_err-number-clause-longer
-returns-in_err-number-clause-longer g c = longer-both c.args.values.now c.loop-i.values c.add.new.self c.loop-i.invariant.longer c.add.ensures.longer
+returns-in_err-number-clause-longer g c = longer-both c.args.values.now c.loop-i.values
+    c.add.new.self c.loop-i.invariant.longer c.add.ensures.longer
 
 pub returns-in_err-rows-clause-longer : goal.returns-in_err-rows-clause-longer
 returns-in_err-rows-clause-longer g c = longer-same c.args.values.now

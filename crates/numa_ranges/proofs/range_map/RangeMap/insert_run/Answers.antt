@@ -8,11 +8,13 @@ pub gather_with-pieces-requires-clause-apart : goal.gather_with-pieces-requires-
 gather_with-pieces-requires-clause-apart g c = c.self.invariant.0
 
 pub gather_with-pieces-requires-clause-reaches : goal.gather_with-pieces-requires-clause-reaches
-gather_with-pieces-requires-clause-reaches g c = omega (arith, c.requires.room.within, ap (λ v. length v.runs) c.self.view_is)
+gather_with-pieces-requires-clause-reaches g c =
+    omega (arith, c.requires.room.within, ap (λ v. length v.runs) c.self.view_is)
 
 pub put-requires-clause-window : goal.put-requires-clause-window
 put-requires-clause-window g c =
-    let within : c.args.place ≤ length c.self.inside.runs = omega (arith, c.requires.room.within, ap (λ v. length v.runs) c.self.view_is) in
+    let within : c.args.place ≤ length c.self.inside.runs =
+    omega (arith, c.requires.room.within, ap (λ v. length v.runs) c.self.view_is) in
     (omega arith, omega arith)
 
 pub put-requires-clause-room : goal.put-requires-clause-room
@@ -22,25 +24,47 @@ pub returns-in_err-put-clause-err : goal.returns-in_err-put-clause-err
 returns-in_err-put-clause-err g c =
     let runs = ap (λ v. v.runs) c.self.view_is in
     let from : c.saturating_sub-from.result ≡ c.args.place - 1 = omega arith in
-    let to : c.min-to.result ≡ min (length c.args.self.now.runs) (c.args.place + 1) = omega (arith, ap length runs) in
+    let to : c.min-to.result ≡ min (length c.args.self.now.runs) (c.args.place + 1) =
+    omega (arith, ap length runs) in
     let exit = err_from_is_err_and c.from_residual.result c.from_residual.ensures.1 in
-    rw (exit.1, exit.2, ← (ap (λ v. v.max_ranges) c.self.view_is)) (placed-refused g.T.PartialEq.eq g.met.T.Exact.exact g.met.T.Eq.laws.refl c.args.self.now.runs c.self.inside.runs c.gather_with-pieces.result c.args.run c.args.place c.saturating_sub-from.result c.min-to.result c.self.inside.max_ranges c.in_err-put.field-0.0 runs from to c.requires.room c.requires.span.some c.requires.span.within c.requires.index c.gather_with-pieces.ensures.gathered c.in_err-put.ensures.err)
+    rw (exit.1, exit.2, ← (ap (λ v. v.max_ranges) c.self.view_is))
+    (placed-refused g.T.PartialEq.eq g.met.T.Exact.exact g.met.T.Eq.laws.refl
+    c.args.self.now.runs c.self.inside.runs c.gather_with-pieces.result c.args.run c.args.place
+    c.saturating_sub-from.result c.min-to.result c.self.inside.max_ranges c.in_err-put.field-0.0
+    runs from to c.requires.room c.requires.span.some c.requires.span.within c.requires.index
+    c.gather_with-pieces.ensures.gathered c.in_err-put.ensures.err)
 
 pub invariant_of-self-2 : goal.invariant_of-self-2
 invariant_of-self-2 g c =
     let runs = ap (λ v. v.runs) c.self.view_is in
     let from : c.saturating_sub-from.result ≡ c.args.place - 1 = omega arith in
-    let to : c.min-to.result ≡ min (length c.args.self.now.runs) (c.args.place + 1) = omega (arith, ap length runs) in
-    let all = placed-stands g.T.PartialEq.eq g.met.T.Exact.exact g.met.T.Eq.laws.refl c.args.self.now.runs c.self.inside.runs c.put.new.runs c.gather_with-pieces.result c.args.run c.args.place c.saturating_sub-from.result c.min-to.result c.self.inside.max_ranges runs from to c.requires.room c.requires.span.some c.requires.span.within c.requires.index c.gather_with-pieces.ensures.gathered c.in_ok-put.ensures.ok in
+    let to : c.min-to.result ≡ min (length c.args.self.now.runs) (c.args.place + 1) =
+    omega (arith, ap length runs) in
+    let all = placed-stands g.T.PartialEq.eq g.met.T.Exact.exact g.met.T.Eq.laws.refl
+    c.args.self.now.runs c.self.inside.runs c.put.new.runs c.gather_with-pieces.result
+    c.args.run c.args.place c.saturating_sub-from.result c.min-to.result
+    c.self.inside.max_ranges runs from to c.requires.room c.requires.span.some
+    c.requires.span.within c.requires.index c.gather_with-pieces.ensures.gathered
+    c.in_ok-put.ensures.ok in
     (all.apart, all.maximal, all.size)
 
 pub returns-clause-ok : goal.returns-clause-ok
 returns-clause-ok g c =
     let runs = ap (λ v. v.runs) c.self.view_is in
     let from : c.saturating_sub-from.result ≡ c.args.place - 1 = omega arith in
-    let to : c.min-to.result ≡ min (length c.args.self.now.runs) (c.args.place + 1) = omega (arith, ap length runs) in
-    let all = placed-stands g.T.PartialEq.eq g.met.T.Exact.exact g.met.T.Eq.laws.refl c.args.self.now.runs c.self.inside.runs c.put.new.runs c.gather_with-pieces.result c.args.run c.args.place c.saturating_sub-from.result c.min-to.result c.self.inside.max_ranges runs from to c.requires.room c.requires.span.some c.requires.span.within c.requires.index c.gather_with-pieces.ensures.gathered c.in_ok-put.ensures.ok in
-    record { shows = all.page; accepted = rw (← (ap (λ v. v.max_ranges) c.self.view_is)) all.accepted }
+    let to : c.min-to.result ≡ min (length c.args.self.now.runs) (c.args.place + 1) =
+    omega (arith, ap length runs) in
+    let all = placed-stands g.T.PartialEq.eq g.met.T.Exact.exact g.met.T.Eq.laws.refl
+    c.args.self.now.runs c.self.inside.runs c.put.new.runs c.gather_with-pieces.result
+    c.args.run c.args.place c.saturating_sub-from.result c.min-to.result
+    c.self.inside.max_ranges runs from to c.requires.room c.requires.span.some
+    c.requires.span.within c.requires.index c.gather_with-pieces.ensures.gathered
+    c.in_ok-put.ensures.ok in
+    record {
+      shows = all.page;
+      accepted = rw (← (ap (λ v. v.max_ranges) c.self.view_is))
+          all.accepted;
+    }
 
 pub returns-clause-err : goal.returns-clause-err
 returns-clause-err g c = tt

@@ -10,12 +10,14 @@ returns-clause-ok g c = on_ok c.insert_run.result (λ h. h.shows) c.insert_run.e
 
 pub returns-clause-accepted : goal.returns-clause-accepted
 returns-clause-accepted g c =
-    let free : any_page (λ page. is_some (page_at c.args.self.now.runs page)) c.args.first c.args.pages ≡ false = c.in-Some.ensures.free in
+    let free : any_page (λ page. is_some (page_at c.args.self.now.runs page)) c.args.first
+    c.args.pages ≡ false = c.in-Some.ensures.free in
     rw free (on_ok c.insert_run.result (λ h. h.accepted) c.insert_run.ensures.ok)
 
 pub returns-clause-err : goal.returns-clause-err
 returns-clause-err g c =
-    let free : any_page (λ page. is_some (page_at c.args.self.now.runs page)) c.args.first c.args.pages ≡ false = c.in-Some.ensures.free in
+    let free : any_page (λ page. is_some (page_at c.args.self.now.runs page)) c.args.first
+    c.args.pages ≡ false = c.in-Some.ensures.free in
     rw free c.insert_run.ensures.err
 
 pub place_between-requires : goal.place_between-requires

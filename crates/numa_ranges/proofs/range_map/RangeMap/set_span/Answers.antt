@@ -1,5 +1,6 @@
 -- The span has no hole, so only the count can refuse the call.
-use Rattle.std.proofs.Common.{◌≡◌, ℕ, false, Option, Some, None, not, is_some, OnOk, IfErr, List, length, ap, sym, subst, ◌∙◌, arith, rules}
+use Rattle.std.proofs.Common.{◌≡◌, ℕ, false, Option, Some, None, not, is_some, OnOk, IfErr, List}
+use Rattle.std.proofs.Common.{length, ap, sym, subst, ◌∙◌, arith, rules}
 use Rattle.numa_ranges.specs.Runs.{page_at}
 use Rattle.numa_ranges.specs.Edits.{StartsAround}
 use Rattle.numa_ranges.specs.declared.run.Run.{Run}
@@ -8,34 +9,55 @@ use Rattle.numa_ranges.proofs.Spans.{changed-is, on_ok}
 use Rattle.numa_ranges.proofs.range_map.RangeMap.set_span.Goals as goal
 
 pub lacks_page-requires-clause-within : goal.lacks_page-requires-clause-within
-lacks_page-requires-clause-within g c = omega (arith, c.starts_near-place.ensures.within, ap (λ v. length v.runs) c.self.view_is)
+lacks_page-requires-clause-within g c =
+    omega (arith, c.starts_near-place.ensures.within, ap (λ v. length v.runs) c.self.view_is)
 
 pub lacks_page-requires-clause-parts : goal.lacks_page-requires-clause-parts
-lacks_page-requires-clause-parts g c = subst (λ (l : List (Run g.row.T.Denot)). StartsAround l c.starts_near-place.result c.args.first) (sym (ap (λ v. v.runs) c.self.view_is)) c.starts_near-place.ensures.parts
+lacks_page-requires-clause-parts g c =
+    subst (λ (l : List (Run g.row.T.Denot)). StartsAround l c.starts_near-place.result c.args.first)
+    (sym (ap (λ v. v.runs) c.self.view_is)) c.starts_near-place.ensures.parts
 
 pub edit_span-requires-clause-function : goal.edit_span-requires-clause-function
 edit_span-requires-clause-function g c = (λ x. Some c.args.value, λ x r h. search rules)
 
 pub returns-clause-ok : goal.returns-clause-ok
 returns-clause-ok g c =
-    let same = changed-is c.args.first c.args.pages (λ (old : g.row.T.Denot). c.args.value) (page_at c.args.self.now.runs) in
-    subst (λ (at : ℕ → Option (ℕ × g.row.T.Denot)). OnOk c.edit_span.result (Shows c.edit_span.new.self.runs at)) same
-    (on_ok c.edit_span.result (λ h. h.shows) (c.edit_span.ensures.ok (λ x. Some c.args.value) (λ x r h. search rules)))
+    let same = changed-is c.args.first c.args.pages (λ (old : g.row.T.Denot). c.args.value)
+    (page_at c.args.self.now.runs) in
+    subst (λ (at : ℕ → Option (ℕ × g.row.T.Denot)).
+    OnOk c.edit_span.result (Shows c.edit_span.new.self.runs at)) same
+    (on_ok c.edit_span.result (λ h. h.shows)
+    (c.edit_span.ensures.ok (λ x. Some c.args.value) (λ x r h. search rules)))
 
 pub returns-clause-accepted : goal.returns-clause-accepted
 returns-clause-accepted g c =
-    let whole : any_page (λ page. not (is_some (page_at c.args.self.now.runs page))) c.args.first c.args.pages ≡ false = sym (c.if-lacks_page.ensures ∙ ap (λ v. any_page (λ page. not (is_some (page_at v.runs page))) c.args.first c.args.pages) c.self.view_is) in
-    let same = changed-is c.args.first c.args.pages (λ (old : g.row.T.Denot). c.args.value) (page_at c.args.self.now.runs) in
+    let whole : any_page (λ page. not (is_some (page_at c.args.self.now.runs page))) c.args.first
+    c.args.pages ≡ false =
+    sym (c.if-lacks_page.ensures
+    ∙ ap (λ v. any_page (λ page. not (is_some (page_at v.runs page))) c.args.first c.args.pages)
+    c.self.view_is) in
+    let same = changed-is c.args.first c.args.pages (λ (old : g.row.T.Denot). c.args.value)
+    (page_at c.args.self.now.runs) in
     rw whole
-    (subst (λ (at : ℕ → Option (ℕ × g.row.T.Denot)). OnOk c.edit_span.result (count_refusal g.T.PartialEq.eq c.args.self.now.max_ranges at ≡ None)) same
-    (on_ok c.edit_span.result (λ h. h.accepted) (c.edit_span.ensures.ok (λ x. Some c.args.value) (λ x r h. search rules))))
+    (subst (λ (at : ℕ → Option (ℕ × g.row.T.Denot)).
+    OnOk c.edit_span.result (count_refusal g.T.PartialEq.eq c.args.self.now.max_ranges at
+    ≡ None)) same
+    (on_ok c.edit_span.result (λ h. h.accepted)
+    (c.edit_span.ensures.ok (λ x. Some c.args.value) (λ x r h. search rules))))
 
 pub returns-clause-err : goal.returns-clause-err
 returns-clause-err g c =
-    let whole : any_page (λ page. not (is_some (page_at c.args.self.now.runs page))) c.args.first c.args.pages ≡ false = sym (c.if-lacks_page.ensures ∙ ap (λ v. any_page (λ page. not (is_some (page_at v.runs page))) c.args.first c.args.pages) c.self.view_is) in
-    let same = changed-is c.args.first c.args.pages (λ (old : g.row.T.Denot). c.args.value) (page_at c.args.self.now.runs) in
+    let whole : any_page (λ page. not (is_some (page_at c.args.self.now.runs page))) c.args.first
+    c.args.pages ≡ false =
+    sym (c.if-lacks_page.ensures
+    ∙ ap (λ v. any_page (λ page. not (is_some (page_at v.runs page))) c.args.first c.args.pages)
+    c.self.view_is) in
+    let same = changed-is c.args.first c.args.pages (λ (old : g.row.T.Denot). c.args.value)
+    (page_at c.args.self.now.runs) in
     rw whole
-    (subst (λ (at : ℕ → Option (ℕ × g.row.T.Denot)). IfErr c.edit_span.result (IsRefusal (count_refusal g.T.PartialEq.eq c.args.self.now.max_ranges at))) same
+    (subst (λ (at : ℕ → Option (ℕ × g.row.T.Denot)).
+    IfErr c.edit_span.result
+    (IsRefusal (count_refusal g.T.PartialEq.eq c.args.self.now.max_ranges at))) same
     (c.edit_span.ensures.err (λ x. Some c.args.value) (λ x r h. search rules)))
 
 pub lacks_page-requires-clause-apart : goal.lacks_page-requires-clause-apart

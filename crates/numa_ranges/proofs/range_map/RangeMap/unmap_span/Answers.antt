@@ -11,17 +11,22 @@ edit_span-requires-clause-function g c = (λ x. None, λ x r h. search rules)
 pub returns-clause-ok : goal.returns-clause-ok
 returns-clause-ok g c =
     let same = without-is c.args.first c.args.pages (page_at c.args.self.now.runs) in
-    on_ok c.edit_span.result (λ h page. h.shows page ∙ ap (λ at. at page) same) (c.edit_span.ensures.ok (λ x. None) (λ x r h. search rules))
+    on_ok c.edit_span.result (λ h page. h.shows page ∙ ap (λ at. at page) same)
+    (c.edit_span.ensures.ok (λ x. None) (λ x r h. search rules))
 
 pub returns-clause-accepted : goal.returns-clause-accepted
 returns-clause-accepted g c =
     let same = without-is c.args.first c.args.pages (page_at c.args.self.now.runs) in
-    on_ok c.edit_span.result (λ h. ap (count_refusal g.T.PartialEq.eq c.args.self.now.max_ranges) (sym same) ∙ h.accepted) (c.edit_span.ensures.ok (λ x. None) (λ x r h. search rules))
+    on_ok c.edit_span.result (λ h. ap (count_refusal g.T.PartialEq.eq c.args.self.now.max_ranges)
+    (sym same) ∙ h.accepted) (c.edit_span.ensures.ok (λ x. None) (λ x r h. search rules))
 
 pub returns-clause-err : goal.returns-clause-err
 returns-clause-err g c =
     let same = without-is c.args.first c.args.pages (page_at c.args.self.now.runs) in
-    subst (λ (at : ℕ → Option (ℕ × g.row.T.Denot)). IfErr c.edit_span.result (IsRefusal (count_refusal g.T.PartialEq.eq c.args.self.now.max_ranges at))) same (c.edit_span.ensures.err (λ x. None) (λ x r h. search rules))
+    subst (λ (at : ℕ → Option (ℕ × g.row.T.Denot)).
+    IfErr c.edit_span.result
+    (IsRefusal (count_refusal g.T.PartialEq.eq c.args.self.now.max_ranges at))) same
+    (c.edit_span.ensures.err (λ x. None) (λ x r h. search rules))
 
 pub edit_span-requires-clause-within : goal.edit_span-requires-clause-within
 edit_span-requires-clause-within g c = c.starts_near-place.ensures.within

@@ -7,24 +7,32 @@ use Rattle.numa_ranges.proofs.Spans.{changed-is, on_ok}
 use Rattle.numa_ranges.proofs.range_map.RangeMap.update_span.Goals as goal
 
 pub edit_span-requires-clause-function : goal.edit_span-requires-clause-function
-edit_span-requires-clause-function g c = (λ x. Some (c.requires.function.0 x), λ x r h. search (rules, c.requires.function.1, says_at))
+edit_span-requires-clause-function g c =
+    (λ x. Some (c.requires.function.0 x), λ x r h. search (rules, c.requires.function.1, says_at))
 
 pub returns-clause-ok : goal.returns-clause-ok
 returns-clause-ok g c change gives =
     let same = changed-is c.args.first c.args.pages change (page_at c.args.self.now.runs) in
-    subst (λ (at : ℕ → Option (ℕ × g.row.T.Denot)). OnOk c.edit_span.result (Shows c.edit_span.new.self.runs at)) same
-    (on_ok c.edit_span.result (λ h. h.shows) (c.edit_span.ensures.ok (λ x. Some (change x)) (λ x r h. search (rules, gives, says_at))))
+    subst (λ (at : ℕ → Option (ℕ × g.row.T.Denot)).
+    OnOk c.edit_span.result (Shows c.edit_span.new.self.runs at)) same
+    (on_ok c.edit_span.result (λ h. h.shows)
+    (c.edit_span.ensures.ok (λ x. Some (change x)) (λ x r h. search (rules, gives, says_at))))
 
 pub returns-clause-accepted : goal.returns-clause-accepted
 returns-clause-accepted g c change gives =
     let same = changed-is c.args.first c.args.pages change (page_at c.args.self.now.runs) in
-    subst (λ (at : ℕ → Option (ℕ × g.row.T.Denot)). OnOk c.edit_span.result (count_refusal g.T.PartialEq.eq c.args.self.now.max_ranges at ≡ None)) same
-    (on_ok c.edit_span.result (λ h. h.accepted) (c.edit_span.ensures.ok (λ x. Some (change x)) (λ x r h. search (rules, gives, says_at))))
+    subst (λ (at : ℕ → Option (ℕ × g.row.T.Denot)).
+    OnOk c.edit_span.result (count_refusal g.T.PartialEq.eq c.args.self.now.max_ranges at
+    ≡ None)) same
+    (on_ok c.edit_span.result (λ h. h.accepted)
+    (c.edit_span.ensures.ok (λ x. Some (change x)) (λ x r h. search (rules, gives, says_at))))
 
 pub returns-clause-err : goal.returns-clause-err
 returns-clause-err g c change gives =
     let same = changed-is c.args.first c.args.pages change (page_at c.args.self.now.runs) in
-    subst (λ (at : ℕ → Option (ℕ × g.row.T.Denot)). IfErr c.edit_span.result (IsRefusal (count_refusal g.T.PartialEq.eq c.args.self.now.max_ranges at))) same
+    subst (λ (at : ℕ → Option (ℕ × g.row.T.Denot)).
+    IfErr c.edit_span.result
+    (IsRefusal (count_refusal g.T.PartialEq.eq c.args.self.now.max_ranges at))) same
     (c.edit_span.ensures.err (λ x. Some (change x)) (λ x r h. search (rules, gives)))
 
 pub edit_span-requires-clause-within : goal.edit_span-requires-clause-within

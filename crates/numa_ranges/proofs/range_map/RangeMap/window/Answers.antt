@@ -7,27 +7,39 @@ use Rattle.numa_ranges.proofs.Window.{places-rise, edited-window}
 use Rattle.numa_ranges.proofs.range_map.RangeMap.window.Goals as goal
 
 pub starts_on-requires-clause-within : goal.starts_on-requires-clause-within
-starts_on-requires-clause-within g c = omega (arith, c.requires.within, ap (λ v. length v.runs) c.self.view_is)
+starts_on-requires-clause-within g c =
+    omega (arith, c.requires.within, ap (λ v. length v.runs) c.self.view_is)
 
 pub starts_on-requires-clause-parts : goal.starts_on-requires-clause-parts
-starts_on-requires-clause-parts g c = subst (λ (l : List (Run g.row.T.Denot)). StartsAround l c.args.place c.args.first) (sym (ap (λ v. v.runs) c.self.view_is)) c.requires.parts
+starts_on-requires-clause-parts g c =
+    subst (λ (l : List (Run g.row.T.Denot)). StartsAround l c.args.place c.args.first)
+    (sym (ap (λ v. v.runs) c.self.view_is)) c.requires.parts
 
 pub returns-clause-rises : goal.returns-clause-rises
 returns-clause-rises g c =
     let runs = ap (λ v. v.runs) c.self.view_is in
-    let parts = subst (λ (l : List (Run g.row.T.Denot)). StartsAround l c.starts_on.result c.args.end) runs c.starts_on.ensures.parts in
-    let rises = places-rise c.args.self.now.runs c.args.place c.starts_on.result c.args.first c.args.end c.requires.rises c.requires.within c.requires.parts parts in
+    let parts =
+    subst (λ (l : List (Run g.row.T.Denot)). StartsAround l c.starts_on.result c.args.end) runs
+    c.starts_on.ensures.parts in
+    let rises = places-rise c.args.self.now.runs c.args.place c.starts_on.result c.args.first
+    c.args.end c.requires.rises c.requires.within c.requires.parts parts in
     let size : length c.self.inside.runs ≡ length c.args.self.now.runs = ap length runs in
     omega (arith, rises, size, c.requires.within)
 
 pub returns-clause-whole : goal.returns-clause-whole
 returns-clause-whole g c change =
     let runs = ap (λ v. v.runs) c.self.view_is in
-    let parts = subst (λ (l : List (Run g.row.T.Denot)). StartsAround l c.starts_on.result c.args.end) runs c.starts_on.ensures.parts in
-    let within = subst (λ (l : List (Run g.row.T.Denot)). c.starts_on.result ≤ length l) runs c.starts_on.ensures.within in
+    let parts =
+    subst (λ (l : List (Run g.row.T.Denot)). StartsAround l c.starts_on.result c.args.end) runs
+    c.starts_on.ensures.parts in
+    let within = subst (λ (l : List (Run g.row.T.Denot)). c.starts_on.result ≤ length l) runs
+    c.starts_on.ensures.within in
     let apart = subst (λ (l : List (Run g.row.T.Denot)). AreApart 0 l) runs c.self.invariant.0 in
     let maximal = subst (λ (l : List (Run g.row.T.Denot)). AreMaximal l) runs c.self.invariant.1 in
     let size : length c.self.inside.runs ≡ length c.args.self.now.runs = ap length runs in
     let from : c.saturating_sub-from.result ≡ c.args.place - 2 = omega arith in
-    let to : c.min-to.result ≡ min (length c.args.self.now.runs) (c.starts_on.result + 1) = omega (arith, size) in
-    rw (from, to) (edited-window g.T.PartialEq.eq g.met.T.Exact.exact g.met.T.Eq.laws.refl c.args.self.now.runs c.args.place c.starts_on.result c.args.first c.args.end change apart maximal c.requires.rises c.requires.within c.requires.parts within parts)
+    let to : c.min-to.result ≡ min (length c.args.self.now.runs) (c.starts_on.result + 1) =
+    omega (arith, size) in
+    rw (from, to) (edited-window g.T.PartialEq.eq g.met.T.Exact.exact g.met.T.Eq.laws.refl
+    c.args.self.now.runs c.args.place c.starts_on.result c.args.first c.args.end change apart
+    maximal c.requires.rises c.requires.within c.requires.parts within parts)

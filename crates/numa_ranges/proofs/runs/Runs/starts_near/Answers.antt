@@ -8,19 +8,40 @@ use Rattle.numa_ranges.proofs.Numbered.{length-runs, rows-rising, starts-around,
 use Rattle.numa_ranges.proofs.runs.Runs.starts_near.Goals as goal
 
 pub returns-clause-within : goal.returns-clause-within
-returns-clause-within g c = omega (arith, c.partition_point_near.ensures.bound, length-runs c.self.inside.values c.self.inside.rows c.self.invariant, ap length c.self.view_is)
+returns-clause-within g c =
+    omega (
+      arith,
+      c.partition_point_near.ensures.bound,
+      length-runs c.self.inside.values c.self.inside.rows c.self.invariant,
+      ap length c.self.view_is,
+    )
 
 pub returns-clause-parts : goal.returns-clause-parts
 returns-clause-parts g c =
-    let rising = rows-rising c.self.inside.values c.self.inside.rows c.self.invariant (subst (AreApart 0) (sym c.self.view_is) c.requires) in
-    let found = c.partition_point_near.ensures.partitioned (λ row. leb row.first c.args.page) (λ value made h. search rules) (IsPartitionedBy-leb (λ row. row.first) _ c.args.page rising) in
+    let rising = rows-rising c.self.inside.values c.self.inside.rows c.self.invariant
+    (subst (AreApart 0) (sym c.self.view_is) c.requires) in
+    let found = c.partition_point_near.ensures.partitioned (λ row. leb row.first c.args.page)
+    (λ value made h. search rules)
+    (IsPartitionedBy-leb (λ row. row.first) _ c.args.page rising) in
     subst (λ l. StartsAround l c.partition_point_near.result c.args.page) c.self.view_is
-    (starts-around c.self.inside.values c.self.inside.rows c.partition_point_near.result c.args.page c.self.invariant c.partition_point_near.ensures.bound (λ k d low high. leb-true _ _ (found.0 k d low high)) (λ k d low high. leb-false _ _ (found.1 k d low high)))
+    (starts-around c.self.inside.values c.self.inside.rows c.partition_point_near.result c.args.page
+    c.self.invariant c.partition_point_near.ensures.bound
+    (λ k d low high. leb-true _ _ (found.0 k d low high))
+    (λ k d low high. leb-false _ _ (found.1 k d low high)))
 
 pub returns-in-Some-clause-within : goal.returns-in-Some-clause-within
-returns-in-Some-clause-within g c = omega (arith, c.in-Some.ensures.within, length-runs c.self.inside.values c.self.inside.rows c.self.invariant, ap length c.self.view_is)
+returns-in-Some-clause-within g c =
+    omega (
+      arith,
+      c.in-Some.ensures.within,
+      length-runs c.self.inside.values c.self.inside.rows
+          c.self.invariant,
+      ap length c.self.view_is,
+    )
 
 pub returns-in-Some-clause-parts : goal.returns-in-Some-clause-parts
 returns-in-Some-clause-parts g c =
     subst (λ l. StartsAround l c.in-Some.count c.args.page) c.self.view_is
-    (starts-beside c.self.inside.values c.self.inside.rows c.in-Some.count c.args.page c.self.invariant (subst (AreApart 0) (sym c.self.view_is) c.requires) c.in-Some.ensures.some c.in-Some.ensures.within c.in-Some.ensures.before c.in-Some.ensures.behind)
+    (starts-beside c.self.inside.values c.self.inside.rows c.in-Some.count c.args.page
+    c.self.invariant (subst (AreApart 0) (sym c.self.view_is) c.requires) c.in-Some.ensures.some
+    c.in-Some.ensures.within c.in-Some.ensures.before c.in-Some.ensures.behind)

@@ -5,11 +5,15 @@ use Rattle.numa_ranges.proofs.Numbered.{longer-more, last-value}
 use Rattle.numa_ranges.proofs.values.Values.add.Goals as goal
 
 pub returns-clause-number : goal.returns-clause-number
-returns-clause-number g c = rw c.in_ok-push.ensures.items (last-value c.self.inside.items.items c.args.value c.len-len.result (omega (arith, c.len-len.ensures, c.self.inside.items.ok.0)))
+returns-clause-number g c =
+    rw c.in_ok-push.ensures.items
+    (last-value c.self.inside.items.items c.args.value c.len-len.result
+    (omega (arith, c.len-len.ensures, c.self.inside.items.ok.0)))
 
 pub returns-clause-longer : goal.returns-clause-longer
 returns-clause-longer g c =
-    subst (λ (l : List g.row.T.Denot). IsLonger l c.push.new.self.items) c.self.view_is (rw c.in_ok-push.ensures.items (longer-more c.self.inside.items.items c.args.value))
+    subst (λ (l : List g.row.T.Denot). IsLonger l c.push.new.self.items) c.self.view_is
+    (rw c.in_ok-push.ensures.items (longer-more c.self.inside.items.items c.args.value))
 
 pub returns-clause-unchanged : goal.returns-clause-unchanged
 returns-clause-unchanged g c = tt

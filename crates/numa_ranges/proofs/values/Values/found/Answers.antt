@@ -6,12 +6,17 @@ use Rattle.numa_ranges.proofs.values.Values.found.Goals as goal
 
 pub returns-then-eq-2 : goal.returns-then-eq-2
 returns-then-eq-2 g c =
-    let same : c.index-in-loop-place.result.now ≡ c.args.value = g.met.T.Exact.exact c.index-in-loop-place.result.now c.args.value (sym c.eq-in-loop-place.ensures ∙ c.if-eq-2.true) in
-    let read = slice_get_read c.self.inside.items.items _ c.loop-place.place c.index-in-loop-place.result.now refl (omega arith) c.index-in-loop-place.ensures in
+    let same : c.index-in-loop-place.result.now ≡ c.args.value =
+    g.met.T.Exact.exact c.index-in-loop-place.result.now c.args.value
+    (sym c.eq-in-loop-place.ensures ∙ c.if-eq-2.true) in
+    let read = slice_get_read c.self.inside.items.items _ c.loop-place.place
+    c.index-in-loop-place.result.now refl (omega arith) c.index-in-loop-place.ensures in
     ap (λ l. slice_get l c.loop-place.place) (sym c.self.view_is) ∙ (read ∙ ap Some same)
 
 pub returns-then-eq : goal.returns-then-eq
 returns-then-eq g c =
-    let same : c.index.result.now ≡ c.args.value = g.met.T.Exact.exact c.index.result.now c.args.value (sym c.eq.ensures ∙ c.if-eq.true) in
-    let read = slice_get_read c.self.inside.items.items _ c.args.hint c.index.result.now refl (omega (arith, c.len-len.ensures, c.self.inside.items.ok.0)) c.index.ensures in
+    let same : c.index.result.now ≡ c.args.value = g.met.T.Exact.exact c.index.result.now
+    c.args.value (sym c.eq.ensures ∙ c.if-eq.true) in
+    let read = slice_get_read c.self.inside.items.items _ c.args.hint c.index.result.now refl
+    (omega (arith, c.len-len.ensures, c.self.inside.items.ok.0)) c.index.ensures in
     ap (λ l. slice_get l c.args.hint) (sym c.self.view_is) ∙ (read ∙ ap Some same)
