@@ -1,5 +1,7 @@
 -- What the changes of a space's parts make of the space.
-use Rattle.std.proofs.Common.{sym, ◌≡◌, ◌<◌, ◌+◌, ◌-◌, ℕ, Bool, true, false, not, ◌&&◌, Option, Some, None, is_some, Result, Ok, Err, List, [], ◌∷◌, length, refl, ap, ◌∙◌, subst, arith}
+use Rattle.std.proofs.Common.{sym, ◌≡◌, ◌<◌, ◌+◌, ◌-◌, ℕ, Bool, true, false, not, ◌&&◌, Option}
+use Rattle.std.proofs.Common.{Some, None, is_some, Result, Ok, Err, List, [], ◌∷◌, length, refl, ap}
+use Rattle.std.proofs.Common.{◌∙◌, subst, arith}
 use Rattle.std.specs.Prelude.{if◌then◌else◌, nat_le, ◌==◌}
 use Rattle.std.proofs.lemmas.Bool.{lt-leb}
 use Rattle.numa_machine.specs.declared.rules.Rules.{Rules}
@@ -14,178 +16,304 @@ use Rattle.numa_space.specs.declared.refusal.Refusal.TheVariants.{Hole, NodesNot
 use Rattle.numa_space.specs.Edits.{PageRanges, IsEdit, hole_cause, too_many}
 use Rattle.numa_space.specs.History.{page_of, page_count}
 use Rattle.numa_machine.specs.Rules.{is_linux}
-use Rattle.numa_space.specs.Refusals.{PageMap, bad_span, first_of, has_no_node, passes_holes, bind_cause, refusal_in}
+use Rattle.numa_space.specs.Refusals.{PageMap, bad_span, first_of, has_no_node, passes_holes}
+use Rattle.numa_space.specs.Refusals.{bind_cause, refusal_in}
 use Rattle.numa_space.specs.Standing.{SpaceState, record_of}
 use Rattle.numa_space.specs.Steps.{IsAnswer, IsNext, scene_in, record_now}
 
 -- ---- an Mbind
 
-module _ (old : SpaceState) (start bytes : ℕ) (spec : Specification) (room : old.version < old.bounds.max_commands) (span : bad_span start bytes ≡ None) (some : (bytes == 0) ≡ false) (node : has_no_node old.allowed spec ≡ false) where
+module _ (old : SpaceState) (start bytes : ℕ) (spec : Specification)
+    (room : old.version < old.bounds.max_commands) (span : bad_span start bytes ≡ None)
+    (some : (bytes == 0) ≡ false) (node : has_no_node old.allowed spec ≡ false) where
   abbrev pub bound : ℕ → ℕ → Option PolicyRecord → PageMap
   bound first count policy = changed_span first count (λ r. policy) (page_at old.ranges)
 
-  bind-cause : refusal_in (scene_in old (Mbind start bytes spec)) (Mbind start bytes spec) ≡ first_of (hole_cause (passes_holes old.machine.rules spec) (page_at old.ranges) (page_of start) (page_count bytes)) (too_many old.bounds.max_ranges (bound (page_of start) (page_count bytes) (record_now old.allowed spec)))
-  bind-cause = rw (lt-leb old.bounds.max_commands old.version room, span, some, node) (by_rules old.machine.rules)
+  bind-cause : refusal_in (scene_in old (Mbind start bytes spec)) (Mbind start bytes spec)
+      ≡ first_of (hole_cause (passes_holes old.machine.rules spec) (page_at old.ranges)
+      (page_of start) (page_count bytes))
+      (too_many old.bounds.max_ranges
+      (bound (page_of start) (page_count bytes) (record_now old.allowed spec)))
+  bind-cause = rw (lt-leb old.bounds.max_commands old.version room, span, some, node)
+      (by_rules old.machine.rules)
     where
-      by_rules : (r : Rules) → bind_cause r None (hole_cause (passes_holes old.machine.rules spec) (page_at old.ranges) (page_of start) (page_count bytes)) (too_many old.bounds.max_ranges (bound (page_of start) (page_count bytes) (record_now old.allowed spec)))
-          ≡ first_of (hole_cause (passes_holes old.machine.rules spec) (page_at old.ranges) (page_of start) (page_count bytes)) (too_many old.bounds.max_ranges (bound (page_of start) (page_count bytes) (record_now old.allowed spec)))
+      by_rules : (r : Rules)
+          → bind_cause r None (hole_cause (passes_holes old.machine.rules spec) (page_at old.ranges)
+          (page_of start) (page_count bytes))
+          (too_many old.bounds.max_ranges
+          (bound (page_of start) (page_count bytes) (record_now old.allowed spec)))
+          ≡ first_of (hole_cause (passes_holes old.machine.rules spec) (page_at old.ranges)
+          (page_of start) (page_count bytes))
+          (too_many old.bounds.max_ranges
+          (bound (page_of start) (page_count bytes) (record_now old.allowed spec)))
       by_rules Document = refl
       by_rules Linux = refl
 
-  bind-next : (runs : List (Run (Option PolicyRecord))) → ((page : ℕ) → page_at runs page ≡ bound (page_of start) (page_count bytes) (record_now old.allowed spec) page) → IsNext old (Mbind start bytes spec) (record old { ranges = runs; version = old.version + 1 })
-  bind-next runs pages = record { machine = refl; bounds = refl; version = refl; allowed = refl; pages = pages; tasks = λ task. refl; task_count = refl; weights = λ n. refl }
+  bind-next : (runs : List (Run (Option PolicyRecord)))
+      → ((page : ℕ) → page_at runs page ≡ bound (page_of start) (page_count bytes)
+      (record_now old.allowed spec) page)
+      → IsNext old (Mbind start bytes spec)
+      (record old { ranges = runs; version = old.version + 1 })
+  bind-next runs pages = record {
+    machine = refl;
+    bounds = refl;
+    version = refl;
+    allowed = refl;
+    pages = pages;
+    tasks = λ task. refl;
+    task_count = refl;
+    weights = λ n. refl;
+  }
 
   -- the space afterwards, which is the old one where the edit was refused
   abbrev pub bind-after : Result (Unit {0}) Refusal → PageRanges → SpaceState
   bind-after (Ok u) pages = record old { ranges = pages.runs; version = old.version + 1 }
   bind-after (Err r) pages = record old { ranges = pages.runs }
 
-  by_result : (limit : ℕ) (new : PageRanges) (result : Result (Unit {0}) Refusal) (cause : Option Refusal) → refusal_in (scene_in old (Mbind start bytes spec)) (Mbind start bytes spec) ≡ cause
-      → IsEdit cause (bound (page_of start) (page_count bytes) (record_now old.allowed spec)) (record { runs = old.ranges; limit = limit }) result new → IsAnswer old (Mbind start bytes spec) result (bind-after result new)
-  by_result limit new (Ok u) None e edit = rw e (bind-next new.runs edit)
-  by_result limit new (Err r) None e edit = rw e (edit.0, ap (λ (p : PageRanges). record old { ranges = p.runs }) edit.1)
-  by_result limit new (Ok u) (Some cause) e edit = let odd : ◌≡◌ {A = Result (Unit {0}) Refusal} (Ok u) (Err cause) = edit.0 in absurd (cc)
-  by_result limit new (Err r) (Some cause) e edit = rw e (edit.0, ap (λ (p : PageRanges). record old { ranges = p.runs }) edit.1)
-
-  pub bind-answer : (first count limit : ℕ) (policy : Option PolicyRecord) (passes : Bool) (new : PageRanges) (result : Result (Unit {0}) Refusal)
-      → first ≡ page_of start → count ≡ page_count bytes → limit ≡ old.bounds.max_ranges → policy ≡ record_now old.allowed spec → passes ≡ passes_holes old.machine.rules spec
-      → IsEdit (first_of (hole_cause passes (page_at old.ranges) first count) (too_many limit (bound first count policy))) (bound first count policy) (record { runs = old.ranges; limit = limit }) result new
+  by_result : (limit : ℕ) (new : PageRanges) (result : Result (Unit {0}) Refusal)
+      (cause : Option Refusal) → refusal_in (scene_in old (Mbind start bytes spec))
+      (Mbind start bytes spec) ≡ cause
+      → IsEdit cause (bound (page_of start) (page_count bytes) (record_now old.allowed spec))
+      (record { runs = old.ranges; limit = limit }) result new
       → IsAnswer old (Mbind start bytes spec) result (bind-after result new)
-  bind-answer first count limit policy passes new result is_first is_count is_limit is_policy is_passes edit =
-      let P : ℕ → ℕ → ℕ → Option PolicyRecord → Type 0 = λ a b l p. IsEdit (first_of (hole_cause (passes_holes old.machine.rules spec) (page_at old.ranges) a b) (too_many l (bound a b p))) (bound a b p) (record { runs = old.ranges; limit = limit }) result new in
-      let placed : P (page_of start) (page_count bytes) old.bounds.max_ranges (record_now old.allowed spec) =
-      subst (λ p. P (page_of start) (page_count bytes) old.bounds.max_ranges p) is_policy
-      (subst (λ l. P (page_of start) (page_count bytes) l policy) is_limit (subst (λ b. P (page_of start) b limit policy) is_count (subst (λ a. P a count limit policy) is_first
-      (subst (λ h. IsEdit (first_of (hole_cause h (page_at old.ranges) first count) (too_many limit (bound first count policy))) (bound first count policy) (record { runs = old.ranges; limit = limit }) result new) is_passes edit)))) in
-      by_result limit new result (first_of (hole_cause (passes_holes old.machine.rules spec) (page_at old.ranges) (page_of start) (page_count bytes)) (too_many old.bounds.max_ranges (bound (page_of start) (page_count bytes) (record_now old.allowed spec)))) bind-cause placed
+  by_result limit new (Ok u) None e edit = rw e (bind-next new.runs edit)
+  by_result limit new (Err r) None e edit =
+      rw e (edit.0, ap (λ (p : PageRanges). record old { ranges = p.runs }) edit.1)
+  by_result limit new (Ok u) (Some cause) e edit = let odd : ◌≡◌ {A = Result (Unit {0}) Refusal}
+      (Ok u) (Err cause) = edit.0 in absurd (cc)
+  by_result limit new (Err r) (Some cause) e edit =
+      rw e (edit.0, ap (λ (p : PageRanges). record old { ranges = p.runs }) edit.1)
 
-module _ (old : SpaceState) (start bytes : ℕ) (spec : Specification) (room : old.version < old.bounds.max_commands) (span : bad_span start bytes ≡ None) (some : (bytes == 0) ≡ false) (node : has_no_node old.allowed spec ≡ true) where
+  pub bind-answer : (first count limit : ℕ) (policy : Option PolicyRecord) (passes : Bool)
+      (new : PageRanges) (result : Result (Unit {0}) Refusal)
+      → first ≡ page_of start → count ≡ page_count bytes → limit ≡ old.bounds.max_ranges
+      → policy ≡ record_now old.allowed spec → passes ≡ passes_holes old.machine.rules spec
+      → IsEdit
+      (first_of (hole_cause passes (page_at old.ranges) first count)
+      (too_many limit (bound first count policy))) (bound first count policy)
+      (record { runs = old.ranges; limit = limit }) result new
+      → IsAnswer old (Mbind start bytes spec) result (bind-after result new)
+  bind-answer first count limit policy passes new result is_first is_count is_limit is_policy
+      is_passes edit =
+      let P : ℕ → ℕ → ℕ → Option PolicyRecord → Type 0 = λ a b l p.
+      IsEdit (first_of (hole_cause (passes_holes old.machine.rules spec) (page_at old.ranges) a
+      b) (too_many l (bound a b p))) (bound a b p) (record { runs = old.ranges; limit = limit })
+      result new in
+      let placed : P (page_of start) (page_count bytes) old.bounds.max_ranges
+      (record_now old.allowed spec) =
+      subst (λ p. P (page_of start) (page_count bytes) old.bounds.max_ranges p) is_policy
+      (subst (λ l. P (page_of start) (page_count bytes) l policy) is_limit
+      (subst (λ b. P (page_of start) b limit policy) is_count
+      (subst (λ a. P a count limit policy) is_first
+      (subst (λ h.
+      IsEdit (first_of (hole_cause h (page_at old.ranges) first count)
+      (too_many limit (bound first count policy))) (bound first count policy)
+      (record { runs = old.ranges; limit = limit }) result new) is_passes edit)))) in
+      by_result limit new result
+      (first_of (hole_cause (passes_holes old.machine.rules spec) (page_at old.ranges)
+      (page_of start) (page_count bytes))
+      (too_many old.bounds.max_ranges
+      (bound (page_of start) (page_count bytes) (record_now old.allowed spec)))) bind-cause
+      placed
+
+module _ (old : SpaceState) (start bytes : ℕ) (spec : Specification)
+    (room : old.version < old.bounds.max_commands) (span : bad_span start bytes ≡ None)
+    (some : (bytes == 0) ≡ false) (node : has_no_node old.allowed spec ≡ true) where
   -- a policy without a node is refused, by the documents behind a hole
-  pub bind-refused : (first count : ℕ) (refusal : Refusal) → first ≡ page_of start → count ≡ page_count bytes → refusal ≡ (if not (is_linux old.machine.rules) && any_page (λ page. not (is_some (page_at old.ranges page))) first count then Hole else NodesNotAllowed)
+  pub bind-refused : (first count : ℕ) (refusal : Refusal) → first ≡ page_of start
+      → count ≡ page_count bytes
+      → refusal
+      ≡ (if not (is_linux old.machine.rules)
+      && any_page (λ page. not (is_some (page_at old.ranges page))) first count then Hole
+      else NodesNotAllowed)
       → IsAnswer old (Mbind start bytes spec) (Err refusal) old
   bind-refused first count refusal is_first is_count is =
-      go old.machine.rules refl (any_page (λ page. not (is_some (page_at old.ranges page))) (page_of start) (page_count bytes)) refl
-      (is ∙ (λ i. if not (is_linux old.machine.rules) && any_page (λ page. not (is_some (page_at old.ranges page))) (is_first i) (is_count i) then Hole else NodesNotAllowed))
+      go old.machine.rules refl
+      (any_page (λ page. not (is_some (page_at old.ranges page))) (page_of start)
+      (page_count bytes)) refl
+      (is ∙ (λ i. if not (is_linux old.machine.rules)
+      && any_page (λ page. not (is_some (page_at old.ranges page))) (is_first i) (is_count i)
+      then Hole else NodesNotAllowed))
     where
-      go : (r : Rules) → old.machine.rules ≡ r → (b : Bool) → any_page (λ page. not (is_some (page_at old.ranges page))) (page_of start) (page_count bytes) ≡ b → refusal ≡ (if not (is_linux old.machine.rules) && any_page (λ page. not (is_some (page_at old.ranges page))) (page_of start) (page_count bytes) then Hole else NodesNotAllowed) → IsAnswer old (Mbind start bytes spec) (Err refusal) old
+      go : (r : Rules) → old.machine.rules ≡ r → (b : Bool)
+          → any_page (λ page. not (is_some (page_at old.ranges page))) (page_of start)
+          (page_count bytes) ≡ b
+          → refusal
+          ≡ (if not (is_linux old.machine.rules)
+          && any_page (λ page. not (is_some (page_at old.ranges page))) (page_of start)
+          (page_count bytes) then Hole else NodesNotAllowed)
+          → IsAnswer old (Mbind start bytes spec) (Err refusal) old
       go Document rules true e is =
-          let cause : refusal_in (scene_in old (Mbind start bytes spec)) (Mbind start bytes spec) ≡ Some Hole = rw (lt-leb old.bounds.max_commands old.version room, span, some, rules, e) refl in
+          let cause : refusal_in (scene_in old (Mbind start bytes spec)) (Mbind start bytes spec)
+          ≡ Some Hole = rw (
+            lt-leb old.bounds.max_commands old.version room,
+            span,
+            some,
+            rules,
+            e,
+          ) refl in
           rw cause (ap Err (rw (rules, e) at is), refl)
       go Document rules false e is =
-          let cause : refusal_in (scene_in old (Mbind start bytes spec)) (Mbind start bytes spec) ≡ Some NodesNotAllowed = rw (lt-leb old.bounds.max_commands old.version room, span, some, rules, e, node) refl in
+          let cause : refusal_in (scene_in old (Mbind start bytes spec)) (Mbind start bytes spec)
+          ≡ Some NodesNotAllowed =
+          rw (lt-leb old.bounds.max_commands old.version room, span, some, rules, e, node)
+          refl in
           rw cause (ap Err (rw (rules, e) at is), refl)
       go Linux rules b e is =
-          let cause : refusal_in (scene_in old (Mbind start bytes spec)) (Mbind start bytes spec) ≡ Some NodesNotAllowed = rw (lt-leb old.bounds.max_commands old.version room, span, some, rules, node) refl in
+          let cause : refusal_in (scene_in old (Mbind start bytes spec)) (Mbind start bytes spec)
+          ≡ Some NodesNotAllowed =
+          rw (lt-leb old.bounds.max_commands old.version room, span, some, rules, node) refl in
           rw cause (ap Err (rw rules at is), refl)
 
 -- ---- a task's policy
 
-module _ (old : SpaceState) (task : ℕ) (spec : Specification) (room : old.version < old.bounds.max_commands) (node : has_no_node old.allowed spec ≡ false) where
-  default-none : None ≡ record_now old.allowed spec → is_default spec ≡ true
-  default-none h = go (is_default spec) h
-    where
-      go : (b : Bool) → None ≡ (if b then None else Some (record_when_set spec old.allowed)) → b ≡ true
-      go true h = refl
-      go false h = cc
+module _ (old : SpaceState) (task : ℕ) (spec : Specification)
+    (room : old.version < old.bounds.max_commands) (node : has_no_node old.allowed spec ≡ false)
+  where
+    default-none : None ≡ record_now old.allowed spec → is_default spec ≡ true
+    default-none h = go (is_default spec) h
+      where
+        go : (b : Bool) → None ≡ (if b then None else Some (record_when_set spec old.allowed))
+            → b ≡ true
+        go true h = refl
+        go false h = cc
 
-  default-some : (policy : PolicyRecord) → Some policy ≡ record_now old.allowed spec → is_default spec ≡ false
-  default-some policy h = go (is_default spec) h
-    where
-      go : (b : Bool) → Some policy ≡ (if b then None else Some (record_when_set spec old.allowed)) → b ≡ false
-      go false h = refl
-      go true h = cc
+    default-some : (policy : PolicyRecord) → Some policy ≡ record_now old.allowed spec
+        → is_default spec ≡ false
+    default-some policy h = go (is_default spec) h
+      where
+        go : (b : Bool)
+            → Some policy ≡ (if b then None else Some (record_when_set spec old.allowed))
+            → b ≡ false
+        go false h = refl
+        go true h = cc
 
-  pub clear-answer : (tasks : List (ℕ × PolicyRecord)) → None ≡ record_now old.allowed spec
-      → ((other : ℕ) → record_of tasks other ≡ if task == other then None else record_of old.tasks other)
-      → length tasks + (if is_some (record_of old.tasks task) then 1 else 0) ≡ length old.tasks
-      → IsAnswer old (SetTask task spec) (Ok tt) (record old { tasks = tasks; version = old.version + 1 })
-  clear-answer tasks none records count =
-      let default : is_default spec ≡ true = default-none none in
-      let free : refusal_in (scene_in old (SetTask task spec)) (SetTask task spec) ≡ None = rw (lt-leb old.bounds.max_commands old.version room, node, default) refl in
-      let counted : length tasks ≡ (length old.tasks - (if is_some (record_of old.tasks task) then 1 else 0)) + 0 = omega arith in
-      rw free (record {
-        machine = refl;
-        bounds = refl;
-        version = refl;
-        allowed = refl;
-        pages = λ page. refl;
-        tasks = λ other. records other ∙ ap (λ r. if task == other then r else record_of old.tasks other) none;
-        task_count = rw default counted;
-        weights = λ n. refl;
-      })
+    pub clear-answer : (tasks : List (ℕ × PolicyRecord)) → None ≡ record_now old.allowed spec
+        → ((other : ℕ) → record_of tasks other ≡ if task == other then None else record_of old.tasks
+        other)
+        → length tasks + (if is_some (record_of old.tasks task) then 1 else 0) ≡ length old.tasks
+        → IsAnswer old (SetTask task spec) (Ok tt)
+        (record old { tasks = tasks; version = old.version + 1 })
+    clear-answer tasks none records count =
+        let default : is_default spec ≡ true = default-none none in
+        let free : refusal_in (scene_in old (SetTask task spec)) (SetTask task spec) ≡ None =
+        rw (lt-leb old.bounds.max_commands old.version room, node, default) refl in
+        let counted : length tasks
+        ≡ (length old.tasks - (if is_some (record_of old.tasks task) then 1 else 0)) + 0 =
+        omega arith in
+        rw free (record {
+          machine = refl;
+          bounds = refl;
+          version = refl;
+          allowed = refl;
+          pages = λ page. refl;
+          tasks = λ other. records other
+              ∙ ap (λ r. if task == other then r else record_of old.tasks other) none;
+          task_count = rw default counted;
+          weights = λ n. refl;
+        })
 
-  set-cause : (policy : PolicyRecord) → Some policy ≡ record_now old.allowed spec → (not (is_some (record_of old.tasks task)) && nat_le old.bounds.max_tasks (length old.tasks)) ≡ false → refusal_in (scene_in old (SetTask task spec)) (SetTask task spec) ≡ None
-  set-cause policy some place = rw (lt-leb old.bounds.max_commands old.version room, node, default-some policy some, place) refl
+    set-cause : (policy : PolicyRecord) → Some policy ≡ record_now old.allowed spec
+        → (not (is_some (record_of old.tasks task))
+        && nat_le old.bounds.max_tasks (length old.tasks))
+        ≡ false → refusal_in (scene_in old (SetTask task spec)) (SetTask task spec) ≡ None
+    set-cause policy some place =
+        rw (lt-leb old.bounds.max_commands old.version room, node, default-some policy some, place)
+        refl
 
-  pub set-answer : (policy : PolicyRecord) (tasks : List (ℕ × PolicyRecord)) → Some policy ≡ record_now old.allowed spec
-      → (not (is_some (record_of old.tasks task)) && nat_le old.bounds.max_tasks (length old.tasks)) ≡ false
-      → ((other : ℕ) → record_of tasks other ≡ if task == other then Some policy else record_of old.tasks other)
-      → length tasks ≡ length old.tasks + (if is_some (record_of old.tasks task) then 0 else 1)
-      → IsAnswer old (SetTask task spec) (Ok tt) (record old { tasks = tasks; version = old.version + 1 })
-  set-answer policy tasks some place records count =
-      let set : is_default spec ≡ false = default-some policy some in
-      rw (set-cause policy some place) (record {
-        machine = refl;
-        bounds = refl;
-        version = refl;
-        allowed = refl;
-        pages = λ page. refl;
-        tasks = λ other. records other ∙ ap (λ r. if task == other then r else record_of old.tasks other) some;
-        task_count = rw set (count ∙ counted (record_of old.tasks task) refl);
-        weights = λ n. refl;
-      })
-    where
-      held : (tasks : List (ℕ × PolicyRecord)) → is_some (record_of tasks task) ≡ true → 0 < length tasks
-      held [] h = absurd (cc)
-      held (one ∷ tasks) h = omega arith
+    pub set-answer : (policy : PolicyRecord) (tasks : List (ℕ × PolicyRecord))
+        → Some policy ≡ record_now old.allowed spec
+        → (not (is_some (record_of old.tasks task))
+        && nat_le old.bounds.max_tasks (length old.tasks))
+        ≡ false
+        → ((other : ℕ) → record_of tasks other ≡ if task == other then Some policy else record_of
+        old.tasks other)
+        → length tasks ≡ length old.tasks + (if is_some (record_of old.tasks task) then 0 else 1)
+        → IsAnswer old (SetTask task spec) (Ok tt)
+        (record old { tasks = tasks; version = old.version + 1 })
+    set-answer policy tasks some place records count =
+        let set : is_default spec ≡ false = default-some policy some in
+        rw (set-cause policy some place) (record {
+          machine = refl;
+          bounds = refl;
+          version = refl;
+          allowed = refl;
+          pages = λ page. refl;
+          tasks = λ other. records other
+              ∙ ap (λ r. if task == other then r else record_of old.tasks other) some;
+          task_count = rw set (count ∙ counted (record_of old.tasks task) refl);
+          weights = λ n. refl;
+        })
+      where
+        held : (tasks : List (ℕ × PolicyRecord)) → is_some (record_of tasks task) ≡ true
+            → 0 < length tasks
+        held [] h = absurd (cc)
+        held (one ∷ tasks) h = omega arith
 
-      counted : (r : Option PolicyRecord) → record_of old.tasks task ≡ r → length old.tasks + (if is_some r then 0 else 1) ≡ (length old.tasks - (if is_some r then 1 else 0)) + 1
-      counted None e = omega arith
-      counted (Some r) e = omega (arith, held old.tasks (ap is_some e))
+        counted : (r : Option PolicyRecord) → record_of old.tasks task ≡ r
+            → length old.tasks + (if is_some r then 0 else 1)
+            ≡ (length old.tasks - (if is_some r then 1 else 0)) + 1
+        counted None e = omega arith
+        counted (Some r) e = omega (arith, held old.tasks (ap is_some e))
 
 -- ---- a policy that is inherited
 
 module _ (old : SpaceState) (heir from : ℕ) (room : old.version < old.bounds.max_commands) where
   pub inherit-clear : (tasks : List (ℕ × PolicyRecord)) → record_of old.tasks from ≡ None
-      → ((other : ℕ) → record_of tasks other ≡ if heir == other then None else record_of old.tasks other)
+      → ((other : ℕ) → record_of tasks other ≡ if heir == other then None else record_of old.tasks
+      other)
       → length tasks + (if is_some (record_of old.tasks heir) then 1 else 0) ≡ length old.tasks
-      → IsAnswer old (Inherit heir from) (Ok tt) (record old { tasks = tasks; version = old.version + 1 })
+      → IsAnswer old (Inherit heir from) (Ok tt)
+      (record old { tasks = tasks; version = old.version + 1 })
   inherit-clear tasks none records count =
-      let free : refusal_in (scene_in old (Inherit heir from)) (Inherit heir from) ≡ None = rw (lt-leb old.bounds.max_commands old.version room, none) refl in
-      let counted : length tasks ≡ (length old.tasks - (if is_some (record_of old.tasks heir) then 1 else 0)) + 0 = omega arith in
+      let free : refusal_in (scene_in old (Inherit heir from)) (Inherit heir from) ≡ None =
+      rw (lt-leb old.bounds.max_commands old.version room, none) refl in
+      let counted : length tasks
+      ≡ (length old.tasks - (if is_some (record_of old.tasks heir) then 1 else 0)) + 0 =
+      omega arith in
       rw free (record {
         machine = refl;
         bounds = refl;
         version = refl;
         allowed = refl;
         pages = λ page. refl;
-        tasks = λ other. records other ∙ ap (λ r. if heir == other then r else record_of old.tasks other) (sym none);
+        tasks = λ other. records other
+            ∙ ap (λ r. if heir == other then r else record_of old.tasks other) (sym none);
         task_count = rw none counted;
         weights = λ n. refl;
       })
 
-  pub inherit-set : (policy : PolicyRecord) (tasks : List (ℕ × PolicyRecord)) → record_of old.tasks from ≡ Some policy
-      → (not (is_some (record_of old.tasks heir)) && nat_le old.bounds.max_tasks (length old.tasks)) ≡ false
-      → ((other : ℕ) → record_of tasks other ≡ if heir == other then Some policy else record_of old.tasks other)
+  pub inherit-set : (policy : PolicyRecord) (tasks : List (ℕ × PolicyRecord))
+      → record_of old.tasks from ≡ Some policy
+      → (not (is_some (record_of old.tasks heir)) && nat_le old.bounds.max_tasks (length old.tasks))
+      ≡ false
+      → ((other : ℕ) → record_of tasks other ≡ if heir == other then Some policy else record_of
+      old.tasks other)
       → length tasks ≡ length old.tasks + (if is_some (record_of old.tasks heir) then 0 else 1)
-      → IsAnswer old (Inherit heir from) (Ok tt) (record old { tasks = tasks; version = old.version + 1 })
+      → IsAnswer old (Inherit heir from) (Ok tt)
+      (record old { tasks = tasks; version = old.version + 1 })
   inherit-set policy tasks some place records count =
-      let free : refusal_in (scene_in old (Inherit heir from)) (Inherit heir from) ≡ None = rw (lt-leb old.bounds.max_commands old.version room, some, place) refl in
+      let free : refusal_in (scene_in old (Inherit heir from)) (Inherit heir from) ≡ None =
+      rw (lt-leb old.bounds.max_commands old.version room, some, place) refl in
       rw free (record {
         machine = refl;
         bounds = refl;
         version = refl;
         allowed = refl;
         pages = λ page. refl;
-        tasks = λ other. records other ∙ ap (λ r. if heir == other then r else record_of old.tasks other) (sym some);
+        tasks = λ other. records other
+            ∙ ap (λ r. if heir == other then r else record_of old.tasks other) (sym some);
         task_count = rw some (count ∙ counted (record_of old.tasks heir) refl);
         weights = λ n. refl;
       })
     where
-      held : (tasks : List (ℕ × PolicyRecord)) → is_some (record_of tasks heir) ≡ true → 0 < length tasks
+      held : (tasks : List (ℕ × PolicyRecord)) → is_some (record_of tasks heir) ≡ true
+          → 0 < length tasks
       held [] h = absurd (cc)
       held (one ∷ tasks) h = omega arith
 
-      counted : (r : Option PolicyRecord) → record_of old.tasks heir ≡ r → length old.tasks + (if is_some r then 0 else 1) ≡ (length old.tasks - (if is_some r then 1 else 0)) + 1
+      counted : (r : Option PolicyRecord) → record_of old.tasks heir ≡ r
+          → length old.tasks + (if is_some r then 0 else 1)
+          ≡ (length old.tasks - (if is_some r then 1 else 0)) + 1
       counted None e = omega arith
       counted (Some r) e = omega (arith, held old.tasks (ap is_some e))

@@ -17,32 +17,42 @@ use Rattle.numa_space.proofs.Answers.{answer-kept, AnswersBy, stands-next}
 use Rattle.numa_space.proofs.InForce.{sound-answer}
 
 -- a space that has a history has one after an answer too
-pub history-answer : (old new : SpaceState) (command : Command) (result : Result (Unit {0}) Refusal) → HasHistory old → IsAnswer old command result new → HasHistory new
-history-answer old new command result had answer = go (refusal_in (scene_in old command) command) (sym (refusal-same old had.history command had.stands)) result answer
+pub history-answer : (old new : SpaceState) (command : Command) (result : Result (Unit {0}) Refusal)
+    → HasHistory old → IsAnswer old command result new → HasHistory new
+history-answer old new command result had answer = go (refusal_in (scene_in old command) command)
+    (sym (refusal-same old had.history command had.stands)) result answer
   where
     kept : new ≡ old → HasHistory new
     kept e = subst HasHistory (sym e) had
 
-    go : (o : Option Refusal) → refusal_of old.machine old.bounds had.history command ≡ o → (result : Result (Unit {0}) Refusal) → AnswersBy o old command result new → HasHistory new
+    go : (o : Option Refusal) → refusal_of old.machine old.bounds had.history command ≡ o
+        → (result : Result (Unit {0}) Refusal) → AnswersBy o old command result new → HasHistory new
     go None e (Ok u) h = record {
       history = command ∷ had.history;
       accepted = (
         (λ i. refusal_of (h.machine i) (h.bounds i) had.history command) ∙ e,
-        subst (λ (b : Bounds). IsAccepted new.machine b had.history) (sym h.bounds) (subst (λ (m : Hardware). IsAccepted m old.bounds had.history) (sym h.machine) had.accepted),
+        subst (λ (b : Bounds). IsAccepted new.machine b had.history) (sym h.bounds)
+            (subst (λ (m : Hardware). IsAccepted m old.bounds had.history) (sym h.machine)
+            had.accepted),
       );
       stands = stands-next old new had.history command had.stands e h;
     }
     go None e (Err r) h = kept h.1
     go (Some r) e result h = kept h.1
 
-pub kept-answer : (old new : Inside) (command : Command) (result : Result (Unit {0}) Refusal) → IsKept old → new.pages.limit ≡ old.pages.limit → new.weights.nodes ≡ old.weights.nodes → IsAnswer (shown_of old) command result (shown_of new) → IsKept new
+pub kept-answer : (old new : Inside) (command : Command) (result : Result (Unit {0}) Refusal)
+    → IsKept old → new.pages.limit ≡ old.pages.limit → new.weights.nodes ≡ old.weights.nodes
+    → IsAnswer (shown_of old) command result (shown_of new) → IsKept new
 kept-answer old new command result kept limit nodes answer =
     let same = answer-kept (shown_of old) (shown_of new) command result answer in
     record {
-      sound = sound-answer (shown_of old) (shown_of new) command result kept.sound kept.memory answer;
+      sound = sound-answer (shown_of old) (shown_of new) command result kept.sound kept.memory
+          answer;
       history = history-answer (shown_of old) (shown_of new) command result kept.history answer;
       limit = limit ∙ kept.limit ∙ sym (ap (λ (b : Bounds). b.max_ranges) same.1);
       nodes = nodes ∙ kept.nodes ∙ sym (ap (λ (m : Hardware). m.nodes) same.0);
       memory = omega (arith, kept.memory, ap (λ (m : Hardware). m.memory) same.0);
-      of_the_machine = let P : Hardware → Type 0 = λ m. All (λ node. node < m.nodes) (members m.memory) in subst P (sym same.0) kept.of_the_machine;
+      of_the_machine = let P : Hardware → Type 0 =
+          λ m. All (λ node. node < m.nodes) (members m.memory) in
+          subst P (sym same.0) kept.of_the_machine;
     }

@@ -4,19 +4,29 @@ use Rattle.numa_mask.specs.NodeSet.{set_of, members}
 use Rattle.numa_machine.specs.Machine.{Hardware, fallback_order}
 use Rattle.numa_machine.specs.declared.rules.Rules.TheVariants.{Linux}
 use Rattle.numa_mode.specs.Policy.{specification_of}
-use Rattle.numa_mode.specs.declared.modes.Mode.TheVariants.{Default, Preferred, Bind, Interleave, Local}
+use Rattle.numa_mode.specs.declared.modes.Mode.TheVariants.{Default, Preferred, Bind, Interleave}
+use Rattle.numa_mode.specs.declared.modes.Mode.TheVariants.{Local}
 use Rattle.numa_mode.specs.declared.modes.NodeFlag.TheVariants.{Plain, Relative}
-use Rattle.numa_mode.specs.declared.specification.SpecError.TheVariants.{BothFlags, NodesForbidden, FlagsForbidden, NodesMissing}
+use Rattle.numa_mode.specs.declared.specification.SpecError.TheVariants.{BothFlags, NodesForbidden}
+use Rattle.numa_mode.specs.declared.specification.SpecError.TheVariants.{FlagsForbidden}
+use Rattle.numa_mode.specs.declared.specification.SpecError.TheVariants.{NodesMissing}
 use Rattle.numa_ranges.specs.Maps.{any_page}
 use Rattle.numa_space.specs.Policies.{mems_of}
 use Rattle.numa_space.specs.Refusals.{lacks_mems}
 use Rattle.numa_space.specs.Limited.{Bounds}
 use Rattle.numa_space.specs.Lists.{node_list}
-use Rattle.numa_space.specs.Refusals.{bad_map_span, lacks_policy, refusal_of, too_many_ranges, scene_of}
+use Rattle.numa_space.specs.Refusals.{bad_map_span, lacks_policy, refusal_of, too_many_ranges}
+use Rattle.numa_space.specs.Refusals.{scene_of}
 use Rattle.numa_space.specs.Standing.{place_refusal_of}
 use Rattle.numa_space.specs.declared.command.Command.{Command}
-use Rattle.numa_space.specs.declared.command.Command.TheVariants.{Map, Unmap, Mbind, SetTask, SetHome, SetWeight}
-use Rattle.numa_space.specs.declared.refusal.Refusal.TheVariants.{CommandsSpent, Unaligned, OutOfSpace, EmptyLength, BadOffset, Overlap, Hole, NoSuchNode, BadWeight, NodesNotAllowed, NotSupported, NoPolicy, TooManyTasks}
+use Rattle.numa_space.specs.declared.command.Command.TheVariants.{Map, Unmap, Mbind, SetTask}
+use Rattle.numa_space.specs.declared.command.Command.TheVariants.{SetHome, SetWeight}
+use Rattle.numa_space.specs.declared.refusal.Refusal.TheVariants.{CommandsSpent, Unaligned}
+use Rattle.numa_space.specs.declared.refusal.Refusal.TheVariants.{OutOfSpace, EmptyLength}
+use Rattle.numa_space.specs.declared.refusal.Refusal.TheVariants.{BadOffset, Overlap, Hole}
+use Rattle.numa_space.specs.declared.refusal.Refusal.TheVariants.{NoSuchNode, BadWeight}
+use Rattle.numa_space.specs.declared.refusal.Refusal.TheVariants.{NodesNotAllowed, NotSupported}
+use Rattle.numa_space.specs.declared.refusal.Refusal.TheVariants.{NoPolicy, TooManyTasks}
 use Rattle.numa_space.specs.declared.refusal.PlaceRefusal.TheVariants.{BadCpu, Unmapped}
 use Rattle.numa_space.proofs.Rows.{flat, in_a_row, asked, mems}
 
@@ -28,11 +38,13 @@ wide = record { max_ranges = 64; max_tasks = 64; max_commands = 64 }
 two_maps : List Command
 two_maps = Map 0x12000 0x1000 2 ∷ Map 0x10000 0x1000 0 ∷ []
 
-bind-over_a_hole : refusal_of (flat 2) wide two_maps (Mbind 0x10000 0x3000 (asked Bind Plain (1 ∷ []))) ≡ Some Hole
+bind-over_a_hole : refusal_of (flat 2) wide two_maps
+    (Mbind 0x10000 0x3000 (asked Bind Plain (1 ∷ []))) ≡ Some Hole
 unfolding any_page bad_map_span lacks_policy two_maps wide mems_of lacks_mems
 bind-over_a_hole = refl
 
-default-over_a_hole : refusal_of (flat 2) wide two_maps (Mbind 0x10000 0x3000 (asked Default Plain [])) ≡ Some Hole
+default-over_a_hole : refusal_of (flat 2) wide two_maps
+    (Mbind 0x10000 0x3000 (asked Default Plain [])) ≡ Some Hole
 unfolding any_page bad_map_span lacks_policy two_maps wide mems_of lacks_mems
 default-over_a_hole = refl
 
@@ -54,20 +66,24 @@ last_page : List Command
 last_page = Map 0x7ffffffff000 0x1000 0 ∷ []
 
 -- up to address 2^47 only the number of ranges can stand against a map
-map-up_to_the_end : refusal_of (flat 2) wide [] (Map 0x7ffffffff000 0x1000 0) ≡ too_many_ranges (scene_of (flat 2) wide [] (Map 0x7ffffffff000 0x1000 0))
+map-up_to_the_end : refusal_of (flat 2) wide [] (Map 0x7ffffffff000 0x1000 0) ≡ too_many_ranges
+    (scene_of (flat 2) wide [] (Map 0x7ffffffff000 0x1000 0))
 unfolding any_page bad_map_span lacks_policy wide mems_of lacks_mems
 map-up_to_the_end = refl
 
-map-past_the_end : refusal_of (flat 2) wide last_page (Map 0x7ffffffff000 0x1001 0) ≡ Some OutOfSpace
+map-past_the_end : refusal_of (flat 2) wide last_page (Map 0x7ffffffff000 0x1001 0)
+    ≡ Some OutOfSpace
 unfolding any_page bad_map_span lacks_policy last_page wide mems_of lacks_mems
 map-past_the_end = refl
 
 -- a sum above every u64 is no small number
-map-far_past_the_end : refusal_of (flat 2) wide [] (Map 0xfffffffffffff000 0x2000 0) ≡ Some OutOfSpace
+map-far_past_the_end : refusal_of (flat 2) wide [] (Map 0xfffffffffffff000 0x2000 0)
+    ≡ Some OutOfSpace
 unfolding any_page bad_map_span lacks_policy wide mems_of lacks_mems
 map-far_past_the_end = refl
 
-map-of_the_greatest_length : refusal_of (flat 2) wide [] (Map 0x10000 0xffffffffffffffff 0) ≡ Some OutOfSpace
+map-of_the_greatest_length : refusal_of (flat 2) wide [] (Map 0x10000 0xffffffffffffffff 0)
+    ≡ Some OutOfSpace
 unfolding any_page bad_map_span lacks_policy wide mems_of lacks_mems
 map-of_the_greatest_length = refl
 
@@ -75,7 +91,8 @@ map-of_nothing : refusal_of (flat 2) wide last_page (Map 0x10000 0 0) ≡ Some E
 unfolding any_page bad_map_span lacks_policy last_page wide mems_of lacks_mems
 map-of_nothing = refl
 
-bind-of_nothing : refusal_of (flat 2) wide last_page (Mbind 0x20000 0 (asked Bind Plain (1 ∷ []))) ≡ None
+bind-of_nothing : refusal_of (flat 2) wide last_page (Mbind 0x20000 0 (asked Bind Plain (1 ∷ [])))
+    ≡ None
 unfolding any_page bad_map_span lacks_policy last_page wide mems_of lacks_mems
 bind-of_nothing = refl
 
@@ -87,11 +104,13 @@ map-between_pages : refusal_of (flat 2) wide last_page (Map 0x10001 1 0) ≡ Som
 unfolding any_page bad_map_span lacks_policy last_page wide mems_of lacks_mems
 map-between_pages = refl
 
-map-offset_too_large : refusal_of (flat 2) wide last_page (Map 0x30000 1 34359738368) ≡ Some BadOffset
+map-offset_too_large : refusal_of (flat 2) wide last_page (Map 0x30000 1 34359738368)
+    ≡ Some BadOffset
 unfolding any_page bad_map_span lacks_policy last_page wide mems_of lacks_mems
 map-offset_too_large = refl
 
-map-over_a_map : refusal_of (flat 2) wide (Map 0x10000 1 0 ∷ last_page) (Map 0x10000 0x2000 5) ≡ Some Overlap
+map-over_a_map : refusal_of (flat 2) wide (Map 0x10000 1 0 ∷ last_page) (Map 0x10000 0x2000 5)
+    ≡ Some Overlap
 unfolding any_page bad_map_span lacks_policy last_page wide mems_of lacks_mems
 map-over_a_map = refl
 
@@ -105,21 +124,26 @@ narrow : Bounds
 narrow = record { max_ranges = 2; max_tasks = 1; max_commands = 4 }
 
 limited_run : List Command
-limited_run = SetTask 1 (asked Local Plain []) ∷ Mbind 0x10000 0x1000 (asked Bind Plain (1 ∷ [])) ∷ Map 0x10000 0x3000 0 ∷ []
+limited_run = SetTask 1 (asked Local Plain []) ∷ Mbind 0x10000 0x1000 (asked Bind Plain (1 ∷ []))
+    ∷ Map 0x10000 0x3000 0 ∷ []
 
-second_task-too_many : refusal_of (flat 2) narrow limited_run (SetTask 2 (asked Local Plain [])) ≡ Some TooManyTasks
+second_task-too_many : refusal_of (flat 2) narrow limited_run (SetTask 2 (asked Local Plain []))
+    ≡ Some TooManyTasks
 unfolding limited_run narrow mems_of lacks_mems
 second_task-too_many = refl
 
-same_task-set_again : refusal_of (flat 2) narrow limited_run (SetTask 1 (asked Local Plain [])) ≡ None
+same_task-set_again : refusal_of (flat 2) narrow limited_run (SetTask 1 (asked Local Plain []))
+    ≡ None
 unfolding limited_run narrow mems_of lacks_mems
 same_task-set_again = refl
 
-default-takes_no_place : refusal_of (flat 2) narrow limited_run (SetTask 1 (asked Default Plain [])) ≡ None
+default-takes_no_place : refusal_of (flat 2) narrow limited_run (SetTask 1 (asked Default Plain []))
+    ≡ None
 unfolding limited_run narrow mems_of lacks_mems
 default-takes_no_place = refl
 
-commands-spent : refusal_of (flat 2) narrow (SetTask 1 (asked Default Plain []) ∷ limited_run) (SetTask 1 (asked Local Plain [])) ≡ Some CommandsSpent
+commands-spent : refusal_of (flat 2) narrow (SetTask 1 (asked Default Plain []) ∷ limited_run)
+    (SetTask 1 (asked Local Plain [])) ≡ Some CommandsSpent
 unfolding limited_run narrow mems_of lacks_mems
 commands-spent = refl
 
@@ -135,7 +159,8 @@ no_such-faulting_node : place_refusal_of gap_machine one_page 0x10 3 ≡ Some Ba
 unfolding gap_machine one_page mems_of lacks_mems
 no_such-faulting_node = refl
 
-allowed-node_without_memory : refusal_of gap_machine wide one_page (mems (1 ∷ [])) ≡ Some NodesNotAllowed
+allowed-node_without_memory : refusal_of gap_machine wide one_page (mems (1 ∷ []))
+    ≡ Some NodesNotAllowed
 unfolding members gap_machine one_page wide mems_of lacks_mems
 allowed-node_without_memory = refl
 
@@ -150,11 +175,13 @@ allowed-some_with_memory = refl
 wrapped_machine : Hardware
 wrapped_machine = record (flat 5) { memory = set_of (1 ∷ 2 ∷ 3 ∷ 4 ∷ []) }
 
-relative-mask_wraps : refusal_of wrapped_machine wide one_page (SetTask 1 (asked Bind Relative (5 ∷ []))) ≡ None
+relative-mask_wraps : refusal_of wrapped_machine wide one_page
+    (SetTask 1 (asked Bind Relative (5 ∷ []))) ≡ None
 unfolding members wrapped_machine one_page wide mems_of lacks_mems
 relative-mask_wraps = refl
 
-plain-mask_overlaps_nothing : refusal_of wrapped_machine wide one_page (SetTask 1 (asked Bind Plain (5 ∷ []))) ≡ Some NodesNotAllowed
+plain-mask_overlaps_nothing : refusal_of wrapped_machine wide one_page
+    (SetTask 1 (asked Bind Plain (5 ∷ []))) ≡ Some NodesNotAllowed
 unfolding members wrapped_machine one_page wide mems_of lacks_mems
 plain-mask_overlaps_nothing = refl
 
@@ -173,9 +200,11 @@ weight-no_such_node = refl
 -- ---- homes
 
 bound_run : List Command
-bound_run = Mbind 0x12000 0x1000 (asked Interleave Plain (0 ∷ 1 ∷ 2 ∷ [])) ∷ Mbind 0x10000 0x2000 (asked Bind Plain (0 ∷ 1 ∷ [])) ∷ Map 0x10000 0x4000 0 ∷ []
+bound_run = Mbind 0x12000 0x1000 (asked Interleave Plain (0 ∷ 1 ∷ 2 ∷ []))
+    ∷ Mbind 0x10000 0x2000 (asked Bind Plain (0 ∷ 1 ∷ [])) ∷ Map 0x10000 0x4000 0 ∷ []
 
-home-over_interleave : refusal_of in_a_row wide bound_run (SetHome 0x10000 0x3000 2) ≡ Some NotSupported
+home-over_interleave : refusal_of in_a_row wide bound_run (SetHome 0x10000 0x3000 2)
+    ≡ Some NotSupported
 unfolding any_page bad_map_span lacks_policy bound_run wide mems_of lacks_mems
 home-over_interleave = refl
 
@@ -183,11 +212,13 @@ home-no_such_node : refusal_of in_a_row wide bound_run (SetHome 0x10000 0x1000 3
 unfolding any_page bad_map_span lacks_policy bound_run wide mems_of lacks_mems
 home-no_such_node = refl
 
-home-of_bound_pages : refusal_of in_a_row wide bound_run (SetHome 0x11000 0x1000 2) ≡ too_many_ranges (scene_of in_a_row wide bound_run (SetHome 0x11000 0x1000 2))
+home-of_bound_pages : refusal_of in_a_row wide bound_run (SetHome 0x11000 0x1000 2)
+    ≡ too_many_ranges (scene_of in_a_row wide bound_run (SetHome 0x11000 0x1000 2))
 unfolding any_page bad_map_span lacks_policy bound_run wide mems_of lacks_mems
 home-of_bound_pages = refl
 
-home-over_unmapped_pages : refusal_of in_a_row wide bound_run (SetHome 0x13000 0x2000 2) ≡ too_many_ranges (scene_of in_a_row wide bound_run (SetHome 0x13000 0x2000 2))
+home-over_unmapped_pages : refusal_of in_a_row wide bound_run (SetHome 0x13000 0x2000 2)
+    ≡ too_many_ranges (scene_of in_a_row wide bound_run (SetHome 0x13000 0x2000 2))
 unfolding any_page bad_map_span lacks_policy bound_run wide mems_of lacks_mems
 home-over_unmapped_pages = refl
 
@@ -195,20 +226,23 @@ home-of_nothing : refusal_of in_a_row wide bound_run (SetHome 0x20000 0 2) ≡ N
 unfolding any_page bad_map_span lacks_policy bound_run wide mems_of lacks_mems
 home-of_nothing = refl
 
-home-of_nothing_at_no_such_node : refusal_of in_a_row wide bound_run (SetHome 0x20000 0 3) ≡ Some NoSuchNode
+home-of_nothing_at_no_such_node : refusal_of in_a_row wide bound_run (SetHome 0x20000 0 3)
+    ≡ Some NoSuchNode
 unfolding any_page bad_map_span lacks_policy bound_run wide mems_of lacks_mems
 home-of_nothing_at_no_such_node = refl
 
 -- ---- specifications
 
-preferred-without_nodes_is_local : specification_of Preferred false false 0 ≡ Ok (asked Local Plain [])
+preferred-without_nodes_is_local : specification_of Preferred false false 0
+    ≡ Ok (asked Local Plain [])
 preferred-without_nodes_is_local = refl
 
 local-needs_no_nodes : refusal_of (flat 2) wide one_page (SetTask 1 (asked Local Plain [])) ≡ None
 unfolding one_page wide mems_of lacks_mems
 local-needs_no_nodes = refl
 
-local-begins_at_the_fault : node_list (flat 2) (SetTask 1 (asked Local Plain []) ∷ one_page) 1 0x10 1 ≡ 1 ∷ 0 ∷ []
+local-begins_at_the_fault : node_list (flat 2) (SetTask 1 (asked Local Plain []) ∷ one_page) 1 0x10
+    1 ≡ 1 ∷ 0 ∷ []
 unfolding members fallback_order one_page mems_of lacks_mems
 local-begins_at_the_fault = refl
 
@@ -235,23 +269,29 @@ default-forgets_a_flag = refl
 linux : Hardware
 linux = record (flat 2) { rules = Linux }
 
-linux-default_passes_over_a_hole : refusal_of linux wide two_maps (Mbind 0x10000 0x3000 (asked Default Plain [])) ≡ too_many_ranges (scene_of linux wide two_maps (Mbind 0x10000 0x3000 (asked Default Plain [])))
+linux-default_passes_over_a_hole : refusal_of linux wide two_maps
+    (Mbind 0x10000 0x3000 (asked Default Plain [])) ≡ too_many_ranges
+    (scene_of linux wide two_maps (Mbind 0x10000 0x3000 (asked Default Plain [])))
 unfolding any_page two_maps wide linux mems_of lacks_mems
 linux-default_passes_over_a_hole = refl
 
-linux-default_where_nothing_is_mapped : refusal_of linux wide two_maps (Mbind 0x11000 0x1000 (asked Default Plain [])) ≡ Some Hole
+linux-default_where_nothing_is_mapped : refusal_of linux wide two_maps
+    (Mbind 0x11000 0x1000 (asked Default Plain [])) ≡ Some Hole
 unfolding any_page two_maps wide linux mems_of lacks_mems
 linux-default_where_nothing_is_mapped = refl
 
-linux-hole_stays_one : place_refusal_of linux (Mbind 0x10000 0x3000 (asked Default Plain []) ∷ two_maps) 0x11 0 ≡ Some Unmapped
+linux-hole_stays_one : place_refusal_of linux (Mbind 0x10000 0x3000 (asked Default Plain [])
+    ∷ two_maps) 0x11 0 ≡ Some Unmapped
 unfolding two_maps linux mems_of lacks_mems
 linux-hole_stays_one = refl
 
-linux-nodes_before_holes : refusal_of linux wide two_maps (Mbind 0x10000 0x3000 (asked Bind Plain (7 ∷ []))) ≡ Some NodesNotAllowed
+linux-nodes_before_holes : refusal_of linux wide two_maps
+    (Mbind 0x10000 0x3000 (asked Bind Plain (7 ∷ []))) ≡ Some NodesNotAllowed
 unfolding members any_page two_maps wide linux mems_of lacks_mems
 linux-nodes_before_holes = refl
 
-linux-map_of_the_last_page : refusal_of linux wide [] (Map 0x7ffffffff000 0x1000 0) ≡ Some OutOfSpace
+linux-map_of_the_last_page : refusal_of linux wide [] (Map 0x7ffffffff000 0x1000 0)
+    ≡ Some OutOfSpace
 unfolding any_page bad_map_span wide linux mems_of lacks_mems
 linux-map_of_the_last_page = refl
 
@@ -263,6 +303,7 @@ linux-weight_zero : refusal_of linux wide one_page (SetWeight 1 0) ≡ None
 unfolding one_page wide linux mems_of lacks_mems
 linux-weight_zero = refl
 
-linux-home_without_policy : refusal_of linux wide one_page (SetHome 0x10000 0x1000 1) ≡ Some NoPolicy
+linux-home_without_policy : refusal_of linux wide one_page (SetHome 0x10000 0x1000 1)
+    ≡ Some NoPolicy
 unfolding any_page lacks_policy one_page wide linux mems_of lacks_mems
 linux-home_without_policy = refl

@@ -42,8 +42,8 @@ followed_set machine before (SetMems mask ∷ later) set =
 followed_set machine before (_ ∷ later) set = followed_set machine before later set
 
 -- by the documents, the effective set of a policy that was set right after the commands `before`,
--- once the commands `later` came too: with a flag it is worked out from the user's mask and the nodes that are
--- allowed now; without one it is worked out once, and follows
+-- once the commands `later` came too: with a flag it is worked out from the user's mask and the
+-- nodes that are allowed now; without one it is worked out once, and follows
 abbrev pub documented_set : Hardware → List Command → List Command → Specification → ℕ
 documented_set machine before later spec = by_flag spec.flag
   where

@@ -1,5 +1,6 @@
 -- The first cause that refuses a command, and the commands that are accepted.
-use Rattle.std.specs.Prelude.{ℕ, ◌+◌, ◌-◌, ◌*◌, ◌%◌, ◌^◌, ◌&&◌, ◌||◌, not, ◌==◌, nat_lt, nat_le, Bool}
+use Rattle.std.specs.Prelude.{ℕ, ◌+◌, ◌-◌, ◌*◌, ◌%◌, ◌^◌, ◌&&◌, ◌||◌, not, ◌==◌, nat_lt, nat_le}
+use Rattle.std.specs.Prelude.{Bool}
 use Rattle.std.specs.Prelude.{true, false, Option, Some, None, is_some, List, ◌∷◌, length}
 use Rattle.std.specs.Prelude.{if◌then◌else◌}
 use Rattle.std.specs.List.{list_any}
@@ -129,7 +130,8 @@ cause_in scene (Map start bytes offset) =
     (page_count bytes)) Overlap)
     (too_many_ranges scene))))
 cause_in scene (Unmap start bytes) =
-    first_of (bad_span start bytes) (if bytes == 0 then when (is_linux scene.machine.rules) EmptyLength
+    first_of (bad_span start bytes)
+    (if bytes == 0 then when (is_linux scene.machine.rules) EmptyLength
     else too_many_ranges scene)
 cause_in scene (Mbind start bytes spec) =
     first_of (bad_span start bytes)

@@ -8,18 +8,47 @@ use Rattle.numa_space.proofs.choice.total_weight.Goals as goal
 
 pub loop-node-preserved : goal.loop-node-preserved
 loop-node-preserved c =
-    let step : members c.loop-node.node-iterator ≡ c.in-Some.node ∷ members c.next.new.self = c.in-Some.ensures.steps in
-    let weight : c.from-total.result ≡ weight_at c.args.weights.now c.in-Some.node = c.from-total.ensures ∙ c.get.ensures.weight ∙ ap (weight_at c.args.weights.now) (c.from.ensures ∙ c.number.ensures.number) in
+    let step : members c.loop-node.node-iterator ≡ c.in-Some.node ∷ members c.next.new.self =
+    c.in-Some.ensures.steps in
+    let weight : c.from-total.result ≡ weight_at c.args.weights.now c.in-Some.node =
+    c.from-total.ensures ∙ c.get.ensures.weight ∙ ap (weight_at c.args.weights.now)
+    (c.from.ensures ∙ c.number.ensures.number) in
     let more = length-append c.loop-node.yielded (c.in-Some.node ∷ []) in
     record {
-      sum = omega (arith, c.loop-node.invariant.sum, ap (sum_by (weight_at c.args.weights.now)) step, sum_by-cons (weight_at c.args.weights.now) c.in-Some.node (members c.next.new.self), weight);
+      sum =
+          omega (
+            arith,
+            c.loop-node.invariant.sum,
+            ap (sum_by (weight_at c.args.weights.now)) step,
+            sum_by-cons (weight_at c.args.weights.now) c.in-Some.node (members c.next.new.self),
+            weight,
+          );
       count = omega (arith, c.loop-node.invariant.count, ap (length {A = ℕ}) step, more);
-      low = omega (arith, c.loop-node.invariant.low, c.get.ensures.at_least, c.from-total.ensures, more);
-      high = omega (arith, c.loop-node.invariant.high, c.get.ensures.at_most, c.from-total.ensures, more);
+      low = omega (
+        arith,
+        c.loop-node.invariant.low,
+        c.get.ensures.at_least,
+        c.from-total.ensures,
+        more,
+      );
+      high = omega (
+        arith,
+        c.loop-node.invariant.high,
+        c.get.ensures.at_most,
+        c.from-total.ensures,
+        more,
+      );
     }
 
 pub overflow_add-total : goal.overflow_add-total
-overflow_add-total c = omega (arith, c.loop-node.invariant.high, c.loop-node.invariant.count, weight-few c.args.set.now, c.get.ensures.at_most, c.from-total.ensures)
+overflow_add-total c = omega (
+  arith,
+  c.loop-node.invariant.high,
+  c.loop-node.invariant.count,
+  weight-few c.args.set.now,
+  c.get.ensures.at_most,
+  c.from-total.ensures,
+)
 
 pub returns-clause-total : goal.returns-clause-total
 unfolding total_weight
@@ -30,4 +59,10 @@ returns-clause-total c =
 pub returns-clause-some : goal.returns-clause-some
 returns-clause-some c =
     let done : members c.loop-node.node-iterator ≡ [] = c.in-None.ensures.steps.0 in
-    omega (arith, c.loop-node.invariant.low, c.loop-node.invariant.count, ap (length {A = ℕ}) done, weight-some c.args.set.now c.iter-node-items.ensures.within c.requires)
+    omega (
+      arith,
+      c.loop-node.invariant.low,
+      c.loop-node.invariant.count,
+      ap (length {A = ℕ}) done,
+      weight-some c.args.set.now c.iter-node-items.ensures.within c.requires,
+    )

@@ -7,12 +7,18 @@ use Rattle.numa_space.proofs.Editing.{count-edit}
 use Rattle.numa_space.proofs.page_ranges.Pages.home_span.Goals as goal
 
 pub update_span-requires-clause-function : goal.update_span-requires-clause-function
-update_span-requires-clause-function c = (policy_with_home c.args.node, λ x r h. h.says.met ∙ ap (policy_with_home c.args.node) h.shows)
+update_span-requires-clause-function c =
+    (policy_with_home c.args.node, λ x r h. h.says.met ∙ ap (policy_with_home c.args.node) h.shows)
 
 pub returns-clause-edit : goal.returns-clause-edit
 returns-clause-edit c =
-    count-edit range_test.ghosts.eq range_test-same c.self.inside.map c.update_span.new.self c.args.self.now c.self.view_is c.args.first c.args.pages c.update_span.result c.answered.result c.answered.ensures c.update_span.ensures.unchanged
+    count-edit range_test.ghosts.eq range_test-same c.self.inside.map c.update_span.new.self
+    c.args.self.now c.self.view_is c.args.first c.args.pages c.update_span.result
+    c.answered.result c.answered.ensures c.update_span.ensures.unchanged
     (changed_span c.args.first c.args.pages (policy_with_home c.args.node))
-    (c.update_span.ensures.ok (policy_with_home c.args.node) (λ x r h. h.says.met ∙ ap (policy_with_home c.args.node) h.shows))
-    (c.update_span.ensures.accepted (policy_with_home c.args.node) (λ x r h. h.says.met ∙ ap (policy_with_home c.args.node) h.shows))
-    (c.update_span.ensures.err (policy_with_home c.args.node) (λ x r h. h.says.met ∙ ap (policy_with_home c.args.node) h.shows))
+    (c.update_span.ensures.ok (policy_with_home c.args.node)
+    (λ x r h. h.says.met ∙ ap (policy_with_home c.args.node) h.shows))
+    (c.update_span.ensures.accepted (policy_with_home c.args.node)
+    (λ x r h. h.says.met ∙ ap (policy_with_home c.args.node) h.shows))
+    (c.update_span.ensures.err (policy_with_home c.args.node)
+    (λ x r h. h.says.met ∙ ap (policy_with_home c.args.node) h.shows))

@@ -9,6 +9,9 @@ use Rattle.numa_space.proofs.page_ranges.Pages.iter.Goals as goal
 
 pub returns-clause-ranges : goal.returns-clause-ranges
 returns-clause-ranges c run =
-    let P : (Option PolicyRecord → Option PolicyRecord → Bool) → Type 0 = λ same. Contains c.self.inside.map.runs run ↔ IsRange same (page_at c.self.inside.map.runs) run in
-    let Q : PageRanges → Type 0 = λ s. Contains s.runs run ↔ IsRange same_record (page_at s.runs) run in
+    let P : (Option PolicyRecord → Option PolicyRecord → Bool) → Type 0 =
+    λ same. Contains c.self.inside.map.runs run ↔ IsRange same (page_at c.self.inside.map.runs)
+    run in
+    let Q : PageRanges → Type 0 = λ s. Contains s.runs run
+    ↔ IsRange same_record (page_at s.runs) run in
     subst Q c.self.view_is (subst P range_test-same (c.iter.ensures.ranges run))

@@ -8,4 +8,6 @@ use Rattle.numa_space.proofs.page_ranges.Pages.len.Goals as goal
 
 pub returns-clause-count : goal.returns-clause-count
 returns-clause-count c =
-    c.len.ensures.count ∙ ap (λ same. range_count same (page_at c.self.inside.map.runs)) range_test-same ∙ ap (λ (s : PageRanges). range_count same_record (page_at s.runs)) c.self.view_is
+    c.len.ensures.count ∙ ap (λ same. range_count same (page_at c.self.inside.map.runs))
+    range_test-same ∙ ap (λ (s : PageRanges). range_count same_record (page_at s.runs))
+    c.self.view_is

@@ -6,5 +6,8 @@ use Rattle.numa_space.proofs.page_ranges.Pages.unmap_span.Goals as goal
 
 pub returns-clause-edit : goal.returns-clause-edit
 returns-clause-edit c =
-    count-edit range_test.ghosts.eq range_test-same c.self.inside.map c.unmap_span.new.self c.args.self.now c.self.view_is c.args.first c.args.pages c.unmap_span.result c.answered.result c.answered.ensures c.unmap_span.ensures.unchanged
-    (without_span c.args.first c.args.pages) c.unmap_span.ensures.ok c.unmap_span.ensures.accepted c.unmap_span.ensures.err
+    count-edit range_test.ghosts.eq range_test-same c.self.inside.map c.unmap_span.new.self
+    c.args.self.now c.self.view_is c.args.first c.args.pages c.unmap_span.result
+    c.answered.result c.answered.ensures c.unmap_span.ensures.unchanged
+    (without_span c.args.first c.args.pages) c.unmap_span.ensures.ok c.unmap_span.ensures.accepted
+    c.unmap_span.ensures.err

@@ -1,4 +1,5 @@
-use Rattle.std.proofs.Common.{◌≡◌, ◌++◌, [], ◌∷◌, ◌+◌, false, List, take, sym, ap, ◌∙◌, subst, rules}
+use Rattle.std.proofs.Common.{◌≡◌, ◌++◌, [], ◌∷◌, ◌+◌, false, List, take, sym, ap, ◌∙◌, subst}
+use Rattle.std.proofs.Common.{rules}
 use Rattle.std.proofs.lemmas.List.{take_more}
 use Rattle.numa_space.specs.Standing.{SpaceState, StandsFor, accepted_of}
 use Rattle.numa_space.specs.declared.command.Command.{Command}
@@ -11,16 +12,22 @@ loop-done-preserved c =
     let command : Command = c.index-commands-done.result in
     let before : List Command = take c.loop-done.done c.args.commands.now in
     let more : take (c.loop-done.done + 1) c.args.commands.now ≡ before ++ command ∷ [] =
-    take_more c.args.commands.now c.loop-done.done command c.loop-done-test.true ∙ ap (λ x. before ++ x ∷ []) (sym c.index-commands-done.is) in
+    take_more c.args.commands.now c.loop-done.done command c.loop-done-test.true
+    ∙ ap (λ x. before ++ x ∷ []) (sym c.index-commands-done.is) in
     let fed : wanted_memory c.apply.result ≡ false = search rules in
     record {
       stands = λ history stood.
           let middle : List Command = accepted_of old.machine old.bounds before history in
-          let stands : StandsFor c.loop-done.self middle = c.loop-done.invariant.stands history stood in
-          let P : List Command → Type 0 = λ commands. StandsFor c.apply.new.self (accepted_of old.machine old.bounds commands history) in
+          let stands : StandsFor c.loop-done.self middle =
+          c.loop-done.invariant.stands history stood in
+          let P : List Command → Type 0 = λ commands.
+          StandsFor c.apply.new.self (accepted_of old.machine old.bounds commands history) in
           subst P (sym more)
-          (applied-more old.machine old.bounds c.loop-done.self c.apply.new.self before history command c.apply.result c.loop-done.invariant.machine c.loop-done.invariant.bounds stands
-          (c.apply.ensures.ok middle stands) (c.apply.ensures.err middle stands) c.apply.ensures.unchanged fed);
+          (applied-more old.machine old.bounds c.loop-done.self c.apply.new.self before history
+          command c.apply.result c.loop-done.invariant.machine c.loop-done.invariant.bounds
+          stands
+          (c.apply.ensures.ok middle stands) (c.apply.ensures.err middle stands)
+          c.apply.ensures.unchanged fed);
       machine = c.apply.ensures.machine ∙ c.loop-done.invariant.machine;
       bounds = c.apply.ensures.bounds ∙ c.loop-done.invariant.bounds;
     }
@@ -28,7 +35,11 @@ loop-done-preserved c =
 pub returns-in-Err-NoMemory-clause-stop : goal.returns-in-Err-NoMemory-clause-stop
 returns-in-Err-NoMemory-clause-stop c history stood =
     let old : SpaceState = c.args.self.now in
-    let middle : List Command = accepted_of old.machine old.bounds (take c.loop-done.done c.args.commands.now) history in
+    let middle : List Command =
+    accepted_of old.machine old.bounds (take c.loop-done.done c.args.commands.now) history in
     let stands : StandsFor c.loop-done.self middle = c.loop-done.invariant.stands history stood in
-    stops-at old.machine old.bounds c.loop-done.self c.args.commands.now history c.loop-done.done c.index-commands-done.result c.apply.result c.in-Err-NoMemory.field-0 c.loop-done.invariant.machine c.loop-done.invariant.bounds
-    c.loop-done-test.true c.index-commands-done.is (c.apply.ensures.err middle stands) c.apply.ensures.room c.in-Err-NoMemory.is c.in-Err-NoMemory.field-0-is
+    stops-at old.machine old.bounds c.loop-done.self c.args.commands.now history c.loop-done.done
+    c.index-commands-done.result c.apply.result c.in-Err-NoMemory.field-0
+    c.loop-done.invariant.machine c.loop-done.invariant.bounds
+    c.loop-done-test.true c.index-commands-done.is (c.apply.ensures.err middle stands)
+    c.apply.ensures.room c.in-Err-NoMemory.is c.in-Err-NoMemory.field-0-is

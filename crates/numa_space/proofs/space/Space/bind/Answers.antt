@@ -17,61 +17,222 @@ use Rattle.numa_space.specs.Steps.{record_now}
 
 pub invariant_of-self-2 : goal.invariant_of-self-2
 invariant_of-self-2 c =
-    let node : has_no_node (shown_of c.self.inside).allowed c.args.spec ≡ false = ap (λ (s : SpaceState). has_no_node s.allowed c.args.spec) c.self.view_is ∙ c.in-Ok.ensures.0 in
-    let is : c.in-Ok.policy ≡ record_now (shown_of c.self.inside).allowed c.args.spec = c.in-Ok.ensures.1 ∙ ap (λ (s : SpaceState). record_now s.allowed c.args.spec) (sym c.self.view_is) in
-    let passes : c.passes_holes-passes_holes.result ≡ passes_holes (shown_of c.self.inside).machine.rules c.args.spec = c.passes_holes-passes_holes.ensures ∙ ap (λ (s : SpaceState). passes_holes s.machine.rules c.args.spec) (sym c.self.view_is) in
-    let answer : IsAnswer (shown_of c.self.inside) (Mbind c.args.start c.args.length c.args.spec) c.bind_span.result (bind-after (shown_of c.self.inside) c.args.start c.args.length c.args.spec (omega (arith, c.requires, ap (λ (s : SpaceState). s.version) c.self.view_is, ap (λ (s : SpaceState). s.bounds.max_commands) c.self.view_is)) c.in_ok-first.ensures.span.0 (ne_eqb c.args.length 0 c.if-length-eq0.false) node c.bind_span.result c.bind_span.new.self) =
-    bind-answer (shown_of c.self.inside) c.args.start c.args.length c.args.spec (omega (arith, c.requires, ap (λ (s : SpaceState). s.version) c.self.view_is, ap (λ (s : SpaceState). s.bounds.max_commands) c.self.view_is)) c.in_ok-first.ensures.span.0 (ne_eqb c.args.length 0 c.if-length-eq0.false) node c.in_ok-first.first c.in_ok-first.pages c.self.inside.pages.limit c.in-Ok.policy c.passes_holes-passes_holes.result c.bind_span.new.self c.bind_span.result
-    c.in_ok-first.ensures.span.1 c.in_ok-first.ensures.span.2 c.self.invariant.limit is passes c.bind_span.ensures.edit in
-    let P : Result (Unit {0}) Refusal → Type 0 = λ r. IsAnswer (shown_of c.self.inside) (Mbind c.args.start c.args.length c.args.spec) r (bind-after (shown_of c.self.inside) c.args.start c.args.length c.args.spec (omega (arith, c.requires, ap (λ (s : SpaceState). s.version) c.self.view_is, ap (λ (s : SpaceState). s.bounds.max_commands) c.self.view_is)) c.in_ok-first.ensures.span.0 (ne_eqb c.args.length 0 c.if-length-eq0.false) node r c.bind_span.new.self) in
-    let new : Inside = record c.self.inside { pages = c.bind_span.new.self; version = c.self.inside.version + 1 } in
-    let done : IsAnswer (shown_of c.self.inside) (Mbind c.args.start c.args.length c.args.spec) (Ok tt) (shown_of new) = subst P c.in_ok-bind_span.was answer in
-    kept-answer c.self.inside new (Mbind c.args.start c.args.length c.args.spec) (Ok tt) c.self.invariant c.bind_span.ensures.limit refl done
+    let node : has_no_node (shown_of c.self.inside).allowed c.args.spec ≡ false =
+    ap (λ (s : SpaceState). has_no_node s.allowed c.args.spec) c.self.view_is
+    ∙ c.in-Ok.ensures.0 in
+    let is : c.in-Ok.policy ≡ record_now (shown_of c.self.inside).allowed c.args.spec =
+    c.in-Ok.ensures.1 ∙ ap (λ (s : SpaceState). record_now s.allowed c.args.spec)
+    (sym c.self.view_is) in
+    let passes : c.passes_holes-passes_holes.result
+    ≡ passes_holes (shown_of c.self.inside).machine.rules c.args.spec =
+    c.passes_holes-passes_holes.ensures ∙ ap
+    (λ (s : SpaceState). passes_holes s.machine.rules c.args.spec) (sym c.self.view_is) in
+    let answer : IsAnswer (shown_of c.self.inside) (Mbind c.args.start c.args.length c.args.spec)
+    c.bind_span.result (bind-after (shown_of c.self.inside) c.args.start c.args.length
+    c.args.spec (omega (
+      arith,
+      c.requires,
+      ap (λ (s : SpaceState). s.version) c.self.view_is,
+      ap (λ (s : SpaceState). s.bounds.max_commands) c.self.view_is,
+    )) c.in_ok-first.ensures.span.0
+    (ne_eqb c.args.length 0 c.if-length-eq0.false) node c.bind_span.result
+    c.bind_span.new.self) =
+    bind-answer (shown_of c.self.inside) c.args.start c.args.length c.args.spec
+    (omega (
+      arith,
+      c.requires,
+      ap (λ (s : SpaceState). s.version) c.self.view_is,
+      ap (λ (s : SpaceState). s.bounds.max_commands) c.self.view_is,
+    )) c.in_ok-first.ensures.span.0
+    (ne_eqb c.args.length 0 c.if-length-eq0.false) node c.in_ok-first.first c.in_ok-first.pages
+    c.self.inside.pages.limit c.in-Ok.policy c.passes_holes-passes_holes.result
+    c.bind_span.new.self c.bind_span.result
+    c.in_ok-first.ensures.span.1 c.in_ok-first.ensures.span.2 c.self.invariant.limit is passes
+    c.bind_span.ensures.edit in
+    let P : Result (Unit {0}) Refusal → Type 0 = λ r. IsAnswer (shown_of c.self.inside)
+    (Mbind c.args.start c.args.length c.args.spec) r
+    (bind-after (shown_of c.self.inside) c.args.start c.args.length c.args.spec
+    (omega (
+      arith,
+      c.requires,
+      ap (λ (s : SpaceState). s.version) c.self.view_is,
+      ap (λ (s : SpaceState). s.bounds.max_commands) c.self.view_is,
+    )) c.in_ok-first.ensures.span.0
+    (ne_eqb c.args.length 0 c.if-length-eq0.false) node r c.bind_span.new.self) in
+    let new : Inside =
+    record c.self.inside {
+      pages = c.bind_span.new.self;
+      version =
+          c.self.inside.version + 1;
+    } in
+    let done : IsAnswer (shown_of c.self.inside) (Mbind c.args.start c.args.length c.args.spec)
+    (Ok tt) (shown_of new) = subst P c.in_ok-bind_span.was answer in
+    kept-answer c.self.inside new (Mbind c.args.start c.args.length c.args.spec) (Ok tt)
+    c.self.invariant c.bind_span.ensures.limit refl done
 
 pub returns-clause-answer : goal.returns-clause-answer
 returns-clause-answer c =
-    let node : has_no_node (shown_of c.self.inside).allowed c.args.spec ≡ false = ap (λ (s : SpaceState). has_no_node s.allowed c.args.spec) c.self.view_is ∙ c.in-Ok.ensures.0 in
-    let is : c.in-Ok.policy ≡ record_now (shown_of c.self.inside).allowed c.args.spec = c.in-Ok.ensures.1 ∙ ap (λ (s : SpaceState). record_now s.allowed c.args.spec) (sym c.self.view_is) in
-    let passes : c.passes_holes-passes_holes.result ≡ passes_holes (shown_of c.self.inside).machine.rules c.args.spec = c.passes_holes-passes_holes.ensures ∙ ap (λ (s : SpaceState). passes_holes s.machine.rules c.args.spec) (sym c.self.view_is) in
-    let answer : IsAnswer (shown_of c.self.inside) (Mbind c.args.start c.args.length c.args.spec) c.bind_span.result (bind-after (shown_of c.self.inside) c.args.start c.args.length c.args.spec (omega (arith, c.requires, ap (λ (s : SpaceState). s.version) c.self.view_is, ap (λ (s : SpaceState). s.bounds.max_commands) c.self.view_is)) c.in_ok-first.ensures.span.0 (ne_eqb c.args.length 0 c.if-length-eq0.false) node c.bind_span.result c.bind_span.new.self) =
-    bind-answer (shown_of c.self.inside) c.args.start c.args.length c.args.spec (omega (arith, c.requires, ap (λ (s : SpaceState). s.version) c.self.view_is, ap (λ (s : SpaceState). s.bounds.max_commands) c.self.view_is)) c.in_ok-first.ensures.span.0 (ne_eqb c.args.length 0 c.if-length-eq0.false) node c.in_ok-first.first c.in_ok-first.pages c.self.inside.pages.limit c.in-Ok.policy c.passes_holes-passes_holes.result c.bind_span.new.self c.bind_span.result
-    c.in_ok-first.ensures.span.1 c.in_ok-first.ensures.span.2 c.self.invariant.limit is passes c.bind_span.ensures.edit in
-    let P : Result (Unit {0}) Refusal → Type 0 = λ r. IsAnswer (shown_of c.self.inside) (Mbind c.args.start c.args.length c.args.spec) r (bind-after (shown_of c.self.inside) c.args.start c.args.length c.args.spec (omega (arith, c.requires, ap (λ (s : SpaceState). s.version) c.self.view_is, ap (λ (s : SpaceState). s.bounds.max_commands) c.self.view_is)) c.in_ok-first.ensures.span.0 (ne_eqb c.args.length 0 c.if-length-eq0.false) node r c.bind_span.new.self) in
-    let new : Inside = record c.self.inside { pages = c.bind_span.new.self; version = c.self.inside.version + 1 } in
-    let done : IsAnswer (shown_of c.self.inside) (Mbind c.args.start c.args.length c.args.spec) (Ok tt) (shown_of new) = subst P c.in_ok-bind_span.was answer in
-    let Q : SpaceState → Type 0 = λ s. IsAnswer s (Mbind c.args.start c.args.length c.args.spec) (Ok tt) (shown_of new) in
+    let node : has_no_node (shown_of c.self.inside).allowed c.args.spec ≡ false =
+    ap (λ (s : SpaceState). has_no_node s.allowed c.args.spec) c.self.view_is
+    ∙ c.in-Ok.ensures.0 in
+    let is : c.in-Ok.policy ≡ record_now (shown_of c.self.inside).allowed c.args.spec =
+    c.in-Ok.ensures.1 ∙ ap (λ (s : SpaceState). record_now s.allowed c.args.spec)
+    (sym c.self.view_is) in
+    let passes : c.passes_holes-passes_holes.result
+    ≡ passes_holes (shown_of c.self.inside).machine.rules c.args.spec =
+    c.passes_holes-passes_holes.ensures ∙ ap
+    (λ (s : SpaceState). passes_holes s.machine.rules c.args.spec) (sym c.self.view_is) in
+    let answer : IsAnswer (shown_of c.self.inside) (Mbind c.args.start c.args.length c.args.spec)
+    c.bind_span.result (bind-after (shown_of c.self.inside) c.args.start c.args.length
+    c.args.spec (omega (
+      arith,
+      c.requires,
+      ap (λ (s : SpaceState). s.version) c.self.view_is,
+      ap (λ (s : SpaceState). s.bounds.max_commands) c.self.view_is,
+    )) c.in_ok-first.ensures.span.0
+    (ne_eqb c.args.length 0 c.if-length-eq0.false) node c.bind_span.result
+    c.bind_span.new.self) =
+    bind-answer (shown_of c.self.inside) c.args.start c.args.length c.args.spec
+    (omega (
+      arith,
+      c.requires,
+      ap (λ (s : SpaceState). s.version) c.self.view_is,
+      ap (λ (s : SpaceState). s.bounds.max_commands) c.self.view_is,
+    )) c.in_ok-first.ensures.span.0
+    (ne_eqb c.args.length 0 c.if-length-eq0.false) node c.in_ok-first.first c.in_ok-first.pages
+    c.self.inside.pages.limit c.in-Ok.policy c.passes_holes-passes_holes.result
+    c.bind_span.new.self c.bind_span.result
+    c.in_ok-first.ensures.span.1 c.in_ok-first.ensures.span.2 c.self.invariant.limit is passes
+    c.bind_span.ensures.edit in
+    let P : Result (Unit {0}) Refusal → Type 0 = λ r. IsAnswer (shown_of c.self.inside)
+    (Mbind c.args.start c.args.length c.args.spec) r
+    (bind-after (shown_of c.self.inside) c.args.start c.args.length c.args.spec
+    (omega (
+      arith,
+      c.requires,
+      ap (λ (s : SpaceState). s.version) c.self.view_is,
+      ap (λ (s : SpaceState). s.bounds.max_commands) c.self.view_is,
+    )) c.in_ok-first.ensures.span.0
+    (ne_eqb c.args.length 0 c.if-length-eq0.false) node r c.bind_span.new.self) in
+    let new : Inside =
+    record c.self.inside {
+      pages = c.bind_span.new.self;
+      version =
+          c.self.inside.version + 1;
+    } in
+    let done : IsAnswer (shown_of c.self.inside) (Mbind c.args.start c.args.length c.args.spec)
+    (Ok tt) (shown_of new) = subst P c.in_ok-bind_span.was answer in
+    let Q : SpaceState → Type 0 = λ s. IsAnswer s (Mbind c.args.start c.args.length c.args.spec)
+    (Ok tt) (shown_of new) in
     subst Q c.self.view_is done
 
 pub returns-in_err-bind_span-clause-answer : goal.returns-in_err-bind_span-clause-answer
 returns-in_err-bind_span-clause-answer c =
-    let node : has_no_node (shown_of c.self.inside).allowed c.args.spec ≡ false = ap (λ (s : SpaceState). has_no_node s.allowed c.args.spec) c.self.view_is ∙ c.in-Ok.ensures.0 in
-    let is : c.in-Ok.policy ≡ record_now (shown_of c.self.inside).allowed c.args.spec = c.in-Ok.ensures.1 ∙ ap (λ (s : SpaceState). record_now s.allowed c.args.spec) (sym c.self.view_is) in
-    let passes : c.passes_holes-passes_holes.result ≡ passes_holes (shown_of c.self.inside).machine.rules c.args.spec = c.passes_holes-passes_holes.ensures ∙ ap (λ (s : SpaceState). passes_holes s.machine.rules c.args.spec) (sym c.self.view_is) in
-    let answer : IsAnswer (shown_of c.self.inside) (Mbind c.args.start c.args.length c.args.spec) c.bind_span.result (bind-after (shown_of c.self.inside) c.args.start c.args.length c.args.spec (omega (arith, c.requires, ap (λ (s : SpaceState). s.version) c.self.view_is, ap (λ (s : SpaceState). s.bounds.max_commands) c.self.view_is)) c.in_ok-first.ensures.span.0 (ne_eqb c.args.length 0 c.if-length-eq0.false) node c.bind_span.result c.bind_span.new.self) =
-    bind-answer (shown_of c.self.inside) c.args.start c.args.length c.args.spec (omega (arith, c.requires, ap (λ (s : SpaceState). s.version) c.self.view_is, ap (λ (s : SpaceState). s.bounds.max_commands) c.self.view_is)) c.in_ok-first.ensures.span.0 (ne_eqb c.args.length 0 c.if-length-eq0.false) node c.in_ok-first.first c.in_ok-first.pages c.self.inside.pages.limit c.in-Ok.policy c.passes_holes-passes_holes.result c.bind_span.new.self c.bind_span.result
-    c.in_ok-first.ensures.span.1 c.in_ok-first.ensures.span.2 c.self.invariant.limit is passes c.bind_span.ensures.edit in
-    let P : Result (Unit {0}) Refusal → Type 0 = λ r. IsAnswer (shown_of c.self.inside) (Mbind c.args.start c.args.length c.args.spec) r (bind-after (shown_of c.self.inside) c.args.start c.args.length c.args.spec (omega (arith, c.requires, ap (λ (s : SpaceState). s.version) c.self.view_is, ap (λ (s : SpaceState). s.bounds.max_commands) c.self.view_is)) c.in_ok-first.ensures.span.0 (ne_eqb c.args.length 0 c.if-length-eq0.false) node r c.bind_span.new.self) in
+    let node : has_no_node (shown_of c.self.inside).allowed c.args.spec ≡ false =
+    ap (λ (s : SpaceState). has_no_node s.allowed c.args.spec) c.self.view_is
+    ∙ c.in-Ok.ensures.0 in
+    let is : c.in-Ok.policy ≡ record_now (shown_of c.self.inside).allowed c.args.spec =
+    c.in-Ok.ensures.1 ∙ ap (λ (s : SpaceState). record_now s.allowed c.args.spec)
+    (sym c.self.view_is) in
+    let passes : c.passes_holes-passes_holes.result
+    ≡ passes_holes (shown_of c.self.inside).machine.rules c.args.spec =
+    c.passes_holes-passes_holes.ensures ∙ ap
+    (λ (s : SpaceState). passes_holes s.machine.rules c.args.spec) (sym c.self.view_is) in
+    let answer : IsAnswer (shown_of c.self.inside) (Mbind c.args.start c.args.length c.args.spec)
+    c.bind_span.result (bind-after (shown_of c.self.inside) c.args.start c.args.length
+    c.args.spec (omega (
+      arith,
+      c.requires,
+      ap (λ (s : SpaceState). s.version) c.self.view_is,
+      ap (λ (s : SpaceState). s.bounds.max_commands) c.self.view_is,
+    )) c.in_ok-first.ensures.span.0
+    (ne_eqb c.args.length 0 c.if-length-eq0.false) node c.bind_span.result
+    c.bind_span.new.self) =
+    bind-answer (shown_of c.self.inside) c.args.start c.args.length c.args.spec
+    (omega (
+      arith,
+      c.requires,
+      ap (λ (s : SpaceState). s.version) c.self.view_is,
+      ap (λ (s : SpaceState). s.bounds.max_commands) c.self.view_is,
+    )) c.in_ok-first.ensures.span.0
+    (ne_eqb c.args.length 0 c.if-length-eq0.false) node c.in_ok-first.first c.in_ok-first.pages
+    c.self.inside.pages.limit c.in-Ok.policy c.passes_holes-passes_holes.result
+    c.bind_span.new.self c.bind_span.result
+    c.in_ok-first.ensures.span.1 c.in_ok-first.ensures.span.2 c.self.invariant.limit is passes
+    c.bind_span.ensures.edit in
+    let P : Result (Unit {0}) Refusal → Type 0 = λ r. IsAnswer (shown_of c.self.inside)
+    (Mbind c.args.start c.args.length c.args.spec) r
+    (bind-after (shown_of c.self.inside) c.args.start c.args.length c.args.spec
+    (omega (
+      arith,
+      c.requires,
+      ap (λ (s : SpaceState). s.version) c.self.view_is,
+      ap (λ (s : SpaceState). s.bounds.max_commands) c.self.view_is,
+    )) c.in_ok-first.ensures.span.0
+    (ne_eqb c.args.length 0 c.if-length-eq0.false) node r c.bind_span.new.self) in
     let new : Inside = record c.self.inside { pages = c.bind_span.new.self } in
-    let done : IsAnswer (shown_of c.self.inside) (Mbind c.args.start c.args.length c.args.spec) (Err c.in_err-bind_span.field-0.0) (shown_of new) = subst P c.in_err-bind_span.was answer in
-    let is_err : c.from_residual-in_err-bind_span.result ≡ Err c.in_err-bind_span.field-0.0 = search rules in
-    let Q : SpaceState → Type 0 = λ s. IsAnswer s (Mbind c.args.start c.args.length c.args.spec) c.from_residual-in_err-bind_span.result (shown_of new) in
+    let done : IsAnswer (shown_of c.self.inside) (Mbind c.args.start c.args.length c.args.spec)
+    (Err c.in_err-bind_span.field-0.0) (shown_of new) = subst P c.in_err-bind_span.was answer in
+    let is_err : c.from_residual-in_err-bind_span.result ≡ Err c.in_err-bind_span.field-0.0 =
+    search rules in
+    let Q : SpaceState → Type 0 = λ s. IsAnswer s (Mbind c.args.start c.args.length c.args.spec)
+    c.from_residual-in_err-bind_span.result (shown_of new) in
     subst Q c.self.view_is (rw is_err done)
 
 pub invariant_of-self-in_err-bind_span : goal.invariant_of-self-in_err-bind_span
 invariant_of-self-in_err-bind_span c =
-    let node : has_no_node (shown_of c.self.inside).allowed c.args.spec ≡ false = ap (λ (s : SpaceState). has_no_node s.allowed c.args.spec) c.self.view_is ∙ c.in-Ok.ensures.0 in
-    let is : c.in-Ok.policy ≡ record_now (shown_of c.self.inside).allowed c.args.spec = c.in-Ok.ensures.1 ∙ ap (λ (s : SpaceState). record_now s.allowed c.args.spec) (sym c.self.view_is) in
-    let passes : c.passes_holes-passes_holes.result ≡ passes_holes (shown_of c.self.inside).machine.rules c.args.spec = c.passes_holes-passes_holes.ensures ∙ ap (λ (s : SpaceState). passes_holes s.machine.rules c.args.spec) (sym c.self.view_is) in
-    let answer : IsAnswer (shown_of c.self.inside) (Mbind c.args.start c.args.length c.args.spec) c.bind_span.result (bind-after (shown_of c.self.inside) c.args.start c.args.length c.args.spec (omega (arith, c.requires, ap (λ (s : SpaceState). s.version) c.self.view_is, ap (λ (s : SpaceState). s.bounds.max_commands) c.self.view_is)) c.in_ok-first.ensures.span.0 (ne_eqb c.args.length 0 c.if-length-eq0.false) node c.bind_span.result c.bind_span.new.self) =
-    bind-answer (shown_of c.self.inside) c.args.start c.args.length c.args.spec (omega (arith, c.requires, ap (λ (s : SpaceState). s.version) c.self.view_is, ap (λ (s : SpaceState). s.bounds.max_commands) c.self.view_is)) c.in_ok-first.ensures.span.0 (ne_eqb c.args.length 0 c.if-length-eq0.false) node c.in_ok-first.first c.in_ok-first.pages c.self.inside.pages.limit c.in-Ok.policy c.passes_holes-passes_holes.result c.bind_span.new.self c.bind_span.result
-    c.in_ok-first.ensures.span.1 c.in_ok-first.ensures.span.2 c.self.invariant.limit is passes c.bind_span.ensures.edit in
-    let P : Result (Unit {0}) Refusal → Type 0 = λ r. IsAnswer (shown_of c.self.inside) (Mbind c.args.start c.args.length c.args.spec) r (bind-after (shown_of c.self.inside) c.args.start c.args.length c.args.spec (omega (arith, c.requires, ap (λ (s : SpaceState). s.version) c.self.view_is, ap (λ (s : SpaceState). s.bounds.max_commands) c.self.view_is)) c.in_ok-first.ensures.span.0 (ne_eqb c.args.length 0 c.if-length-eq0.false) node r c.bind_span.new.self) in
+    let node : has_no_node (shown_of c.self.inside).allowed c.args.spec ≡ false =
+    ap (λ (s : SpaceState). has_no_node s.allowed c.args.spec) c.self.view_is
+    ∙ c.in-Ok.ensures.0 in
+    let is : c.in-Ok.policy ≡ record_now (shown_of c.self.inside).allowed c.args.spec =
+    c.in-Ok.ensures.1 ∙ ap (λ (s : SpaceState). record_now s.allowed c.args.spec)
+    (sym c.self.view_is) in
+    let passes : c.passes_holes-passes_holes.result
+    ≡ passes_holes (shown_of c.self.inside).machine.rules c.args.spec =
+    c.passes_holes-passes_holes.ensures ∙ ap
+    (λ (s : SpaceState). passes_holes s.machine.rules c.args.spec) (sym c.self.view_is) in
+    let answer : IsAnswer (shown_of c.self.inside) (Mbind c.args.start c.args.length c.args.spec)
+    c.bind_span.result (bind-after (shown_of c.self.inside) c.args.start c.args.length
+    c.args.spec (omega (
+      arith,
+      c.requires,
+      ap (λ (s : SpaceState). s.version) c.self.view_is,
+      ap (λ (s : SpaceState). s.bounds.max_commands) c.self.view_is,
+    )) c.in_ok-first.ensures.span.0
+    (ne_eqb c.args.length 0 c.if-length-eq0.false) node c.bind_span.result
+    c.bind_span.new.self) =
+    bind-answer (shown_of c.self.inside) c.args.start c.args.length c.args.spec
+    (omega (
+      arith,
+      c.requires,
+      ap (λ (s : SpaceState). s.version) c.self.view_is,
+      ap (λ (s : SpaceState). s.bounds.max_commands) c.self.view_is,
+    )) c.in_ok-first.ensures.span.0
+    (ne_eqb c.args.length 0 c.if-length-eq0.false) node c.in_ok-first.first c.in_ok-first.pages
+    c.self.inside.pages.limit c.in-Ok.policy c.passes_holes-passes_holes.result
+    c.bind_span.new.self c.bind_span.result
+    c.in_ok-first.ensures.span.1 c.in_ok-first.ensures.span.2 c.self.invariant.limit is passes
+    c.bind_span.ensures.edit in
+    let P : Result (Unit {0}) Refusal → Type 0 = λ r. IsAnswer (shown_of c.self.inside)
+    (Mbind c.args.start c.args.length c.args.spec) r
+    (bind-after (shown_of c.self.inside) c.args.start c.args.length c.args.spec
+    (omega (
+      arith,
+      c.requires,
+      ap (λ (s : SpaceState). s.version) c.self.view_is,
+      ap (λ (s : SpaceState). s.bounds.max_commands) c.self.view_is,
+    )) c.in_ok-first.ensures.span.0
+    (ne_eqb c.args.length 0 c.if-length-eq0.false) node r c.bind_span.new.self) in
     let new : Inside = record c.self.inside { pages = c.bind_span.new.self } in
-    let done : IsAnswer (shown_of c.self.inside) (Mbind c.args.start c.args.length c.args.spec) (Err c.in_err-bind_span.field-0.0) (shown_of new) = subst P c.in_err-bind_span.was answer in
-    kept-answer c.self.inside new (Mbind c.args.start c.args.length c.args.spec) (Err c.in_err-bind_span.field-0.0) c.self.invariant c.bind_span.ensures.limit refl done
+    let done : IsAnswer (shown_of c.self.inside) (Mbind c.args.start c.args.length c.args.spec)
+    (Err c.in_err-bind_span.field-0.0) (shown_of new) = subst P c.in_err-bind_span.was answer in
+    kept-answer c.self.inside new (Mbind c.args.start c.args.length c.args.spec)
+    (Err c.in_err-bind_span.field-0.0) c.self.invariant c.bind_span.ensures.limit refl done
 
 pub invariant_of-self : goal.invariant_of-self
 invariant_of-self c =
     let new : Inside = record c.self.inside { version = c.self.inside.version + 1 } in
-    let answer : IsAnswer (shown_of c.self.inside) (Mbind c.args.start c.args.length c.args.spec) (Ok tt) (shown_of new) = search rules in
-    kept-answer c.self.inside new (Mbind c.args.start c.args.length c.args.spec) (Ok tt) c.self.invariant refl refl answer
+    let answer : IsAnswer (shown_of c.self.inside) (Mbind c.args.start c.args.length c.args.spec)
+    (Ok tt) (shown_of new) = search rules in
+    kept-answer c.self.inside new (Mbind c.args.start c.args.length c.args.spec) (Ok tt)
+    c.self.invariant refl refl answer

@@ -18,19 +18,50 @@ on_ok (Err x) e h = absurd (true≢false e)
 
 pub invariant_of-self : goal.invariant_of-self
 invariant_of-self c =
-    let room : c.self.inside.version < c.self.inside.limits.max_commands = omega (arith, c.requires, ap (λ (s : SpaceState). s.version) c.self.view_is, ap (λ (s : SpaceState). s.bounds.max_commands) c.self.view_is) in
-    let new : Inside = record c.self.inside { tasks = c.clear.new.self; version = c.self.inside.version + 1 } in
-    let none : record_of c.self.inside.tasks c.args.from ≡ None = sym c.get.ensures ∙ c.in_default.is in
-    let done : IsAnswer (shown_of c.self.inside) (Inherit c.args.task c.args.from) (Ok tt) (shown_of new) = inherit-clear (shown_of c.self.inside) c.args.task c.args.from room c.clear.new.self none c.clear.ensures.records c.clear.ensures.count in
-    kept-answer c.self.inside new (Inherit c.args.task c.args.from) (Ok tt) c.self.invariant refl refl done
+    let room : c.self.inside.version < c.self.inside.limits.max_commands =
+    omega (
+      arith,
+      c.requires,
+      ap (λ (s : SpaceState). s.version) c.self.view_is,
+      ap (λ (s : SpaceState). s.bounds.max_commands) c.self.view_is,
+    ) in
+    let new : Inside =
+    record c.self.inside { tasks = c.clear.new.self; version = c.self.inside.version + 1 } in
+    let none : record_of c.self.inside.tasks c.args.from ≡ None = sym c.get.ensures
+    ∙ c.in_default.is in
+    let done : IsAnswer (shown_of c.self.inside) (Inherit c.args.task c.args.from) (Ok tt)
+    (shown_of new) = inherit-clear (shown_of c.self.inside) c.args.task c.args.from room
+    c.clear.new.self none c.clear.ensures.records c.clear.ensures.count in
+    kept-answer c.self.inside new (Inherit c.args.task c.args.from) (Ok tt) c.self.invariant refl
+    refl done
 
 pub invariant_of-self-2 : goal.invariant_of-self-2
 invariant_of-self-2 c =
-    let room : c.self.inside.version < c.self.inside.limits.max_commands = omega (arith, c.requires, ap (λ (s : SpaceState). s.version) c.self.view_is, ap (λ (s : SpaceState). s.bounds.max_commands) c.self.view_is) in
-    let new : Inside = record c.self.inside { tasks = c.set.new.self; version = c.self.inside.version + 1 } in
-    let some : record_of c.self.inside.tasks c.args.from ≡ Some c.in-Some.policy = sym c.get.ensures ∙ c.in-Some.is in
-    let place : (not (is_some (record_of c.self.inside.tasks c.args.task)) && nat_le c.self.inside.limits.max_tasks (length c.self.inside.tasks)) ≡ false = ap (λ (s : SpaceState). not (is_some (record_of s.tasks c.args.task)) && nat_le s.bounds.max_tasks (length s.tasks)) c.self.view_is ∙ sym c.has_no_place_for.ensures ∙ c.if-has_no_place_for.false in
-    let records : (other : ℕ) → record_of c.set.new.self other ≡ (if c.args.task == other then Some c.in-Some.policy else record_of c.self.inside.tasks other) = on_ok c.set.result (sym c.is_err.ensures.value ∙ c.if-is_err.false) c.set.ensures.records in
-    let count : length c.set.new.self ≡ length c.self.inside.tasks + (if is_some (record_of c.self.inside.tasks c.args.task) then 0 else 1) = on_ok c.set.result (sym c.is_err.ensures.value ∙ c.if-is_err.false) c.set.ensures.count in
-    let done : IsAnswer (shown_of c.self.inside) (Inherit c.args.task c.args.from) (Ok tt) (shown_of new) = inherit-set (shown_of c.self.inside) c.args.task c.args.from room c.in-Some.policy c.set.new.self some place records count in
-    kept-answer c.self.inside new (Inherit c.args.task c.args.from) (Ok tt) c.self.invariant refl refl done
+    let room : c.self.inside.version < c.self.inside.limits.max_commands =
+    omega (
+      arith,
+      c.requires,
+      ap (λ (s : SpaceState). s.version) c.self.view_is,
+      ap (λ (s : SpaceState). s.bounds.max_commands) c.self.view_is,
+    ) in
+    let new : Inside =
+    record c.self.inside { tasks = c.set.new.self; version = c.self.inside.version + 1 } in
+    let some : record_of c.self.inside.tasks c.args.from ≡ Some c.in-Some.policy = sym c.get.ensures
+    ∙ c.in-Some.is in
+    let place : (not (is_some (record_of c.self.inside.tasks c.args.task))
+    && nat_le c.self.inside.limits.max_tasks (length c.self.inside.tasks)) ≡ false =
+    ap (λ (s : SpaceState). not (is_some (record_of s.tasks c.args.task))
+    && nat_le s.bounds.max_tasks (length s.tasks)) c.self.view_is
+    ∙ sym c.has_no_place_for.ensures ∙ c.if-has_no_place_for.false in
+    let records : (other : ℕ) → record_of c.set.new.self other
+    ≡ (if c.args.task == other then Some c.in-Some.policy else record_of c.self.inside.tasks
+    other) = on_ok c.set.result (sym c.is_err.ensures.value ∙ c.if-is_err.false)
+    c.set.ensures.records in
+    let count : length c.set.new.self ≡ length c.self.inside.tasks
+    + (if is_some (record_of c.self.inside.tasks c.args.task) then 0 else 1) =
+    on_ok c.set.result (sym c.is_err.ensures.value ∙ c.if-is_err.false) c.set.ensures.count in
+    let done : IsAnswer (shown_of c.self.inside) (Inherit c.args.task c.args.from) (Ok tt)
+    (shown_of new) = inherit-set (shown_of c.self.inside) c.args.task c.args.from room
+    c.in-Some.policy c.set.new.self some place records count in
+    kept-answer c.self.inside new (Inherit c.args.task c.args.from) (Ok tt) c.self.invariant refl
+    refl done

@@ -9,11 +9,16 @@ use Rattle.numa_space.proofs.space.Space.map.Goals as goal
 pub invariant_of-self : goal.invariant_of-self
 invariant_of-self c =
     let new : Inside = record c.self.inside { pages = c.map_span.new.self } in
-    let answer : IsAnswer (shown_of c.self.inside) (Map c.args.start c.args.length c.args.offset) (Err c.in_err-map_span.field-0.0) (shown_of new) = search rules in
-    kept-answer c.self.inside new (Map c.args.start c.args.length c.args.offset) (Err c.in_err-map_span.field-0.0) c.self.invariant c.map_span.ensures.limit refl answer
+    let answer : IsAnswer (shown_of c.self.inside) (Map c.args.start c.args.length c.args.offset)
+    (Err c.in_err-map_span.field-0.0) (shown_of new) = search rules in
+    kept-answer c.self.inside new (Map c.args.start c.args.length c.args.offset)
+    (Err c.in_err-map_span.field-0.0) c.self.invariant c.map_span.ensures.limit refl answer
 
 pub invariant_of-self-2 : goal.invariant_of-self-2
 invariant_of-self-2 c =
-    let new : Inside = record c.self.inside { pages = c.map_span.new.self; version = c.self.inside.version + 1 } in
-    let answer : IsAnswer (shown_of c.self.inside) (Map c.args.start c.args.length c.args.offset) (Ok tt) (shown_of new) = search rules in
-    kept-answer c.self.inside new (Map c.args.start c.args.length c.args.offset) (Ok tt) c.self.invariant c.map_span.ensures.limit refl answer
+    let new : Inside =
+    record c.self.inside { pages = c.map_span.new.self; version = c.self.inside.version + 1 } in
+    let answer : IsAnswer (shown_of c.self.inside) (Map c.args.start c.args.length c.args.offset)
+    (Ok tt) (shown_of new) = search rules in
+    kept-answer c.self.inside new (Map c.args.start c.args.length c.args.offset) (Ok tt)
+    c.self.invariant c.map_span.ensures.limit refl answer

@@ -6,7 +6,9 @@ use Rattle.numa_space.proofs.space.Space.new.Goals as goal
 
 pub invariant_of-result : goal.invariant_of-result
 invariant_of-result c = record {
-  sound = sound-new _ refl c.memory-allowed.ensures.memory (λ e. c.memory-allowed.ensures.some (c.memory-allowed.ensures.memory ∙ e)) (ap (λ (p : PageRanges). p.runs) c.new.ensures) c.new-2.ensures;
+  sound = sound-new _ refl c.memory-allowed.ensures.memory
+      (λ e. c.memory-allowed.ensures.some (c.memory-allowed.ensures.memory ∙ e))
+      (ap (λ (p : PageRanges). p.runs) c.new.ensures) c.new-2.ensures;
   history = record { history = []; accepted = tt; stands = search rules };
   limit = search rules;
   nodes = search rules;

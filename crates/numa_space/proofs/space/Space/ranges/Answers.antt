@@ -8,5 +8,7 @@ use Rattle.numa_space.proofs.space.Space.ranges.Goals as goal
 
 pub returns-clause-meaning : goal.returns-clause-meaning
 returns-clause-meaning c history stands =
-    let whole : page_at c.args.self.now.ranges ≡ page_in c.args.self.now.machine history = λ i page. stands.pages page i in
-    c.len.ensures.count ∙ ap (λ (s : SpaceState). range_count same_record (page_at s.ranges)) c.self.view_is ∙ ap (λ at. range_count same_record at) whole
+    let whole : page_at c.args.self.now.ranges ≡ page_in c.args.self.now.machine history =
+    λ i page. stands.pages page i in
+    c.len.ensures.count ∙ ap (λ (s : SpaceState). range_count same_record (page_at s.ranges))
+    c.self.view_is ∙ ap (λ at. range_count same_record at) whole

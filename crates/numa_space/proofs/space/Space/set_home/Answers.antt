@@ -8,12 +8,21 @@ use Rattle.numa_space.proofs.space.Space.set_home.Goals as goal
 
 pub invariant_of-self-2 : goal.invariant_of-self-2
 invariant_of-self-2 c =
-    let new : Inside = record c.self.inside { pages = c.home_span.new.self; version = c.self.inside.version + 1 } in
-    let answer : IsAnswer (shown_of c.self.inside) (SetHome c.args.start c.args.length c.args.node) (Ok tt) (shown_of new) = search rules in
-    kept-answer c.self.inside new (SetHome c.args.start c.args.length c.args.node) (Ok tt) c.self.invariant c.home_span.ensures.limit refl answer
+    let new : Inside =
+    record c.self.inside {
+      pages = c.home_span.new.self;
+      version =
+          c.self.inside.version + 1;
+    } in
+    let answer : IsAnswer (shown_of c.self.inside) (SetHome c.args.start c.args.length c.args.node)
+    (Ok tt) (shown_of new) = search rules in
+    kept-answer c.self.inside new (SetHome c.args.start c.args.length c.args.node) (Ok tt)
+    c.self.invariant c.home_span.ensures.limit refl answer
 
 pub invariant_of-self : goal.invariant_of-self
 invariant_of-self c =
     let new : Inside = record c.self.inside { version = c.self.inside.version + 1 } in
-    let answer : IsAnswer (shown_of c.self.inside) (SetHome c.args.start c.args.length c.args.node) (Ok tt) (shown_of new) = search rules in
-    kept-answer c.self.inside new (SetHome c.args.start c.args.length c.args.node) (Ok tt) c.self.invariant refl refl answer
+    let answer : IsAnswer (shown_of c.self.inside) (SetHome c.args.start c.args.length c.args.node)
+    (Ok tt) (shown_of new) = search rules in
+    kept-answer c.self.inside new (SetHome c.args.start c.args.length c.args.node) (Ok tt)
+    c.self.invariant refl refl answer

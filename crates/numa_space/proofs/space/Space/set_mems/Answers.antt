@@ -8,6 +8,15 @@ use Rattle.numa_space.proofs.space.Space.set_mems.Goals as goal
 
 pub invariant_of-self : goal.invariant_of-self
 invariant_of-self c =
-    let new : Inside = record c.self.inside { allowed = c.in-Some.allowed; pages = c.rebind.new.self; tasks = c.rebind-2.new.self; version = c.self.inside.version + 1 } in
-    let answer : IsAnswer (shown_of c.self.inside) (SetMems c.args.mask) (Ok tt) (shown_of new) = search rules in
-    kept-answer c.self.inside new (SetMems c.args.mask) (Ok tt) c.self.invariant c.rebind.ensures.limit refl answer
+    let new : Inside =
+    record c.self.inside {
+      allowed = c.in-Some.allowed;
+      pages = c.rebind.new.self;
+      tasks =
+          c.rebind-2.new.self;
+      version = c.self.inside.version + 1;
+    } in
+    let answer : IsAnswer (shown_of c.self.inside) (SetMems c.args.mask) (Ok tt) (shown_of new) =
+    search rules in
+    kept-answer c.self.inside new (SetMems c.args.mask) (Ok tt) c.self.invariant
+    c.rebind.ensures.limit refl answer

@@ -21,34 +21,94 @@ on_ok (Err x) e h = absurd (true≢false e)
 
 pub invariant_of-self : goal.invariant_of-self
 invariant_of-self c =
-    let node : has_no_node (shown_of c.self.inside).allowed c.args.spec ≡ false = ap (λ (s : SpaceState). has_no_node s.allowed c.args.spec) c.self.view_is ∙ c.in_ok-policy.ensures.0 in
-    let is : c.in_ok-policy.field-0 ≡ record_now (shown_of c.self.inside).allowed c.args.spec = c.in_ok-policy.ensures.1 ∙ ap (λ (s : SpaceState). record_now s.allowed c.args.spec) (sym c.self.view_is) in
-    let room : c.self.inside.version < c.self.inside.limits.max_commands = omega (arith, c.requires, ap (λ (s : SpaceState). s.version) c.self.view_is, ap (λ (s : SpaceState). s.bounds.max_commands) c.self.view_is) in
-    let new : Inside = record c.self.inside { tasks = c.clear.new.self; version = c.self.inside.version + 1 } in
-    let done : IsAnswer (shown_of c.self.inside) (SetTask c.args.task c.args.spec) (Ok tt) (shown_of new) = clear-answer (shown_of c.self.inside) c.args.task c.args.spec room node c.clear.new.self (sym c.in_default.is ∙ is) c.clear.ensures.records c.clear.ensures.count in
-    kept-answer c.self.inside new (SetTask c.args.task c.args.spec) (Ok tt) c.self.invariant refl refl done
+    let node : has_no_node (shown_of c.self.inside).allowed c.args.spec ≡ false =
+    ap (λ (s : SpaceState). has_no_node s.allowed c.args.spec) c.self.view_is
+    ∙ c.in_ok-policy.ensures.0 in
+    let is : c.in_ok-policy.field-0 ≡ record_now (shown_of c.self.inside).allowed c.args.spec =
+    c.in_ok-policy.ensures.1 ∙ ap (λ (s : SpaceState). record_now s.allowed c.args.spec)
+    (sym c.self.view_is) in
+    let room : c.self.inside.version < c.self.inside.limits.max_commands =
+    omega (
+      arith,
+      c.requires,
+      ap (λ (s : SpaceState). s.version) c.self.view_is,
+      ap (λ (s : SpaceState). s.bounds.max_commands) c.self.view_is,
+    ) in
+    let new : Inside =
+    record c.self.inside { tasks = c.clear.new.self; version = c.self.inside.version + 1 } in
+    let done : IsAnswer (shown_of c.self.inside) (SetTask c.args.task c.args.spec) (Ok tt)
+    (shown_of new) = clear-answer (shown_of c.self.inside) c.args.task c.args.spec room node
+    c.clear.new.self (sym c.in_default.is ∙ is) c.clear.ensures.records c.clear.ensures.count in
+    kept-answer c.self.inside new (SetTask c.args.task c.args.spec) (Ok tt) c.self.invariant refl
+    refl done
 
 pub invariant_of-self-2 : goal.invariant_of-self-2
 invariant_of-self-2 c =
-    let node : has_no_node (shown_of c.self.inside).allowed c.args.spec ≡ false = ap (λ (s : SpaceState). has_no_node s.allowed c.args.spec) c.self.view_is ∙ c.in_ok-policy.ensures.0 in
-    let is : c.in_ok-policy.field-0 ≡ record_now (shown_of c.self.inside).allowed c.args.spec = c.in_ok-policy.ensures.1 ∙ ap (λ (s : SpaceState). record_now s.allowed c.args.spec) (sym c.self.view_is) in
-    let room : c.self.inside.version < c.self.inside.limits.max_commands = omega (arith, c.requires, ap (λ (s : SpaceState). s.version) c.self.view_is, ap (λ (s : SpaceState). s.bounds.max_commands) c.self.view_is) in
-    let new : Inside = record c.self.inside { tasks = c.set.new.self; version = c.self.inside.version + 1 } in
-    let place : (not (is_some (record_of c.self.inside.tasks c.args.task)) && nat_le c.self.inside.limits.max_tasks (length c.self.inside.tasks)) ≡ false = ap (λ (s : SpaceState). not (is_some (record_of s.tasks c.args.task)) && nat_le s.bounds.max_tasks (length s.tasks)) c.self.view_is ∙ sym c.has_no_place_for.ensures ∙ c.if-has_no_place_for.false in
-    let records : (other : ℕ) → record_of c.set.new.self other ≡ (if c.args.task == other then Some c.in-Some.policy else record_of c.self.inside.tasks other) = on_ok c.set.result (sym c.is_err.ensures.value ∙ c.if-is_err.false) c.set.ensures.records in
-    let count : length c.set.new.self ≡ length c.self.inside.tasks + (if is_some (record_of c.self.inside.tasks c.args.task) then 0 else 1) = on_ok c.set.result (sym c.is_err.ensures.value ∙ c.if-is_err.false) c.set.ensures.count in
-    let done : IsAnswer (shown_of c.self.inside) (SetTask c.args.task c.args.spec) (Ok tt) (shown_of new) = set-answer (shown_of c.self.inside) c.args.task c.args.spec room node c.in-Some.policy c.set.new.self (sym c.in-Some.is ∙ is) place records count in
-    kept-answer c.self.inside new (SetTask c.args.task c.args.spec) (Ok tt) c.self.invariant refl refl done
+    let node : has_no_node (shown_of c.self.inside).allowed c.args.spec ≡ false =
+    ap (λ (s : SpaceState). has_no_node s.allowed c.args.spec) c.self.view_is
+    ∙ c.in_ok-policy.ensures.0 in
+    let is : c.in_ok-policy.field-0 ≡ record_now (shown_of c.self.inside).allowed c.args.spec =
+    c.in_ok-policy.ensures.1 ∙ ap (λ (s : SpaceState). record_now s.allowed c.args.spec)
+    (sym c.self.view_is) in
+    let room : c.self.inside.version < c.self.inside.limits.max_commands =
+    omega (
+      arith,
+      c.requires,
+      ap (λ (s : SpaceState). s.version) c.self.view_is,
+      ap (λ (s : SpaceState). s.bounds.max_commands) c.self.view_is,
+    ) in
+    let new : Inside =
+    record c.self.inside { tasks = c.set.new.self; version = c.self.inside.version + 1 } in
+    let place : (not (is_some (record_of c.self.inside.tasks c.args.task))
+    && nat_le c.self.inside.limits.max_tasks (length c.self.inside.tasks)) ≡ false =
+    ap (λ (s : SpaceState). not (is_some (record_of s.tasks c.args.task))
+    && nat_le s.bounds.max_tasks (length s.tasks)) c.self.view_is
+    ∙ sym c.has_no_place_for.ensures ∙ c.if-has_no_place_for.false in
+    let records : (other : ℕ) → record_of c.set.new.self other
+    ≡ (if c.args.task == other then Some c.in-Some.policy else record_of c.self.inside.tasks
+    other) = on_ok c.set.result (sym c.is_err.ensures.value ∙ c.if-is_err.false)
+    c.set.ensures.records in
+    let count : length c.set.new.self ≡ length c.self.inside.tasks
+    + (if is_some (record_of c.self.inside.tasks c.args.task) then 0 else 1) =
+    on_ok c.set.result (sym c.is_err.ensures.value ∙ c.if-is_err.false) c.set.ensures.count in
+    let done : IsAnswer (shown_of c.self.inside) (SetTask c.args.task c.args.spec) (Ok tt)
+    (shown_of new) = set-answer (shown_of c.self.inside) c.args.task c.args.spec room node
+    c.in-Some.policy c.set.new.self (sym c.in-Some.is ∙ is) place records count in
+    kept-answer c.self.inside new (SetTask c.args.task c.args.spec) (Ok tt) c.self.invariant refl
+    refl done
 
 pub returns-clause-answer : goal.returns-clause-answer
 returns-clause-answer c =
-    let node : has_no_node (shown_of c.self.inside).allowed c.args.spec ≡ false = ap (λ (s : SpaceState). has_no_node s.allowed c.args.spec) c.self.view_is ∙ c.in_ok-policy.ensures.0 in
-    let is : c.in_ok-policy.field-0 ≡ record_now (shown_of c.self.inside).allowed c.args.spec = c.in_ok-policy.ensures.1 ∙ ap (λ (s : SpaceState). record_now s.allowed c.args.spec) (sym c.self.view_is) in
-    let room : c.self.inside.version < c.self.inside.limits.max_commands = omega (arith, c.requires, ap (λ (s : SpaceState). s.version) c.self.view_is, ap (λ (s : SpaceState). s.bounds.max_commands) c.self.view_is) in
-    let new : Inside = record c.self.inside { tasks = c.set.new.self; version = c.self.inside.version + 1 } in
-    let place : (not (is_some (record_of c.self.inside.tasks c.args.task)) && nat_le c.self.inside.limits.max_tasks (length c.self.inside.tasks)) ≡ false = ap (λ (s : SpaceState). not (is_some (record_of s.tasks c.args.task)) && nat_le s.bounds.max_tasks (length s.tasks)) c.self.view_is ∙ sym c.has_no_place_for.ensures ∙ c.if-has_no_place_for.false in
-    let records : (other : ℕ) → record_of c.set.new.self other ≡ (if c.args.task == other then Some c.in-Some.policy else record_of c.self.inside.tasks other) = on_ok c.set.result (sym c.is_err.ensures.value ∙ c.if-is_err.false) c.set.ensures.records in
-    let count : length c.set.new.self ≡ length c.self.inside.tasks + (if is_some (record_of c.self.inside.tasks c.args.task) then 0 else 1) = on_ok c.set.result (sym c.is_err.ensures.value ∙ c.if-is_err.false) c.set.ensures.count in
-    let done : IsAnswer (shown_of c.self.inside) (SetTask c.args.task c.args.spec) (Ok tt) (shown_of new) = set-answer (shown_of c.self.inside) c.args.task c.args.spec room node c.in-Some.policy c.set.new.self (sym c.in-Some.is ∙ is) place records count in
-    let Q : SpaceState → Type 0 = λ s. IsAnswer s (SetTask c.args.task c.args.spec) (Ok tt) (shown_of new) in
+    let node : has_no_node (shown_of c.self.inside).allowed c.args.spec ≡ false =
+    ap (λ (s : SpaceState). has_no_node s.allowed c.args.spec) c.self.view_is
+    ∙ c.in_ok-policy.ensures.0 in
+    let is : c.in_ok-policy.field-0 ≡ record_now (shown_of c.self.inside).allowed c.args.spec =
+    c.in_ok-policy.ensures.1 ∙ ap (λ (s : SpaceState). record_now s.allowed c.args.spec)
+    (sym c.self.view_is) in
+    let room : c.self.inside.version < c.self.inside.limits.max_commands =
+    omega (
+      arith,
+      c.requires,
+      ap (λ (s : SpaceState). s.version) c.self.view_is,
+      ap (λ (s : SpaceState). s.bounds.max_commands) c.self.view_is,
+    ) in
+    let new : Inside =
+    record c.self.inside { tasks = c.set.new.self; version = c.self.inside.version + 1 } in
+    let place : (not (is_some (record_of c.self.inside.tasks c.args.task))
+    && nat_le c.self.inside.limits.max_tasks (length c.self.inside.tasks)) ≡ false =
+    ap (λ (s : SpaceState). not (is_some (record_of s.tasks c.args.task))
+    && nat_le s.bounds.max_tasks (length s.tasks)) c.self.view_is
+    ∙ sym c.has_no_place_for.ensures ∙ c.if-has_no_place_for.false in
+    let records : (other : ℕ) → record_of c.set.new.self other
+    ≡ (if c.args.task == other then Some c.in-Some.policy else record_of c.self.inside.tasks
+    other) = on_ok c.set.result (sym c.is_err.ensures.value ∙ c.if-is_err.false)
+    c.set.ensures.records in
+    let count : length c.set.new.self ≡ length c.self.inside.tasks
+    + (if is_some (record_of c.self.inside.tasks c.args.task) then 0 else 1) =
+    on_ok c.set.result (sym c.is_err.ensures.value ∙ c.if-is_err.false) c.set.ensures.count in
+    let done : IsAnswer (shown_of c.self.inside) (SetTask c.args.task c.args.spec) (Ok tt)
+    (shown_of new) = set-answer (shown_of c.self.inside) c.args.task c.args.spec room node
+    c.in-Some.policy c.set.new.self (sym c.in-Some.is ∙ is) place records count in
+    let Q : SpaceState → Type 0 = λ s. IsAnswer s (SetTask c.args.task c.args.spec) (Ok tt)
+    (shown_of new) in
     subst Q c.self.view_is done

@@ -8,6 +8,9 @@ use Rattle.numa_space.proofs.space.Space.set_weight.Goals as goal
 
 pub invariant_of-self-2 : goal.invariant_of-self-2
 invariant_of-self-2 c =
-    let new : Inside = record c.self.inside { weights = c.set.new.self; version = c.self.inside.version + 1 } in
-    let answer : IsAnswer (shown_of c.self.inside) (SetWeight c.args.node c.args.weight) (Ok tt) (shown_of new) = search rules in
-    kept-answer c.self.inside new (SetWeight c.args.node c.args.weight) (Ok tt) c.self.invariant refl c.set.ensures.nodes answer
+    let new : Inside =
+    record c.self.inside { weights = c.set.new.self; version = c.self.inside.version + 1 } in
+    let answer : IsAnswer (shown_of c.self.inside) (SetWeight c.args.node c.args.weight) (Ok tt)
+    (shown_of new) = search rules in
+    kept-answer c.self.inside new (SetWeight c.args.node c.args.weight) (Ok tt) c.self.invariant
+    refl c.set.ensures.nodes answer

@@ -7,13 +7,18 @@ use Rattle.std.specs.Map.{keys_of}
 use Rattle.numa_mode.specs.Policy.{PolicyRecord}
 use Rattle.numa_space.proofs.task_policies.Tasks.len.Goals as goal
 
-keys_apart : (es : List (ℕ × PolicyRecord)) → AllPairs (λ x y. x ≢ y) (keys_of es) → AllPairs (λ earlier later. earlier.0 ≢ later.0) es
+keys_apart : (es : List (ℕ × PolicyRecord)) → AllPairs (λ x y. x ≢ y) (keys_of es)
+    → AllPairs (λ earlier later. earlier.0 ≢ later.0) es
 keys_apart es apart i j d before within same =
     let key : (ℕ × PolicyRecord) → ℕ = λ e. e.0 in
-    apart i j d.0 before (omega (arith, length-map es key)) (get_or-map key es i d ∙ same ∙ sym (get_or-map key es j d))
+    apart i j d.0 before (omega (arith, length-map es key)) (get_or-map key es i d ∙ same
+    ∙ sym (get_or-map key es j d))
 
 pub returns-clause-each_once : goal.returns-clause-each_once
 returns-clause-each_once c =
-    let apart : AllPairs (λ x y. x ≢ y) (keys_of c.self.inside.0.entries) = AllPairs-from_IsDistinct Decides-eqb (keys_of c.self.inside.0.entries) c.len.ensures.unique in
-    let P : List (ℕ × PolicyRecord) → Type 0 = λ es. AllPairs (λ earlier later. earlier.0 ≢ later.0) es in
+    let apart : AllPairs (λ x y. x ≢ y) (keys_of c.self.inside.0.entries) =
+    AllPairs-from_IsDistinct Decides-eqb (keys_of c.self.inside.0.entries)
+    c.len.ensures.unique in
+    let P : List (ℕ × PolicyRecord) → Type 0 = λ es. AllPairs (λ earlier later. earlier.0 ≢ later.0)
+    es in
     subst P c.self.view_is (keys_apart c.self.inside.0.entries apart)
