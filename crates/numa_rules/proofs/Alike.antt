@@ -1,7 +1,9 @@
 -- Where nothing is told, both rules answer a command alike. For each command what is told and both
 -- chains of causes are the same tests, so that each case of them decides it.
-use Rattle.std.proofs.Common.{◌≡◌, ℕ, ◌+◌, ◌-◌, ◌*◌, ◌/◌, ◌<◌, ◌≤◌, ◌^◌, Bool, true, false, ◌&&◌, ◌||◌, not}
-use Rattle.std.proofs.Common.{Option, Some, None, is_some, refl, sym, ap, ◌∙◌, arith, inl, inr, nat_lt}
+use Rattle.std.proofs.Common.{◌≡◌, ℕ, ◌+◌, ◌-◌, ◌*◌, ◌/◌, ◌<◌, ◌≤◌, ◌^◌, Bool, true, false, ◌&&◌}
+use Rattle.std.proofs.Common.{◌||◌, not}
+use Rattle.std.proofs.Common.{Option, Some, None, is_some, refl, sym, ap, ◌∙◌, arith, inl, inr}
+use Rattle.std.proofs.Common.{nat_lt}
 use Rattle.std.specs.Prelude.{nat_le, ◌==◌, if◌then◌else◌}
 use Rattle.std.specs.List.{list_any}
 use Rattle.std.proofs.lemmas.Bool.{cases_Bool, eq-eqb, eqb-true}
@@ -14,7 +16,8 @@ use Rattle.numa_ranges.specs.Maps.{any_page}
 use Rattle.numa_ranges.specs.Runs.{page_at}
 use Rattle.numa_ranges.proofs.Pages.{any_page-true, any_page-false}
 use Rattle.numa_space.specs.History.{page_count, page_of}
-use Rattle.numa_space.specs.Refusals.{PageMap, Scene, cause_in, first_of, when, bad_span, bad_map_span}
+use Rattle.numa_space.specs.Refusals.{PageMap, Scene, cause_in, first_of, when, bad_span}
+use Rattle.numa_space.specs.Refusals.{bad_map_span}
 use Rattle.numa_space.specs.Refusals.{lacks_policy, lacks_mems, has_no_node, has_policy}
 use Rattle.numa_space.specs.Standing.{SpaceState}
 use Rattle.numa_space.specs.declared.command.Command.{Command}
@@ -22,7 +25,8 @@ use Rattle.numa_space.specs.declared.command.Command.TheVariants as command
 use Rattle.numa_space.specs.declared.refusal.Refusal.{Refusal}
 use Rattle.numa_space.specs.declared.refusal.Refusal.TheVariants.{OutOfSpace, EmptyLength, Hole}
 use Rattle.numa_space.specs.declared.refusal.Refusal.TheVariants.{NodesNotAllowed, NoPolicy}
-use Rattle.numa_space.specs.declared.refusal.Refusal.TheVariants.{NoSuchNode, BadWeight, NotSupported}
+use Rattle.numa_space.specs.declared.refusal.Refusal.TheVariants.{NoSuchNode, BadWeight}
+use Rattle.numa_space.specs.declared.refusal.Refusal.TheVariants.{NotSupported}
 use Rattle.numa_space.specs.declared.refusal.Refusal.TheVariants.{CommandsSpent}
 use Rattle.numa_rules.specs.Both.{IsAnsweredAlike, scene_by, refusal_by}
 use Rattle.numa_rules.specs.Otherwise.{otherwise_of, with_command}
@@ -93,7 +97,8 @@ weight-alike false true high alike = absurd alike
 weight-alike false false high alike = refl
 
 mems-alike : (lacks zero none : Bool) (parted : Option Otherwise) → (zero ≡ true → none ≡ true)
-    → IsAnsweredAlike (if lacks || zero then None else if none then Some AllowsAllMemory else parted)
+    → IsAnsweredAlike (if lacks || zero then None else if none then Some AllowsAllMemory
+    else parted)
     → first_of (when lacks NoSuchNode) (when none NodesNotAllowed)
     ≡ first_of (when lacks NoSuchNode) (when zero NodesNotAllowed)
 mems-alike true zero none parted whole alike = refl

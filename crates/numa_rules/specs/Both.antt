@@ -11,7 +11,8 @@ use Rattle.numa_space.specs.declared.refusal.Refusal.{Refusal}
 use Rattle.numa_rules.specs.declared.otherwise.Otherwise.{Otherwise}
 use Rattle.numa_rules.specs.declared.otherwise.Otherwise.TheVariants.{LeavesNodes}
 
--- what a command is judged by in a space, with the pages as they would be afterwards, by these rules
+-- what a command is judged by in a space, with the pages as they would be afterwards, by these
+-- rules
 abbrev pub scene_by : Rules → SpaceState → PageMap → Scene
 scene_by rules space after = record {
   machine = record space.machine { rules = rules };
