@@ -1,28 +1,39 @@
 -- What an answer says of its step.
-use Rattle.std.proofs.Common.{◌≡◌, ℕ, ◌==◌, ◌⊎◌, inl, inr, Bool, true, false, Option, Some, None, Result, Ok, Err, is_some, List, [], ◌∷◌, ◌++◌, refl, sym, ap, ◌∙◌, arith, nat_le, not, is_none, unwrap_or, if◌then◌else◌}
+use Rattle.std.proofs.Common.{◌≡◌, ℕ, ◌==◌, ◌⊎◌, inl, inr, Bool, true, false, Option, Some, None}
+use Rattle.std.proofs.Common.{Result, Ok, Err, is_some, List, [], ◌∷◌, ◌++◌, refl, sym, ap, ◌∙◌}
+use Rattle.std.proofs.Common.{arith, nat_le, not, is_none, unwrap_or, if◌then◌else◌}
 use Rattle.std.specs.Option.{option_map_or}
 use Rattle.std.proofs.lemmas.Bool.Decides.{nat_tests}
 use Rattle.numa_space.specs.declared.request.Request.{Request}
 use Rattle.numa_machine.specs.declared.frame.Frame.{Frame}
 use Rattle.numa_space.specs.declared.placement.Placement.{Placement}
 use Rattle.numa_space.specs.declared.event.Event.{Event}
-use Rattle.numa_space.specs.declared.event.Event.TheVariants.{Accept, Publish, Begin, Look, Try, Give}
+use Rattle.numa_space.specs.declared.event.Event.TheVariants.{Accept, Publish, Begin, Look, Try}
+use Rattle.numa_space.specs.declared.event.Event.TheVariants.{Give}
 use Rattle.numa_space.specs.declared.event.CoreReply.{CoreReply}
 use Rattle.numa_space.specs.declared.event.CoreReply.TheVariants.{Still, Exhausted, Won}
 use Rattle.numa_space.specs.declared.event.CoreRefusal.{CoreRefusal}
-use Rattle.numa_space.specs.declared.event.CoreRefusal.TheVariants.{Command as Because, NoSuchWorker, Busy, Idle, BadTry, NotOwned, BadCpu, Unmapped}
+use Rattle.numa_space.specs.declared.event.CoreRefusal.TheVariants.{Command as Because}
+use Rattle.numa_space.specs.declared.event.CoreRefusal.TheVariants.{NoSuchWorker, Busy, Idle}
+use Rattle.numa_space.specs.declared.event.CoreRefusal.TheVariants.{BadTry, NotOwned, BadCpu}
+use Rattle.numa_space.specs.declared.event.CoreRefusal.TheVariants.{Unmapped}
 use Rattle.numa_space.specs.declared.refusal.Refusal.TheVariants.{NoMemory as NoRoom}
-use Rattle.numa_core.specs.World.{Setup, FrameSearch, World, frame_search_of, owner_of, is_frame, list_at, current_rank, frame_search_after_look, frame_search_past, may_try, new_frame_search}
-use Rattle.numa_core.specs.Steps.{first_refusal, refusal_of, reply_of, refused_or, goes_on, placement_of, owns, IsAnswer, IsOutOfMemory}
+use Rattle.numa_core.specs.World.{Setup, FrameSearch, World, frame_search_of, owner_of, is_frame}
+use Rattle.numa_core.specs.World.{list_at, current_rank, frame_search_after_look, frame_search_past}
+use Rattle.numa_core.specs.World.{may_try, new_frame_search}
+use Rattle.numa_core.specs.Steps.{first_refusal, refusal_of, reply_of, refused_or, goes_on}
+use Rattle.numa_core.specs.Steps.{placement_of, owns, IsAnswer, IsOutOfMemory}
 use Rattle.numa_core.specs.Executions.{CoreStep, IsExecution}
 
 -- what came earlier is an execution
-pub legal_before : (s : Setup) (later rest : List CoreStep) → IsExecution s (later ++ rest) → IsExecution s rest
+pub legal_before : (s : Setup) (later rest : List CoreStep) → IsExecution s (later ++ rest)
+    → IsExecution s rest
 legal_before s [] rest legal = legal
 legal_before s (m ∷ later) rest legal = legal_before s later rest legal.0
 
 not_ok : (event : Event) (reply : CoreReply) → IsOutOfMemory event (Ok reply) → ⊥
-not_ok (Accept command) reply h = let odd : ◌≡◌ {A = Result CoreReply CoreRefusal} (Ok reply) (Err (Because NoRoom)) = h.0 in cc
+not_ok (Accept command) reply h = let odd : ◌≡◌ {A = Result CoreReply CoreRefusal} (Ok reply)
+    (Err (Because NoRoom)) = h.0 in cc
 not_ok Publish reply h = cc
 not_ok (Begin w request) reply h = h
 not_ok (Look w word) reply h = h
@@ -32,14 +43,21 @@ not_ok (Give w frame) reply h = h
 same_reply : (a b : CoreReply) → ◌≡◌ {A = Result CoreReply CoreRefusal} (Ok a) (Ok b) → a ≡ b
 same_reply a b e = cc
 
-no_refusal : (a : CoreReply) (b : CoreRefusal) → ◌≡◌ {A = Result CoreReply CoreRefusal} (Ok a) (Err b) → ⊥
+no_refusal : (a : CoreReply) (b : CoreRefusal) → ◌≡◌ {A = Result CoreReply CoreRefusal} (Ok a)
+    (Err b) → ⊥
 no_refusal a b e = cc
 
 -- a reply says that nothing refused the event, and is the one that the world gives
-pub replied : (s : Setup) (world : World) (version : ℕ) (event : Event) (reply : CoreReply) → IsAnswer s world version event (Ok reply) → (refusal_of s world version event ≡ None) × (reply ≡ reply_of s world version event)
+pub replied : (s : Setup) (world : World) (version : ℕ) (event : Event) (reply : CoreReply)
+    → IsAnswer s world version event (Ok reply) → (refusal_of s world version event ≡ None)
+    × (reply ≡ reply_of s world version event)
 replied s world version event reply answer = go (refusal_of s world version event) answer
   where
-    go : (o : Option CoreRefusal) → (◌≡◌ {A = Result CoreReply CoreRefusal} (Ok reply) (refused_or o (reply_of s world version event))) ⊎ ((o ≡ None) × IsOutOfMemory event (Ok reply)) → (o ≡ None) × (reply ≡ reply_of s world version event)
+    go : (o : Option CoreRefusal)
+        → (◌≡◌ {A = Result CoreReply CoreRefusal} (Ok reply)
+        (refused_or o (reply_of s world version event)))
+        ⊎ ((o ≡ None) × IsOutOfMemory event (Ok reply)) → (o ≡ None)
+        × (reply ≡ reply_of s world version event)
     go None (inl e) = (refl, same_reply reply (reply_of s world version event) e)
     go (Some refusal) (inl e) = absurd (no_refusal reply refusal e)
     go o (inr h) = absurd (not_ok event reply h.1)
@@ -49,7 +67,9 @@ not_false true e = refl
 not_false false e = absurd (cc)
 
 -- where four conditions refuse nothing, none of them holds
-pub four_rows : (a b c d : Bool) (x y z t : CoreRefusal) → first_refusal ((a, x) ∷ (b, y) ∷ (c, z) ∷ (d, t) ∷ []) ≡ None → (a ≡ false) × (b ≡ false) × (c ≡ false) × (d ≡ false)
+pub four_rows : (a b c d : Bool) (x y z t : CoreRefusal)
+    → first_refusal ((a, x) ∷ (b, y) ∷ (c, z) ∷ (d, t) ∷ []) ≡ None → (a ≡ false) × (b ≡ false)
+    × (c ≡ false) × (d ≡ false)
 four_rows true b c d x y z t h = absurd (cc)
 four_rows false true c d x y z t h = absurd (cc)
 four_rows false false true d x y z t h = absurd (cc)
@@ -57,23 +77,33 @@ four_rows false false false true x y z t h = absurd (cc)
 four_rows false false false false x y z t h = (refl, refl, refl, refl)
 
 -- where three conditions refuse nothing, none of them holds
-three_rows : (a b c : Bool) (x y z : CoreRefusal) → first_refusal ((a, x) ∷ (b, y) ∷ (c, z) ∷ []) ≡ None → (a ≡ false) × (b ≡ false) × (c ≡ false)
+three_rows : (a b c : Bool) (x y z : CoreRefusal) → first_refusal ((a, x) ∷ (b, y) ∷ (c, z) ∷ [])
+    ≡ None → (a ≡ false) × (b ≡ false) × (c ≡ false)
 three_rows true b c x y z h = absurd (cc)
 three_rows false true c x y z h = absurd (cc)
 three_rows false false true x y z h = absurd (cc)
 three_rows false false false x y z h = (refl, refl, refl)
 
 -- a Begin that isn't refused has a list
-pub begin_means : (s : Setup) (world : World) (version w : ℕ) (request : Request) → refusal_of s world version (Begin w request) ≡ None → list_at s.machine world.history version request ≡ Some (new_frame_search s world version request).nodes
-begin_means s world version w request h = go (list_at s.machine world.history version request) (four_rows (nat_le s.workers w) (is_some (frame_search_of world w)) (nat_le s.machine.nodes request.cpu) (is_none (list_at s.machine world.history version request)) NoSuchWorker Busy BadCpu (Unmapped version) h).3
+pub begin_means : (s : Setup) (world : World) (version w : ℕ) (request : Request)
+    → refusal_of s world version (Begin w request) ≡ None
+    → list_at s.machine world.history version request
+    ≡ Some (new_frame_search s world version request).nodes
+begin_means s world version w request h = go (list_at s.machine world.history version request)
+    (four_rows (nat_le s.workers w) (is_some (frame_search_of world w))
+    (nat_le s.machine.nodes request.cpu) (is_none (list_at s.machine world.history version request))
+    NoSuchWorker Busy BadCpu (Unmapped version) h).3
   where
     go : (o : Option (List ℕ)) → is_none o ≡ false → o ≡ Some (unwrap_or o [])
     go None e = absurd (cc)
     go (Some nodes) e = refl
 
 -- a Give that isn't refused is by the owner
-pub give_means : (s : Setup) (world : World) (version w : ℕ) (frame : Frame) → refusal_of s world version (Give w frame) ≡ None → owner_of world frame ≡ Some w
-give_means s world version w frame h = go (owner_of world frame) (three_rows (nat_le s.workers w) (is_some (frame_search_of world w)) (not (owns world w frame)) NoSuchWorker Busy NotOwned h).2
+pub give_means : (s : Setup) (world : World) (version w : ℕ) (frame : Frame)
+    → refusal_of s world version (Give w frame) ≡ None → owner_of world frame ≡ Some w
+give_means s world version w frame h =
+    go (owner_of world frame) (three_rows (nat_le s.workers w) (is_some (frame_search_of world w))
+    (not (owns world w frame)) NoSuchWorker Busy NotOwned h).2
   where
     go : (o : Option ℕ) → not (option_map_or (λ v. v == w) o false) ≡ false → o ≡ Some w
     go None e = absurd (cc)
@@ -83,40 +113,66 @@ give_means s world version w frame h = go (owner_of world frame) (three_rows (na
         same v w e = grind (arith, nat_tests)
 
 -- a Try that isn't refused is of an unmet frame of the current node
-pub try_means : (s : Setup) (world : World) (version w : ℕ) (frame : Frame) (frame_search : FrameSearch) → refusal_of s world version (Try w frame) ≡ None → frame_search_of world w ≡ Some frame_search → may_try s frame_search frame ≡ true
-try_means s world version w frame frame_search h is = not_false _ (sym (ap (λ o. not (option_map_or (λ frame_search. may_try s frame_search frame) o false)) is) ∙ (three_rows (nat_le s.workers w) (is_none (frame_search_of world w)) (not (option_map_or (λ frame_search. may_try s frame_search frame) (frame_search_of world w) false)) NoSuchWorker Idle BadTry h).2)
+pub try_means : (s : Setup) (world : World) (version w : ℕ) (frame : Frame)
+    (frame_search : FrameSearch) → refusal_of s world version (Try w frame) ≡ None
+    → frame_search_of world w ≡ Some frame_search → may_try s frame_search frame ≡ true
+try_means s world version w frame frame_search h is =
+    not_false _
+    (sym (ap (λ o. not (option_map_or (λ frame_search. may_try s frame_search frame) o false)) is)
+    ∙ (three_rows (nat_le s.workers w) (is_none (frame_search_of world w))
+    (not (option_map_or (λ frame_search. may_try s frame_search frame) (frame_search_of world w)
+    false)) NoSuchWorker Idle BadTry h).2)
 
 -- two frames are one where the test says so
-pub one_frame : (frame : Frame) (n k : ℕ) → is_frame frame n k ≡ true → (n ≡ frame.node) × (k ≡ frame.number)
+pub one_frame : (frame : Frame) (n k : ℕ) → is_frame frame n k ≡ true → (n ≡ frame.node)
+    × (k ≡ frame.number)
 one_frame frame n k h = grind (arith, nat_tests)
 
-goes_on-not_won : (s : Setup) (frame_search : FrameSearch) (placement : Placement) → Won placement ≡ goes_on s frame_search → ⊥
+goes_on-not_won : (s : Setup) (frame_search : FrameSearch) (placement : Placement)
+    → Won placement ≡ goes_on s frame_search → ⊥
 goes_on-not_won s frame_search placement = go (current_rank s frame_search)
   where
-    go : (o : Option ℕ) → Won placement ≡ (if is_some o then Still else Exhausted frame_search.version) → ⊥
+    go : (o : Option ℕ)
+        → Won placement ≡ (if is_some o then Still else Exhausted frame_search.version) → ⊥
     go None e = cc
     go (Some rank) e = cc
 
 -- a reply that won
-pub won_means : (s : Setup) (world : World) (w version : ℕ) (frame : Frame) (placement : Placement) → Won placement ≡ reply_of s world version (Try w frame) → (frame_search : FrameSearch) × (frame_search_of world w ≡ Some frame_search) × (owner_of world frame ≡ None) × (placement ≡ placement_of s frame_search frame)
+pub won_means : (s : Setup) (world : World) (w version : ℕ) (frame : Frame) (placement : Placement)
+    → Won placement ≡ reply_of s world version (Try w frame) → (frame_search : FrameSearch)
+    × (frame_search_of world w ≡ Some frame_search) × (owner_of world frame ≡ None)
+    × (placement ≡ placement_of s frame_search frame)
 won_means s world w version frame placement = go (owner_of world frame) (frame_search_of world w)
   where
-    go : (owner : Option ℕ) (o : Option FrameSearch) → Won placement ≡ (if is_some owner then option_map_or (λ frame_search. goes_on s (frame_search_past frame frame_search)) o Still else option_map_or (λ frame_search. Won (placement_of s frame_search frame)) o Still) → (frame_search : FrameSearch) × (o ≡ Some frame_search) × (owner ≡ None) × (placement ≡ placement_of s frame_search frame)
+    go : (owner : Option ℕ) (o : Option FrameSearch)
+        → Won placement
+        ≡ (if is_some owner then option_map_or
+        (λ frame_search. goes_on s (frame_search_past frame frame_search)) o Still
+        else option_map_or (λ frame_search. Won (placement_of s frame_search frame)) o Still)
+        → (frame_search : FrameSearch) × (o ≡ Some frame_search) × (owner ≡ None)
+        × (placement ≡ placement_of s frame_search frame)
     go (Some v) None e = absurd (cc)
-    go (Some v) (Some frame_search) e = absurd (goes_on-not_won s (frame_search_past frame frame_search) placement e)
+    go (Some v) (Some frame_search) e =
+        absurd (goes_on-not_won s (frame_search_past frame frame_search) placement e)
     go None None e = absurd (cc)
     go None (Some frame_search) e = (frame_search, refl, refl, cc)
 
 -- only a Try wins, and the frame that it tried
-pub won_by_try : (s : Setup) (world : World) (version : ℕ) (event : Event) (placement : Placement) → Won placement ≡ reply_of s world version event → (w : ℕ) × (event ≡ Try w placement.frame)
+pub won_by_try : (s : Setup) (world : World) (version : ℕ) (event : Event) (placement : Placement)
+    → Won placement ≡ reply_of s world version event → (w : ℕ) × (event ≡ Try w placement.frame)
 won_by_try s world version (Accept command) placement e = absurd (cc)
 won_by_try s world version Publish placement e = absurd (cc)
-won_by_try s world version (Begin w request) placement e = absurd (goes_on-not_won s (new_frame_search s world version request) placement e)
+won_by_try s world version (Begin w request) placement e =
+    absurd (goes_on-not_won s (new_frame_search s world version request) placement e)
 won_by_try s world version (Look w word) placement e = absurd (go (frame_search_of world w) e)
   where
-    go : (o : Option FrameSearch) → Won placement ≡ option_map_or (λ frame_search. goes_on s (frame_search_after_look s world word frame_search)) o Still → ⊥
+    go : (o : Option FrameSearch)
+        → Won placement
+        ≡ option_map_or
+        (λ frame_search. goes_on s (frame_search_after_look s world word frame_search)) o Still → ⊥
     go None e = cc
-    go (Some frame_search) e = goes_on-not_won s (frame_search_after_look s world word frame_search) placement e
+    go (Some frame_search) e = goes_on-not_won s (frame_search_after_look s world word frame_search)
+        placement e
 won_by_try s world version (Try w frame) placement e =
     let win = won_means s world w version frame placement e in
     (w, ap (λ f. Try w f) (sym (ap (λ (p : Placement). p.frame) win.3)))

@@ -1,5 +1,6 @@
 -- A core's tables, copied.
-use Rattle.std.proofs.Common.{zero, suc, ◌≡◌, ℕ, Some, List, [], ◌∷◌, length, map, slice_get, vec_len, refl, sym, ap, subst, ◌∙◌, arith}
+use Rattle.std.proofs.Common.{zero, suc, ◌≡◌, ℕ, Some, List, [], ◌∷◌, length, map, slice_get}
+use Rattle.std.proofs.Common.{vec_len, refl, sym, ap, subst, ◌∙◌, arith}
 use Rattle.std.specs.List.{AllZip}
 use Rattle.numa_space.specs.Standing.{SpaceState}
 use Rattle.numa_core.specs.declared.seat.WorkerSeat.{WorkerSeat}
@@ -9,7 +10,8 @@ use Rattle.numa_core.specs.Kept.{IsKept}
 use Rattle.numa_core.specs.Seats.{busy_of, SeatFits, IsSeatCopy}
 use Rattle.numa_core.specs.Standing.{frames_before}
 
-pub copies-busy : (seats copies : List WorkerSeat) → AllZip IsSeatCopy seats copies → map busy_of copies ≡ map busy_of seats
+pub copies-busy : (seats copies : List WorkerSeat) → AllZip IsSeatCopy seats copies
+    → map busy_of copies ≡ map busy_of seats
 copies-busy [] [] same = refl
 copies-busy [] (y ∷ ys) same = absurd same
 copies-busy (x ∷ xs) [] same = absurd same
@@ -27,16 +29,21 @@ copies-fit frames (x ∷ xs) (y ∷ ys) same fits zero seat at =
 copies-fit frames (x ∷ xs) (y ∷ ys) same fits (suc w) seat at =
     copies-fit frames xs ys same.1 (λ v. fits (suc v)) w seat at
 
-pub kept-copy : (state copy : State) → copy.space ≡ state.space → copy.places ≡ copy.space.machine.frames
-    → AllZip IsSeatCopy state.seats.items copy.seats.items → vec_len copy.seats ≡ vec_len state.seats
+pub kept-copy : (state copy : State) → copy.space ≡ state.space
+    → copy.places ≡ copy.space.machine.frames
+    → AllZip IsSeatCopy state.seats.items copy.seats.items
+    → vec_len copy.seats ≡ vec_len state.seats
     → copy.owners.items ≡ state.owners.items → vec_len copy.owners ≡ vec_len state.owners
     → copy.taken.items ≡ state.taken.items → IsKept state → IsKept copy
 kept-copy state copy space places seats count owners len taken kept =
-    let same : state.places ≡ copy.places = kept.places ∙ ap (λ (s : SpaceState). s.machine.frames) (sym space) ∙ sym places in
+    let same : state.places ≡ copy.places = kept.places ∙ ap (λ (s : SpaceState). s.machine.frames)
+    (sym space) ∙ sym places in
     record {
       places = places;
-      seats = λ w seat at. subst (λ frames. SeatFits frames seat) same (copies-fit state.places state.seats.items copy.seats.items seats kept.seats w seat at);
-      owners = subst (λ frames. vec_len copy.owners ≡ frames_before frames (length frames)) same (len ∙ kept.owners);
+      seats = λ w seat at. subst (λ frames. SeatFits frames seat) same
+          (copies-fit state.places state.seats.items copy.seats.items seats kept.seats w seat at);
+      owners = subst (λ frames. vec_len copy.owners ≡ frames_before frames (length frames)) same
+          (len ∙ kept.owners);
       few = omega (arith, count, kept.few);
       taken = subst (λ frames. AreTaken frames copy.owners.items copy.taken.items) same
           (subst (λ os. AreTaken state.places os copy.taken.items) (sym owners)

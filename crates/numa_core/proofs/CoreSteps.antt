@@ -1,5 +1,9 @@
 -- What a core stands for before and after a step.
-use Rattle.std.proofs.Common.{zero, suc, ◌≡◌, ◌≢◌, ℕ, ◌+◌, ◌-◌, ◌<◌, ◌≤◌, ◌==◌, ◌||◌, ◌⊎◌, inl, inr, Bool, true, false, not, Option, Some, None, Result, Ok, Err, is_some, is_none, is_ok, List, [], ◌∷◌, length, drop, refl, sym, ap, subst, ◌∙◌, arith, if◌then◌else◌, slice_get, slice_index, get_or, OnErr, MatchBool, MatchOption, unwrap_or, map}
+use Rattle.std.proofs.Common.{zero, suc, ◌≡◌, ◌≢◌, ℕ, ◌+◌, ◌-◌, ◌<◌, ◌≤◌, ◌==◌, ◌||◌, ◌⊎◌, inl, inr}
+use Rattle.std.proofs.Common.{Bool, true, false, not, Option, Some, None, Result, Ok, Err, is_some}
+use Rattle.std.proofs.Common.{is_none, is_ok, List, [], ◌∷◌, length, drop, refl, sym, ap, subst}
+use Rattle.std.proofs.Common.{◌∙◌, arith, if◌then◌else◌, slice_get, slice_index, get_or, OnErr}
+use Rattle.std.proofs.Common.{MatchBool, MatchOption, unwrap_or, map}
 use Rattle.std.specs.Option.{option_map, option_map_or, option_and_then}
 use Rattle.std.specs.List.{list_any}
 use Rattle.std.proofs.Math.ListN.{set}
@@ -124,7 +128,10 @@ frame_search-same machine frames None same = refl
 frame_search-same machine frames (Some busy) same = ap (λ fs. Some (frame_search_in fs busy)) (sym same)
 
 -- a worker goes on, or is idle
-pub stands-seat : (core : CoreState) (world : World) (w last : ℕ) (o : Option Busy) (frame_search : Option FrameSearch) → CoreStandsFor core world → w < length core.workers → frame_search_by core.space.machine o ≡ frame_search → last ≤ newest_published world → CoreStandsFor (with_seat core w o) (with_worker world w last frame_search)
+pub stands-seat : (core : CoreState) (world : World) (w last : ℕ) (o : Option Busy)
+    (frame_search : Option FrameSearch) → CoreStandsFor core world → w < length core.workers
+    → frame_search_by core.space.machine o ≡ frame_search → last ≤ newest_published world
+    → CoreStandsFor (with_seat core w o) (with_worker world w last frame_search)
 stands-seat core world w last o frame_search stands low is not_newer = record {
   space = stands.space;
   plan = stands.plan;
@@ -156,7 +163,11 @@ stands-owner core world frame place x stands here is low = record {
 }
 
 -- a refused event leaves the worker as it was
-pub stands-result : (core : CoreState) (world after : World) (w : ℕ) (old new : Option Busy) (result : Result CoreReply CoreRefusal) → (is_ok result ≡ true → CoreStandsFor (with_seat core w new) after) → OnErr result (new ≡ old) → slice_get core.workers w ≡ Some old → CoreStandsFor core world → CoreStandsFor (with_seat core w new) (if is_ok result then after else world)
+pub stands-result : (core : CoreState) (world after : World) (w : ℕ) (old new : Option Busy)
+    (result : Result CoreReply CoreRefusal)
+    → (is_ok result ≡ true → CoreStandsFor (with_seat core w new) after) → OnErr result (new ≡ old)
+    → slice_get core.workers w ≡ Some old → CoreStandsFor core world
+    → CoreStandsFor (with_seat core w new) (if is_ok result then after else world)
 stands-result core world after w old new (Ok reply) ok err at stands = ok refl
 stands-result core world after w old new (Err refusal) ok err at stands = subst (λ ws. CoreStandsFor (record { space = core.space; plan = core.plan; workers = ws; owners = core.owners }) world) (sym (ap (set core.workers w) err ∙ set_back core.workers w old at)) stands
 
@@ -209,16 +220,43 @@ try_answer s world version w frame owned old new result low is owner tries = go 
     go None is h = (answered s world version (Try w frame) (Some Idle) result (rows None is) h, λ ok. absurd (let odd : false ≡ true = sym (ap is_ok h) ∙ ok in cc))
     go (Some frame_search) is h = pick (may_try s frame_search frame) owned refl owner h
       where
-        pick : (b owned : Bool) → may_try s frame_search frame ≡ b → (is_ok result ≡ true → is_some (owner_of world frame) ≡ owned) → MatchBool b (MatchBool owned ((result ≡ Ok (goes_on s (frame_search_past frame frame_search))) × (new ≡ going_on s (frame_search_past frame frame_search))) ((result ≡ Ok (Won (placement_of s frame_search frame))) × (new ≡ None))) (result ≡ Err BadTry)
+        pick : (b owned : Bool) → may_try s frame_search frame ≡ b
+            → (is_ok result ≡ true → is_some (owner_of world frame) ≡ owned)
+            → MatchBool b
+            (MatchBool owned ((result ≡ Ok (goes_on s (frame_search_past frame frame_search)))
+            × (new ≡ going_on s (frame_search_past frame frame_search)))
+            ((result ≡ Ok (Won (placement_of s frame_search frame))) × (new ≡ None)))
+            (result ≡ Err BadTry)
             → IsAnswer s world version (Try w frame) result × (is_ok result ≡ true → new ≡ (if owned then option_map_or (λ frame_search. going_on s (frame_search_past frame frame_search)) (frame_search_of world w) None else None))
         pick true true may own h = (
           answered s world version (Try w frame) None result (rows (Some frame_search) is ∙ ap (λ b. if not b then Some BadTry else None) may)
-              (h.0 ∙ ap (λ o. Ok (option_map_or (λ frame_search. goes_on s (frame_search_past frame frame_search)) o Still)) (sym is) ∙ ap (λ b. Ok (if b then option_map_or (λ frame_search. goes_on s (frame_search_past frame frame_search)) (frame_search_of world w) Still else option_map_or (λ frame_search. Won (placement_of s frame_search frame)) (frame_search_of world w) Still)) (sym (own (ap is_ok h.0)))),
+              (h.0 ∙ ap
+              (λ o.
+              Ok (option_map_or
+              (λ frame_search. goes_on s (frame_search_past frame frame_search)) o Still))
+              (sym is)
+              ∙ ap
+              (λ b.
+              Ok (if b then option_map_or
+              (λ frame_search. goes_on s (frame_search_past frame frame_search))
+              (frame_search_of world w) Still else option_map_or
+              (λ frame_search. Won (placement_of s frame_search frame))
+              (frame_search_of world w) Still)) (sym (own (ap is_ok h.0)))),
           λ ok. h.1 ∙ ap (λ o. option_map_or (λ frame_search. going_on s (frame_search_past frame frame_search)) o None) (sym is),
         )
         pick true false may own h = (
           answered s world version (Try w frame) None result (rows (Some frame_search) is ∙ ap (λ b. if not b then Some BadTry else None) may)
-              (h.0 ∙ ap (λ o. Ok (option_map_or (λ frame_search. Won (placement_of s frame_search frame)) o Still)) (sym is) ∙ ap (λ b. Ok (if b then option_map_or (λ frame_search. goes_on s (frame_search_past frame frame_search)) (frame_search_of world w) Still else option_map_or (λ frame_search. Won (placement_of s frame_search frame)) (frame_search_of world w) Still)) (sym (own (ap is_ok h.0)))),
+              (h.0 ∙ ap
+              (λ o.
+              Ok (option_map_or (λ frame_search. Won (placement_of s frame_search frame)) o
+              Still)) (sym is)
+              ∙ ap
+              (λ b.
+              Ok (if b then option_map_or
+              (λ frame_search. goes_on s (frame_search_past frame frame_search))
+              (frame_search_of world w) Still else option_map_or
+              (λ frame_search. Won (placement_of s frame_search frame))
+              (frame_search_of world w) Still)) (sym (own (ap is_ok h.0)))),
           λ ok. h.1,
         )
         pick false own may is_own h = (answered s world version (Try w frame) (Some BadTry) result (rows (Some frame_search) is ∙ ap (λ b. if not b then Some BadTry else None) may) h, λ ok. absurd (let odd : false ≡ true = sym (ap is_ok h) ∙ ok in cc))
@@ -230,7 +268,11 @@ give_answer s world version w frame low idle owner = answered s world version (G
 
 -- ---- a Begin
 
-pub begin_answer : (s : Setup) (world : World) (version w : ℕ) (request : Request) (row : List ℕ) (reply : CoreReply) → refusal_of s world version (Begin w request) ≡ None → list_at s.machine world.history version request ≡ Some row → reply ≡ goes_on s (fresh request version row) → IsAnswer s world version (Begin w request) (Ok reply)
+pub begin_answer : (s : Setup) (world : World) (version w : ℕ) (request : Request) (row : List ℕ)
+    (reply : CoreReply) → refusal_of s world version (Begin w request) ≡ None
+    → list_at s.machine world.history version request ≡ Some row
+    → reply ≡ goes_on s (fresh request version row)
+    → IsAnswer s world version (Begin w request) (Ok reply)
 begin_answer s world version w request row reply allowed listed is = answered s world version (Begin w request) None (Ok reply) allowed (ap Ok (is ∙ ap (λ o. goes_on s (fresh request version (unwrap_or o []))) (sym listed)))
 
 pub begin_frame_search : (s : Setup) (world : World) (version : ℕ) (request : Request) (row : List ℕ) → list_at s.machine world.history version request ≡ Some row → going_on s (fresh request version row) ≡ going_on s (new_frame_search s world version request)
@@ -248,7 +290,11 @@ may_take core world (Try w frame) stands = tt
 may_take core world (Give w frame) stands = tt
 
 -- a step leads on
-pub leads_on : (old new : CoreState) (event : Event) (answer : Result CoreReply CoreRefusal) → setup_of new ≡ setup_of old → ((world : World) → CoreStandsFor old world → IsAnswer (setup_of old) world (newest_published world) event answer × CoreStandsFor new (world_after (setup_of old) world (newest_published world) event answer))
+pub leads_on : (old new : CoreState) (event : Event) (answer : Result CoreReply CoreRefusal)
+    → setup_of new ≡ setup_of old
+    → ((world : World) → CoreStandsFor old world
+    → IsAnswer (setup_of old) world (newest_published world) event answer
+    × CoreStandsFor new (world_after (setup_of old) world (newest_published world) event answer))
     → (past : List CoreStep) → LeadsTo past old → LeadsTo (core_step_after (setup_of old) past event answer ∷ past) new
 leads_on old new event answer same follows past leads =
     let step = follows (world_of (setup_of old) past) leads.stands in
@@ -317,11 +363,20 @@ module _ (space : SpaceState) (plan : PlanData) (places : List ℕ) (seats : Lis
     begin-follows request row version new reply is allowed listed answer frame_search =
         let newest : version ≡ newest_published world = is ∙ version-newest (core_of space plan seats owners) world stands in (
           begin_answer (setup_of (core_of space plan seats owners)) world (newest_published world) w request row reply (allowed world stands) (listed world stands) (answer (setup_of (core_of space plan seats owners)) same ∙ ap (λ v. goes_on (setup_of (core_of space plan seats owners)) (fresh request v row)) newest),
-          moved new owners _ (with_new new (newest_published world) _ (frame_search (setup_of (core_of space plan seats owners)) same ∙ ap (λ v. going_on (setup_of (core_of space plan seats owners)) (fresh request v row)) newest ∙ begin_frame_search (setup_of (core_of space plan seats owners)) world (newest_published world) request row (listed world stands)) (omega arith)),
+          moved new owners _
+              (with_new new (newest_published world) _
+              (frame_search (setup_of (core_of space plan seats owners)) same
+              ∙ ap
+              (λ v. going_on (setup_of (core_of space plan seats owners)) (fresh request v row))
+              newest ∙ begin_frame_search (setup_of (core_of space plan seats owners)) world
+              (newest_published world) request row (listed world stands)) (omega arith)),
         )
 
     -- a Try of an owned frame
-    pub owned-follows : (frame : Frame) (place : ℕ) (new : WorkerSeat) (result : Result CoreReply CoreRefusal) → place_in places frame.node frame.number ≡ Some place → is_some (owner_at owners (Some place)) ≡ true → OnErr result (new ≡ old) → SeatTries places (setup_of (core_of space plan seats owners)) true frame old result new
+    pub owned-follows : (frame : Frame) (place : ℕ) (new : WorkerSeat)
+        (result : Result CoreReply CoreRefusal) → place_in places frame.node frame.number
+        ≡ Some place → is_some (owner_at owners (Some place)) ≡ true → OnErr result (new ≡ old)
+        → SeatTries places (setup_of (core_of space plan seats owners)) true frame old result new
         → IsAnswer (setup_of (core_of space plan seats owners)) world (newest_published world) (Try w frame) result × CoreStandsFor (core_of space plan (set seats w new) owners) (world_after (setup_of (core_of space plan seats owners)) world (newest_published world) (Try w frame) result)
     owned-follows frame place new result at owned err tries =
         let own : is_some (owner_of world frame) ≡ true = ap is_some (told_owner frame.node frame.number ∙ ap (owner_at owners) at) ∙ owned in
@@ -371,7 +426,12 @@ module _ (space : SpaceState) (plan : PlanData) (places : List ℕ) (seats : Lis
 
 -- ---- commands and publications
 
-pub accept-follows : (space after : SpaceState) (plan : PlanData) (seats : List WorkerSeat) (owners : List (Option ℕ)) (world : World) (command : Command) (version : ℕ) → CoreStandsFor (core_of space plan seats owners) world → command_refusal space.machine space.bounds world.history command ≡ None → StandsFor after (command ∷ world.history) → after.machine ≡ space.machine → version ≡ after.version
+pub accept-follows : (space after : SpaceState) (plan : PlanData) (seats : List WorkerSeat)
+    (owners : List (Option ℕ)) (world : World) (command : Command) (version : ℕ)
+    → CoreStandsFor (core_of space plan seats owners) world
+    → command_refusal space.machine space.bounds world.history command ≡ None
+    → StandsFor after (command ∷ world.history) → after.machine ≡ space.machine
+    → version ≡ after.version
     → IsAnswer (setup_of (core_of space plan seats owners)) world (newest_published world) (Accept command) (Ok (Accepted version)) × CoreStandsFor (core_of after plan seats owners) (effect_of (setup_of (core_of space plan seats owners)) world (newest_published world) (Accept command))
 accept-follows space after plan seats owners world command version stands open_ now machine is = (
   answered (setup_of (core_of space plan seats owners)) world (newest_published world) (Accept command) None (Ok (Accepted version)) (ap because open_) (ap (λ v. Ok (Accepted v)) (let count : after.version ≡ length (command ∷ world.history) = now.version in is ∙ count ∙ omega arith)),
@@ -406,7 +466,11 @@ publish-follows space old plan seats owners world version stands now is = (
 
 -- ---- a new core
 
-pub opened : (space : SpaceState) (plan : PlanData) (seats : List WorkerSeat) (owners : List (Option ℕ)) → StandsFor space [] → PlanStandsFor space.machine plan [] → ((w : ℕ) (seat : WorkerSeat) → slice_get seats w ≡ Some seat → seat.job ≡ None) → ((p : ℕ) → owner_at owners (Some p) ≡ None) → CoreStandsFor (core_of space plan seats owners) opening
+pub opened : (space : SpaceState) (plan : PlanData) (seats : List WorkerSeat)
+    (owners : List (Option ℕ)) → StandsFor space [] → PlanStandsFor space.machine plan []
+    → ((w : ℕ) (seat : WorkerSeat) → slice_get seats w ≡ Some seat → seat.job ≡ None)
+    → ((p : ℕ) → owner_at owners (Some p) ≡ None) → CoreStandsFor (core_of space plan seats owners)
+    opening
 opened space plan seats owners stands now idle free = record {
   space = stands;
   plan = now;

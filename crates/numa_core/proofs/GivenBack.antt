@@ -1,99 +1,148 @@
 -- A frame that was won is given back before it is won again.
-use Rattle.std.proofs.Common.{◌≡◌, ℕ, ◌&&◌, ◌||◌, ◌⊎◌, inl, inr, Bool, true, false, Option, Some, None, Result, Ok, Err, is_ok, List, [], ◌∷◌, ◌++◌, refl, sym, ap, ◌∙◌, arith, subst, if◌then◌else◌}
+use Rattle.std.proofs.Common.{◌≡◌, ℕ, ◌&&◌, ◌||◌, ◌⊎◌, inl, inr, Bool, true, false, Option, Some}
+use Rattle.std.proofs.Common.{None, Result, Ok, Err, is_ok, List, [], ◌∷◌, ◌++◌, refl, sym, ap, ◌∙◌}
+use Rattle.std.proofs.Common.{arith, subst, if◌then◌else◌}
 use Rattle.std.specs.List.{list_any}
 use Rattle.std.proofs.lemmas.Bool.{eq-eqb}
 use Rattle.std.proofs.lemmas.Bool.Decides.{nat_tests}
 use Rattle.numa_machine.specs.declared.frame.Frame.{Frame}
 use Rattle.numa_space.specs.declared.event.Event.{Event}
-use Rattle.numa_space.specs.declared.event.Event.TheVariants.{Accept, Publish, Begin, Look, Try, Give}
+use Rattle.numa_space.specs.declared.event.Event.TheVariants.{Accept, Publish, Begin, Look, Try}
+use Rattle.numa_space.specs.declared.event.Event.TheVariants.{Give}
 use Rattle.numa_space.specs.declared.event.CoreReply.{CoreReply}
 use Rattle.numa_space.specs.declared.event.CoreReply.TheVariants.{Won}
 use Rattle.numa_space.specs.declared.event.CoreRefusal.{CoreRefusal}
 use Rattle.numa_core.specs.World.{Setup, World, owner_of, is_frame}
 use Rattle.numa_core.specs.Steps.{refusal_of, reply_of, effect_of, IsAnswer}
-use Rattle.numa_core.specs.Executions.{CoreStep, world_of, IsExecution, IsWin, worker_of, gives_back, gives_event}
+use Rattle.numa_core.specs.Executions.{CoreStep, world_of, IsExecution, IsWin, worker_of}
+use Rattle.numa_core.specs.Executions.{gives_back, gives_event}
 use Rattle.numa_core.proofs.Answered.{replied, give_means, one_frame, won_means, won_by_try}
 
 -- a frame that the worker has stays with it, but for a Give by the worker
-keeps : (s : Setup) (world : World) (w version : ℕ) (frame : Frame) (event : Event) → refusal_of s world version event ≡ None → owner_of world frame ≡ Some w → gives_event w frame event ≡ false → owner_of (effect_of s world version event) frame ≡ Some w
+keeps : (s : Setup) (world : World) (w version : ℕ) (frame : Frame) (event : Event)
+    → refusal_of s world version event ≡ None → owner_of world frame ≡ Some w
+    → gives_event w frame event ≡ false → owner_of (effect_of s world version event) frame ≡ Some w
 keeps s world w version frame (Accept command) ok e g = e
 keeps s world w version frame Publish ok e g = e
 keeps s world w version frame (Begin v request) ok e g = e
 keeps s world w version frame (Look v word) ok e g = e
 keeps s world w version frame (Try v tried) ok e g = go (owner_of world tried) refl
   where
-    go : (owner : Option ℕ) → owner_of world tried ≡ owner → owner_of (effect_of s world version (Try v tried)) frame ≡ Some w
+    go : (owner : Option ℕ) → owner_of world tried ≡ owner
+        → owner_of (effect_of s world version (Try v tried)) frame ≡ Some w
     go (Some u) is = rw is e
     go None is = rw is (still (is_frame tried frame.node frame.number) refl is)
       where
-        still : (b : Bool) → is_frame tried frame.node frame.number ≡ b → owner_of world tried ≡ None → (if b then Some v else owner_of world frame) ≡ Some w
+        still : (b : Bool) → is_frame tried frame.node frame.number ≡ b
+            → owner_of world tried ≡ None → (if b then Some v else owner_of world frame) ≡ Some w
         still true same is =
             let at = one_frame tried frame.node frame.number same in
-            let here : owner_of world frame ≡ owner_of world tried = ap (λ n. world.owner n frame.number) at.0 ∙ ap (λ k. world.owner tried.node k) at.1 in
+            let here : owner_of world frame ≡ owner_of world tried =
+            ap (λ n. world.owner n frame.number) at.0 ∙ ap (λ k. world.owner tried.node k)
+            at.1 in
             absurd (let odd : None ≡ Some w = sym is ∙ sym here ∙ e in cc)
         still false same is = e
-keeps s world w version frame (Give v given) ok e g = go (is_frame given frame.node frame.number) refl
+keeps s world w version frame (Give v given) ok e g = go (is_frame given frame.node frame.number)
+    refl
   where
-    go : (b : Bool) → is_frame given frame.node frame.number ≡ b → (if b then None else owner_of world frame) ≡ Some w
+    go : (b : Bool) → is_frame given frame.node frame.number ≡ b
+        → (if b then None else owner_of world frame) ≡ Some w
     go true same =
         let at = one_frame given frame.node frame.number same in
-        let here : owner_of world frame ≡ owner_of world given = ap (λ n. world.owner n frame.number) at.0 ∙ ap (λ k. world.owner given.node k) at.1 in
+        let here : owner_of world frame ≡ owner_of world given =
+        ap (λ n. world.owner n frame.number) at.0 ∙ ap (λ k. world.owner given.node k) at.1 in
         let owner : Some v ≡ Some w = sym (give_means s world version v given ok) ∙ sym here ∙ e in
         let one : v ≡ w = cc in
-        absurd (let both : true ≡ false = sym (ap (λ b. b && is_frame given frame.node frame.number) (eq-eqb v w one) ∙ same) ∙ g in cc)
+        absurd (let both : true ≡ false =
+        sym (ap (λ b. b && is_frame given frame.node frame.number) (eq-eqb v w one) ∙ same)
+        ∙ g in cc)
     go false same = e
 
 same_number : (a b : ℕ) → ◌≡◌ {A = Option ℕ} (Some a) (Some b) → a ≡ b
 same_number a b e = cc
 
 -- a win is a Try of a frame that nobody owns
-pub win_means : (s : Setup) (past : List CoreStep) (w : ℕ) (frame : Frame) (m : CoreStep) → IsExecution s (m ∷ past) → IsWin w frame m → (m.event ≡ Try w frame) × (owner_of (world_of s past) frame ≡ None)
+pub win_means : (s : Setup) (past : List CoreStep) (w : ℕ) (frame : Frame) (m : CoreStep)
+    → IsExecution s (m ∷ past) → IsWin w frame m → (m.event ≡ Try w frame)
+    × (owner_of (world_of s past) frame ≡ None)
 win_means s past w frame m legal win =
-    let answer = replied s (world_of s past) m.version m.event (Won win.placement) (subst (λ a. IsAnswer s (world_of s past) m.version m.event a) win.answer legal.2) in
+    let answer = replied s (world_of s past) m.version m.event (Won win.placement)
+    (subst (λ a. IsAnswer s (world_of s past) m.version m.event a) win.answer legal.2) in
     let attempt = won_by_try s (world_of s past) m.version m.event win.placement answer.1 in
-    let same : attempt.0 ≡ w = same_number attempt.0 w (sym (ap worker_of attempt.1) ∙ win.worker) in
-    let event : m.event ≡ Try w frame = attempt.1 ∙ ap (λ u. Try u win.placement.frame) same ∙ ap (λ f. Try w f) win.its_frame in
-    (event, (won_means s (world_of s past) w m.version frame win.placement (subst (λ x. Won win.placement ≡ reply_of s (world_of s past) m.version x) event answer.1)).2)
+    let same : attempt.0 ≡ w =
+    same_number attempt.0 w (sym (ap worker_of attempt.1) ∙ win.worker) in
+    let event : m.event ≡ Try w frame = attempt.1 ∙ ap (λ u. Try u win.placement.frame) same
+    ∙ ap (λ f. Try w f) win.its_frame in (
+      event,
+      (won_means s (world_of s past) w m.version frame win.placement
+          (subst (λ x. Won win.placement ≡ reply_of s (world_of s past) m.version x) event
+          answer.1)).2,
+    )
 
 -- a Try of a free frame makes it the worker's
-takes : (s : Setup) (world : World) (w version : ℕ) (frame : Frame) → owner_of world frame ≡ None → owner_of (effect_of s world version (Try w frame)) frame ≡ Some w
-takes s world w version frame free = rw free (rw (eq-eqb frame.node frame.node refl, eq-eqb frame.number frame.number refl) refl)
+takes : (s : Setup) (world : World) (w version : ℕ) (frame : Frame) → owner_of world frame ≡ None
+    → owner_of (effect_of s world version (Try w frame)) frame ≡ Some w
+takes s world w version frame free =
+    rw free (rw (eq-eqb frame.node frame.node refl, eq-eqb frame.number frame.number refl) refl)
 
 -- after a win the frame is the worker's
-pub has_won : (s : Setup) (past : List CoreStep) (w : ℕ) (frame : Frame) (m : CoreStep) → IsExecution s (m ∷ past) → IsWin w frame m → owner_of (world_of s (m ∷ past)) frame ≡ Some w
+pub has_won : (s : Setup) (past : List CoreStep) (w : ℕ) (frame : Frame) (m : CoreStep)
+    → IsExecution s (m ∷ past) → IsWin w frame m → owner_of (world_of s (m ∷ past)) frame ≡ Some w
 has_won s past w frame m legal win =
     let means = win_means s past w frame m legal win in
-    subst (λ a. owner_of (if is_ok a then effect_of s (world_of s past) m.version m.event else world_of s past) frame ≡ Some w) (sym win.answer)
-    (subst (λ x. owner_of (effect_of s (world_of s past) m.version x) frame ≡ Some w) (sym means.0) (takes s (world_of s past) w m.version frame means.1))
+    subst (λ a.
+    owner_of (if is_ok a then effect_of s (world_of s past) m.version m.event else world_of s
+    past) frame ≡ Some w) (sym win.answer)
+    (subst (λ x. owner_of (effect_of s (world_of s past) m.version x) frame ≡ Some w) (sym means.0)
+    (takes s (world_of s past) w m.version frame means.1))
 
 -- one step more
-core_step_keeps : (s : Setup) (past : List CoreStep) (m : CoreStep) (w : ℕ) (frame : Frame) → IsExecution s (m ∷ past) → owner_of (world_of s past) frame ≡ Some w → gives_back w frame m ≡ false → owner_of (world_of s (m ∷ past)) frame ≡ Some w
+core_step_keeps : (s : Setup) (past : List CoreStep) (m : CoreStep) (w : ℕ) (frame : Frame)
+    → IsExecution s (m ∷ past) → owner_of (world_of s past) frame ≡ Some w
+    → gives_back w frame m ≡ false → owner_of (world_of s (m ∷ past)) frame ≡ Some w
 core_step_keeps s past m w frame legal e g = go m.answer legal.2 g
   where
-    go : (answer : Result CoreReply CoreRefusal) → IsAnswer s (world_of s past) m.version m.event answer → (is_ok answer && gives_event w frame m.event) ≡ false → owner_of (if is_ok answer then effect_of s (world_of s past) m.version m.event else world_of s past) frame ≡ Some w
-    go (Ok reply) answer g = keeps s (world_of s past) w m.version frame m.event (replied s (world_of s past) m.version m.event reply answer).0 e g
+    go : (answer : Result CoreReply CoreRefusal) → IsAnswer s (world_of s past) m.version m.event
+        answer → (is_ok answer && gives_event w frame m.event) ≡ false
+        → owner_of (if is_ok answer then effect_of s (world_of s past) m.version m.event
+        else world_of s past) frame ≡ Some w
+    go (Ok reply) answer g = keeps s (world_of s past) w m.version frame m.event
+        (replied s (world_of s past) m.version m.event reply answer).0 e g
     go (Err refusal) answer g = e
 
 -- what one step changes
-further : (s : Setup) (past : List CoreStep) (m : CoreStep) (w : ℕ) (frame : Frame) (gave : Bool) → IsExecution s (m ∷ past) → (gave ≡ true) ⊎ (owner_of (world_of s past) frame ≡ Some w) → ((gives_back w frame m || gave) ≡ true) ⊎ (owner_of (world_of s (m ∷ past)) frame ≡ Some w)
+further : (s : Setup) (past : List CoreStep) (m : CoreStep) (w : ℕ) (frame : Frame) (gave : Bool)
+    → IsExecution s (m ∷ past) → (gave ≡ true) ⊎ (owner_of (world_of s past) frame ≡ Some w)
+    → ((gives_back w frame m || gave) ≡ true) ⊎ (owner_of (world_of s (m ∷ past)) frame ≡ Some w)
 further s past m w frame gave legal (inl g) = inl (grind (arith, nat_tests))
 further s past m w frame gave legal (inr has) = go (gives_back w frame m) refl
   where
-    go : (b : Bool) → gives_back w frame m ≡ b → ((b || gave) ≡ true) ⊎ (owner_of (world_of s (m ∷ past)) frame ≡ Some w)
+    go : (b : Bool) → gives_back w frame m ≡ b → ((b || gave) ≡ true)
+        ⊎ (owner_of (world_of s (m ∷ past)) frame ≡ Some w)
     go true g = inl refl
     go false g = inr (core_step_keeps s past m w frame legal has g)
 
 -- either the worker gave the frame back, or it still has it
-pub gave_or_has : (s : Setup) (between earlier : List CoreStep) (w : ℕ) (frame : Frame) (first : CoreStep) → IsExecution s (between ++ first ∷ earlier) → IsWin w frame first → (list_any (gives_back w frame) between ≡ true) ⊎ (owner_of (world_of s (between ++ first ∷ earlier)) frame ≡ Some w)
+pub gave_or_has : (s : Setup) (between earlier : List CoreStep) (w : ℕ) (frame : Frame)
+    (first : CoreStep) → IsExecution s (between ++ first ∷ earlier) → IsWin w frame first
+    → (list_any (gives_back w frame) between ≡ true)
+    ⊎ (owner_of (world_of s (between ++ first ∷ earlier)) frame ≡ Some w)
 gave_or_has s [] earlier w frame first legal win = inr (has_won s earlier w frame first legal win)
-gave_or_has s (m ∷ between) earlier w frame first legal win = further s (between ++ first ∷ earlier) m w frame (list_any (gives_back w frame) between) legal (gave_or_has s between earlier w frame first legal.0 win)
+gave_or_has s (m ∷ between) earlier w frame first legal win = further s (between ++ first ∷ earlier)
+    m w frame (list_any (gives_back w frame) between) legal
+    (gave_or_has s between earlier w frame first legal.0 win)
 
-pub given_back : (s : Setup) (between earlier : List CoreStep) (first second : CoreStep) (v w : ℕ) (frame : Frame) → IsExecution s (second ∷ (between ++ first ∷ earlier)) → IsWin v frame first → IsWin w frame second → list_any (gives_back v frame) between ≡ true
-given_back s between earlier first second v w frame legal old new = go (gave_or_has s between earlier v frame first legal.0 old)
+pub given_back : (s : Setup) (between earlier : List CoreStep) (first second : CoreStep) (v w : ℕ)
+    (frame : Frame) → IsExecution s (second ∷ (between ++ first ∷ earlier)) → IsWin v frame first
+    → IsWin w frame second → list_any (gives_back v frame) between ≡ true
+given_back s between earlier first second v w frame legal old new =
+    go (gave_or_has s between earlier v frame first legal.0 old)
   where
     free : owner_of (world_of s (between ++ first ∷ earlier)) frame ≡ None
     free = (win_means s (between ++ first ∷ earlier) w frame second legal new).1
 
-    go : (list_any (gives_back v frame) between ≡ true) ⊎ (owner_of (world_of s (between ++ first ∷ earlier)) frame ≡ Some v) → list_any (gives_back v frame) between ≡ true
+    go : (list_any (gives_back v frame) between ≡ true)
+        ⊎ (owner_of (world_of s (between ++ first ∷ earlier)) frame ≡ Some v)
+        → list_any (gives_back v frame) between ≡ true
     go (inl g) = g
     go (inr has) = absurd (let odd : None ≡ Some v = sym free ∙ has in cc)

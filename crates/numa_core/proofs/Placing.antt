@@ -1,5 +1,8 @@
 -- A placement is right: what stands before the current node was met.
-use Rattle.std.proofs.Common.{zero, suc, ◌≡◌, ℕ, ◌+◌, ◌<◌, ◌==◌, ◌&&◌, ◌||◌, ◌⊎◌, inl, inr, Bool, true, false, not, Option, Some, None, Ok, List, [], ◌∷◌, length, refl, sym, ap, subst, ◌∙◌, arith, nat_lt, if◌then◌else◌, unwrap_or, slice_index}
+use Rattle.std.proofs.Common.{zero, suc, ◌≡◌, ℕ, ◌+◌, ◌<◌, ◌==◌, ◌&&◌, ◌||◌, ◌⊎◌, inl, inr, Bool}
+use Rattle.std.proofs.Common.{true, false, not, Option, Some, None, Ok, List, [], ◌∷◌, length, refl}
+use Rattle.std.proofs.Common.{sym, ap, subst, ◌∙◌, arith, nat_lt, if◌then◌else◌, unwrap_or}
+use Rattle.std.proofs.Common.{slice_index}
 use Rattle.std.specs.Option.{option_map_or}
 use Rattle.std.proofs.lemmas.Bool.{eqb-true, ltb-true}
 use Rattle.std.proofs.lemmas.Bool.Decides.{eqb_tells}
@@ -9,7 +12,8 @@ use Rattle.numa_machine.specs.declared.frame.Frame.{Frame}
 use Rattle.numa_space.specs.declared.placement.Placement.{Placement}
 use Rattle.numa_space.specs.declared.event.Event.TheVariants.{Try}
 use Rattle.numa_space.specs.declared.event.CoreReply.TheVariants.{Won}
-use Rattle.numa_core.specs.World.{Setup, FrameSearch, owner_of, any_below, first_place, one_further, current_rank, at_current, has_unmet}
+use Rattle.numa_core.specs.World.{Setup, FrameSearch, owner_of, any_below, first_place, one_further}
+use Rattle.numa_core.specs.World.{current_rank, at_current, has_unmet}
 use Rattle.numa_core.specs.Steps.{refusal_of, reply_of, placement_of, IsAnswer}
 use Rattle.numa_core.specs.Executions.{CoreStep, world_of, IsExecution, IsRightPlacement}
 use Rattle.numa_core.proofs.Answered.{replied, try_means, won_means, won_by_try}
@@ -22,25 +26,35 @@ neither : (a b : Bool) → (a || b) ≡ false → (a ≡ false) × (b ≡ false)
 neither true b h = absurd (cc)
 neither false b h = (refl, h)
 
-pub any_below-none : (test : ℕ → Bool) (count k : ℕ) → any_below test count ≡ false → k < count → test k ≡ false
+pub any_below-none : (test : ℕ → Bool) (count k : ℕ) → any_below test count ≡ false → k < count
+    → test k ≡ false
 any_below-none test zero k h low = absurd (omega arith)
-any_below-none test (suc n) k h low = go (nat_eq_or k n (omega arith)) (λ less. any_below-none test n k (neither (test n) (any_below test n) h).1 less)
+any_below-none test (suc n) k h low =
+    go (nat_eq_or k n (omega arith))
+    (λ less. any_below-none test n k (neither (test n) (any_below test n) h).1 less)
   where
     go : (k ≡ n) ⊎ (k < n) → (k < n → test k ≡ false) → test k ≡ false
     go (inl e) ih = ap test e ∙ (neither (test n) (any_below test n) h).0
     go (inr less) ih = ih less
 
-one_further-some : (o : Option ℕ) (rank : ℕ) → one_further o ≡ Some rank → (before : ℕ) × (o ≡ Some before) × (rank ≡ before + 1)
+one_further-some : (o : Option ℕ) (rank : ℕ) → one_further o ≡ Some rank → (before : ℕ)
+    × (o ≡ Some before) × (rank ≡ before + 1)
 one_further-some None rank e = absurd (cc)
 one_further-some (Some before) rank e = (before, refl, cc)
 
 -- the first place is one of the list, and the test fails at those before it
-pub first_place-some : (test : ℕ → Bool) (ns : List ℕ) (rank : ℕ) → first_place test ns ≡ Some rank → (rank < length ns) × ((i : ℕ) → i < rank → test (slice_index ns i) ≡ false)
+pub first_place-some : (test : ℕ → Bool) (ns : List ℕ) (rank : ℕ) → first_place test ns ≡ Some rank
+    → (rank < length ns) × ((i : ℕ) → i < rank → test (slice_index ns i) ≡ false)
 first_place-some test [] rank e = absurd (cc)
 first_place-some test (n ∷ ns) rank e = go (test n) refl e (first_place-some test ns)
   where
-    go : (b : Bool) → test n ≡ b → (if b then Some 0 else one_further (first_place test ns)) ≡ Some rank → ((rank : ℕ) → first_place test ns ≡ Some rank → (rank < length ns) × ((i : ℕ) → i < rank → test (slice_index ns i) ≡ false)) → (rank < length (n ∷ ns)) × ((i : ℕ) → i < rank → test (slice_index (n ∷ ns) i) ≡ false)
-    go true here e ih = let zero_rank : 0 ≡ rank = cc in (omega arith, λ i low. absurd (omega arith))
+    go : (b : Bool) → test n ≡ b → (if b then Some 0 else one_further (first_place test ns))
+        ≡ Some rank
+        → ((rank : ℕ) → first_place test ns ≡ Some rank → (rank < length ns)
+        × ((i : ℕ) → i < rank → test (slice_index ns i) ≡ false)) → (rank < length (n ∷ ns))
+        × ((i : ℕ) → i < rank → test (slice_index (n ∷ ns) i) ≡ false)
+    go true here e ih = let zero_rank : 0 ≡ rank = cc in
+        (omega arith, λ i low. absurd (omega arith))
     go false not_here e ih =
         let before = one_further-some (first_place test ns) rank e in
         let more = ih before.0 before.1 in
@@ -48,7 +62,9 @@ first_place-some test (n ∷ ns) rank e = go (test n) refl e (first_place-some t
         let within : before.0 < length ns = more.0 in
         (omega arith, λ i low. each i (subst (λ r. i < r) up low) more.1)
       where
-        each : (i : ℕ) {top : ℕ} → i < top + 1 → ((i : ℕ) → i < top → test (slice_index ns i) ≡ false) → test (slice_index (n ∷ ns) i) ≡ false
+        each : (i : ℕ) {top : ℕ} → i < top + 1
+            → ((i : ℕ) → i < top → test (slice_index ns i) ≡ false) → test (slice_index (n ∷ ns) i)
+            ≡ false
         each zero low all = not_here
         each (suc i) low all = all i (omega arith)
 
@@ -57,20 +73,27 @@ one_further-none None e = refl
 one_further-none (Some before) e = absurd (cc)
 
 -- without a first place the test fails at every place
-pub first_place-none : (test : ℕ → Bool) (ns : List ℕ) → first_place test ns ≡ None → (i : ℕ) → i < length ns → test (slice_index ns i) ≡ false
+pub first_place-none : (test : ℕ → Bool) (ns : List ℕ) → first_place test ns ≡ None → (i : ℕ)
+    → i < length ns → test (slice_index ns i) ≡ false
 first_place-none test [] e i low = absurd (omega arith)
 first_place-none test (n ∷ ns) e i low = go (test n) refl e (first_place-none test ns) i low
   where
-    go : (b : Bool) → test n ≡ b → (if b then Some 0 else one_further (first_place test ns)) ≡ None → (first_place test ns ≡ None → (i : ℕ) → i < length ns → test (slice_index ns i) ≡ false) → (i : ℕ) → i < length (n ∷ ns) → test (slice_index (n ∷ ns) i) ≡ false
+    go : (b : Bool) → test n ≡ b → (if b then Some 0 else one_further (first_place test ns)) ≡ None
+        → (first_place test ns ≡ None → (i : ℕ) → i < length ns → test (slice_index ns i) ≡ false)
+        → (i : ℕ) → i < length (n ∷ ns) → test (slice_index (n ∷ ns) i) ≡ false
     go true here e ih i low = absurd (cc)
     go false not_here e ih zero low = not_here
-    go false not_here e ih (suc i) low = ih (one_further-none (first_place test ns) e) i (omega arith)
+    go false not_here e ih (suc i) low = ih (one_further-none (first_place test ns) e) i
+        (omega arith)
 
 -- where the test holds of the current node, there is one
-at_current-means : (s : Setup) (frame_search : FrameSearch) (test : ℕ → Bool) → at_current s frame_search test ≡ true → (rank : ℕ) × (current_rank s frame_search ≡ Some rank) × (test (slice_index frame_search.nodes rank) ≡ true)
+at_current-means : (s : Setup) (frame_search : FrameSearch) (test : ℕ → Bool)
+    → at_current s frame_search test ≡ true → (rank : ℕ) × (current_rank s frame_search ≡ Some rank)
+    × (test (slice_index frame_search.nodes rank) ≡ true)
 at_current-means s frame_search test = go (current_rank s frame_search)
   where
-    go : (o : Option ℕ) → option_map_or (λ rank. test (slice_index frame_search.nodes rank)) o false ≡ true → (rank : ℕ) × (o ≡ Some rank) × (test (slice_index frame_search.nodes rank) ≡ true)
+    go : (o : Option ℕ) → option_map_or (λ rank. test (slice_index frame_search.nodes rank)) o false
+        ≡ true → (rank : ℕ) × (o ≡ Some rank) × (test (slice_index frame_search.nodes rank) ≡ true)
     go None e = absurd (cc)
     go (Some rank) e = (rank, refl, e)
 
@@ -84,12 +107,19 @@ pub not_false-is : (b : Bool) → not b ≡ false → b ≡ true
 not_false-is true e = refl
 not_false-is false e = absurd (cc)
 
-placed : (s : Setup) (past : List CoreStep) (w : ℕ) (frame : Frame) (frame_search : FrameSearch) (placement : Placement) → Tracked s past w frame_search → owner_of (world_of s past) frame ≡ None → placement ≡ placement_of s frame_search frame → (rank : ℕ) → current_rank s frame_search ≡ Some rank
-    → ((slice_index frame_search.nodes rank == frame.node) ≡ true) × (nat_lt frame.number (frames_of s.machine (slice_index frame_search.nodes rank)) ≡ true) × (not (frame_search.met (slice_index frame_search.nodes rank) frame.number) ≡ true) → IsRightPlacement s w placement past
+placed : (s : Setup) (past : List CoreStep) (w : ℕ) (frame : Frame) (frame_search : FrameSearch)
+    (placement : Placement) → Tracked s past w frame_search → owner_of (world_of s past) frame
+    ≡ None → placement ≡ placement_of s frame_search frame → (rank : ℕ)
+    → current_rank s frame_search ≡ Some rank
+    → ((slice_index frame_search.nodes rank == frame.node) ≡ true)
+    × (nat_lt frame.number (frames_of s.machine (slice_index frame_search.nodes rank)) ≡ true)
+    × (not (frame_search.met (slice_index frame_search.nodes rank) frame.number) ≡ true)
+    → IsRightPlacement s w placement past
 placed s past w frame frame_search placement t free is rank current tried =
     let spot = first_place-some (has_unmet s frame_search) frame_search.nodes rank current in
     let here : slice_index frame_search.nodes rank ≡ frame.node = eqb-true _ _ tried.0 in
-    let ranked : unwrap_or (current_rank s frame_search) 0 ≡ rank = ap (λ o. unwrap_or o 0) current in
+    let ranked : unwrap_or (current_rank s frame_search) 0 ≡ rank =
+    ap (λ o. unwrap_or o 0) current in
     subst (λ p. IsRightPlacement s w p past) (sym is) record {
       begun = t.begun;
       nodes = frame_search.nodes;
@@ -104,24 +134,40 @@ placed s past w frame frame_search placement t free is rank current tried =
       frame_node = refl;
       frame_number = subst (λ n. frame.number < frames_of s.machine n) here (ltb-true _ _ tried.1);
       free = free;
-      earlier = λ i k low few. sym (t.met (slice_index frame_search.nodes i) k) ∙ not_false-is _ (any_below-none (λ k. not (frame_search.met (slice_index frame_search.nodes i) k)) (frames_of s.machine (slice_index frame_search.nodes i)) k (spot.1 i (subst (λ r. i < r) ranked low)) few);
+      earlier = λ i k low few. sym (t.met (slice_index frame_search.nodes i) k)
+          ∙ not_false-is _
+          (any_below-none (λ k. not (frame_search.met (slice_index frame_search.nodes i) k))
+          (frames_of s.machine (slice_index frame_search.nodes i)) k
+          (spot.1 i (subst (λ r. i < r) ranked low)) few);
     }
 
-right_try : (s : Setup) (past : List CoreStep) (w version : ℕ) (frame : Frame) (placement : Placement) → IsExecution s past → refusal_of s (world_of s past) version (Try w frame) ≡ None → Won placement ≡ reply_of s (world_of s past) version (Try w frame) → IsRightPlacement s w placement past
+right_try : (s : Setup) (past : List CoreStep) (w version : ℕ) (frame : Frame)
+    (placement : Placement) → IsExecution s past
+    → refusal_of s (world_of s past) version (Try w frame) ≡ None
+    → Won placement ≡ reply_of s (world_of s past) version (Try w frame)
+    → IsRightPlacement s w placement past
 right_try s past w version frame placement legal ok reply =
     let win = won_means s (world_of s past) w version frame placement reply in
     let t = tracked s past legal w win.0 win.1 in
-    let tried = at_current-means s win.0 (λ n. (n == frame.node) && (nat_lt frame.number (frames_of s.machine n) && not (win.0.met n frame.number))) (try_means s (world_of s past) version w frame win.0 ok win.1) in
+    let tried =
+    at_current-means s win.0
+    (λ n. (n == frame.node)
+    && (nat_lt frame.number (frames_of s.machine n) && not (win.0.met n frame.number)))
+    (try_means s (world_of s past) version w frame win.0 ok win.1) in
     placed s past w frame win.0 placement t win.2 win.3 tried.0 tried.1 (all_three _ _ _ tried.2)
 
 -- each reply Won answers a Try of its frame, and its placement is right
-pub right : (s : Setup) (past : List CoreStep) (m : CoreStep) (placement : Placement) → IsExecution s (m ∷ past) → m.answer ≡ Ok (Won placement) → (w : ℕ) × (m.event ≡ Try w placement.frame) × IsRightPlacement s w placement past
+pub right : (s : Setup) (past : List CoreStep) (m : CoreStep) (placement : Placement)
+    → IsExecution s (m ∷ past) → m.answer ≡ Ok (Won placement)
+    → (w : ℕ) × (m.event ≡ Try w placement.frame) × IsRightPlacement s w placement past
 right s past m placement legal e =
-    let answer = replied s (world_of s past) m.version m.event (Won placement) (subst (λ a. IsAnswer s (world_of s past) m.version m.event a) e legal.2) in
+    let answer = replied s (world_of s past) m.version m.event (Won placement)
+    (subst (λ a. IsAnswer s (world_of s past) m.version m.event a) e legal.2) in
     let attempt = won_by_try s (world_of s past) m.version m.event placement answer.1 in (
       attempt.0,
       attempt.1,
       right_try s past attempt.0 m.version placement.frame placement legal.0
           (subst (λ x. refusal_of s (world_of s past) m.version x ≡ None) attempt.1 answer.0)
-          (subst (λ x. Won placement ≡ reply_of s (world_of s past) m.version x) attempt.1 answer.1),
+          (subst (λ x. Won placement ≡ reply_of s (world_of s past) m.version x) attempt.1
+          answer.1),
     )

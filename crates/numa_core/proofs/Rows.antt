@@ -1,5 +1,5 @@
--- Worked examples: what workers are answered, one event after the other. Each begins at a world in which some commands were accepted and the
--- last of them or none is published.
+-- Worked examples: what workers are answered, one event after the other. Each begins at a world in
+-- which some commands were accepted and the last of them or none is published.
 use Rattle.std.proofs.Common.{◌≡◌, ℕ, Result, Ok, Err, List, [], ◌∷◌, length, refl}
 use Rattle.numa_mask.specs.NodeSet.{members}
 use Rattle.numa_machine.specs.Machine.{Hardware, fallback_order}
@@ -14,11 +14,16 @@ use Rattle.numa_space.proofs.Rows.{flat, asked, mems}
 use Rattle.numa_machine.specs.declared.frame.Frame.{Frame}
 use Rattle.numa_space.specs.declared.request.Request.{Request}
 use Rattle.numa_space.specs.declared.event.Event.{Event}
-use Rattle.numa_space.specs.declared.event.Event.TheVariants.{Accept, Publish, Begin, Look, Try, Give}
+use Rattle.numa_space.specs.declared.event.Event.TheVariants.{Accept, Publish, Begin, Look, Try}
+use Rattle.numa_space.specs.declared.event.Event.TheVariants.{Give}
 use Rattle.numa_space.specs.declared.event.CoreReply.{CoreReply}
-use Rattle.numa_space.specs.declared.event.CoreReply.TheVariants.{Accepted, Published, Still, Exhausted, Won, Given}
+use Rattle.numa_space.specs.declared.event.CoreReply.TheVariants.{Accepted, Published, Still}
+use Rattle.numa_space.specs.declared.event.CoreReply.TheVariants.{Exhausted, Won, Given}
 use Rattle.numa_space.specs.declared.event.CoreRefusal.{CoreRefusal}
-use Rattle.numa_space.specs.declared.event.CoreRefusal.TheVariants.{Command as Because, NoSuchWorker, Busy, Idle, BadTry, NotOwned, BadCpu, Unmapped}
+use Rattle.numa_space.specs.declared.event.CoreRefusal.TheVariants.{Command as Because}
+use Rattle.numa_space.specs.declared.event.CoreRefusal.TheVariants.{NoSuchWorker, Busy, Idle}
+use Rattle.numa_space.specs.declared.event.CoreRefusal.TheVariants.{BadTry, NotOwned, BadCpu}
+use Rattle.numa_space.specs.declared.event.CoreRefusal.TheVariants.{Unmapped}
 use Rattle.numa_core.specs.World.{Setup, World, opening, list_at}
 use Rattle.numa_core.specs.Steps.{answer_of, world_after}
 
@@ -26,7 +31,13 @@ use Rattle.numa_core.specs.Steps.{answer_of, world_after}
 
 -- four workers on a machine
 abbrev pub four_on : Hardware → Setup
-four_on machine = record { machine = machine; bounds = record { max_ranges = 64; max_tasks = 64; max_commands = 64 }; workers = 4 }
+four_on machine =
+    record {
+      machine = machine;
+      bounds =
+          record { max_ranges = 64; max_tasks = 64; max_commands = 64 };
+      workers = 4;
+    }
 
 -- a machine whose nodes are as far from each other, with these frames
 abbrev pub with_frames : List ℕ → Hardware
@@ -39,7 +50,8 @@ accepted history = record opening { history = history }
 -- what the events answer with ample memory, each with the version that it takes if it is a Begin
 abbrev answers : Setup → World → List (Event × ℕ) → List (Result CoreReply CoreRefusal)
 answers s world [] = []
-answers s world (step ∷ steps) = answer_of s world step.1 step.0 ∷ answers s (world_after s world step.1 step.0 (answer_of s world step.1 step.0)) steps
+answers s world (step ∷ steps) = answer_of s world step.1 step.0
+    ∷ answers s (world_after s world step.1 step.0 (answer_of s world step.1 step.0)) steps
 
 -- the events of a row whose workers all take this version
 abbrev taking : ℕ → List Event → List (Event × ℕ)
@@ -55,7 +67,16 @@ frame node number = record { node = node; number = number }
 
 -- the reply of a win
 abbrev pub won : ℕ → ℕ → ℕ → ℕ → ℕ → ℕ → Result CoreReply CoreRefusal
-won version task page node number rank = Ok (Won (record { version = version; task = task; page = page; node = node; frame = frame node number; rank = rank }))
+won version task page node number rank =
+    Ok (Won
+    (record {
+      version = version;
+      task = task;
+      page = page;
+      node = node;
+      frame = frame node number;
+      rank = rank;
+    }))
 
 -- ---- versions: nothing is mapped in version 0, and publishing twice publishes once
 
@@ -78,7 +99,8 @@ versions-row : answers (four_on (with_frames (1 ∷ 1 ∷ []))) (accepted versio
 unfolding members fallback_order list_at versions mems_of lacks_mems
 versions-row = refl
 
--- a worker may take a published version that isn't the newest: version 1 has no policy for the task, and version 2 binds it to node 1
+-- a worker may take a published version that isn't the newest: version 1 has no policy for the
+-- task, and version 2 binds it to node 1
 older-row : answers (four_on (with_frames (1 ∷ 1 ∷ []))) (accepted (Map 0x10000 0x1000 0 ∷ [])) (
     (Publish, 0)
     ∷ (Accept (SetTask 1 (asked Bind Plain (1 ∷ []))), 0)
@@ -103,7 +125,8 @@ older-row : answers (four_on (with_frames (1 ∷ 1 ∷ []))) (accepted (Map 0x10
 unfolding members fallback_order list_at mems_of lacks_mems
 older-row = refl
 
--- a page with a policy of its own, a fault on node 1, and a frame search that later commands and publications leave as it is
+-- a page with a policy of its own, a fault on node 1, and a frame search that later commands and
+-- publications leave as it is
 pages : List Command
 pages = Mbind 0x11000 0x1000 (asked Bind Plain (1 ∷ [])) ∷ Map 0x10000 0x2000 0 ∷ []
 
@@ -137,9 +160,11 @@ pages-row = refl
 -- ---- one frame on each node: a list that is exhausted, and one that goes on at its second node
 
 exhausted : List Command
-exhausted = SetTask 2 (asked PreferredMany Plain (0 ∷ [])) ∷ SetTask 1 (asked Bind Plain (0 ∷ [])) ∷ Map 0x10000 0x3000 0 ∷ []
+exhausted = SetTask 2 (asked PreferredMany Plain (0 ∷ [])) ∷ SetTask 1 (asked Bind Plain (0 ∷ []))
+    ∷ Map 0x10000 0x3000 0 ∷ []
 
-exhausted-row : answers (four_on (with_frames (1 ∷ 1 ∷ []))) (accepted exhausted) ((Publish, 0) ∷ taking 3 (
+exhausted-row : answers (four_on (with_frames (1 ∷ 1 ∷ []))) (accepted exhausted)
+    ((Publish, 0) ∷ taking 3 (
     Begin 0 (fault 1 0x10)
     ∷ Try 0 (frame 0 0)
     ∷ Begin 0 (fault 1 0x11)
@@ -168,7 +193,8 @@ exhausted-row = refl
 
 -- ---- two workers that look at one frame: one wins it, and the other finds that out by its own try
 
-two_workers-row : answers (four_on (with_frames (1 ∷ 1 ∷ []))) (accepted (Map 0x10000 0x2000 0 ∷ [])) ((Publish, 0) ∷ taking 1 (
+two_workers-row : answers (four_on (with_frames (1 ∷ 1 ∷ [])))
+    (accepted (Map 0x10000 0x2000 0 ∷ [])) ((Publish, 0) ∷ taking 1 (
     Begin 0 (fault 1 0x10)
     ∷ Begin 1 (fault 1 0x11)
     ∷ Look 0 0
@@ -201,7 +227,8 @@ two_workers-row = refl
 
 -- ---- 65 frames are two words, 0 and 1
 
-borders-row : answers (four_on (with_frames (65 ∷ []))) (accepted (Map 0x10000 0x1000 0 ∷ [])) ((Publish, 0) ∷ taking 1 (
+borders-row : answers (four_on (with_frames (65 ∷ []))) (accepted (Map 0x10000 0x1000 0 ∷ []))
+    ((Publish, 0) ∷ taking 1 (
     Begin 0 (fault 1 0x10)
     ∷ Look 0 2
     ∷ Try 0 (frame 0 65)
@@ -227,7 +254,8 @@ unfolding members fallback_order list_at mems_of lacks_mems
 borders-row = refl
 
 -- a node of 64 frames has word 0 alone, and a worker's own frames count as met by its Look too
-one_word-row : answers (four_on (with_frames (64 ∷ []))) (accepted (Map 0x10000 0x2000 0 ∷ [])) ((Publish, 0) ∷ taking 1 (
+one_word-row : answers (four_on (with_frames (64 ∷ []))) (accepted (Map 0x10000 0x2000 0 ∷ []))
+    ((Publish, 0) ∷ taking 1 (
     Begin 0 (fault 1 0x10)
     ∷ Look 0 1
     ∷ Try 0 (frame 0 0)
@@ -250,7 +278,9 @@ one_word-row = refl
 
 -- ---- nodes without frames are passed over, and their places in the list count
 
-no_frames-row : answers (four_on (with_frames (0 ∷ 0 ∷ 1 ∷ []))) (accepted (SetTask 2 (asked Bind Plain (0 ∷ 1 ∷ [])) ∷ Map 0x10000 0x1000 0 ∷ [])) ((Publish, 0) ∷ taking 2 (
+no_frames-row : answers (four_on (with_frames (0 ∷ 0 ∷ 1 ∷ [])))
+    (accepted (SetTask 2 (asked Bind Plain (0 ∷ 1 ∷ [])) ∷ Map 0x10000 0x1000 0 ∷ []))
+    ((Publish, 0) ∷ taking 2 (
     Begin 0 (fault 1 0x10)
     ∷ Try 0 (frame 0 0)
     ∷ Try 0 (frame 2 0)

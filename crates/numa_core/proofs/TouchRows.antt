@@ -1,4 +1,5 @@
--- Worked examples of touches: what workers are answered, one touch after the other. Each begins at a world in which the commands are published.
+-- Worked examples of touches: what workers are answered, one touch after the other. Each begins at
+-- a world in which the commands are published.
 use Rattle.std.proofs.Common.{◌≡◌, ℕ, Result, Ok, Err, List, [], ◌∷◌, length, refl}
 use Rattle.numa_mask.specs.NodeSet.{members}
 use Rattle.numa_machine.specs.Machine.{fallback_order}
@@ -24,12 +25,14 @@ published history = record opening { history = history; published = length histo
 -- what the touches of one worker are answered
 abbrev answers : Setup → World → ℕ → List Request → List (Result CoreReply CoreRefusal)
 answers s world w [] = []
-answers s world w (request ∷ requests) = (result_of_touch s world w request).answer ∷ answers s (result_of_touch s world w request).world w requests
+answers s world w (request ∷ requests) = (result_of_touch s world w request).answer
+    ∷ answers s (result_of_touch s world w request).world w requests
 
 -- ---- one frame on each node: a list that is exhausted, and one that goes on at its second node
 
 exhausted : List Command
-exhausted = SetTask 2 (asked PreferredMany Plain (0 ∷ [])) ∷ SetTask 1 (asked Bind Plain (0 ∷ [])) ∷ Map 0x10000 0x3000 0 ∷ []
+exhausted = SetTask 2 (asked PreferredMany Plain (0 ∷ [])) ∷ SetTask 1 (asked Bind Plain (0 ∷ []))
+    ∷ Map 0x10000 0x3000 0 ∷ []
 
 exhausted-row : answers (four_on (with_frames (1 ∷ 1 ∷ []))) (published exhausted) 0 (
     fault 1 0x10
@@ -48,7 +51,8 @@ exhausted-row = refl
 -- ---- eight frames on each node: each page is placed where its policy says, from the lowest frame up
 
 maps : List Command
-maps = Mbind 0x13000 0x3000 (asked Bind Plain (2 ∷ [])) ∷ SetTask 1 (asked Interleave Plain (0 ∷ 1 ∷ 2 ∷ 3 ∷ [])) ∷ Map 0x10000 0xa000 0 ∷ []
+maps = Mbind 0x13000 0x3000 (asked Bind Plain (2 ∷ []))
+    ∷ SetTask 1 (asked Interleave Plain (0 ∷ 1 ∷ 2 ∷ 3 ∷ [])) ∷ Map 0x10000 0xa000 0 ∷ []
 
 maps-row : answers (four_on (with_frames (8 ∷ 8 ∷ 8 ∷ 8 ∷ []))) (published maps) 0 (
     fault 1 0x10
@@ -66,7 +70,8 @@ maps-row = refl
 
 -- ---- what is refused, and nodes without frames: they are passed over, and their places in the list count
 
-refused-row : answers (four_on (with_frames (0 ∷ 0 ∷ 1 ∷ []))) (published (Map 0x10000 0x1000 0 ∷ [])) 3 (
+refused-row : answers (four_on (with_frames (0 ∷ 0 ∷ 1 ∷ [])))
+    (published (Map 0x10000 0x1000 0 ∷ [])) 3 (
     fault 1 0x11
     ∷ record { task = 1; page = 0x10; cpu = 3 }
     ∷ fault 1 0x10
@@ -80,6 +85,7 @@ refused-row : answers (four_on (with_frames (0 ∷ 0 ∷ 1 ∷ []))) (published 
 unfolding members fallback_order list_at result_of_touch
 refused-row = refl
 
-no_worker-row : answers (four_on (with_frames (1 ∷ []))) (published (Map 0x10000 0x1000 0 ∷ [])) 4 (fault 1 0x10 ∷ []) ≡ (Err NoSuchWorker ∷ [])
+no_worker-row : answers (four_on (with_frames (1 ∷ []))) (published (Map 0x10000 0x1000 0 ∷ [])) 4
+    (fault 1 0x10 ∷ []) ≡ (Err NoSuchWorker ∷ [])
 unfolding members fallback_order list_at result_of_touch
 no_worker-row = refl

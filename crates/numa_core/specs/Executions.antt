@@ -106,7 +106,8 @@ module _ (s : Setup) where
   -- of the frame
   abbrev pub reads : World → ℕ → Event → ℕ → ℕ → Bool
   reads world w (Look v word) n k = (v == w)
-      && (option_map_or (λ frame_search. at_current s frame_search (λ m. n == m)) (frame_search_of world w) false
+      && (option_map_or (λ frame_search. at_current s frame_search (λ m. n == m))
+      (frame_search_of world w) false
       && (k / 64 == word))
   reads world w (Try v frame) n k = (v == w) && is_frame frame n k
   reads world w (Accept command) n k = false

@@ -10,7 +10,8 @@ use Rattle.numa_space.specs.declared.event.CoreRefusal.{CoreRefusal}
 use Rattle.numa_space.specs.declared.event.CoreRefusal.TheVariants.{Idle, BadTry}
 use Rattle.numa_core.specs.declared.seat.OngoingSearch.{OngoingSearch}
 use Rattle.numa_core.specs.declared.seat.WorkerSeat.{WorkerSeat}
-use Rattle.numa_core.specs.World.{Setup, FrameSearch, World, may_look, may_try, frame_search_after_look, frame_search_past}
+use Rattle.numa_core.specs.World.{Setup, FrameSearch, World, may_look, may_try}
+use Rattle.numa_core.specs.World.{frame_search_after_look, frame_search_past}
 use Rattle.numa_core.specs.Steps.{goes_on, going_on, placement_of}
 use Rattle.numa_space.specs.Standing.{SpaceState}
 use Rattle.numa_plan.specs.Meaning.{PlanData}
@@ -106,7 +107,8 @@ SeatLooks frames s world word old result new =
     MatchOption (seat_frame_search frames old) (result ≡ Err Idle) (λ frame_search.
     MatchBool (may_look s frame_search word)
     ((result ≡ Ok (goes_on s (frame_search_after_look s world word frame_search)))
-    × (seat_frame_search frames new ≡ going_on s (frame_search_after_look s world word frame_search)))
+    × (seat_frame_search frames new
+    ≡ going_on s (frame_search_after_look s world word frame_search)))
     (result ≡ Err BadTry))
 
 -- what the seat answers to a Try of a frame that is owned or not, and its frame search afterwards
@@ -118,5 +120,6 @@ SeatTries frames s owned frame old result new =
     (MatchBool owned
     ((result ≡ Ok (goes_on s (frame_search_past frame frame_search)))
     × (seat_frame_search frames new ≡ going_on s (frame_search_past frame frame_search)))
-    ((result ≡ Ok (Won (placement_of s frame_search frame))) × (seat_frame_search frames new ≡ None)))
+    ((result ≡ Ok (Won (placement_of s frame_search frame)))
+    × (seat_frame_search frames new ≡ None)))
     (result ≡ Err BadTry))

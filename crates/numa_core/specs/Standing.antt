@@ -95,8 +95,8 @@ setup_of core = record {
 }
 
 -- the core stands for the world: its space for the accepted commands, its plan for those that are
--- published, and its frame searches and owners are the world's; of the published versions the newest has no
--- more commands than were accepted, and no worker has taken a newer one
+-- published, and its frame searches and owners are the world's; of the published versions the
+-- newest has no more commands than were accepted, and no worker has taken a newer one
 pub record CoreStandsFor (core : CoreState) (world : World) : Type 0 where
   pub space : StandsFor core.space world.history
   pub plan : PlanStandsFor core.space.machine core.plan

@@ -23,7 +23,8 @@ use Rattle.numa_space.specs.declared.event.CoreRefusal.TheVariants.{BadTry, NotO
 use Rattle.numa_space.specs.declared.event.CoreRefusal.TheVariants.{Unmapped, NoMemory}
 use Rattle.numa_core.specs.World.{Setup, FrameSearch, World, is_published, last_of, frame_search_of}
 use Rattle.numa_core.specs.World.{owner_of, is_frame, list_at, current_rank, may_look}
-use Rattle.numa_core.specs.World.{may_try, new_frame_search, frame_search_after_look, frame_search_past}
+use Rattle.numa_core.specs.World.{may_try, new_frame_search, frame_search_after_look}
+use Rattle.numa_core.specs.World.{frame_search_past}
 
 -- ---- which versions a worker may take
 
@@ -94,12 +95,20 @@ module _ (s : Setup) where
   refusal_of world version (Look w word) = first_refusal (
       (nat_le s.workers w, NoSuchWorker)
       ∷ (is_none (frame_search_of world w), Idle)
-      ∷ (not (option_map_or (λ frame_search. may_look s frame_search word) (frame_search_of world w) false), BadTry)
+      ∷ (
+        not (option_map_or (λ frame_search. may_look s frame_search word) (frame_search_of world w)
+            false),
+        BadTry,
+      )
       ∷ [])
   refusal_of world version (Try w frame) = first_refusal (
       (nat_le s.workers w, NoSuchWorker)
       ∷ (is_none (frame_search_of world w), Idle)
-      ∷ (not (option_map_or (λ frame_search. may_try s frame_search frame) (frame_search_of world w) false), BadTry)
+      ∷ (
+        not (option_map_or (λ frame_search. may_try s frame_search frame) (frame_search_of world w)
+            false),
+        BadTry,
+      )
       ∷ [])
   refusal_of world version (Give w frame) = first_refusal (
       (nat_le s.workers w, NoSuchWorker)
@@ -109,7 +118,8 @@ module _ (s : Setup) where
 
   -- a frame search goes on while there is a current node; then it is over, and the worker is idle
   abbrev pub goes_on : FrameSearch → CoreReply
-  goes_on frame_search = if is_some (current_rank s frame_search) then Still else Exhausted frame_search.version
+  goes_on frame_search = if is_some (current_rank s frame_search) then Still else Exhausted
+      frame_search.version
 
   abbrev pub going_on : FrameSearch → Option FrameSearch
   going_on frame_search = if is_some (current_rank s frame_search) then Some frame_search else None
@@ -135,8 +145,10 @@ module _ (s : Setup) where
       (frame_search_of world w) Still
   reply_of world version (Try w frame) =
       if is_some (owner_of world frame)
-      then option_map_or (λ frame_search. goes_on (frame_search_past frame frame_search)) (frame_search_of world w) Still
-      else option_map_or (λ frame_search. Won (placement_of frame_search frame)) (frame_search_of world w) Still
+      then option_map_or (λ frame_search. goes_on (frame_search_past frame frame_search))
+      (frame_search_of world w) Still
+      else option_map_or (λ frame_search. Won (placement_of frame_search frame))
+      (frame_search_of world w) Still
   reply_of world version (Give w frame) = Given
 
   -- what an event does that isn't refused
@@ -159,11 +171,13 @@ module _ (s : Setup) where
       with_worker world w version (going_on (new_frame_search s world version request))
   effect_of world version (Look w word) =
       with_worker world w (last_of world w)
-      (option_map_or (λ frame_search. going_on (frame_search_after_look s world word frame_search)) (frame_search_of world w) None)
+      (option_map_or (λ frame_search. going_on (frame_search_after_look s world word frame_search))
+      (frame_search_of world w) None)
   effect_of world version (Try w frame) =
       if is_some (owner_of world frame)
       then with_worker world w (last_of world w)
-      (option_map_or (λ frame_search. going_on (frame_search_past frame frame_search)) (frame_search_of world w) None)
+      (option_map_or (λ frame_search. going_on (frame_search_past frame frame_search))
+      (frame_search_of world w) None)
       else with_worker (with_owner world frame (Some w)) w (last_of world w) None
   effect_of world version (Give w frame) = with_owner world frame None
 

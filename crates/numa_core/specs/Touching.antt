@@ -39,7 +39,8 @@ module _ (s : Setup) where
 
   -- the frame that a touch tries next: the lowest unmet one of the current node
   abbrev pub next_frame : FrameSearch → Option Frame
-  next_frame frame_search = option_and_then (λ rank. lowest_unmet frame_search (slice_index frame_search.nodes rank))
+  next_frame frame_search =
+      option_and_then (λ rank. lowest_unmet frame_search (slice_index frame_search.nodes rank))
       (current_rank s frame_search)
 
   -- the Try of it, while the worker is busy

@@ -18,16 +18,16 @@ pub record Setup : Type 0 where
   pub bounds : Bounds
   pub workers : ℕ
 
--- a worker's frame search for a frame: its request, the version and the node list that it took, and the
--- frames that it met, by node and number
+-- a worker's frame search for a frame: its request, the version and the node list that it took, and
+-- the frames that it met, by node and number
 pub record FrameSearch : Type 0 where
   pub request : Request
   pub version : ℕ
   pub nodes : List ℕ
   pub met : ℕ → ℕ → Bool
 
--- the last version that the worker took, and its frame search: it is busy while it has one, and idle while
--- it has none
+-- the last version that the worker took, and its frame search: it is busy while it has one, and
+-- idle while it has none
 pub record Worker : Type 0 where
   pub last : ℕ
   pub frame_search : Option FrameSearch
@@ -116,7 +116,8 @@ module _ (s : Setup) where
 
   -- the current node has this word of 64 frames
   abbrev pub may_look : FrameSearch → ℕ → Bool
-  may_look frame_search word = at_current frame_search (λ n. nat_lt (64 * word) (frames_of s.machine n))
+  may_look frame_search word =
+      at_current frame_search (λ n. nat_lt (64 * word) (frames_of s.machine n))
 
   -- the frame is an unmet one of the current node
   abbrev pub may_try : FrameSearch → Frame → Bool

@@ -8,13 +8,22 @@ use Rattle.numa_core.proofs.TouchLaw.{touch_law}
 use Rattle.numa_core.proofs.TouchExecutions.{touches}
 use Rattle.numa_core.proofs.Core.touch.Goals as goal
 
-ends : (c : goal.After-touch) (world : World) → CoreStandsFor c.args.self.now world → (c.touch.result ≡ (result_of_touch (setup_of c.args.self.now) world c.args.worker c.args.request).answer) × CoreStandsFor (core_state c.touch.new.self) (result_of_touch (setup_of c.args.self.now) world c.args.worker c.args.request).world
+ends : (c : goal.After-touch) (world : World) → CoreStandsFor c.args.self.now world
+    → (c.touch.result
+    ≡ (result_of_touch (setup_of c.args.self.now) world c.args.worker c.args.request).answer)
+    × CoreStandsFor (core_state c.touch.new.self)
+    (result_of_touch (setup_of c.args.self.now) world c.args.worker c.args.request).world
 ends c world stands =
     let view : core_state c.self.inside.state ≡ c.args.self.now = c.self.view_is in
-    let told = c.touch.ensures.touches world (subst (λ core. CoreStandsFor core world) (sym view) stands) in
+    let told =
+    c.touch.ensures.touches world
+    (subst (λ core. CoreStandsFor core world) (sym view) stands) in
     let law = touch_law (setup_of c.args.self.now) world c.args.worker c.args.request in (
-      told.0 ∙ ap (λ core. touch_answer (setup_of core) world c.args.worker c.args.request) view ∙ sym (ap (λ (a : Answered). a.answer) law),
-      subst (λ w. CoreStandsFor (core_state c.touch.new.self) w) (ap (λ core. touch_world (setup_of core) world c.args.worker c.args.request) view ∙ sym (ap (λ (a : Answered). a.world) law)) told.1,
+      told.0 ∙ ap (λ core. touch_answer (setup_of core) world c.args.worker c.args.request) view
+          ∙ sym (ap (λ (a : Answered). a.answer) law),
+      subst (λ w. CoreStandsFor (core_state c.touch.new.self) w)
+          (ap (λ core. touch_world (setup_of core) world c.args.worker c.args.request) view
+          ∙ sym (ap (λ (a : Answered). a.world) law)) told.1,
     )
 
 pub returns-clause-answer : goal.returns-clause-answer
@@ -33,7 +42,8 @@ invariant_of-self c =
         past = steps.core_steps ++ had.past;
         leads = record {
           legal = subst (λ s. IsExecution s (steps.core_steps ++ had.past)) (sym same) steps.legal;
-          stands = subst (λ s. CoreStandsFor new (world_of s (steps.core_steps ++ had.past))) (sym same) (subst (λ w. CoreStandsFor new w) (sym steps.world) last.1);
+          stands = subst (λ s. CoreStandsFor new (world_of s (steps.core_steps ++ had.past)))
+              (sym same) (subst (λ w. CoreStandsFor new w) (sym steps.world) last.1);
         };
       },
     )
@@ -46,9 +56,11 @@ returns-clause-executions c past leads =
     let steps = touches old past c.args.worker c.args.request leads.legal in
     let same = c.touch.ensures.setup ∙ ap setup_of c.self.view_is in (
       steps.core_steps,
-      subst (λ answer. IsTouch c.args.worker c.args.request answer steps.core_steps) (sym last.0) steps.touch,
+      subst (λ answer. IsTouch c.args.worker c.args.request answer steps.core_steps) (sym last.0)
+          steps.touch,
       record {
         legal = subst (λ s. IsExecution s (steps.core_steps ++ past)) (sym same) steps.legal;
-        stands = subst (λ s. CoreStandsFor new (world_of s (steps.core_steps ++ past))) (sym same) (subst (λ w. CoreStandsFor new w) (sym steps.world) last.1);
+        stands = subst (λ s. CoreStandsFor new (world_of s (steps.core_steps ++ past))) (sym same)
+            (subst (λ w. CoreStandsFor new w) (sym steps.world) last.1);
       },
     )

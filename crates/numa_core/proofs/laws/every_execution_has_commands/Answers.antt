@@ -1,4 +1,5 @@
-use Rattle.numa_core.proofs.CommandsOfExecutions.{past-accepted, past-counted, past-rises, past-same}
+use Rattle.numa_core.proofs.CommandsOfExecutions.{past-accepted, past-counted, past-rises}
+use Rattle.numa_core.proofs.CommandsOfExecutions.{past-same}
 use Rattle.numa_core.proofs.laws.every_execution_has_commands.Goals as goal
 
 pub returns-clause-accepted : goal.returns-clause-accepted

@@ -4,7 +4,8 @@ use Rattle.numa_core.proofs.Placing.{right}
 use Rattle.numa_core.proofs.laws.every_list.Goals as goal
 
 pub returns-clause-sound : goal.returns-clause-sound
-returns-clause-sound c s past version request nodes some small legal listed = past-list s some small past version request nodes legal listed
+returns-clause-sound c s past version request nodes some small legal listed =
+    past-list s some small past version request nodes legal listed
 
 pub returns-clause-allowed : goal.returns-clause-allowed
 returns-clause-allowed c s later earlier m placement some small legal won =

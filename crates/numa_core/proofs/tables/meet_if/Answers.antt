@@ -7,4 +7,6 @@ and_true true b e = sym e
 and_true false b e = refl
 
 pub returns-then-owned-clause-met : goal.returns-then-owned-clause-met
-returns-then-owned-clause-met c p = c.meet.ensures.met p ∙ ap (λ b. b || is_met c.args.met.now.items (Some p)) (and_true (p == c.args.place) c.args.owned c.if-owned.true)
+returns-then-owned-clause-met c p = c.meet.ensures.met p
+    ∙ ap (λ b. b || is_met c.args.met.now.items (Some p))
+    (and_true (p == c.args.place) c.args.owned c.if-owned.true)

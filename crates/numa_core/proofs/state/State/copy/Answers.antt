@@ -10,16 +10,29 @@ use Rattle.numa_core.proofs.state.State.copy.Goals as goal
 
 pub returns-clause-kept : goal.returns-clause-kept
 returns-clause-kept c =
-    let seats : AllZip IsSeatCopy c.args.self.now.seats.items c.in_ok-seat_copies.field-0.items = subst (λ (xs : List WorkerSeat). AllZip IsSeatCopy xs c.in_ok-seat_copies.field-0.items) c.deref.ensures.value c.in_ok-seat_copies.ensures in
+    let seats : AllZip IsSeatCopy c.args.self.now.seats.items c.in_ok-seat_copies.field-0.items =
+    subst (λ (xs : List WorkerSeat). AllZip IsSeatCopy xs c.in_ok-seat_copies.field-0.items)
+    c.deref.ensures.value c.in_ok-seat_copies.ensures in
     kept-copy c.args.self.now _ c.in_ok-copy-2.ensures
-    (c.in_ok-new.ensures ∙ ap (λ (m : Hardware). m.frames) (c.machine.ensures ∙ ap (λ (s : SpaceState). s.machine) (c.space.ensures ∙ sym c.in_ok-copy-2.ensures)))
-    seats (omega (arith, c.in_ok-seat_copies.field-0.ok, c.args.self.now.seats.ok, length_all_zip IsSeatCopy c.args.self.now.seats.items c.in_ok-seat_copies.field-0.items seats))
-    (c.in_ok-from_slice.ensures.items ∙ c.deref-2.ensures.value) (c.in_ok-from_slice.ensures.len ∙ c.deref-2.ensures.len)
+    (c.in_ok-new.ensures ∙ ap (λ (m : Hardware). m.frames)
+    (c.machine.ensures ∙ ap (λ (s : SpaceState). s.machine)
+    (c.space.ensures ∙ sym c.in_ok-copy-2.ensures)))
+    seats (omega (
+      arith,
+      c.in_ok-seat_copies.field-0.ok,
+      c.args.self.now.seats.ok,
+      length_all_zip IsSeatCopy c.args.self.now.seats.items c.in_ok-seat_copies.field-0.items
+          seats,
+    ))
+    (c.in_ok-from_slice.ensures.items ∙ c.deref-2.ensures.value) (c.in_ok-from_slice.ensures.len
+    ∙ c.deref-2.ensures.len)
     (c.in_ok-from_slice-2.ensures.items ∙ c.deref-3.ensures.value) c.requires.kept
 
 pub returns-clause-shown : goal.returns-clause-shown
 returns-clause-shown c =
-    let seats : AllZip IsSeatCopy c.args.self.now.seats.items c.in_ok-seat_copies.field-0.items = subst (λ (xs : List WorkerSeat). AllZip IsSeatCopy xs c.in_ok-seat_copies.field-0.items) c.deref.ensures.value c.in_ok-seat_copies.ensures in
+    let seats : AllZip IsSeatCopy c.args.self.now.seats.items c.in_ok-seat_copies.field-0.items =
+    subst (λ (xs : List WorkerSeat). AllZip IsSeatCopy xs c.in_ok-seat_copies.field-0.items)
+    c.deref.ensures.value c.in_ok-seat_copies.ensures in
     λ i. record {
       space = c.in_ok-copy-2.ensures i;
       plan = c.in_ok-copy.ensures i;

@@ -11,20 +11,49 @@ returns c = record {
     seats = c.requires.kept.seats;
     owners = c.requires.kept.owners;
     few = c.requires.kept.few;
-    taken = c.lower.ensures c.args.self.now.places c.args.self.now.owners.items (slice_set c.args.self.now.owners.items c.in-Some.place None) c.requires.kept.taken
-        (owner-put c.args.self.now.places c.args.self.now.owners.items c.args.frame c.in-Some.place None (place-some c.args.self.now.places c.args.frame.node c.args.frame.number c.in-Some.place (sym c.place.ensures.place ∙ c.in-Some.is)).0 (sym c.place.ensures.place ∙ c.in-Some.is)
-        (omega (arith, c.in-Some.ensures.within, c.requires.kept.owners, c.args.self.now.owners.ok.0)));
+    taken = c.lower.ensures c.args.self.now.places c.args.self.now.owners.items
+        (slice_set c.args.self.now.owners.items c.in-Some.place None) c.requires.kept.taken
+        (owner-put c.args.self.now.places c.args.self.now.owners.items c.args.frame c.in-Some.place
+        None (place-some c.args.self.now.places c.args.frame.node c.args.frame.number
+        c.in-Some.place (sym c.place.ensures.place ∙ c.in-Some.is)).0
+        (sym c.place.ensures.place ∙ c.in-Some.is)
+        (omega (
+          arith,
+          c.in-Some.ensures.within,
+          c.requires.kept.owners,
+          c.args.self.now.owners.ok.0,
+        )));
   };
-  follows = λ world stands. let low : c.args.worker < length c.args.self.now.seats.items = omega (arith, c.in_ok-seated.ensures.ok, c.args.self.now.seats.ok.0) in
-      let there = there_at c.args.self.now.seats.items c.args.worker c.index-seat.result.now low c.index-seat.ensures in
-      let within : c.in-Some.place < length c.args.self.now.owners.items = omega (arith, c.in-Some.ensures.within, c.requires.kept.owners, c.args.self.now.owners.ok.0) in
-      give-follows c.args.self.now.space c.args.self.now.plan c.args.self.now.places c.args.self.now.seats.items c.args.self.now.owners.items world c.requires.kept.places stands c.args.worker c.index-seat.result.now low there c.args.frame c.in-Some.place (no_job c.index-seat.result.now.job (sym c.is_some.ensures ∙ c.if-is_some.false)) (sym c.place.ensures.place ∙ c.in-Some.is) within
-      (owner_read c.args.self.now.owners.items c.in-Some.place c.index.result.now within c.index.ensures ∙ c.in-Some-index.is ∙ ap Some c.if-owner-worker.false);
+  follows = λ world stands. let low : c.args.worker < length c.args.self.now.seats.items =
+      omega (arith, c.in_ok-seated.ensures.ok, c.args.self.now.seats.ok.0) in
+      let there = there_at c.args.self.now.seats.items c.args.worker c.index-seat.result.now low
+      c.index-seat.ensures in
+      let within : c.in-Some.place < length c.args.self.now.owners.items =
+      omega (
+        arith,
+        c.in-Some.ensures.within,
+        c.requires.kept.owners,
+        c.args.self.now.owners.ok.0,
+      ) in
+      give-follows c.args.self.now.space c.args.self.now.plan c.args.self.now.places
+      c.args.self.now.seats.items c.args.self.now.owners.items world c.requires.kept.places
+      stands c.args.worker c.index-seat.result.now low there c.args.frame c.in-Some.place
+      (no_job c.index-seat.result.now.job (sym c.is_some.ensures ∙ c.if-is_some.false))
+      (sym c.place.ensures.place ∙ c.in-Some.is) within
+      (owner_read c.args.self.now.owners.items c.in-Some.place c.index.result.now within
+      c.index.ensures ∙ c.in-Some-index.is ∙ ap Some c.if-owner-worker.false);
   unchanged = search rules;
   setup = search rules;
 }
 
 pub lower-requires : goal.lower-requires
 lower-requires c =
-    let there = (place-some c.args.self.now.places c.args.frame.node c.args.frame.number c.in-Some.place (sym c.place.ensures.place ∙ c.in-Some.is)).0 in
-    omega (arith, index_within c.args.self.now.places c.args.frame.node c.args.frame.number there, c.requires.kept.taken.as_long, c.args.self.now.taken.ok.0)
+    let there =
+    (place-some c.args.self.now.places c.args.frame.node c.args.frame.number c.in-Some.place
+    (sym c.place.ensures.place ∙ c.in-Some.is)).0 in
+    omega (
+      arith,
+      index_within c.args.self.now.places c.args.frame.node c.args.frame.number there,
+      c.requires.kept.taken.as_long,
+      c.args.self.now.taken.ok.0,
+    )
