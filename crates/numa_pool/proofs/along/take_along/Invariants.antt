@@ -11,5 +11,7 @@ invariant-loop-rank l = record {
   no_other : l.seat.unlogged ≡ l.fn.seat.unlogged;
   held : l.seat.held ≡ l.fn.seat.held;
   walk : (es : List Entry) × (l.seat.log ≡ es ++ l.fn.seat.log)
-      × ((found : Option Frame) (later : List Entry) → WalksInOrder l.pools.frames (drop l.rank l.nodes) found later → WalksInOrder l.pools.frames l.nodes found (later ++ es));
+      × ((found : Option Frame) (later : List Entry)
+      → WalksInOrder l.pools.frames (drop l.rank l.nodes) found later
+      → WalksInOrder l.pools.frames l.nodes found (later ++ es));
 }

@@ -1,4 +1,5 @@
-use Rattle.std.proofs.Common.{◌≡◌, ◌∙◌, sym, ap, refl, arith, get_or-set_other, length-set, length, replicate}
+use Rattle.std.proofs.Common.{◌≡◌, ◌∙◌, sym, ap, refl, arith, get_or-set_other, length-set, length}
+use Rattle.std.proofs.Common.{replicate}
 use Rattle.std.specs.Prelude.{slice_index}
 use Rattle.std.specs.Mem.Slots.{slots_items}
 use Rattle.std.proofs.lemmas.Grind.{get_or-set_at}
@@ -10,7 +11,12 @@ use Rattle.numa_pool.proofs.Marking.{blank_at}
 use Rattle.numa_pool.proofs.close.count_all.Goals as goal
 
 pub loop-node-init : goal.loop-node-init
-loop-node-init c = record { wide = refl; done = λ n l. absurd (omega arith); rest = λ n l. blank_at 256 (replicate 256 0) refl n }
+loop-node-init c = record {
+  wide = refl;
+  done = λ n l. absurd (omega arith);
+  rest =
+      λ n l. blank_at 256 (replicate 256 0) refl n;
+}
 
 pub loop-node-preserved : goal.loop-node-preserved
 loop-node-preserved c =
@@ -18,9 +24,15 @@ loop-node-preserved c =
     record {
       wide = length-set c.loop-node.taken c.loop-node.node c.count_node.result ∙ i.wide;
       done = λ n l. dite (ℕ_discrete n c.loop-node.node)
-          (λ e. get_or-set_at c.loop-node.taken c.loop-node.node n c.count_node.result 0 e (omega arith) ∙ c.count_node.ensures ∙ sym (ap (λ m. set_below (slots_items c.args.rest.now.words) m (slice_index c.args.frames.now m)) e))
-          (λ d. get_or-set_other c.loop-node.taken c.loop-node.node n c.count_node.result 0 d ∙ i.done n (omega arith));
-      rest = λ n l. get_or-set_other c.loop-node.taken c.loop-node.node n c.count_node.result 0 (λ e. omega arith) ∙ i.rest n (omega arith);
+          (λ e. get_or-set_at c.loop-node.taken c.loop-node.node n c.count_node.result 0 e
+          (omega arith) ∙ c.count_node.ensures
+          ∙ sym
+          (ap (λ m. set_below (slots_items c.args.rest.now.words) m
+          (slice_index c.args.frames.now m)) e))
+          (λ d. get_or-set_other c.loop-node.taken c.loop-node.node n c.count_node.result 0 d
+          ∙ i.done n (omega arith));
+      rest = λ n l. get_or-set_other c.loop-node.taken c.loop-node.node n c.count_node.result 0
+          (λ e. omega arith) ∙ i.rest n (omega arith);
     }
 
 pub returns : goal.returns

@@ -12,10 +12,12 @@ returns c =
     let held = c.args.token.view.held in
     let e = c.close-rest.ensures in
     let shape = c.requires.shape in
-    let a = all_marked c.args.words.table.words c.args.frames.now last c.args.bits.now held shape.2.low c.requires.marks in (
+    let a = all_marked c.args.words.table.words c.args.frames.now last c.args.bits.now held
+    shape.2.low c.requires.marks in (
       last,
       subst (λ (fs : List ℕ). IsLast fs held last) shape.1 e.last,
-      subst (λ (fs : List ℕ). (n k : ℕ) → 0 < times n k held → (k < slice_index fs n) × (bit_in last n k ≡ 1)) shape.1 e.held,
+      subst (λ (fs : List ℕ). (n k : ℕ) → 0 < times n k held → (k < slice_index fs n)
+          × (bit_in last n k ≡ 1)) shape.1 e.held,
       c.count_all-taken.ensures,
       ((λ t. a.0 (c.is_alone-alone.ensures.0 t)), (λ h. c.is_alone-alone.ensures.1 (a.1 h))),
     )

@@ -7,4 +7,5 @@ pub returns-clause-bits : goal.returns-clause-bits
 returns-clause-bits c =
     let r = c.requires in
     let f = c.args.frame in
-    rw (c.index_mut.ensures.value ∙ get_or_default_zero c.args.bits.now.items _ _ (omega arith)) (unmark-bits c.args.bits.now.items f.node f.number r.0 r.1)
+    rw (c.index_mut.ensures.value ∙ get_or_default_zero c.args.bits.now.items _ _ (omega arith))
+    (unmark-bits c.args.bits.now.items f.node f.number r.0 r.1)

@@ -9,7 +9,8 @@ abbrev pub invariant-loop-taken : goal.invariant-loop-taken
 invariant-loop-taken l = record {
   seat : (l.token.table ≡ l.fn.token.table) × (l.token.view.unlogged ≡ l.fn.token.view.unlogged);
   held : l.token.view.held ≡ l.fn.token.view.held;
-  steps : (base : List Entry) → Reached l.words.frames l.node l.word base l.fn.token.view.log → Within l.words.frames l.node l.word l.taken base l.token.view.log;
+  steps : (base : List Entry) → Reached l.words.frames l.node l.word base l.fn.token.view.log
+      → Within l.words.frames l.node l.word l.taken base l.token.view.log;
 }
 
 abbrev pub decreases-loop-taken : goal.decreases-loop-taken

@@ -9,7 +9,8 @@ use Rattle.numa_pool.proofs.Ruling.{means, held_bits}
 use Rattle.numa_pool.proofs.steps.close.Goals as goal
 
 pub close_with-requires : goal.close_with-requires
-close_with-requires c = ap (λ t. t.table) c.token.view_is ∙ c.requires ∙ sym (ap (λ w. w.table) c.words.view_is)
+close_with-requires c = ap (λ t. t.table) c.token.view_is ∙ c.requires
+    ∙ sym (ap (λ w. w.table) c.words.view_is)
 
 pub returns-clause-words : goal.returns-clause-words
 returns-clause-words c =
@@ -27,8 +28,16 @@ returns-clause-last c =
     let frames = c.words.inside.table.shared.key.items in
     let view = c.token.inside.seat.me.0 in
     let counts = subst (λ (ws : List ℕ). Counted frames ws f.0.views) f.2 f.1.0 in
-    subst (λ (q : List ℕ × View). IsLast q.0 q.1.held last) (λ i. ((c.words.view_is i).frames, (c.token.view_is i).view))
-    (f.0.views, c.token.inside.seat.id, view, means frames last f.0.views c.words.invariant.low counts, f.1.1, refl)
+    subst (λ (q : List ℕ × View). IsLast q.0 q.1.held last)
+    (λ i. ((c.words.view_is i).frames, (c.token.view_is i).view)) (
+      f.0.views,
+      c.token.inside.seat.id,
+      view,
+      means frames last f.0.views c.words.invariant.low
+          counts,
+      f.1.1,
+      refl,
+    )
 
 pub returns-clause-held : goal.returns-clause-held
 returns-clause-held c =
@@ -37,5 +46,6 @@ returns-clause-held c =
     let frames = c.words.inside.table.shared.key.items in
     let view = c.token.inside.seat.me.0 in
     let counts = subst (λ (ws : List ℕ). Counted frames ws f.0.views) f.2 f.1.0 in
-    subst (λ (q : List ℕ × View). (n k : ℕ) → 0 < times n k q.1.held → (k < slice_index q.0 n) × (bit_in last n k ≡ 1)) (λ i. ((c.words.view_is i).frames, (c.token.view_is i).view))
+    subst (λ (q : List ℕ × View). (n k : ℕ) → 0 < times n k q.1.held → (k < slice_index q.0 n)
+    × (bit_in last n k ≡ 1)) (λ i. ((c.words.view_is i).frames, (c.token.view_is i).view))
     (held_bits frames last f.0.views c.words.invariant.low counts c.token.inside.seat.id view f.1.1)
