@@ -7,16 +7,24 @@ use Rattle.numa_reports.proofs.filling.fill_pages.Goals as goal
 
 pub loop-page-preserved : goal.loop-page-preserved
 loop-page-preserved c =
-    free-next (planned_nodes c.args.plan.now c.args.touch.task c.args.touch.cpu) c.loop-page.free c.fill_page.new.free c.loop-page.page (c.args.first + c.args.pages - (c.loop-page.page + 1)) (c.args.first + c.args.pages - c.loop-page.page) c.in_ok-fill_page.ensures.free (omega (arith, c.loop-page-test.true))
+    free-next (planned_nodes c.args.plan.now c.args.touch.task c.args.touch.cpu) c.loop-page.free
+    c.fill_page.new.free c.loop-page.page (c.args.first + c.args.pages - (c.loop-page.page + 1))
+    (c.args.first + c.args.pages - c.loop-page.page) c.in_ok-fill_page.ensures.free
+    (omega (arith, c.loop-page-test.true))
     ∙ c.loop-page.invariant
 
 pub returns-clause-free : goal.returns-clause-free
 returns-clause-free c =
     let nodes = planned_nodes c.args.plan.now c.args.touch.task c.args.touch.cpu in
-    let none : c.args.first + c.args.pages - c.loop-page.page ≡ 0 = omega (arith, c.loop-page-test.false) in
-    sym (free-start nodes c.loop-page.free c.loop-page.page) ∙ sym (ap (λ (k : ℕ). free_behind nodes c.loop-page.free c.loop-page.page k) none) ∙ c.loop-page.invariant
+    let none : c.args.first + c.args.pages - c.loop-page.page ≡ 0 =
+    omega (arith, c.loop-page-test.false) in
+    sym (free-start nodes c.loop-page.free c.loop-page.page)
+    ∙ sym (ap (λ (k : ℕ). free_behind nodes c.loop-page.free c.loop-page.page k) none)
+    ∙ c.loop-page.invariant
 
 pub returns-in_err-fill_page-clause-err : goal.returns-in_err-fill_page-clause-err
 returns-in_err-fill_page-clause-err c =
     let exit = err_from_is_err_and c.from_residual.result c.from_residual.ensures.1 in
-    rw (exit.1, exit.2) (page-refused c.args.plan.now c.args.first c.args.pages c.loop-page.page c.args.touch.cpu c.in_err-fill_page.field-0.0 c.in_err-fill_page.ensures.err (omega arith) (omega (arith, c.loop-page-test.true)))
+    rw (exit.1, exit.2) (page-refused c.args.plan.now c.args.first c.args.pages c.loop-page.page
+    c.args.touch.cpu c.in_err-fill_page.field-0.0 c.in_err-fill_page.ensures.err (omega arith)
+    (omega (arith, c.loop-page-test.true)))

@@ -7,7 +7,8 @@ abbrev pub invariant-loop-left : goal.invariant-loop-left
 invariant-loop-left l = record {
   few : l.left ≤ l.pages;
   same : Repeats (planned_nodes l.plan l.touch.task l.touch.cpu) l.first l.pages l.period
-      → free_behind (planned_nodes l.plan l.touch.task l.touch.cpu) l.free (l.first + (l.pages - l.left)) l.left
+      → free_behind (planned_nodes l.plan l.touch.task l.touch.cpu) l.free
+      (l.first + (l.pages - l.left)) l.left
       ≡ free_behind (planned_nodes l.plan l.touch.task l.touch.cpu) l.fn.free l.first l.pages;
 }
 

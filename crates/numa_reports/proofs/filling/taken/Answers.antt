@@ -11,11 +11,14 @@ loop-node-preserved c =
     let fewer = c.saturating_sub.result in
     record {
       done = λ n lt. elim (cases_lt n at) [
-        | inl early ↦ get_or-set_other old at n fewer 0 (λ e. omega arith) ∙ c.loop-node.invariant.done n early
+        | inl early ↦ get_or-set_other old at n fewer 0 (λ e. omega arith)
+            ∙ c.loop-node.invariant.done n early
         | inr late ↦
             let same : at ≡ n = omega arith in
-            let here = get_or-set_same old at fewer 0 (omega (arith, c.loop-node.invariant.long)) ∙ c.saturating_sub.ensures in
-            subst (λ (k : ℕ). get_or (set old at fewer) k 0 ≡ get_or c.args.before.now k 0 - get_or c.args.after.now k 0) same here
+            let here = get_or-set_same old at fewer 0 (omega (arith, c.loop-node.invariant.long))
+            ∙ c.saturating_sub.ensures in
+            subst (λ (k : ℕ). get_or (set old at fewer) k 0 ≡ get_or c.args.before.now k 0 - get_or
+            c.args.after.now k 0) same here
       ];
       long = length-set _ _ _ ∙ c.loop-node.invariant.long;
     }

@@ -6,7 +6,8 @@ abbrev pub invariant-loop-page : goal.invariant-loop-page
 invariant-loop-page l = record {
   low : l.first ≤ l.page;
   high : l.page ≤ l.end;
-  counted : AddsMoves l.fn.table.items l.table.items (planned_moves l.before l.after l.touch.task l.touch.cpu l.first (l.page - l.first));
+  counted : AddsMoves l.fn.table.items l.table.items
+      (planned_moves l.before l.after l.touch.task l.touch.cpu l.first (l.page - l.first));
   entries : length l.table.items ≡ 65536;
 }
 

@@ -7,7 +7,8 @@ abbrev pub invariant-loop-i : goal.invariant-loop-i
 invariant-loop-i l = record {
   ones : l.i ≤ length l.ones;
   others : l.j ≤ length l.others;
-  gathered : AreRising 0 l.ones → AreRising 0 l.others → IsGathered l.ones l.others l.found.items (drop l.i l.ones) (drop l.j l.others);
+  gathered : AreRising 0 l.ones → AreRising 0 l.others
+      → IsGathered l.ones l.others l.found.items (drop l.i l.ones) (drop l.j l.others);
 }
 
 abbrev pub decreases-loop-i : goal.decreases-loop-i

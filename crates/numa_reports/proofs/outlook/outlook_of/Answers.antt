@@ -12,12 +12,15 @@ returns-in_err-spans-clause-err c =
 
 pub returns-in_err-plan-clause-err : goal.returns-in_err-plan-clause-err
 returns-in_err-plan-clause-err c =
-    let exit = err_from_is_err_and c.from_residual-in_err-plan.result c.from_residual-in_err-plan.ensures.1 in
+    let exit = err_from_is_err_and c.from_residual-in_err-plan.result
+    c.from_residual-in_err-plan.ensures.1 in
     rw (exit.1) exit.2
 
 pub returns-clause-outlook : goal.returns-clause-outlook
 returns-clause-outlook c history stands = record {
   plan = c.in_ok-plan.ensures.stands history stands;
   rising = c.in_ok-spans.ensures.rising;
-  pages = λ page. ap (λ (spans : List PageSpan). has_page spans page) c.in_ok-spans.ensures.spans ∙ spans-pages c.args.space.now.ranges page ∙ range-mapped c.args.space.now history page stands;
+  pages = λ page. ap (λ (spans : List PageSpan). has_page spans page) c.in_ok-spans.ensures.spans
+      ∙ spans-pages c.args.space.now.ranges page ∙ range-mapped c.args.space.now history page
+      stands;
 }

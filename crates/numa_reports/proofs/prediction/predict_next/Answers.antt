@@ -5,21 +5,33 @@ use Rattle.numa_reports.proofs.Placed.{few-planned}
 use Rattle.numa_reports.proofs.prediction.predict_next.Goals as goal
 
 pub move_counts-requires-clause-few : goal.move_counts-requires-clause-few
-move_counts-requires-clause-few g c = few-planned c.args.plan.now c.args.touch.task c.args.touch.cpu c.args.range.now.first c.args.range.now.pages c.count_range.new.counts (omega arith) c.in_ok-count_range.ensures.ok
+move_counts-requires-clause-few g c = few-planned c.args.plan.now c.args.touch.task c.args.touch.cpu
+    c.args.range.now.first c.args.range.now.pages c.count_range.new.counts (omega arith)
+    c.in_ok-count_range.ensures.ok
 
 pub move_counts-requires-clause-room : goal.move_counts-requires-clause-room
-move_counts-requires-clause-room g c node small = omega (arith, c.in_ok-count_range.ensures.ok node small, c.requires.room node small)
+move_counts-requires-clause-room g c node small =
+    omega (arith, c.in_ok-count_range.ensures.ok node small, c.requires.room node small)
 
 pub returns-clause-all : goal.returns-clause-all
-returns-clause-all g c node small = omega (arith, c.in_ok-count_range.ensures.ok node small, c.move_counts.ensures.moved node small)
+returns-clause-all g c node small =
+    omega (arith, c.in_ok-count_range.ensures.ok node small, c.move_counts.ensures.moved node small)
 
 pub returns-clause-told : goal.returns-clause-told
 returns-clause-told g c history stands planned =
-    let lt : c.args.touch.cpu < c.args.plan.now.nodes = omega (arith, planned.nodes, c.requires.known) in (
+    let lt : c.args.touch.cpu < c.args.plan.now.nodes =
+    omega (arith, planned.nodes, c.requires.known) in (
       record { policy = c.policy_of-said.result; counts = c.count_range.new.counts },
       record {
         policy = c.policy_of-said.ensures history stands;
-        counts = λ node small. omega (arith, c.in_ok-count_range.ensures.ok node small, counts-meant c.args.space.now.machine c.args.plan.now history planned c.args.touch.task c.args.touch.cpu c.args.range.now.first c.args.range.now.pages node lt);
+        counts = λ node small.
+            omega (
+              arith,
+              c.in_ok-count_range.ensures.ok node small,
+              counts-meant c.args.space.now.machine c.args.plan.now history planned
+                  c.args.touch.task
+                  c.args.touch.cpu c.args.range.now.first c.args.range.now.pages node lt,
+            );
       },
       c.in_ok-take.ensures.tells,
     )
@@ -31,7 +43,8 @@ returns-in_err-count_range-clause-err g c =
 
 pub returns-in_err-take-clause-err : goal.returns-in_err-take-clause-err
 returns-in_err-take-clause-err g c =
-    let exit = err_from_is_err_and c.from_residual-in_err-take.result c.from_residual-in_err-take.ensures.1 in
+    let exit = err_from_is_err_and c.from_residual-in_err-take.result
+    c.from_residual-in_err-take.ensures.1 in
     rw (exit.1, exit.2) tt
 
 pub returns-in_err-count_range-clause-lack : goal.returns-in_err-count_range-clause-lack
@@ -41,5 +54,6 @@ returns-in_err-count_range-clause-lack g c =
 
 pub returns-in_err-take-clause-lack : goal.returns-in_err-take-clause-lack
 returns-in_err-take-clause-lack g c =
-    let exit = err_from_is_err_and c.from_residual-in_err-take.result c.from_residual-in_err-take.ensures.1 in
+    let exit = err_from_is_err_and c.from_residual-in_err-take.result
+    c.from_residual-in_err-take.ensures.1 in
     rw (exit.1, exit.2) (λ is. c.in_err-take.ensures.lack)

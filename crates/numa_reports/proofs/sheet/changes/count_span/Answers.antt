@@ -7,10 +7,15 @@ use Rattle.numa_reports.proofs.sheet.changes.count_span.Goals as goal
 pub returns-in_err-add_moves-clause-err : goal.returns-in_err-add_moves-clause-err
 returns-in_err-add_moves-clause-err c machine old new was is =
     let exit = err_from_is_err_and c.from_residual.result c.from_residual.ensures.1 in
-    rw (exit.1, exit.2) (both-meant machine c.args.before.now c.args.after.now old new c.args.span.first c.args.span.pages c.args.touch.cpu c.in_err-add_moves.field-0.0 was is c.in_err-add_moves.ensures.err)
+    rw (exit.1, exit.2)
+    (both-meant machine c.args.before.now c.args.after.now old new c.args.span.first
+    c.args.span.pages c.args.touch.cpu c.in_err-add_moves.field-0.0 was is
+    c.in_err-add_moves.ensures.err)
 
 pub returns-clause-room : goal.returns-clause-room
 returns-clause-room c =
     let few : c.args.span.pages ≤ c.args.difference.now.left = omega (arith, c.in-Some.ensures) in
-    let same : c.args.difference.now.left - c.args.span.pages ≡ c.in-Some.left = omega (arith, c.in-Some.ensures) in
-    subst (λ (left : ℕ). HasRoomFor c.add_moves.new.table.items left) same (c.in_ok-add_moves.ensures.left c.args.difference.now.left c.requires few)
+    let same : c.args.difference.now.left - c.args.span.pages ≡ c.in-Some.left =
+    omega (arith, c.in-Some.ensures) in
+    subst (λ (left : ℕ). HasRoomFor c.add_moves.new.table.items left) same
+    (c.in_ok-add_moves.ensures.left c.args.difference.now.left c.requires few)
