@@ -4,7 +4,8 @@ use Rattle.std.specs.Fmt.{digits}
 use Rattle.numa_space.specs.declared.placement.Placement.{Placement}
 use Rattle.numa_mask.specs.NodeSet.{members}
 use Rattle.numa_mode.specs.Policy.{PolicyRecord}
-use Rattle.numa_mode.specs.declared.modes.Mode.TheVariants.{Bind, Interleave, Local, Preferred, PreferredMany, WeightedInterleave}
+use Rattle.numa_mode.specs.declared.modes.Mode.TheVariants.{Bind, Interleave, Local, Preferred}
+use Rattle.numa_mode.specs.declared.modes.Mode.TheVariants.{PreferredMany, WeightedInterleave}
 use Rattle.numa_mode.specs.declared.modes.NodeFlag.TheVariants.{Plain, Static}
 use Rattle.numa_ranges.specs.declared.run.Run.{Run}
 use Rattle.numa_space.proofs.Rows.{flat, asked}
@@ -19,12 +20,24 @@ range first pages index = record { first = first; pages = pages; index = index; 
 
 -- a page that task 1 has on this node
 on : ℕ → ℕ → ℕ × Placement
-on page node = (page, record { version = 3; task = 1; page = page; node = node; frame = record { node = node; number = 0 }; rank = 0 })
+on page node = (
+  page,
+  record {
+    version = 3;
+    task = 1;
+    page = page;
+    node = node;
+    frame =
+        record { node = node; number = 0 };
+    rank = 0;
+  },
+)
 
 -- ---- three ranges and three placed pages
 
 bound_run : List Command
-bound_run = Mbind 0x13000 0x3000 (asked Bind Plain (2 ∷ [])) ∷ SetTask 1 (asked Interleave Plain (0 ∷ 1 ∷ 2 ∷ 3 ∷ [])) ∷ Map 0x10000 0xa000 0 ∷ []
+bound_run = Mbind 0x13000 0x3000 (asked Bind Plain (2 ∷ []))
+    ∷ SetTask 1 (asked Interleave Plain (0 ∷ 1 ∷ 2 ∷ 3 ∷ [])) ∷ Map 0x10000 0xa000 0 ∷ []
 
 three_ranges : List (Run (Option PolicyRecord))
 three_ranges = range 0x10 3 0 ∷ range 0x13 3 3 ∷ range 0x16 4 6 ∷ []
@@ -32,23 +45,30 @@ three_ranges = range 0x10 3 0 ∷ range 0x13 3 3 ∷ range 0x16 4 6 ∷ []
 three_pages : Kept
 three_pages = on 0x10 0 ∷ on 0x11 1 ∷ on 0x14 2 ∷ []
 
-no-page : listing (resolved_policy (flat 4) bound_run 1) [] three_ranges ≡ codes "00010000 interleave:0-3\n00013000 bind:2\n00016000 interleave:0-3\n"
+no-page : listing (resolved_policy (flat 4) bound_run 1) [] three_ranges
+    ≡ codes "00010000 interleave:0-3\n00013000 bind:2\n00016000 interleave:0-3\n"
 unfolding members digits bound_run three_ranges range
 no-page = refl
 
-three-pages : listing (resolved_policy (flat 4) bound_run 1) three_pages three_ranges ≡ codes "00010000 interleave:0-3 anon=2 N0=1 N1=1 kernelpagesize_kB=4\n00013000 bind:2 anon=1 N2=1 kernelpagesize_kB=4\n00016000 interleave:0-3\n"
+three-pages : listing (resolved_policy (flat 4) bound_run 1) three_pages three_ranges
+    ≡ codes
+    "00010000 interleave:0-3 anon=2 N0=1 N1=1 kernelpagesize_kB=4\n00013000 bind:2 anon=1 N2=1 kernelpagesize_kB=4\n00016000 interleave:0-3\n"
 unfolding members digits nodes_text bound_run three_ranges three_pages range on
 three-pages = refl
 
 -- a page that no range has is not shown, and ten pages are counted in decimal
-other-pages : listing (λ page. None) (on 0xf 3 ∷ on 0x10 0 ∷ on 0x11 0 ∷ on 0x12 0 ∷ on 0x13 0 ∷ on 0x14 0 ∷ on 0x15 0 ∷ on 0x16 0 ∷ on 0x17 0 ∷ on 0x18 255 ∷ on 0x19 0 ∷ on 0x1a 3 ∷ []) (range 0x10 10 0 ∷ []) ≡ codes "00010000 default anon=10 N0=9 N255=1 kernelpagesize_kB=4\n"
+other-pages : listing (λ page. None) (on 0xf 3 ∷ on 0x10 0 ∷ on 0x11 0 ∷ on 0x12 0 ∷ on 0x13 0
+    ∷ on 0x14 0 ∷ on 0x15 0 ∷ on 0x16 0 ∷ on 0x17 0 ∷ on 0x18 255 ∷ on 0x19 0 ∷ on 0x1a 3 ∷ [])
+    (range 0x10 10 0 ∷ []) ≡ codes "00010000 default anon=10 N0=9 N255=1 kernelpagesize_kB=4\n"
 unfolding digits nodes_text range on
 other-pages = refl
 
 -- ---- the texts of policies
 
 policy_run : List Command
-policy_run = SetTask 4 (asked Preferred Plain (0 ∷ 1 ∷ [])) ∷ SetTask 3 (asked Local Plain []) ∷ SetTask 2 (asked PreferredMany Static (0 ∷ [])) ∷ SetTask 1 (asked WeightedInterleave Plain (0 ∷ 1 ∷ [])) ∷ Map 0x7ffffffff000 0x1000 0 ∷ []
+policy_run = SetTask 4 (asked Preferred Plain (0 ∷ 1 ∷ [])) ∷ SetTask 3 (asked Local Plain [])
+    ∷ SetTask 2 (asked PreferredMany Static (0 ∷ []))
+    ∷ SetTask 1 (asked WeightedInterleave Plain (0 ∷ 1 ∷ [])) ∷ Map 0x7ffffffff000 0x1000 0 ∷ []
 
 -- the listing of one page, for a task
 line_for : ℕ → List ℕ

@@ -1,5 +1,6 @@
 -- The texts of a line, piece by piece.
-use Rattle.std.proofs.Common.{◌≡◌, ℕ, zero, suc, refl, ◌+◌, ◌<◌, Bool, cond, List, [], ◌++◌, codes, decimal, length, sym, ap, ◌∙◌, arith, append_assoc}
+use Rattle.std.proofs.Common.{◌≡◌, ℕ, zero, suc, refl, ◌+◌, ◌<◌, Bool, cond, List, [], ◌++◌, codes}
+use Rattle.std.proofs.Common.{decimal, length, sym, ap, ◌∙◌, arith, append_assoc}
 use Rattle.std.specs.List.{flat_map, range_with_len}
 use Rattle.numa_machine.proofs.Nodes.{flat_map-range_more}
 use Rattle.std.proofs.lemmas.Bool.{ne_eqb}
@@ -14,38 +15,51 @@ pub nodes-none : (pages : ℕ → ℕ) → nodes_below pages 0 ≡ []
 unfolding nodes_below
 nodes-none pages = refl
 
-pub nodes-more : (pages : ℕ → ℕ) (n : ℕ) → nodes_below pages (n + 1) ≡ nodes_below pages n ++ node_text n (pages n)
+pub nodes-more : (pages : ℕ → ℕ) (n : ℕ) → nodes_below pages (n + 1) ≡ nodes_below pages n
+    ++ node_text n (pages n)
 unfolding nodes_below
 nodes-more pages n = flat_map-range_more (λ node. node_text node (pages node)) n
 
 pub nodes-all : (pages : ℕ → ℕ) (n : ℕ) → n ≡ 256 → nodes_below pages n ≡ nodes_text pages
 unfolding nodes_below nodes_text
-nodes-all pages n e = ap (λ (k : ℕ). flat_map (λ node. node_text node (pages node)) (range_with_len 0 k)) e
+nodes-all pages n e =
+    ap (λ (k : ℕ). flat_map (λ node. node_text node (pages node)) (range_with_len 0 k)) e
 
 -- counts that are equal below 256 make one text
-pub nodes-same : (p q : ℕ → ℕ) (n : ℕ) → ((node : ℕ) → node < n → p node ≡ q node) → nodes_below p n ≡ nodes_below q n
+pub nodes-same : (p q : ℕ → ℕ) (n : ℕ) → ((node : ℕ) → node < n → p node ≡ q node)
+    → nodes_below p n ≡ nodes_below q n
 nodes-same p q zero same = nodes-none p ∙ sym (nodes-none q)
 nodes-same p q (suc n) same =
     let here : p n ≡ q n = same n (omega arith) in
     let next : suc n ≡ n + 1 = omega arith in
-    ap (nodes_below p) next ∙ nodes-more p n ∙ (λ i. nodes-same p q n (λ node lt. same node (omega arith)) i ++ node_text n (here i)) ∙ sym (nodes-more q n) ∙ ap (nodes_below q) (sym next)
+    ap (nodes_below p) next ∙ nodes-more p n
+    ∙ (λ i. nodes-same p q n (λ node lt. same node (omega arith)) i ++ node_text n (here i))
+    ∙ sym (nodes-more q n) ∙ ap (nodes_below q) (sym next)
 
-pub texts-same : (p q : ℕ → ℕ) → ((node : ℕ) → node < 256 → p node ≡ q node) → nodes_text p ≡ nodes_text q
+pub texts-same : (p q : ℕ → ℕ) → ((node : ℕ) → node < 256 → p node ≡ q node)
+    → nodes_text p ≡ nodes_text q
 texts-same p q same = sym (nodes-all p 256 refl) ∙ nodes-same p q 256 same ∙ nodes-all q 256 refl
 
 -- ---- the placed pages of a range
 
 -- the words of placed pages, written one after another
-pub placed-some : (old : List ℕ) (placed : Kept) (count : ℕ) (pages : ℕ → ℕ) → count ≡ length placed → 0 < count → ((node : ℕ) → node < 256 → pages node ≡ pages_on placed node)
-    → old ++ codes " anon=" ++ decimal count ++ nodes_text pages ++ codes " kernelpagesize_kB=4" ≡ old ++ placed_text placed
+pub placed-some : (old : List ℕ) (placed : Kept) (count : ℕ) (pages : ℕ → ℕ) → count ≡ length placed
+    → 0 < count → ((node : ℕ) → node < 256 → pages node ≡ pages_on placed node)
+    → old ++ codes " anon=" ++ decimal count ++ nodes_text pages ++ codes " kernelpagesize_kB=4"
+    ≡ old ++ placed_text placed
 placed-some old placed count pages is some by_node =
-    let nodes : nodes_text pages ≡ nodes_text (pages_on placed) = texts-same pages (pages_on placed) by_node in
+    let nodes : nodes_text pages ≡ nodes_text (pages_on placed) =
+    texts-same pages (pages_on placed) by_node in
     let first : List ℕ = codes " anon=" ++ decimal (length placed) in
     let named : List ℕ = first ++ nodes_text (pages_on placed) in
     let whole : List ℕ = named ++ codes " kernelpagesize_kB=4" in
-    let text : placed_text placed ≡ whole = ap (λ (b : Bool). cond b [] whole) (ne_eqb (length placed) 0 (λ e. omega (arith, is, some, e))) in
+    let text : placed_text placed ≡ whole =
+    ap (λ (b : Bool). cond b [] whole)
+    (ne_eqb (length placed) 0 (λ e. omega (arith, is, some, e))) in
     (λ i. old ++ codes " anon=" ++ decimal (is i) ++ nodes i ++ codes " kernelpagesize_kB=4")
-    ∙ ap (λ x. x ++ nodes_text (pages_on placed) ++ codes " kernelpagesize_kB=4") (append_assoc old (codes " anon=") (decimal (length placed)))
-    ∙ ap (λ x. x ++ codes " kernelpagesize_kB=4") (append_assoc old first (nodes_text (pages_on placed)))
+    ∙ ap (λ x. x ++ nodes_text (pages_on placed) ++ codes " kernelpagesize_kB=4")
+    (append_assoc old (codes " anon=") (decimal (length placed)))
+    ∙ ap (λ x. x ++ codes " kernelpagesize_kB=4")
+    (append_assoc old first (nodes_text (pages_on placed)))
     ∙ append_assoc old named (codes " kernelpagesize_kB=4")
     ∙ ap (λ x. old ++ x) (sym text)

@@ -1,5 +1,6 @@
 -- The listing, line by line.
-use Rattle.std.proofs.Common.{◌≡◌, ◌↔◌, ℕ, ◌≤◌, ◌^◌, Option, List, ◌∷◌, ◌++◌, Contains, true, sym, ap, subst, ◌∙◌, append_assoc}
+use Rattle.std.proofs.Common.{◌≡◌, ◌↔◌, ℕ, ◌≤◌, ◌^◌, Option, List, ◌∷◌, ◌++◌, Contains, true, sym}
+use Rattle.std.proofs.Common.{ap, subst, ◌∙◌, append_assoc}
 use Rattle.numa_mode.specs.Policy.{PolicyRecord}
 use Rattle.numa_ranges.proofs.Apart.{apart-top}
 use Rattle.numa_ranges.specs.Counts.{IsRange}
@@ -17,27 +18,46 @@ use Rattle.line_server.specs.Written.{Said}
 use Rattle.line_server.specs.declared.watched.Watched.{Watched}
 use Rattle.line_server.proofs.Adding.{said_both, said_lost}
 
-pub apart-next : (from : ℕ) (range : Run (Option PolicyRecord)) (left rest : List (Run (Option PolicyRecord))) → left ≡ range ∷ rest → AreApart from left → AreApart (end_of range) rest × (end_of range ≤ 2 ^ 35)
+pub apart-next : (from : ℕ) (range : Run (Option PolicyRecord))
+    (left rest : List (Run (Option PolicyRecord))) → left ≡ range ∷ rest → AreApart from left
+    → AreApart (end_of range) rest × (end_of range ≤ 2 ^ 35)
 apart-next from range left rest e apart =
-    let whole : AreApart from (range ∷ rest) = subst (λ (ranges : List (Run (Option PolicyRecord))). AreApart from ranges) e apart in
+    let whole : AreApart from (range ∷ rest) =
+    subst (λ (ranges : List (Run (Option PolicyRecord))). AreApart from ranges) e apart in
     (whole.3, apart-top (end_of range) rest whole.3)
 
 -- one line more went out
-pub line-next : (policy_of : ℕ → Option PolicyRecord) (kept : Kept) (all sent line : List ℕ) (range : Run (Option PolicyRecord)) (left rest : List (Run (Option PolicyRecord)))
-    → all ≡ sent ++ listing policy_of kept left → left ≡ range ∷ rest → line ≡ range_line (policy_of range.first) kept range → all ≡ (sent ++ line) ++ listing policy_of kept rest
+pub line-next : (policy_of : ℕ → Option PolicyRecord) (kept : Kept) (all sent line : List ℕ)
+    (range : Run (Option PolicyRecord)) (left rest : List (Run (Option PolicyRecord)))
+    → all ≡ sent ++ listing policy_of kept left → left ≡ range ∷ rest
+    → line ≡ range_line (policy_of range.first) kept range → all ≡ (sent ++ line)
+    ++ listing policy_of kept rest
 line-next policy_of kept all sent line range left rest so_far e text =
-    so_far ∙ ap (λ (ranges : List (Run (Option PolicyRecord))). sent ++ listing policy_of kept ranges) e ∙ ap (λ x. sent ++ (x ++ listing policy_of kept rest)) (sym text)
+    so_far ∙ ap (λ (ranges : List (Run (Option PolicyRecord))). sent
+    ++ listing policy_of kept ranges) e ∙ ap (λ x. sent ++ (x ++ listing policy_of kept rest))
+    (sym text)
     ∙ sym (append_assoc sent line (listing policy_of kept rest))
 
 -- a line was said, after which no other is, since a write has failed
-pub line-lost : {W : Type 0} (contents : W → Option (List ℕ)) (old mid new : Watched W) (all sent line more : List ℕ) → has_failed new ≡ true
-    → Said contents old mid sent → Said contents mid new line → all ≡ (sent ++ line) ++ more → Said contents old new all
+pub line-lost : {W : Type 0} (contents : W → Option (List ℕ)) (old mid new : Watched W)
+    (all sent line more : List ℕ) → has_failed new ≡ true
+    → Said contents old mid sent → Said contents mid new line → all ≡ (sent ++ line) ++ more
+    → Said contents old new all
 line-lost contents old mid new all sent line more failed before last e =
-    subst (Said contents old new) (sym e) (said_lost contents old new (sent ++ line) more failed (said_both contents old mid new sent line before last))
+    subst (Said contents old new) (sym e)
+    (said_lost contents old new (sent ++ line) more failed
+    (said_both contents old mid new sent line before last))
 
 -- the listing of a space is that of the commands for which it stands
-pub listing-meaning : (space : SpaceState) (history : List Command) (task : ℕ) (kept : Kept) → StandsFor space history → AreApart 0 space.ranges
-    → ((range : Run (Option PolicyRecord)) → Contains space.ranges range ↔ IsRange same_record (page_in space.machine history) range) → IsListing space.machine history task kept (listing_in space task kept)
+pub listing-meaning : (space : SpaceState) (history : List Command) (task : ℕ) (kept : Kept)
+    → StandsFor space history → AreApart 0 space.ranges
+    → ((range : Run (Option PolicyRecord)) → Contains space.ranges range
+    ↔ IsRange same_record (page_in space.machine history) range)
+    → IsListing space.machine history task kept (listing_in space task kept)
 listing-meaning space history task kept stands rising each =
-    let same : policy_in space task ≡ resolved_policy space.machine history task = λ i page. policy-same space history task page stands i in
-    (space.ranges, record { rising = rising; each = each }, ap (λ policy_of. listing policy_of kept space.ranges) same)
+    let same : policy_in space task ≡ resolved_policy space.machine history task =
+    λ i page. policy-same space history task page stands i in (
+      space.ranges,
+      record { rising = rising; each = each },
+      ap (λ policy_of. listing policy_of kept space.ranges) same,
+    )

@@ -1,11 +1,18 @@
-use Rattle.std.proofs.Common.{ℕ, ◌+◌, ◌≤◌, ◌++◌, codes, decimal, length, slice_index, arith, ap, ◌∙◌, length-append}
+use Rattle.std.proofs.Common.{ℕ, ◌+◌, ◌≤◌, ◌++◌, codes, decimal, length, slice_index, arith, ap}
+use Rattle.std.proofs.Common.{◌∙◌, length-append}
 use Rattle.std.proofs.lemmas.Fmt.{length-decimal-le}
 use Rattle.numa_maps.specs.Listing.{nodes_text, placed_in}
 use Rattle.numa_maps.proofs.Lines.{placed-some}
 use Rattle.numa_maps.proofs.line.push_placed.Goals as goal
 
 pub push_number-requires : goal.push_number-requires
-push_number-requires c = omega (arith, c.requires.room, length-decimal-le 20 c.count_in-count.result (omega arith) (omega (arith, c.count_in-count.type_inv)) c.count_in-count.type_inv)
+push_number-requires c =
+    omega (
+      arith,
+      c.requires.room,
+      length-decimal-le 20 c.count_in-count.result (omega arith)
+          (omega (arith, c.count_in-count.type_inv)) c.count_in-count.type_inv,
+    )
 
 pub push_nodes-requires : goal.push_nodes-requires
 push_nodes-requires c = record {
@@ -13,7 +20,8 @@ push_nodes-requires c = record {
       omega (
         arith,
         c.requires.room,
-        length-decimal-le 20 c.count_in-count.result (omega arith) (omega (arith, c.count_in-count.type_inv)) c.count_in-count.type_inv,
+        length-decimal-le 20 c.count_in-count.result (omega arith)
+            (omega (arith, c.count_in-count.type_inv)) c.count_in-count.type_inv,
         ap length c.push_number.ensures,
         length-append (c.args.text.now.bytes ++ codes " anon=") (decimal c.count_in-count.result),
         length-append c.args.text.now.bytes (codes " anon="),
@@ -25,7 +33,8 @@ push_str-requires c =
     let room : length c.push_nodes.new.text.bytes + 20 ≤ 8192 = omega (
       arith,
       c.requires.room,
-      length-decimal-le 20 c.count_in-count.result (omega arith) (omega (arith, c.count_in-count.type_inv)) c.count_in-count.type_inv,
+      length-decimal-le 20 c.count_in-count.result (omega arith)
+          (omega (arith, c.count_in-count.type_inv)) c.count_in-count.type_inv,
       ap length c.push_number.ensures,
       length-append (c.args.text.now.bytes ++ codes " anon=") (decimal c.count_in-count.result),
       length-append c.args.text.now.bytes (codes " anon="),
@@ -36,14 +45,18 @@ push_str-requires c =
 pub returns-then-count-gt0-clause-bytes : goal.returns-then-count-gt0-clause-bytes
 returns-then-count-gt0-clause-bytes c =
     let pages : ℕ → ℕ = λ node. slice_index c.pages_by_node.result node in
-    c.push_str.ensures.bytes ∙ ap (λ x. x ++ codes " kernelpagesize_kB=4") (c.push_nodes.ensures.bytes ∙ ap (λ x. x ++ nodes_text pages) c.push_number.ensures)
-    ∙ placed-some c.args.text.now.bytes (placed_in c.args.resident.now c.args.range.now) c.count_in-count.result pages c.count_in-count.ensures c.if-count-gt0.true c.pages_by_node.ensures
+    c.push_str.ensures.bytes ∙ ap (λ x. x ++ codes " kernelpagesize_kB=4")
+    (c.push_nodes.ensures.bytes ∙ ap (λ x. x ++ nodes_text pages) c.push_number.ensures)
+    ∙ placed-some c.args.text.now.bytes (placed_in c.args.resident.now c.args.range.now)
+    c.count_in-count.result pages c.count_in-count.ensures c.if-count-gt0.true
+    c.pages_by_node.ensures
 
 pub returns-then-count-gt0-clause-short : goal.returns-then-count-gt0-clause-short
 returns-then-count-gt0-clause-short c =
     omega (
       arith,
-      length-decimal-le 20 c.count_in-count.result (omega arith) (omega (arith, c.count_in-count.type_inv)) c.count_in-count.type_inv,
+      length-decimal-le 20 c.count_in-count.result (omega arith)
+          (omega (arith, c.count_in-count.type_inv)) c.count_in-count.type_inv,
       ap length c.push_number.ensures,
       length-append (c.args.text.now.bytes ++ codes " anon=") (decimal c.count_in-count.result),
       length-append c.args.text.now.bytes (codes " anon="),

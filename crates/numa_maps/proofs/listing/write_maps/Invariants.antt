@@ -8,7 +8,9 @@ use Rattle.numa_maps.proofs.listing.write_maps.Given as goal
 
 abbrev pub invariant-loop-range : goal.invariant-loop-range
 invariant-loop-range g l = record {
-  wrote : (sent : List ℕ) × Said g.W.Write.contents l.fn.output l.output sent × (listing_in l.space l.task l.resident ≡ sent ++ listing (policy_in l.space l.task) l.resident l.range-iterator);
+  wrote : (sent : List ℕ) × Said g.W.Write.contents l.fn.output l.output sent
+      × (listing_in l.space l.task l.resident ≡ sent ++ listing (policy_in l.space l.task)
+      l.resident l.range-iterator);
   apart : (from : ℕ) × AreApart from l.range-iterator;
   empty : held_in l.output ≡ [];
   well : has_failed l.output ≡ false;

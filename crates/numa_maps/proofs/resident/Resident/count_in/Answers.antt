@@ -4,4 +4,6 @@ use Rattle.numa_maps.specs.Listing.{placed_in}
 use Rattle.numa_maps.proofs.resident.Resident.count_in.Goals as goal
 
 pub returns : goal.returns
-returns c = count_from_yields_List c.placed_in.result _ c.count.ensures.ran (YieldsList-from_first deref_pair (λ entries. entries) (placed_in c.args.self.now c.args.range.now) c.placed_in.ensures.placed)
+returns c = count_from_yields_List c.placed_in.result _ c.count.ensures.ran
+    (YieldsList-from_first deref_pair (λ entries. entries)
+    (placed_in c.args.self.now c.args.range.now) c.placed_in.ensures.placed)

@@ -3,4 +3,7 @@ use Rattle.std.proofs.lemmas.Grind.{common_steps}
 use Rattle.numa_maps.proofs.resident.Resident.remove.Goals as goal
 
 pub invariant_of-self : goal.invariant_of-self
-invariant_of-self c = record { own = λ q x. grind (arith, common_steps, c.self.invariant.own q x); rising = c.remove.ensures.ordered }
+invariant_of-self c = record {
+  own = λ q x. grind (arith, common_steps, c.self.invariant.own q x);
+  rising = c.remove.ensures.ordered;
+}
