@@ -12,10 +12,12 @@ pub counts-none : (pages : ℕ → ℕ) → counts_below pages 0 ≡ []
 unfolding counts_below
 counts-none pages = refl
 
-pub counts-more : (pages : ℕ → ℕ) (n : ℕ) → counts_below pages (n + 1) ≡ counts_below pages n ++ node_text n (pages n)
+pub counts-more : (pages : ℕ → ℕ) (n : ℕ) → counts_below pages (n + 1) ≡ counts_below pages n
+    ++ node_text n (pages n)
 unfolding counts_below
 counts-more pages n = flat_map-range_more (λ node. node_text node (pages node)) n
 
 pub counts-all : (pages : ℕ → ℕ) (n : ℕ) → n ≡ 256 → counts_below pages n ≡ nodes_text pages
 unfolding counts_below nodes_text
-counts-all pages n e = ap (λ (k : ℕ). flat_map (λ node. node_text node (pages node)) (range_with_len 0 k)) e
+counts-all pages n e =
+    ap (λ (k : ℕ). flat_map (λ node. node_text node (pages node)) (range_with_len 0 k)) e

@@ -1,5 +1,7 @@
 -- A line has a cause of its fault exactly where it is malformed.
-use Rattle.std.specs.Prelude.{suc, ◌≡◌, ℕ, ◌+◌, ◌==◌, ◌<◌, ◌/◌, ◌||◌, Bool, true, false, List, [], ◌∷◌, length, position, nat_lt, is_some, is_none, unwrap_or, cond, Option, Some, None, Result, Ok, Err, option_and_then, refl}
+use Rattle.std.specs.Prelude.{suc, ◌≡◌, ℕ, ◌+◌, ◌==◌, ◌<◌, ◌/◌, ◌||◌, Bool, true, false, List, []}
+use Rattle.std.specs.Prelude.{◌∷◌, length, position, nat_lt, is_some, is_none, unwrap_or, cond}
+use Rattle.std.specs.Prelude.{Option, Some, None, Result, Ok, Err, option_and_then, refl}
 use Rattle.std.specs.List.{list_any}
 use Rattle.std.specs.Option.{option_map}
 use Rattle.std.proofs.Common.{sym, ◌∙◌, ap, arith}
@@ -10,8 +12,14 @@ use Rattle.numa_mode.specs.Policy.{Specification}
 use Rattle.numa_space.specs.declared.event.Event.TheVariants as event
 use Rattle.numa_space.specs.declared.command.Command.{Command}
 use Rattle.numa_space.specs.declared.command.Command.TheVariants as command
-use Rattle.numa_script.specs.Causes.{parameters_of, form_of, misfit_of, misfit_else, fault_behind, first_misfit, keyword_fault, words_fault, width_of, empty_word, empty_else, is_stray, stray_else, fault_of, is_malformed}
-use Rattle.numa_script.specs.Lines.{keyword_of, line_after, limits_line, rules_line, cpus_line, machine_line, map_line, unmap_line, mbind_line, home_line, task_line, inherit_line, weight_line, mems_line, place_line, span_line, counts_line, ranges_line, maps_line, words_line, with_policy, with_nodes, is_silent, has_empty_word, line_of}
+use Rattle.numa_script.specs.Causes.{parameters_of, form_of, misfit_of, misfit_else, fault_behind}
+use Rattle.numa_script.specs.Causes.{first_misfit, keyword_fault, words_fault, width_of, empty_word}
+use Rattle.numa_script.specs.Causes.{empty_else, is_stray, stray_else, fault_of, is_malformed}
+use Rattle.numa_script.specs.Lines.{keyword_of, line_after, limits_line, rules_line, cpus_line}
+use Rattle.numa_script.specs.Lines.{machine_line, map_line, unmap_line, mbind_line, home_line}
+use Rattle.numa_script.specs.Lines.{task_line, inherit_line, weight_line, mems_line, place_line}
+use Rattle.numa_script.specs.Lines.{span_line, counts_line, ranges_line, maps_line, words_line}
+use Rattle.numa_script.specs.Lines.{with_policy, with_nodes, is_silent, has_empty_word, line_of}
 use Rattle.numa_script.specs.Machines.{frames_of, distances_of, rules_of, has_kernel_orders}
 use Rattle.numa_script.specs.Numbers.{below, few_of, number_of, small_of, page_of, node_of, frame_number_of}
 use Rattle.numa_script.specs.Parts.{words_of}
@@ -229,7 +237,17 @@ says_machine c (a ∷ b ∷ []) = too_few keyword.Machine c (a ∷ b ∷ []) (om
 says_machine c (a ∷ b ∷ d ∷ []) = too_few keyword.Machine c (a ∷ b ∷ d ∷ []) (omega arith)
 says_machine c (a ∷ b ∷ d ∷ e ∷ []) =
     enough keyword.Machine c (a ∷ b ∷ d ∷ e ∷ []) refl
-    ∙ three (λ n f m. line.Machine (record { nodes = n; memory = list_of b; frames = f; kernel_orders = has_kernel_orders e; distances = m })) _ _ _ (small_of a) (frames_of d) (distances_of e) (λ x y z. refl)
+    ∙ three
+    (λ n f m.
+    line.Machine (record {
+      nodes = n;
+      memory = list_of b;
+      frames = f;
+      kernel_orders =
+          has_kernel_orders e;
+      distances = m;
+    })) _ _ _ (small_of a) (frames_of d) (distances_of e)
+    (λ x y z. refl)
     (small a) (readable (frames_of d)) (readable (distances_of e))
 says_machine c (a ∷ b ∷ d ∷ e ∷ f ∷ words) = too_many keyword.Machine c (a ∷ b ∷ d ∷ e ∷ f ∷ words) (omega arith)
 

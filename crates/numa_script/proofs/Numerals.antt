@@ -1,4 +1,6 @@
-use Rattle.std.specs.Prelude.{◌≡◌, ◌==◌, ℕ, ◌+◌, ◌*◌, ◌^◌, ◌<◌, ◌≤◌, Bool, List, [], ◌∷◌, length, take, drop, Option, Some, None, nat_lt, MatchOption, true, false, cond, refl, ◌++◌, codes, ◌≢◌, suc}
+use Rattle.std.specs.Prelude.{◌≡◌, ◌==◌, ℕ, ◌+◌, ◌*◌, ◌^◌, ◌<◌, ◌≤◌, Bool, List, [], ◌∷◌, length}
+use Rattle.std.specs.Prelude.{take, drop, Option, Some, None, nat_lt, MatchOption, true, false}
+use Rattle.std.specs.Prelude.{cond, refl, ◌++◌, codes, ◌≢◌, suc}
 use Rattle.std.proofs.Common.{sym, ◌∙◌, ap, arith, get_or, subst, inl, inr}
 use Rattle.std.specs.Char.{is_digit, digit_value}
 use Rattle.std.specs.List.{list_all}
@@ -9,7 +11,8 @@ use Rattle.std.proofs.lemmas.Int.Digits.{digits_value_more}
 use Rattle.std.proofs.lemmas.Bool.Decides.{nat_tests}
 use native.Mathlib.Nat.{pow-suc, pow-le-pow_right}
 use Rattle.std.specs.Str.{bytes_eq}
-use Rattle.numa_script.specs.Numbers.{numeral_of, number_of, IsNumber, IsNumeral, in_64_bits, digit_of}
+use Rattle.numa_script.specs.Numbers.{numeral_of, number_of, IsNumber, IsNumeral, in_64_bits}
+use Rattle.numa_script.specs.Numbers.{digit_of}
 
 not_fitting : (n m : ℕ) → in_64_bits n ≡ None → n ≤ m → in_64_bits m ≡ None
 unfolding in_64_bits
@@ -20,7 +23,8 @@ none_at true b = refl
 none_at false true = refl
 none_at false false = refl
 
-chosen_else : (b : Bool) (o : Option ℕ) (n : ℕ) → cond b None o ≡ Some n → (b ≡ false) × (o ≡ Some n)
+chosen_else : (b : Bool) (o : Option ℕ) (n : ℕ) → cond b None o ≡ Some n → (b ≡ false)
+    × (o ≡ Some n)
 chosen_else true o n h = cc
 chosen_else false o n h = (refl, h)
 
@@ -33,11 +37,13 @@ if_none true d h = cc
 if_none false d h = refl
 
 -- a byte that is no digit
-pub no_digit : (radix most : ℕ) (ds : List ℕ) (i : ℕ) → i < length ds → is_digit (get_or ds i 0) radix ≡ false → numeral_of radix most ds ≡ None
+pub no_digit : (radix most : ℕ) (ds : List ℕ) (i : ℕ) → i < length ds
+    → is_digit (get_or ds i 0) radix ≡ false → numeral_of radix most ds ≡ None
 unfolding numeral_of
 no_digit radix most ds i lt h = rw (list_all_at (λ c. is_digit c radix) ds i 0 lt h) (none_at _ _)
 
-none_in : (a b c : Bool) (o : Option ℕ) → o ≡ None → cond a None (cond b None (cond c o None)) ≡ None
+none_in : (a b c : Bool) (o : Option ℕ) → o ≡ None → cond a None (cond b None (cond c o None))
+    ≡ None
 none_in true b c o h = refl
 none_in false true c o h = refl
 none_in false false true o h = h
@@ -48,18 +54,25 @@ none_then true = refl
 none_then false = refl
 
 -- a front that doesn't fit
-pub too_large : (radix most : ℕ) (ds : List ℕ) (i : ℕ) → i < length ds → 1 ≤ radix → in_64_bits (digits_value radix (take i ds) * radix + digit_value (get_or ds i 0)) ≡ None → numeral_of radix most ds ≡ None
+pub too_large : (radix most : ℕ) (ds : List ℕ) (i : ℕ) → i < length ds → 1 ≤ radix
+    → in_64_bits (digits_value radix (take i ds) * radix + digit_value (get_or ds i 0)) ≡ None
+    → numeral_of radix most ds ≡ None
 unfolding numeral_of
 too_large radix most ds i lt one h =
-    none_in (length ds == 0) (nat_lt most (length ds)) (list_all (λ c. is_digit c radix) ds) _ (not_fitting _ (digits_value radix ds) h (rw (← digits_value_more radix ds i lt) (digits_value-take-le radix ds (i + 1) one)))
+    none_in (length ds == 0) (nat_lt most (length ds)) (list_all (λ c. is_digit c radix) ds) _
+    (not_fitting _ (digits_value radix ds) h
+    (rw (← digits_value_more radix ds i lt) (digits_value-take-le radix ds (i + 1) one)))
 
-pub no_digit_at : (radix most : ℕ) (ds : List ℕ) (i : ℕ) → i < length ds → digit_of radix (get_or ds i 0) ≡ None → numeral_of radix most ds ≡ None
+pub no_digit_at : (radix most : ℕ) (ds : List ℕ) (i : ℕ) → i < length ds
+    → digit_of radix (get_or ds i 0) ≡ None → numeral_of radix most ds ≡ None
 unfolding digit_of
 no_digit_at radix most ds i lt h = no_digit radix most ds i lt (if_none _ _ h)
 
-pub digit_is : (radix c d : ℕ) → digit_of radix c ≡ Some d → (is_digit c radix ≡ true) × (d ≡ digit_value c)
+pub digit_is : (radix c d : ℕ) → digit_of radix c ≡ Some d → (is_digit c radix ≡ true)
+    × (d ≡ digit_value c)
 unfolding digit_of
-digit_is radix c d h = let a = chosen_then (is_digit c radix) (Some (digit_value c)) d h in (a.0, cc (a.1))
+digit_is radix c d h = let a = chosen_then (is_digit c radix) (Some (digit_value c)) d h in
+    (a.0, cc (a.1))
 
 pub fitting_is : (n m : ℕ) → Some m ≡ in_64_bits n → (m ≡ n) × (n < 2 ^ 64)
 unfolding in_64_bits
@@ -69,11 +82,15 @@ fitting_is n m h =
     (cc (a.1), few)
 
 -- one more digit
-pub more_digits : (radix : ℕ) (ds : List ℕ) (i : ℕ) → i < length ds → list_all (λ c. is_digit c radix) (take i ds) ≡ true → is_digit (get_or ds i 0) radix ≡ true → list_all (λ c. is_digit c radix) (take (i + 1) ds) ≡ true
+pub more_digits : (radix : ℕ) (ds : List ℕ) (i : ℕ) → i < length ds
+    → list_all (λ c. is_digit c radix) (take i ds) ≡ true → is_digit (get_or ds i 0) radix ≡ true
+    → list_all (λ c. is_digit c radix) (take (i + 1) ds) ≡ true
 more_digits radix ds i lt h d = rw (list_all_more (λ c. is_digit c radix) ds i 0 lt, h, d) refl
 
 -- all are digits, and the number fits
-pub all_digits : (radix most : ℕ) (ds : List ℕ) → (length ds == 0) ≡ false → length ds ≤ most → list_all (λ c. is_digit c radix) ds ≡ true → digits_value radix ds < 2 ^ 64 → numeral_of radix most ds ≡ Some (digits_value radix ds)
+pub all_digits : (radix most : ℕ) (ds : List ℕ) → (length ds == 0) ≡ false → length ds ≤ most
+    → list_all (λ c. is_digit c radix) ds ≡ true → digits_value radix ds < 2 ^ 64
+    → numeral_of radix most ds ≡ Some (digits_value radix ds)
 unfolding numeral_of in_64_bits
 all_digits radix most ds some few digits fits = rw (some, digits) (grind (arith, nat_tests))
 
@@ -87,17 +104,27 @@ none_long radix most ds h =
     let e : nat_lt most (length ds) ≡ true = grind (arith, nat_tests) in
     rw e (none_then (length ds == 0))
 
-pub ruleset numeral_steps = (none_empty, none_long, no_digit, too_large, more_digits, all_digits, digits_value_more)
+pub ruleset numeral_steps = (
+  none_empty,
+  none_long,
+  no_digit,
+  too_large,
+  more_digits,
+  all_digits,
+  digits_value_more,
+)
 
 -- sixteen hexadecimal digits always fit
-pub hexadecimal_fits : (i value digit : ℕ) → i < 16 → value < 16 ^ i → digit < 16 → value * 16 + digit < 2 ^ 64
+pub hexadecimal_fits : (i value digit : ℕ) → i < 16 → value < 16 ^ i → digit < 16
+    → value * 16 + digit < 2 ^ 64
 hexadecimal_fits i value digit lt small one =
     let few : i ≤ 15 = omega (arith, lt) in
     let most : 16 ^ i ≤ 16 ^ 15 = pow-le-pow_right (omega arith) few in
     let room : value < 16 ^ 15 = omega (arith, most, small) in
     omega (arith, room, one)
 
-pub hexadecimal_more : (i value digit : ℕ) → value < 16 ^ i → digit < 16 → value * 16 + digit < 16 ^ (i + 1)
+pub hexadecimal_more : (i value digit : ℕ) → value < 16 ^ i → digit < 16
+    → value * 16 + digit < 16 ^ (i + 1)
 hexadecimal_more i value digit small one =
     let after : i + 1 ≡ suc i = omega arith in
     let next : 16 ^ (i + 1) ≡ 16 ^ i * 16 = ap (λ k. 16 ^ k) after ∙ pow-suc 16 i in
@@ -110,18 +137,21 @@ digit_below radix c d h =
     let below : digit_value c < radix = grind (arith, nat_tests, is.0) in
     omega (arith, is.1, below)
 
-match_from : (o : Option ℕ) (P : Type 0) (Q : ℕ → Type 0) → (o ≡ None → P) → ((n : ℕ) → o ≡ Some n → Q n) → MatchOption o P Q
+match_from : (o : Option ℕ) (P : Type 0) (Q : ℕ → Type 0) → (o ≡ None → P)
+    → ((n : ℕ) → o ≡ Some n → Q n) → MatchOption o P Q
 match_from None P Q none some = none refl
 match_from (Some n) P Q none some = some n refl
 
 -- what is read is a numeral, and below 2^64
-numeral_found : (radix most : ℕ) (ds : List ℕ) (n : ℕ) → numeral_of radix most ds ≡ Some n → (n < 2 ^ 64) × IsNumeral radix most ds n
+numeral_found : (radix most : ℕ) (ds : List ℕ) (n : ℕ) → numeral_of radix most ds ≡ Some n
+    → (n < 2 ^ 64) × IsNumeral radix most ds n
 unfolding numeral_of in_64_bits
 numeral_found radix most ds n h =
     let a = chosen_else (length ds == 0) _ n h in
     let b = chosen_else (nat_lt most (length ds)) _ n a.1 in
     let d = chosen_then (list_all (λ c. is_digit c radix) ds) _ n b.1 in
-    let f = chosen_then (nat_lt (digits_value radix ds) (2 ^ 64)) (Some (digits_value radix ds)) n d.1 in
+    let f = chosen_then (nat_lt (digits_value radix ds) (2 ^ 64)) (Some (digits_value radix ds)) n
+    d.1 in
     let some : length ds ≢ 0 = grind (arith, nat_tests, a.0) in
     let few : length ds ≤ most = grind (arith, nat_tests, b.0) in
     let is : n ≡ digits_value radix ds = cc (f.1) in
@@ -129,13 +159,15 @@ numeral_found radix most ds n h =
     (omega (arith, is, fits), (omega (arith, some), few, d.0, is))
 
 -- what is a numeral, and below 2^64, is read
-numeral_again : (radix most : ℕ) (ds : List ℕ) (n : ℕ) → n < 2 ^ 64 → IsNumeral radix most ds n → numeral_of radix most ds ≡ Some n
+numeral_again : (radix most : ℕ) (ds : List ℕ) (n : ℕ) → n < 2 ^ 64 → IsNumeral radix most ds n
+    → numeral_of radix most ds ≡ Some n
 numeral_again radix most ds n fits (some, few, digits, is) =
     let e : (length ds == 0) ≡ false = grind (arith, nat_tests) in
     all_digits radix most ds e few digits (omega arith) ∙ ap (λ k. Some k) (sym is)
 
 -- a text that begins with 0x
-hex_front : (word : List ℕ) → bytes_eq (take 2 word) (codes "0x") ≡ true → word ≡ codes "0x" ++ drop 2 word
+hex_front : (word : List ℕ) → bytes_eq (take 2 word) (codes "0x") ≡ true → word ≡ codes "0x"
+    ++ drop 2 word
 hex_front [] h = cc
 hex_front (a ∷ []) h = grind (arith, nat_tests, h)
 hex_front (a ∷ b ∷ rest) h =
@@ -149,32 +181,43 @@ no_decimal digits n h = cc (h.2)
 pub number_found : (word : List ℕ) (n : ℕ) → number_of word ≡ Some n → IsNumber word n
 unfolding number_of
 number_found word n h =
-    elim (bytes_eq (take 2 word) (codes "0x")) as (λ b. bytes_eq (take 2 word) (codes "0x") ≡ b → cond b (numeral_of 16 16 (drop 2 word)) (numeral_of 10 20 word) ≡ Some n → IsNumber word n) [
-      | true ↦ λ t e. (let g = numeral_found 16 16 (drop 2 word) n e in (g.0, inl (drop 2 word, hex_front word t, g.1)))
+    elim (bytes_eq (take 2 word) (codes "0x")) as (λ b. bytes_eq (take 2 word) (codes "0x") ≡ b
+    → cond b (numeral_of 16 16 (drop 2 word)) (numeral_of 10 20 word) ≡ Some n
+    → IsNumber word n) [
+      | true ↦ λ t e. (let g = numeral_found 16 16 (drop 2 word) n e in
+          (g.0, inl (drop 2 word, hex_front word t, g.1)))
       | false ↦ λ t e. (let g = numeral_found 10 20 word n e in (g.0, inr g.1))
     ] refl h
 
 pub number_again : (word : List ℕ) (n : ℕ) → IsNumber word n → number_of word ≡ Some n
 unfolding number_of
-number_again word n (fits, inl (digits, spelled, is)) = rw spelled (numeral_again 16 16 digits n fits is)
+number_again word n (fits, inl (digits, spelled, is)) =
+    rw spelled (numeral_again 16 16 digits n fits is)
 number_again word n (fits, inr is) =
-    elim (bytes_eq (take 2 word) (codes "0x")) as (λ b. bytes_eq (take 2 word) (codes "0x") ≡ b → cond b (numeral_of 16 16 (drop 2 word)) (numeral_of 10 20 word) ≡ Some n) [
-      | true ↦ λ t. absurd (no_decimal (drop 2 word) n (let P : List ℕ → Type 0 = λ w. IsNumeral 10 20 w n in subst P (hex_front word t) is))
+    elim (bytes_eq (take 2 word) (codes "0x")) as (λ b. bytes_eq (take 2 word) (codes "0x") ≡ b
+    → cond b (numeral_of 16 16 (drop 2 word)) (numeral_of 10 20 word) ≡ Some n) [
+      | true ↦
+          λ t.
+          absurd (no_decimal (drop 2 word) n (let P : List ℕ → Type 0 = λ w. IsNumeral 10 20 w n in
+          subst P (hex_front word t) is))
       | false ↦ λ t. numeral_again 10 20 word n fits is
     ] refl
 
 -- the words of the grammar are read, and no other
-pub number_grammar : (word : List ℕ) → MatchOption (number_of word) ((n : ℕ) → IsNumber word n → ⊥) (λ n. IsNumber word n)
+pub number_grammar : (word : List ℕ) → MatchOption (number_of word) ((n : ℕ) → IsNumber word n → ⊥)
+    (λ n. IsNumber word n)
 number_grammar word =
     match_from (number_of word) ((n : ℕ) → IsNumber word n → ⊥) (λ n. IsNumber word n)
     (λ none n h. let e : number_of word ≡ Some n = number_again word n h in cc)
     (number_found word)
 
-pub number_hex : (word digits : List ℕ) → bytes_eq (take 2 word) (codes "0x") ≡ true → digits ≡ drop 2 word → number_of word ≡ numeral_of 16 16 digits
+pub number_hex : (word digits : List ℕ) → bytes_eq (take 2 word) (codes "0x") ≡ true
+    → digits ≡ drop 2 word → number_of word ≡ numeral_of 16 16 digits
 unfolding number_of
 number_hex word digits h e = rw (h, e) refl
 
-pub number_decimal : (word : List ℕ) → bytes_eq (take 2 word) (codes "0x") ≡ false → number_of word ≡ numeral_of 10 20 word
+pub number_decimal : (word : List ℕ) → bytes_eq (take 2 word) (codes "0x") ≡ false
+    → number_of word ≡ numeral_of 10 20 word
 unfolding number_of
 number_decimal word h = rw h refl
 

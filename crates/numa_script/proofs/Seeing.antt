@@ -1,5 +1,6 @@
 -- A line says no more than its first 4,097 bytes.
-use Rattle.std.specs.Prelude.{◌≡◌, ℕ, ◌<◌, ◌≤◌, true, false, List, [], ◌∷◌, length, take, nat_lt, nat_le, cond, refl}
+use Rattle.std.specs.Prelude.{◌≡◌, ℕ, ◌<◌, ◌≤◌, true, false, List, [], ◌∷◌, length, take, nat_lt}
+use Rattle.std.specs.Prelude.{nat_le, cond, refl}
 use Prim.Native.Nat.{suc}
 use Rattle.std.proofs.Common.{sym, ◌∙◌, ap, arith}
 use Rattle.std.proofs.lemmas.List.{take_all, length-take-le}
@@ -24,7 +25,8 @@ seen_long : (line : List ℕ) → 4097 ≤ length line → length (given_part li
 unfolding given_part
 seen_long line h = length-take-le 4097 line h
 
-line_of_long : (line : List ℕ) → 4096 < length line → line_of line ≡ cond (is_silent line) Silent Malformed
+line_of_long : (line : List ℕ) → 4096 < length line → line_of line ≡ cond (is_silent line) Silent
+    Malformed
 unfolding line_of
 line_of_long line h =
     let e : nat_lt 4096 (length line) ≡ true = grind (arith, nat_tests) in
@@ -33,9 +35,13 @@ line_of_long line h =
 -- what a line says shows in as much of it as is kept
 pub line_of_seen : (line : List ℕ) → line_of (given_part line) ≡ line_of line
 line_of_seen line =
-    elim (nat_le (length line) 4097) as (λ t. nat_le (length line) 4097 ≡ t → line_of (given_part line) ≡ line_of line) [
-      | true ↦ λ t. (let few : length line ≤ 4097 = grind (arith, nat_tests, t) in ap line_of (seen_short line few))
+    elim (nat_le (length line) 4097) as (λ t. nat_le (length line) 4097 ≡ t
+    → line_of (given_part line) ≡ line_of line) [
+      | true ↦ λ t. (let few : length line ≤ 4097 = grind (arith, nat_tests, t) in
+          ap line_of (seen_short line few))
       | false ↦ λ t.
           (let many : 4097 < length line = grind (arith, nat_tests, t) in
-          line_of_long (given_part line) (omega (arith, seen_long line (omega arith))) ∙ ap (λ s. cond s Silent Malformed) (seen_silent line) ∙ sym (line_of_long line (omega arith)))
+          line_of_long (given_part line) (omega (arith, seen_long line (omega arith)))
+          ∙ ap (λ s. cond s Silent Malformed) (seen_silent line)
+          ∙ sym (line_of_long line (omega arith)))
     ] refl

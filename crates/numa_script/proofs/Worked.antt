@@ -15,7 +15,8 @@ use Rattle.numa_script.specs.declared.work.Work.TheVariants as work
 
 -- ---- questions
 
-greatest-span : line_of (codes "span 1 0x11fff 65536 3") ≡ line.Question (question.Span 1 73727 65536 3)
+greatest-span : line_of (codes "span 1 0x11fff 65536 3")
+    ≡ line.Question (question.Span 1 73727 65536 3)
 unfolding line_of keyword_of number_of numeral_of in_64_bits
 greatest-span = refl
 
@@ -23,7 +24,8 @@ too-great_span : line_of (codes "span 1 0 65537 0") ≡ line.Malformed
 unfolding line_of keyword_of number_of numeral_of in_64_bits
 too-great_span = refl
 
-greatest-counts : line_of (codes "counts 1 0x10000 18446744073709551615 0") ≡ line.Question (question.Counts 1 65536 18446744073709551615 0)
+greatest-counts : line_of (codes "counts 1 0x10000 18446744073709551615 0")
+    ≡ line.Question (question.Counts 1 65536 18446744073709551615 0)
 unfolding line_of keyword_of number_of numeral_of in_64_bits
 greatest-counts = refl
 
@@ -42,7 +44,8 @@ unfolding line_of keyword_of number_of numeral_of in_64_bits
 publishing = refl
 
 -- the last byte of page 17
-beginning : line_of (codes "begin 2 1 0x11fff 3") ≡ line.Work (work.Event (event.Begin 2 (record { task = 1; page = 17; cpu = 3 })))
+beginning : line_of (codes "begin 2 1 0x11fff 3")
+    ≡ line.Work (work.Event (event.Begin 2 (record { task = 1; page = 17; cpu = 3 })))
 unfolding line_of keyword_of number_of numeral_of in_64_bits
 beginning = refl
 
@@ -50,7 +53,8 @@ looking : line_of (codes "look 0 1") ≡ line.Work (work.Event (event.Look 0 1))
 unfolding line_of keyword_of number_of numeral_of in_64_bits
 looking = refl
 
-trying : line_of (codes "try 0 255 65535") ≡ line.Work (work.Event (event.Try 0 (record { node = 255; number = 65535 })))
+trying : line_of (codes "try 0 255 65535")
+    ≡ line.Work (work.Event (event.Try 0 (record { node = 255; number = 65535 })))
 unfolding line_of keyword_of number_of numeral_of in_64_bits
 trying = refl
 
@@ -62,12 +66,14 @@ too-high_frame : line_of (codes "give 0 0 65536") ≡ line.Malformed
 unfolding line_of keyword_of number_of numeral_of in_64_bits
 too-high_frame = refl
 
-giving : line_of (codes "give 3 1 0") ≡ line.Work (work.Event (event.Give 3 (record { node = 1; number = 0 })))
+giving : line_of (codes "give 3 1 0")
+    ≡ line.Work (work.Event (event.Give 3 (record { node = 1; number = 0 })))
 unfolding line_of keyword_of number_of numeral_of in_64_bits
 giving = refl
 
 -- any address of 64 bits has a page
-touching : line_of (codes "touch 0 1 0xffffffffffffffff 0") ≡ line.Work (work.Touch 0 (record { task = 1; page = 4503599627370495; cpu = 0 }))
+touching : line_of (codes "touch 0 1 0xffffffffffffffff 0")
+    ≡ line.Work (work.Touch 0 (record { task = 1; page = 4503599627370495; cpu = 0 }))
 unfolding line_of keyword_of number_of numeral_of in_64_bits
 touching = refl
 
@@ -98,16 +104,32 @@ falling_nodes_with_cpus : line_of (codes "cpus 1-0") ≡ line.Cpus (Err BackRang
 unfolding line_of keyword_of item_of ends_of node_numeral_of digit_of
 falling_nodes_with_cpus = refl
 
-nearest_first : line_of (codes "machine 2 0 8 flat") ≡ line.Machine (record { nodes = 2; memory = Ok 1; frames = 8 ∷ []; kernel_orders = false; distances = Flat })
-unfolding line_of keyword_of number_of numeral_of in_64_bits distances_of item_of ends_of node_numeral_of digit_of
+nearest_first : line_of (codes "machine 2 0 8 flat")
+    ≡ line.Machine
+    (record { nodes = 2; memory = Ok 1; frames = 8 ∷ []; kernel_orders = false; distances = Flat })
+unfolding line_of keyword_of number_of numeral_of in_64_bits distances_of item_of ends_of
+    node_numeral_of digit_of
 nearest_first = refl
 
-orders_of_a_kernel : line_of (codes "machine 2 0 8 kernel:flat") ≡ line.Machine (record { nodes = 2; memory = Ok 1; frames = 8 ∷ []; kernel_orders = true; distances = Flat })
-unfolding line_of keyword_of number_of numeral_of in_64_bits distances_of item_of ends_of node_numeral_of digit_of
+orders_of_a_kernel : line_of (codes "machine 2 0 8 kernel:flat")
+    ≡ line.Machine
+    (record { nodes = 2; memory = Ok 1; frames = 8 ∷ []; kernel_orders = true; distances = Flat })
+unfolding line_of keyword_of number_of numeral_of in_64_bits distances_of item_of ends_of
+    node_numeral_of digit_of
 orders_of_a_kernel = refl
 
-orders_of_a_kernel-by_a_table : line_of (codes "machine 1 0 8 kernel:10") ≡ line.Machine (record { nodes = 1; memory = Ok 1; frames = 8 ∷ []; kernel_orders = true; distances = Table (10 ∷ []) })
-unfolding line_of keyword_of number_of numeral_of in_64_bits distances_of item_of ends_of node_numeral_of digit_of
+orders_of_a_kernel-by_a_table : line_of (codes "machine 1 0 8 kernel:10")
+    ≡ line.Machine
+    (record {
+      nodes = 1;
+      memory = Ok 1;
+      frames = 8 ∷ [];
+      kernel_orders = true;
+      distances =
+          Table (10 ∷ []);
+    })
+unfolding line_of keyword_of number_of numeral_of in_64_bits distances_of item_of ends_of
+    node_numeral_of digit_of
 orders_of_a_kernel-by_a_table = refl
 
 -- ---- commands

@@ -26,7 +26,8 @@ trailing = refl
 -- ---- bytes
 
 -- a DOS line end
-carriage_return : fault_of (codes "ranges" ++ 13 ∷ []) ≡ Some (record { cause = cause.StrayByte 13; column = 7 })
+carriage_return : fault_of (codes "ranges" ++ 13 ∷ [])
+    ≡ Some (record { cause = cause.StrayByte 13; column = 7 })
 unfolding fault_of keyword_of
 carriage_return = refl
 
@@ -41,38 +42,49 @@ unknown : fault_of (codes "mapp 0 1 2") ≡ Some (record { cause = cause.Unknown
 unfolding fault_of keyword_of
 unknown = refl
 
-too_few : fault_of (codes "mbind 0 bind:0") ≡ Some (record { cause = cause.TooFewWords keyword.Mbind; column = 16 })
+too_few : fault_of (codes "mbind 0 bind:0")
+    ≡ Some (record { cause = cause.TooFewWords keyword.Mbind; column = 16 })
 unfolding fault_of keyword_of
 too_few = refl
 
-too_many : fault_of (codes "unmap 0 1 2") ≡ Some (record { cause = cause.TooManyWords keyword.Unmap; column = 11 })
+too_many : fault_of (codes "unmap 0 1 2")
+    ≡ Some (record { cause = cause.TooManyWords keyword.Unmap; column = 11 })
 unfolding fault_of keyword_of
 too_many = refl
 
-no_number : fault_of (codes "map 0 four 2") ≡ Some (record { cause = cause.BadWord keyword.Map parameter.Length Unreadable; column = 7 })
+no_number : fault_of (codes "map 0 four 2")
+    ≡ Some (record { cause = cause.BadWord keyword.Map parameter.Length Unreadable; column = 7 })
 unfolding fault_of keyword_of number_of numeral_of in_64_bits
 no_number = refl
 
-too_great : fault_of (codes "span 1 0 65537 0") ≡ Some (record { cause = cause.BadWord keyword.Span parameter.SpanPages TooGreat; column = 10 })
+too_great : fault_of (codes "span 1 0 65537 0")
+    ≡ Some (record { cause = cause.BadWord keyword.Span parameter.SpanPages TooGreat; column = 10 })
 unfolding fault_of keyword_of number_of numeral_of in_64_bits
 too_great = refl
 
 -- no list of distances has one above 255
-no_distances : fault_of (codes "machine 1 0 1 256") ≡ Some (record { cause = cause.BadWord keyword.Machine parameter.Distances Unreadable; column = 15 })
+no_distances : fault_of (codes "machine 1 0 1 256")
+    ≡ Some
+    (record { cause = cause.BadWord keyword.Machine parameter.Distances Unreadable; column = 15 })
 unfolding fault_of keyword_of number_of numeral_of in_64_bits distances_of
 no_distances = refl
 
 -- nothing stands behind `kernel:`
-no_distances-of_a_kernel : fault_of (codes "machine 1 0 1 kernel:") ≡ Some (record { cause = cause.BadWord keyword.Machine parameter.Distances Unreadable; column = 15 })
+no_distances-of_a_kernel : fault_of (codes "machine 1 0 1 kernel:")
+    ≡ Some
+    (record { cause = cause.BadWord keyword.Machine parameter.Distances Unreadable; column = 15 })
 unfolding fault_of keyword_of number_of numeral_of in_64_bits distances_of
 no_distances-of_a_kernel = refl
 
 -- `kernel:` stands there once
-kernel_of_a_kernel : fault_of (codes "machine 1 0 1 kernel:kernel:flat") ≡ Some (record { cause = cause.BadWord keyword.Machine parameter.Distances Unreadable; column = 15 })
+kernel_of_a_kernel : fault_of (codes "machine 1 0 1 kernel:kernel:flat")
+    ≡ Some
+    (record { cause = cause.BadWord keyword.Machine parameter.Distances Unreadable; column = 15 })
 unfolding fault_of keyword_of number_of numeral_of in_64_bits distances_of
 kernel_of_a_kernel = refl
 
-no_nodes_with_cpus : fault_of (codes "cpus") ≡ Some (record { cause = cause.TooFewWords keyword.Cpus; column = 6 })
+no_nodes_with_cpus : fault_of (codes "cpus")
+    ≡ Some (record { cause = cause.TooFewWords keyword.Cpus; column = 6 })
 unfolding fault_of keyword_of
 no_nodes_with_cpus = refl
 

@@ -1,5 +1,5 @@
--- The words before a machine is ready: whose rules count, and those of a machine line that are lists
--- of numbers, its frames and its distances, with what the distances may stand behind.
+-- The words before a machine is ready: whose rules count, and those of a machine line that are
+-- lists of numbers, its frames and its distances, with what the distances may stand behind.
 use Rattle.std.specs.Prelude.{ℕ, ◌==◌, List, [], ◌∷◌, map, codes, Option, Some, None}
 use Rattle.std.specs.Prelude.{Bool, take, drop, if◌then◌else◌}
 use Rattle.std.specs.List.{range_with_len, flat_map}

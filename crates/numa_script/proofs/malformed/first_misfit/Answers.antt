@@ -7,5 +7,6 @@ pub returns-in_default : goal.returns-in_default
 returns-in_default c =
     let left = drop c.loop-parameter.parameter-index c.args.parameters.now in
     sym (first_misfit_no_words c.args.keyword left c.loop-parameter.column)
-    ∙ ap (first_misfit c.args.keyword left c.loop-parameter.column) (sym c.in_default.ensures.steps.0)
+    ∙ ap (first_misfit c.args.keyword left c.loop-parameter.column)
+    (sym c.in_default.ensures.steps.0)
     ∙ c.loop-parameter.invariant.0

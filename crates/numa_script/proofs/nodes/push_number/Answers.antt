@@ -10,8 +10,10 @@ returns-clause-items c =
       | then-tens-lt10 w ↦ ap (λ t. t.items) w.text-is ∙ w.push_digit-then-tens-lt10.ensures.items
       | else-tens-lt10 w ↦
           ap (λ t. t.items) w.text-is ∙ w.push_digit-else-tens-lt10-2.ensures.items
-          ∙ ap (λ t. t ++ decimal (c.args.number / 10 % 10)) w.push_digit-else-tens-lt10.ensures.items
-          ∙ last_said c.args.text.now.items (c.args.number / 10) (omega (arith, w.if-tens-lt10.false)) (omega arith)
+          ∙ ap (λ t. t ++ decimal (c.args.number / 10 % 10))
+          w.push_digit-else-tens-lt10.ensures.items
+          ∙ last_said c.args.text.now.items (c.args.number / 10)
+          (omega (arith, w.if-tens-lt10.false)) (omega arith)
     ] in
     c.push_digit-2.ensures.items ∙ ap (λ t. t ++ decimal (c.args.number % 10)) front
     ∙ last_said c.args.text.now.items c.args.number (omega arith) (omega arith)
