@@ -1,5 +1,6 @@
 -- Ways that compare as equal are one, so that what is counted for one is counted for no other.
-use Rattle.std.proofs.Common.{◌≡◌, ◌==◌, ℕ, Bool, true, Option, Some, None, List, refl, ap, ◌∙◌, inl, inr}
+use Rattle.std.proofs.Common.{◌≡◌, ◌==◌, ℕ, Bool, true, Option, Some, None, List, refl, ap, ◌∙◌}
+use Rattle.std.proofs.Common.{inl, inr}
 use Rattle.std.specs.Prelude.{nat_lt, unwrap_or, if◌then◌else◌}
 use Rattle.std.specs.BTreeMap.{is_at}
 use Rattle.std.specs.Map.{lookup}
@@ -8,10 +9,12 @@ use Rattle.std.specs.Ordering.{nat_cmp, ordering_then, is_eq}
 use Rattle.std.specs.declared.cmp.Ordering.{Ordering}
 use Rattle.std.specs.declared.cmp.Ordering.TheVariants.{Less, Equal, Greater}
 use Rattle.std.proofs.lemmas.Bool.{cases_Bool, eqb-true}
-use Rattle.numa_traces.specs.Tallies.{Way, way_cmp, is_way, tally_at, with_accesses, no_accesses, Counts}
+use Rattle.numa_traces.specs.Tallies.{Way, way_cmp, is_way, tally_at, with_accesses, no_accesses}
+use Rattle.numa_traces.specs.Tallies.{Counts}
 use Rattle.numa_traces.specs.declared.tallies.Tally.{Tally}
 
-then-equal : (o p : Ordering) → is_eq (ordering_then o p) ≡ true → (is_eq o ≡ true) × (is_eq p ≡ true)
+then-equal : (o p : Ordering) → is_eq (ordering_then o p) ≡ true → (is_eq o ≡ true)
+    × (is_eq p ≡ true)
 then-equal Less p h = absurd (cc)
 then-equal Equal p h = (refl, h)
 then-equal Greater p h = absurd (cc)
@@ -33,7 +36,8 @@ option-equal (Some x) (Some y) h = ap Some (nat-equal x y h)
 
 pub way-same : (a b : Way) → is_way a b ≡ true → a ≡ b
 way-same a b h =
-    let last = then-equal (ordering_then (nat_cmp a.0 b.0) (nat_cmp a.1 b.1)) (option_cmp nat_cmp a.2 b.2) h in
+    let last = then-equal (ordering_then (nat_cmp a.0 b.0) (nat_cmp a.1 b.1))
+    (option_cmp nat_cmp a.2 b.2) h in
     let first = then-equal (nat_cmp a.0 b.0) (nat_cmp a.1 b.1) last.0 in
     let task : a.0 ≡ b.0 = nat-equal a.0 b.0 first.0 in
     let cpu : a.1 ≡ b.1 = nat-equal a.1 b.1 first.1 in
@@ -41,13 +45,16 @@ way-same a b h =
     λ i. (task i, cpu i, node i)
 
 -- one way's tally is written
-pub counted : (old new : List (Way × Tally)) (way : Way) (tally : Tally) (count : ℕ) (is_fault : Bool)
-    → ((q : Way) → lookup (is_at (way_cmp q)) new ≡ (if is_at (way_cmp way) q then Some tally else lookup (is_at (way_cmp q)) old))
+pub counted : (old new : List (Way × Tally)) (way : Way) (tally : Tally) (count : ℕ)
+    (is_fault : Bool)
+    → ((q : Way) → lookup (is_at (way_cmp q)) new
+    ≡ (if is_at (way_cmp way) q then Some tally else lookup (is_at (way_cmp q)) old))
     → tally ≡ with_accesses (tally_at old way) count is_fault
     → Counts old way count is_fault new
 counted old new way tally count is_fault written is other = elim (cases_Bool (is_way way other)) [
   | inl t ↦
-      let here : tally_at new other ≡ tally = ap (λ o. unwrap_or o no_accesses) (rw t at (written other)) in
+      let here : tally_at new other ≡ tally =
+      ap (λ o. unwrap_or o no_accesses) (rw t at (written other)) in
       let same : way ≡ other = way-same way other t in
       rw t (here ∙ is ∙ ap (λ w. with_accesses (tally_at old w) count is_fault) same)
   | inr f ↦ rw f (ap (λ o. unwrap_or o no_accesses) (rw f at (written other)))

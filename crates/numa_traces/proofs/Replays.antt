@@ -1,5 +1,6 @@
 -- A replay, one access later.
-use Rattle.std.proofs.Common.{◌≡◌, ℕ, ◌<◌, Bool, not, is_some, Option, Some, None, List, [], ◌∷◌, Result, Ok, Err, OnOk, IfErr, refl, subst, sym, ap, ◌∙◌}
+use Rattle.std.proofs.Common.{◌≡◌, ℕ, ◌<◌, Bool, not, is_some, Option, Some, None, List, [], ◌∷◌}
+use Rattle.std.proofs.Common.{Result, Ok, Err, OnOk, IfErr, refl, subst, sym, ap, ◌∙◌}
 use Rattle.std.specs.Prelude.{unwrap_or, if◌then◌else◌}
 use Rattle.std.specs.Option.{option_map}
 use Rattle.std.proofs.lemmas.Bool.{lt-leb}
@@ -8,58 +9,82 @@ use Rattle.numa_plan.specs.Meaning.{PlanData, place_refusal, planned_list}
 use Rattle.numa_space.specs.declared.refusal.PlaceRefusal.{PlaceRefusal}
 use Rattle.numa_space.specs.declared.refusal.PlaceRefusal.TheVariants.{Unmapped}
 use Rattle.numa_traces.specs.Placing.{Frames, node_of, frames_with_page}
-use Rattle.numa_traces.specs.Replaying.{EndsReplay, Replayed, IsReplay, frames_after, is_first, way_from}
+use Rattle.numa_traces.specs.Replaying.{EndsReplay, Replayed, IsReplay, frames_after, is_first}
+use Rattle.numa_traces.specs.Replaying.{way_from}
 use Rattle.numa_traces.specs.Tallies.{Counts, IsFull, IsRoomFault, Way, is_way, with_accesses}
 use Rattle.numa_traces.specs.declared.access.Access.{Access}
 use Rattle.numa_traces.specs.declared.fault.ReplayError.{ReplayError}
-use Rattle.numa_traces.specs.declared.fault.ReplayError.TheVariants.{Malformed, Refused, TooMany, NoMemory}
+use Rattle.numa_traces.specs.declared.fault.ReplayError.TheVariants.{Malformed, Refused, TooMany}
+use Rattle.numa_traces.specs.declared.fault.ReplayError.TheVariants.{NoMemory}
 
-pub on-ok : {A E : Type 0} {P Q : Type 0} (result : Result A E) → (P → Q) → OnOk result P → OnOk result Q
+pub on-ok : {A E : Type 0} {P Q : Type 0} (result : Result A E) → (P → Q) → OnOk result P
+    → OnOk result Q
 on-ok (Ok a) from p = from p
 on-ok (Err e) from p = tt
 
 -- a page that has a list is refused to no node of the plan
-pub none-refused : (plan : PlanData) (task page cpu : ℕ) (nodes : List ℕ) → cpu < plan.nodes → planned_list plan task page cpu ≡ Some nodes → place_refusal plan page cpu ≡ None
+pub none-refused : (plan : PlanData) (task page cpu : ℕ) (nodes : List ℕ) → cpu < plan.nodes
+    → planned_list plan task page cpu ≡ Some nodes → place_refusal plan page cpu ≡ None
 none-refused plan task page cpu nodes lt planned = rw (lt-leb plan.nodes cpu lt) (go _ _ planned)
   where
-    go : (f : (ℕ × Option ℕ) → List ℕ) (at : Option (ℕ × Option ℕ)) → option_map f at ≡ Some nodes → ◌≡◌ {A = Option PlaceRefusal} (if is_some at then None else Some Unmapped) None
+    go : (f : (ℕ × Option ℕ) → List ℕ) (at : Option (ℕ × Option ℕ)) → option_map f at ≡ Some nodes
+        → ◌≡◌ {A = Option PlaceRefusal} (if is_some at then None else Some Unmapped) None
     go f None e = absurd (let odd = e in cc)
     go f (Some at) e = refl
 
 -- why accesses that go a way can't be counted
-pub room-ends : {A : Type 0} (plan : PlanData) (met : Replayed) (access : Access) (way : Way) (first : Bool) (result : Result A ReplayError) → place_refusal plan access.page access.cpu ≡ None
+pub room-ends : {A : Type 0} (plan : PlanData) (met : Replayed) (access : Access) (way : Way)
+    (first : Bool) (result : Result A ReplayError) → place_refusal plan access.page access.cpu
+    ≡ None
     → way_from plan met.frames access ≡ way → is_first met.frames access ≡ first
-    → IfErr result IsRoomFault → IfErr result (λ why. why ≡ TooMany → IsFull met.tallies way access.count first)
+    → IfErr result IsRoomFault
+    → IfErr result (λ why. why ≡ TooMany → IsFull met.tallies way access.count first)
     → IfErr result (EndsReplay plan met access)
 room-ends plan met access way first (Ok a) none goes is room full = tt
-room-ends plan met access way first (Err TooMany) none goes is room full =
-    (none, subst (λ (w : Way). IsFull met.tallies w access.count (is_first met.frames access)) (sym goes) (subst (λ (b : Bool). IsFull met.tallies way access.count b) (sym is) (full refl)))
+room-ends plan met access way first (Err TooMany) none goes is room full = (
+  none,
+  subst (λ (w : Way). IsFull met.tallies w access.count (is_first met.frames access))
+      (sym goes) (subst (λ (b : Bool). IsFull met.tallies way access.count b) (sym is)
+      (full refl)),
+)
 room-ends plan met access way first (Err NoMemory) none goes is room full = none
 room-ends plan met access way first (Err (Refused r)) none goes is room full = absurd room
 room-ends plan met access way first (Err (Malformed f)) none goes is room full = absurd room
 
 -- the way of an access whose page is placed already
-pub placed-way : (plan : PlanData) (frames : Frames) (access : Access) (node : ℕ) → node_of frames.pages access.page ≡ Some node → way_from plan frames access ≡ (access.task, access.cpu, Some node)
-placed-way plan frames access node lies = ap (λ (n : Option ℕ). (access.task, access.cpu, n)) (rw lies lies)
+pub placed-way : (plan : PlanData) (frames : Frames) (access : Access) (node : ℕ)
+    → node_of frames.pages access.page ≡ Some node → way_from plan frames access
+    ≡ (access.task, access.cpu, Some node)
+placed-way plan frames access node lies = ap (λ (n : Option ℕ). (access.task, access.cpu, n))
+    (rw lies lies)
 
 -- and of one whose page is placed by it
-pub touched-way : (plan : PlanData) (old new : Frames) (access : Access) (nodes : List ℕ) (place : Option ℕ) → planned_list plan access.task access.page access.cpu ≡ Some nodes
-    → new ≡ frames_with_page old access.page nodes → node_of new.pages access.page ≡ place → way_from plan old access ≡ (access.task, access.cpu, place)
+pub touched-way : (plan : PlanData) (old new : Frames) (access : Access) (nodes : List ℕ)
+    (place : Option ℕ) → planned_list plan access.task access.page access.cpu ≡ Some nodes
+    → new ≡ frames_with_page old access.page nodes → node_of new.pages access.page ≡ place
+    → way_from plan old access ≡ (access.task, access.cpu, place)
 touched-way plan old new access nodes place planned touches lies =
-    let list : unwrap_or (planned_list plan access.task access.page access.cpu) [] ≡ nodes = ap (λ (o : Option (List ℕ)). unwrap_or o []) planned in
+    let list : unwrap_or (planned_list plan access.task access.page access.cpu) [] ≡ nodes =
+    ap (λ (o : Option (List ℕ)). unwrap_or o []) planned in
     ap (λ (n : Option ℕ). (access.task, access.cpu, n))
-    (ap (λ (nodes : List ℕ). node_of (frames_with_page old access.page nodes).pages access.page) list ∙ ap (λ (f : Frames). node_of f.pages access.page) (sym touches) ∙ lies)
+    (ap (λ (nodes : List ℕ). node_of (frames_with_page old access.page nodes).pages access.page)
+    list ∙ ap (λ (f : Frames). node_of f.pages access.page) (sym touches) ∙ lies)
 
-pub replayed : (machine : Hardware) (plan : PlanData) (trace : List Access) (access : Access) (old new : Replayed) (nodes : List ℕ)
+pub replayed : (machine : Hardware) (plan : PlanData) (trace : List Access) (access : Access)
+    (old new : Replayed) (nodes : List ℕ)
     → planned_list plan access.task access.page access.cpu ≡ Some nodes
     → new.frames ≡ frames_with_page old.frames access.page nodes
-    → Counts old.tallies (access.task, access.cpu, node_of new.frames.pages access.page) access.count (not (is_some (node_of old.frames.pages access.page))) new.tallies
+    → Counts old.tallies (access.task, access.cpu, node_of new.frames.pages access.page)
+    access.count (not (is_some (node_of old.frames.pages access.page))) new.tallies
     → IsReplay machine plan trace old → IsReplay machine plan (access ∷ trace) new
 replayed machine plan trace access old new nodes planned touches counts was = record {
   start = was.start;
   fresh = was.fresh;
   frames = after;
-  tallies = λ way. counts way ∙ (λ i. if is_way (access.task, access.cpu, node_of (after i).pages access.page) way then with_accesses (was.tallies way i) access.count (not (is_some (node_of (was.frames i).pages access.page))) else was.tallies way i);
+  tallies = λ way. counts way
+      ∙ (λ i. if is_way (access.task, access.cpu, node_of (after i).pages access.page) way
+      then with_accesses (was.tallies way i) access.count
+      (not (is_some (node_of (was.frames i).pages access.page))) else was.tallies way i);
 }
   where
     list : nodes ≡ unwrap_or (planned_list plan access.task access.page access.cpu) []

@@ -6,10 +6,24 @@ use Rattle.numa_traces.proofs.tallies.Tallies.add.Goals as goal
 
 pub returns-clause-counts : goal.returns-clause-counts
 returns-clause-counts c =
-    let P : List (Way × Tally) → Type 0 = λ old. Counts old c.args.way c.args.count c.args.is_fault c.insert.new.self.entries in
-    let written : Tally = record { accesses = c.in-Some.accesses; faults = c.in-Some-checked_add.faults } in
-    let is : written ≡ with_accesses (tally_at c.args.self.now c.args.way) c.args.count c.args.is_fault =
-    (λ i. record { accesses = (c.in-Some.ensures.1 ∙ (λ j. (c.get-tally.ensures j).accesses + c.from.ensures j)) i; faults = (c.in-Some-checked_add.ensures.1 ∙ (λ j. (c.get-tally.ensures j).faults + c.fault_count.ensures j)) i }) in
-    let here : written ≡ with_accesses (tally_at c.self.inside.tallies.entries c.args.way) c.args.count c.args.is_fault =
-    is ∙ ap (λ tallies. with_accesses (tally_at tallies c.args.way) c.args.count c.args.is_fault) (sym c.self.view_is) in
-    subst P c.self.view_is (counted c.self.inside.tallies.entries c.insert.new.self.entries c.args.way written c.args.count c.args.is_fault c.in_default-insert.ensures.updates.0 here)
+    let P : List (Way × Tally) → Type 0 = λ old. Counts old c.args.way c.args.count c.args.is_fault
+    c.insert.new.self.entries in
+    let written : Tally =
+    record { accesses = c.in-Some.accesses; faults = c.in-Some-checked_add.faults } in
+    let is : written ≡ with_accesses (tally_at c.args.self.now c.args.way) c.args.count
+    c.args.is_fault =
+    (λ i.
+    record {
+      accesses =
+          (c.in-Some.ensures.1 ∙ (λ j. (c.get-tally.ensures j).accesses + c.from.ensures j)) i;
+      faults =
+          (c.in-Some-checked_add.ensures.1 ∙ (λ j. (c.get-tally.ensures j).faults
+          + c.fault_count.ensures j)) i;
+    }) in
+    let here : written ≡ with_accesses (tally_at c.self.inside.tallies.entries c.args.way)
+    c.args.count c.args.is_fault =
+    is ∙ ap (λ tallies. with_accesses (tally_at tallies c.args.way) c.args.count c.args.is_fault)
+    (sym c.self.view_is) in
+    subst P c.self.view_is
+    (counted c.self.inside.tallies.entries c.insert.new.self.entries c.args.way written
+    c.args.count c.args.is_fault c.in_default-insert.ensures.updates.0 here)
