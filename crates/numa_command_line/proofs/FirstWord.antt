@@ -1,14 +1,19 @@
 -- What is asked for is named by the word behind the program's name.
-use Rattle.std.proofs.Common.{◌≡◌, ◌∙◌, ℕ, Bool, cond, true, false, refl, sym, ap, List, Option, Some, None, Result, Ok, Err, slice_get, codes}
+use Rattle.std.proofs.Common.{◌≡◌, ◌∙◌, ℕ, Bool, cond, true, false, refl, sym, ap, List, Option}
+use Rattle.std.proofs.Common.{Some, None, Result, Ok, Err, slice_get, codes}
 use Rattle.std.specs.Option.{option_map, unwrap_or}
 use Rattle.std.specs.Prelude.{IfOk, option_and_then}
 use Rattle.std.specs.Str.{bytes_eq}
 use Rattle.std.proofs.lemmas.Slice.Eq.{bytes_eq-Decides}
 use Rattle.clap.specs.Words.{App, Row, subcommand_of}
 use Rattle.numa_reports.specs.declared.touch.Touch.{Touch}
-use Rattle.numa_command_line.specs.Asked.{Answers, asked_in, asking_name, doing_name, doings_found, job_named, name_of, rows_behind, scripts_asked, word_named, work_asked}
-use Rattle.numa_command_line.specs.Jobs.{Asking, Doing, Doings, Text, ask, diff, doings_of, explain, predict, scripts, storm}
-use Rattle.numa_command_line.specs.Values.{format_in, frees_in, is_on, page_in, rules_in, texts_at, touch_in, workers_in}
+use Rattle.numa_command_line.specs.Asked.{Answers, asked_in, asking_name, doing_name, doings_found}
+use Rattle.numa_command_line.specs.Asked.{job_named, name_of, rows_behind, scripts_asked}
+use Rattle.numa_command_line.specs.Asked.{word_named, work_asked}
+use Rattle.numa_command_line.specs.Jobs.{Asking, Doing, Doings, Text, ask, diff, doings_of, explain}
+use Rattle.numa_command_line.specs.Jobs.{predict, scripts, storm}
+use Rattle.numa_command_line.specs.Values.{format_in, frees_in, is_on, page_in, rules_in, texts_at}
+use Rattle.numa_command_line.specs.Values.{touch_in, workers_in}
 use Rattle.numa_command_line.specs.declared.command.Subcommand.{Subcommand}
 use Rattle.numa_command_line.specs.declared.command.Subcommand.TheVariants as word
 use Rattle.numa_command_line.specs.declared.jobs.Job.{Job}
@@ -27,76 +32,106 @@ label word.Explain = codes "explain"
 label word.Replay = codes "replay"
 
 -- a test of a name against a word's, where the tests behind it name theirs
-one_of_words : (name : Text) (w found : Subcommand) (rest : Option Subcommand) → (rest ≡ Some found → name ≡ label found)
+one_of_words : (name : Text) (w found : Subcommand) (rest : Option Subcommand)
+    → (rest ≡ Some found → name ≡ label found)
     → cond (bytes_eq name (label w)) (Some w) rest ≡ Some found → name ≡ label found
 one_of_words name w found rest behind = go (bytes_eq name (label w)) refl
   where
-    go : (t : Bool) → bytes_eq name (label w) ≡ t → cond t (Some w) rest ≡ Some found → name ≡ label found
+    go : (t : Bool) → bytes_eq name (label w) ≡ t → cond t (Some w) rest ≡ Some found
+        → name ≡ label found
     go true same e = (bytes_eq-Decides name (label w)).0 same ∙ ap label (some_is w found e)
     go false other e = behind e
 
 named_word : (name : Text) (found : Subcommand) → word_named name ≡ Some found → name ≡ label found
 named_word name found =
-    one_of_words name word.Run found _ (one_of_words name word.Check found _ (one_of_words name word.Expect found _ (one_of_words name word.Predict found _
-    (one_of_words name word.Diff found _ (one_of_words name word.Explain found _ (one_of_words name word.Replay found None (λ none. cc)))))))
+    one_of_words name word.Run found _
+    (one_of_words name word.Check found _
+    (one_of_words name word.Expect found _ (one_of_words name word.Predict found _
+    (one_of_words name word.Diff found _
+    (one_of_words name word.Explain found _
+    (one_of_words name word.Replay found None (λ none. cc)))))))
 
-asked_name : (touch : Option Touch) (lenient : Bool) (question : Option Asking) (named : Text) (doing : Doing)
+asked_name : (touch : Option Touch) (lenient : Bool) (question : Option Asking) (named : Text)
+    (doing : Doing)
     → ((what : Asking) → question ≡ Some what → asking_name what ≡ named)
-    → option_and_then (λ what. option_map (λ t. ask t what lenient) touch) question ≡ Some doing → doing_name doing ≡ named
+    → option_and_then (λ what. option_map (λ t. ask t what lenient) touch) question ≡ Some doing
+    → doing_name doing ≡ named
 asked_name touch lenient None named doing names e = cc
 asked_name None lenient (Some what) named doing names e = cc
-asked_name (Some t) lenient (Some what) named doing names e = ap doing_name (sym (some_is (ask t what lenient) doing e)) ∙ names what refl
+asked_name (Some t) lenient (Some what) named doing names e =
+    ap doing_name (sym (some_is (ask t what lenient) doing e)) ∙ names what refl
 
-mapped_name : {X : Type 0} (make : X → Asking) (named : Text) → ((x : X) → asking_name (make x) ≡ named)
-    → (from : Option X) (what : Asking) → option_map make from ≡ Some what → asking_name what ≡ named
+mapped_name : {X : Type 0} (make : X → Asking) (named : Text)
+    → ((x : X) → asking_name (make x) ≡ named)
+    → (from : Option X) (what : Asking) → option_map make from ≡ Some what
+    → asking_name what ≡ named
 mapped_name make named names None what e = cc
-mapped_name make named names (Some x) what e = ap asking_name (sym (some_is (make x) what e)) ∙ names x
+mapped_name make named names (Some x) what e = ap asking_name (sym (some_is (make x) what e))
+    ∙ names x
 
-work_name : (w : Subcommand) (rows : List Row) (doing : Doing) → work_asked w rows ≡ Some doing → doing_name doing ≡ label w
+work_name : (w : Subcommand) (rows : List Row) (doing : Doing) → work_asked w rows ≡ Some doing
+    → doing_name doing ≡ label w
 work_name word.Run rows doing e = ap doing_name (sym (some_is _ doing e))
 work_name word.Check rows doing e = ap doing_name (sym (some_is _ doing e))
 work_name word.Expect rows doing e = ap doing_name (sym (some_is _ doing e))
 work_name word.Predict rows doing e =
-    asked_name (touch_in rows) (is_on (codes "lenient") rows) _ (codes "predict") doing (mapped_name (predict (format_in rows)) (codes "predict") (λ free. refl) (frees_in rows)) e
+    asked_name (touch_in rows) (is_on (codes "lenient") rows) _ (codes "predict") doing
+    (mapped_name (predict (format_in rows)) (codes "predict") (λ free. refl) (frees_in rows)) e
 work_name word.Diff rows doing e =
-    asked_name (touch_in rows) (is_on (codes "lenient") rows) (Some (diff (texts_at (codes "then") rows))) (codes "diff") doing (λ what is. ap asking_name (sym (some_is _ what is))) e
+    asked_name (touch_in rows) (is_on (codes "lenient") rows)
+    (Some (diff (texts_at (codes "then") rows))) (codes "diff") doing
+    (λ what is. ap asking_name (sym (some_is _ what is))) e
 work_name word.Explain rows doing e =
-    asked_name (touch_in rows) (is_on (codes "lenient") rows) _ (codes "explain") doing (mapped_name explain (codes "explain") (λ page. refl) (page_in rows)) e
+    asked_name (touch_in rows) (is_on (codes "lenient") rows) _ (codes "explain") doing
+    (mapped_name explain (codes "explain") (λ page. refl) (page_in rows)) e
 work_name word.Replay rows doing e = ap doing_name (sym (some_is _ doing e))
 
-scripts_name : (files : List Text) (rows : List Row) (work : Option Doing) (d : Doings) (named : Text)
-    → ((doing : Doing) → work ≡ Some doing → doing_name doing ≡ named) → option_map (scripts files (rules_in rows)) work ≡ Some d → name_of d ≡ named
+scripts_name : (files : List Text) (rows : List Row) (work : Option Doing) (d : Doings)
+    (named : Text)
+    → ((doing : Doing) → work ≡ Some doing → doing_name doing ≡ named)
+    → option_map (scripts files (rules_in rows)) work ≡ Some d → name_of d ≡ named
 scripts_name files rows None d named names e = cc
-scripts_name files rows (Some doing) d named names e = ap name_of (sym (some_is (scripts files (rules_in rows) doing) d e)) ∙ names doing refl
+scripts_name files rows (Some doing) d named names e =
+    ap name_of (sym (some_is (scripts files (rules_in rows) doing) d e)) ∙ names doing refl
 
-storm_name : (workers : Option ℕ) (d : Doings) → option_map storm workers ≡ Some d → name_of d ≡ codes "storm"
+storm_name : (workers : Option ℕ) (d : Doings) → option_map storm workers ≡ Some d
+    → name_of d ≡ codes "storm"
 storm_name None d e = cc
 storm_name (Some k) d e = ap name_of (sym (some_is (storm k) d e))
 
-word_name : (name : Text) (rows : List Row) (found : Option Subcommand) (d : Doings) → ((w : Subcommand) → found ≡ Some w → name ≡ label w)
+word_name : (name : Text) (rows : List Row) (found : Option Subcommand) (d : Doings)
+    → ((w : Subcommand) → found ≡ Some w → name ≡ label w)
     → option_and_then (scripts_asked rows) found ≡ Some d → name ≡ name_of d
 word_name name rows None d names e = cc
-word_name name rows (Some w) d names e = names w refl ∙ sym (scripts_name (texts_at (codes "FILE") rows) rows (work_asked w rows) d (label w) (work_name w rows) e)
+word_name name rows (Some w) d names e = names w refl
+    ∙ sym (scripts_name (texts_at (codes "FILE") rows) rows (work_asked w rows) d (label w)
+    (work_name w rows) e)
 
-job_name : (name : Text) (rows : List Row) (d : Doings) → job_named name rows ≡ Some d → name ≡ name_of d
+job_name : (name : Text) (rows : List Row) (d : Doings) → job_named name rows ≡ Some d
+    → name ≡ name_of d
 job_name name rows d = go (bytes_eq name (codes "storm")) refl
   where
     go : (t : Bool) → bytes_eq name (codes "storm") ≡ t
-        → cond t (option_map storm (workers_in rows)) (option_and_then (scripts_asked rows) (word_named name)) ≡ Some d → name ≡ name_of d
-    go true same e = (bytes_eq-Decides name (codes "storm")).0 same ∙ sym (storm_name (workers_in rows) d e)
+        → cond t (option_map storm (workers_in rows))
+        (option_and_then (scripts_asked rows) (word_named name)) ≡ Some d → name ≡ name_of d
+    go true same e = (bytes_eq-Decides name (codes "storm")).0 same
+        ∙ sym (storm_name (workers_in rows) d e)
     go false other e = word_name name rows (word_named name) d (named_word name) e
 
-behind_name : (name : Text) (behind : Option (List Row)) (d : Doings) → option_and_then (job_named name) behind ≡ Some d → name ≡ name_of d
+behind_name : (name : Text) (behind : Option (List Row)) (d : Doings)
+    → option_and_then (job_named name) behind ≡ Some d → name ≡ name_of d
 behind_name name None d e = cc
 behind_name name (Some rows) d e = job_name name rows d e
 
 found_name : (word : Option Text) (found : Option (Text × List Row)) (d : Doings)
-    → option_and_then (λ name. option_and_then (job_named name) (rows_behind name found)) word ≡ Some d → word ≡ Some (name_of d)
+    → option_and_then (λ name. option_and_then (job_named name) (rows_behind name found)) word
+    ≡ Some d → word ≡ Some (name_of d)
 found_name None found d e = cc
 found_name (Some name) found d e = ap Some (behind_name name (rows_behind name found) d e)
 
 -- the job of a command line is that of its word
 pub first_word : (words : List Text) (answer : Result Job JobFault) → Answers words answer
     → IfOk answer (λ job. slice_get words 1 ≡ Some (name_of (doings_of job)))
-first_word words (Ok job) is = found_name (slice_get words 1) (subcommand_of is.0 words) (doings_of job) is.2.1
+first_word words (Ok job) is = found_name (slice_get words 1) (subcommand_of is.0 words)
+    (doings_of job) is.2.1
 first_word words (Err fault) is = tt

@@ -1,22 +1,29 @@
 -- What the parse's outcome means for the job.
-use Rattle.std.proofs.Common.{◌≡◌, ◌≢◌, ◌∙◌, ◌&&◌, ◌⊎◌, Bool, true, false, refl, sym, ap, subst, List, [], Option, Some, None, Result, Ok, Err, inl, inr}
-use Rattle.clap.specs.Words.{App, FailsBy, HasKind, IsAmong, Kinds, Row, fault_of, is_simple, is_simple_and_free, kind_of, subcommand_of}
+use Rattle.std.proofs.Common.{◌≡◌, ◌≢◌, ◌∙◌, ◌&&◌, ◌⊎◌, Bool, true, false, refl, sym, ap, subst}
+use Rattle.std.proofs.Common.{List, [], Option, Some, None, Result, Ok, Err, inl, inr}
+use Rattle.clap.specs.Words.{App, FailsBy, HasKind, IsAmong, Kinds, Row, fault_of, is_simple}
+use Rattle.clap.specs.Words.{is_simple_and_free, kind_of, subcommand_of}
 use Rattle.clap.specs.declared.error.Error.{Error}
 use Rattle.clap.specs.declared.error.kind.ErrorKind.{ErrorKind}
 use Rattle.clap.specs.declared.error.kind.ErrorKind.TheVariants as kind
 use Rattle.clap.specs.Faults.{is_free_app}
 use Rattle.clap.specs.Simple.{built}
-use Rattle.numa_command_line.specs.Asked.{HasNoJob, IsJobOf, IsShown, IsTold, doings_asked, doings_found}
+use Rattle.numa_command_line.specs.Asked.{HasNoJob, IsJobOf, IsShown, IsTold, doings_asked}
+use Rattle.numa_command_line.specs.Asked.{doings_found}
 use Rattle.numa_command_line.specs.Jobs.{Doings, IsMade, IsRefusal, Text, doings_of}
 use Rattle.numa_command_line.specs.declared.jobs.Job.{Job}
 use Rattle.numa_command_line.specs.declared.jobs.JobFault.{JobFault}
 use Rattle.numa_command_line.specs.declared.jobs.JobFault.TheVariants.{Help, Usage, NoMemory}
 
 -- where the parse refuses nothing, what is made of its matches is the job of the words
-pub made_is_job : (program : App) (words : List Text) (found : Option (Text × List Row)) (answer : Result Job JobFault)
-    → fault_of program words ≡ [] → found ≡ subcommand_of program words → IsMade doings_of (doings_found words found) answer → IsJobOf program words answer
-made_is_job program words found (Ok job) none is made = (none, ap (doings_found words) (sym is) ∙ made)
-made_is_job program words found (Err (Usage text)) none is made = inr (none, ap (doings_found words) (sym is) ∙ made)
+pub made_is_job : (program : App) (words : List Text) (found : Option (Text × List Row))
+    (answer : Result Job JobFault)
+    → fault_of program words ≡ [] → found ≡ subcommand_of program words
+    → IsMade doings_of (doings_found words found) answer → IsJobOf program words answer
+made_is_job program words found (Ok job) none is made =
+    (none, ap (doings_found words) (sym is) ∙ made)
+made_is_job program words found (Err (Usage text)) none is made =
+    inr (none, ap (doings_found words) (sym is) ∙ made)
 made_is_job program words found (Err (Help text)) none is made = absurd made
 made_is_job program words found (Err NoMemory) none is made = tt
 
@@ -27,10 +34,12 @@ shown_is_no_lack (inr e) = cc
 -- where it refuses something, no job is there
 pub told_is_no_job : (program : App) (words : List Text) (error : Error) (fault : JobFault)
     → HasKind (fault_of program words) error → IsTold error fault → HasNoJob program words fault
-told_is_no_job program words error (Help text) (inl lack) shown = absurd (shown_is_no_lack (subst IsShown lack shown))
+told_is_no_job program words error (Help text) (inl lack) shown =
+    absurd (shown_is_no_lack (subst IsShown lack shown))
 told_is_no_job program words error (Help text) (inr among) shown = (kind_of error, among, shown)
 told_is_no_job program words error (Usage text) (inl lack) told = absurd (told.0 lack)
-told_is_no_job program words error (Usage text) (inr among) told = inl (kind_of error, among, told.1)
+told_is_no_job program words error (Usage text) (inr among) told =
+    inl (kind_of error, among, told.1)
 told_is_no_job program words error NoMemory kinds told = tt
 
 pub simple_first : (a b : Bool) → (a && b) ≡ true → a ≡ true
@@ -38,7 +47,8 @@ simple_first true b e = refl
 simple_first false b e = e
 
 -- a refusal is right where nothing is wanted
-pub refused_is_made : {X Y : Type 0} (seen : X → Y) (wanted : Option Y) (fault : JobFault) → wanted ≡ None → IsRefusal fault → IsMade seen wanted (Err fault)
+pub refused_is_made : {X Y : Type 0} (seen : X → Y) (wanted : Option Y) (fault : JobFault)
+    → wanted ≡ None → IsRefusal fault → IsMade seen wanted (Err fault)
 refused_is_made seen wanted (Usage text) none refusal = none
 refused_is_made seen wanted (Help text) none refusal = absurd refusal
 refused_is_made seen wanted NoMemory none refusal = tt

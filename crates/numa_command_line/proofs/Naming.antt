@@ -1,5 +1,6 @@
 -- The word of a command line, and what the parse found behind it.
-use Rattle.std.proofs.Common.{◌≡◌, ◌∙◌, Bool, cond, true, false, refl, sym, ap, List, Option, Some, None}
+use Rattle.std.proofs.Common.{◌≡◌, ◌∙◌, Bool, cond, true, false, refl, sym, ap, List, Option, Some}
+use Rattle.std.proofs.Common.{None}
 use Rattle.std.specs.Option.{option_map, unwrap_or}
 use Rattle.std.specs.Str.{bytes_eq}
 use Rattle.std.proofs.lemmas.Slice.Eq.{bytes_eq-Decides}
@@ -11,17 +12,23 @@ some_is : {X : Type 0} (x y : X) → Some x ≡ Some y → x ≡ y
 some_is x y e = ap (λ o. unwrap_or o x) e
 
 -- a subcommand of this name was found, with these rows
-pub behind_some : {B : Type 0} (found : Option B) (called : B → Text) (holds : B → List Row) (name : Text) (rows : List Row)
-    → option_map called found ≡ Some name → option_map (λ (p : Text × List Row). p.1) (option_map (λ b. (called b, holds b)) found) ≡ Some rows
+pub behind_some : {B : Type 0} (found : Option B) (called : B → Text) (holds : B → List Row)
+    (name : Text) (rows : List Row)
+    → option_map called found ≡ Some name
+    → option_map (λ (p : Text × List Row). p.1) (option_map (λ b. (called b, holds b)) found)
+    ≡ Some rows
     → rows_behind name (option_map (λ b. (called b, holds b)) found) ≡ Some rows
 behind_some None called holds name rows is has = cc
 behind_some (Some b) called holds name rows is has =
-    let same : bytes_eq (called b) name ≡ true = (bytes_eq-Decides (called b) name).1 (some_is _ _ is) in
+    let same : bytes_eq (called b) name ≡ true =
+    (bytes_eq-Decides (called b) name).1 (some_is _ _ is) in
     rw same has
 
 -- none of this name was
-pub behind_none : {B : Type 0} (found : Option B) (called : B → Text) (holds : B → List Row) (name : Text)
-    → (option_map called found ≡ Some name → ⊥) → rows_behind name (option_map (λ b. (called b, holds b)) found) ≡ None
+pub behind_none : {B : Type 0} (found : Option B) (called : B → Text) (holds : B → List Row)
+    (name : Text)
+    → (option_map called found ≡ Some name → ⊥)
+    → rows_behind name (option_map (λ b. (called b, holds b)) found) ≡ None
 behind_none None called holds name other = refl
 behind_none (Some b) called holds name other = go (bytes_eq (called b) name) refl
   where

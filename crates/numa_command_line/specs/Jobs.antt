@@ -14,7 +14,8 @@ use Rattle.numa_command_line.specs.declared.jobs.JobFault.TheVariants.{Help, Usa
 use Rattle.numa_command_line.specs.declared.jobs.PageQuestion.{PageQuestion}
 use Rattle.numa_command_line.specs.declared.jobs.PageQuestion.TheVariants.{Predict, Diff, Explain}
 use Rattle.numa_command_line.specs.declared.jobs.ScriptJob.{ScriptJob}
-use Rattle.numa_command_line.specs.declared.jobs.ScriptJob.TheVariants.{Run, Check, Expect, Ask, Replay}
+use Rattle.numa_command_line.specs.declared.jobs.ScriptJob.TheVariants.{Run, Check, Expect, Ask}
+use Rattle.numa_command_line.specs.declared.jobs.ScriptJob.TheVariants.{Replay}
 
 -- a storm is of as many workers as a crew may have
 abbrev pub CanBeDone : Job → Type 0

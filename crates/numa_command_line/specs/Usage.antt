@@ -1,5 +1,6 @@
 -- What the parse reads of what is said of arguments and words.
-use Rattle.std.specs.Prelude.{◌≡◌, ◌∷◌, ◌++◌, [], List, ℕ, Bool, true, false, Some, None, map, pos, codes, if◌then◌else◌}
+use Rattle.std.specs.Prelude.{◌≡◌, ◌∷◌, ◌++◌, [], List, ℕ, Bool, true, false, Some, None, map, pos}
+use Rattle.std.specs.Prelude.{codes, if◌then◌else◌}
 use Rattle.std.specs.Borrow.{Bor}
 use Rattle.clap.specs.Lexer.{usize_max}
 use Rattle.clap.specs.Words.{App, Rule, Shape, Text, new_rule, with_rule}
@@ -11,7 +12,9 @@ use Rattle.clap.specs.declared.builder.value_parser.ValueParser.TheVariants as p
 use Rattle.numa_command_line.specs.declared.usage.Argument.{Argument}
 use Rattle.numa_command_line.specs.declared.usage.SubcommandHelp.{SubcommandHelp}
 use Rattle.numa_command_line.specs.declared.usage.Takes.{Takes}
-use Rattle.numa_command_line.specs.declared.usage.Takes.TheVariants.{Nothing, Text as One, Texts, Number, NumberOr, OneOf, Bare, Files}
+use Rattle.numa_command_line.specs.declared.usage.Takes.TheVariants.{Nothing, Text as One, Texts}
+use Rattle.numa_command_line.specs.declared.usage.Takes.TheVariants.{Number, NumberOr, OneOf, Bare}
+use Rattle.numa_command_line.specs.declared.usage.Takes.TheVariants.{Files}
 
 -- the texts that are one of these
 abbrev pub Names : Type 0

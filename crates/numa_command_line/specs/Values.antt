@@ -1,6 +1,8 @@
 -- What the parse found for an argument, as a value.
-use Rattle.std.specs.Prelude.{ℕ, ◌==◌, ◌^◌, ◌&&◌, ◌||◌, ◌++◌, ◌∷◌, ◌/◌, ◌*◌, ◌-◌, ◌%◌, [], List, Bool, false}
-use Rattle.std.specs.Prelude.{Option, Some, None, codes, drop, length, map, nat_lt, nat_le, slice_get}
+use Rattle.std.specs.Prelude.{ℕ, ◌==◌, ◌^◌, ◌&&◌, ◌||◌, ◌++◌, ◌∷◌, ◌/◌, ◌*◌, ◌-◌, ◌%◌, [], List}
+use Rattle.std.specs.Prelude.{Bool, false}
+use Rattle.std.specs.Prelude.{Option, Some, None, codes, drop, length, map, nat_lt, nat_le}
+use Rattle.std.specs.Prelude.{slice_get}
 use Rattle.std.specs.Prelude.{take, unwrap_or, if◌then◌else◌, option_and_then, option_map, not}
 use Rattle.std.specs.Char.{digit_value}
 use Rattle.std.specs.List.{list_all, list_any}
@@ -47,7 +49,8 @@ small_at id rows = option_and_then small_in (one_of id rows)
 -- ---- the values of the arguments
 
 abbrev pub rules_in : List Row → Rules
-rules_in rows = if option_map_or (λ name. bytes_eq name (codes "linux")) (first_of (codes "rules") rows) false then Linux else Document
+rules_in rows = if option_map_or (λ name. bytes_eq name (codes "linux"))
+    (first_of (codes "rules") rows) false then Linux else Document
 
 abbrev pub format_named : Text → Format
 format_named name =
@@ -123,7 +126,8 @@ abbrev pub free_in : Text → Option FreePages
 free_in text = free_of (parts_of 61 text)
 
 -- one more node, which isn't named yet
-abbrev pub with_free : List FreePages → Option FreePages → (List FreePages → Option (List FreePages))
+abbrev pub with_free : List FreePages → Option FreePages
+    → (List FreePages → Option (List FreePages))
     → Option (List FreePages)
 with_free named None next = None
 with_free named (Some one) next =

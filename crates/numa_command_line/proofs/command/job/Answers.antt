@@ -11,4 +11,5 @@ returns-in_default-clause-asked c = (program some_choices, (some_choices, are_ch
 
 pub returns-clause-word : goal.returns-clause-word
 returns-clause-word c =
-    first_word (map string_bytes c.args.words.now) c.job_by.result (app_of c.in-Ok.command, c.in-Ok.ensures, c.job_by.ensures.asked)
+    first_word (map string_bytes c.args.words.now) c.job_by.result
+    (app_of c.in-Ok.command, c.in-Ok.ensures, c.job_by.ensures.asked)

@@ -4,4 +4,5 @@ use Rattle.numa_command_line.proofs.found.add_texts.Given as goal
 
 -- the texts so far are there
 abbrev pub invariant-loop-text : goal.invariant-loop-text
-invariant-loop-text l = map string_bytes l.texts.items ≡ map string_bytes l.initial.texts.items ++ map (λ text. text.now) (take l.text-index l.said)
+invariant-loop-text l = map string_bytes l.texts.items ≡ map string_bytes l.initial.texts.items
+    ++ map (λ text. text.now) (take l.text-index l.said)

@@ -8,7 +8,8 @@ use Rattle.numa_command_line.proofs.usage.own_command.Given as goal
 abbrev pub invariant-loop-said : goal.invariant-loop-said
 invariant-loop-said l = record {
   app : app_of l.command ≡ record {
-    top = record (new_shape l.fn.word.name.now) { rules = map rule_said (take l.said-index l.fn.word.arguments.now) };
+    top = record (new_shape l.fn.word.name.now)
+        { rules = map rule_said (take l.said-index l.fn.word.arguments.now) };
     subs = [];
   };
   local : IsLocal l.command;
