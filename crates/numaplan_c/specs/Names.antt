@@ -74,8 +74,8 @@ abbrev pub name_or : Option Refusal → List ℕ → List ℕ
 name_or (Some cause) other = refusal_name cause
 name_or None other = other
 
--- the name of an answer, without a byte where no answer has this number; that of 23, `NoPolicy` in a
--- script, is another here, since 75 has had that one first
+-- the name of an answer, without a byte where no answer has this number; that of 23, `NoPolicy` in
+-- a script, is another here, since 75 has had that one first
 unfoldable pub answer_name : ℕ → List ℕ
 answer_name code =
     if code == 23 then codes "NoPolicyThere"

@@ -25,7 +25,8 @@ options_with (Some rules) (Some fallback) = Ok (record { rules = rules; fallback
 -- what options ask for, or the number of what is wrong with them
 abbrev pub options_of : NpOptions → Result Options ℕ
 options_of options =
-    options_with (rules_of options.rules) (fallback_of options.orders (number_of options.cpus.words))
+    options_with (rules_of options.rules)
+    (fallback_of options.orders (number_of options.cpus.words))
 
 -- what np_core_open goes by
 abbrev pub documents : Options

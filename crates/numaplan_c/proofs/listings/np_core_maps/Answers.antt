@@ -11,7 +11,8 @@ returns-in-Ok c = (
   λ kept is. (
     Ok c.in-Ok.found.items,
     c.in-Ok.ensures.listed,
-    subst (λ text. IsWritten text c.write.result c.args.text.now c.write.new.room c.write.new.length) c.as_slice.ensures.value c.write.ensures,
+    subst (λ text. IsWritten text c.write.result c.args.text.now c.write.new.room
+        c.write.new.length) c.as_slice.ensures.value c.write.ensures,
   ),
 )
 
@@ -21,10 +22,12 @@ returns-in-Err-Twice c = (
   search rules,
   λ kept is. (
     Err refused.Twice,
-    subst (RefusesPlaced c.args.placements.now) c.in-Err-Twice.field-0-is c.in-Err-Twice.ensures.refused,
+    subst (RefusesPlaced c.args.placements.now) c.in-Err-Twice.field-0-is
+        c.in-Err-Twice.ensures.refused,
     (search rules, refl, refl),
   ),
 )
 
 pub returns-in-Err-NoMemory : goal.returns-in-Err-NoMemory
-returns-in-Err-NoMemory c = (search rules, search rules, λ kept is. (Err refused.NoMemory, tt, (search rules, refl, refl)))
+returns-in-Err-NoMemory c =
+    (search rules, search rules, λ kept is. (Err refused.NoMemory, tt, (search rules, refl, refl)))
