@@ -1,4 +1,5 @@
--- The machine values of a `RawBox` and of a `HeapSlot`: each is a struct of one pointer. Assumes `Logic`.
+-- The machine values of a `RawBox` and of a `HeapSlot`: each is a struct of one pointer. Assumes
+-- `Logic`.
 use Rattle.std.proofs.Common.{◌≡◌, List, [], ◌∷◌, ◌++◌, refl, sym, ap, subst, ◌∙◌, lit<}
 use Rattle.std.specs.Prelude.{true, Option, Some, None, is_some}
 use lib.Dec.{T}
@@ -42,33 +43,42 @@ pub word_good : (p : Ptr) → T (has_ty (layout HeapSlot) (word p)) × WT (word 
 word_good (block_ptr b o) = (tt, (tt, tt))
 word_good null_ptr = (tt, (record { fits = lit< tt }, tt))
 
-module _ {M : Type 1} {𝓤 : Ura M} {𝓛 : Logic 𝓤} {K : Type 0} {Γ : List (Item 𝓤)} {G : Goal 𝓤 𝓛.H} where
-  -- a `HeapSlot` is made of what it owns
-  pub held_in : K → (d : HeapSlot.Denot)
-      → Step K 𝓛 (‵ (HeapSlot.own_val d (word d.at ∷ [])) ∷ Γ) G (‵ (held_owns d.at d.kept) ∷ Γ) G
-  held_in t d = step (λ s. let v : Val = word d.at in
-      nothing t $ feq_i t (List Val) (ptr_val d.at ∷ []) (ptr_val d.at ∷ []) refl $ fjoin t $
-      feq_i t (List Val) (v ∷ []) (v ∷ []) refl $ fjoin t $
-      fpack t (Valss (RawPtr ∷ [])) (within (shape held.the_type) (d.at, tt) (v ∷ [])) (ptr_val d.at ∷ [], tt) $ fjoin t $ s)
+module _ {M : Type 1} {𝓤 : Ura M} {𝓛 : Logic 𝓤} {K : Type 0} {Γ : List (Item 𝓤)} {G : Goal 𝓤 𝓛.H}
+  where
+    -- a `HeapSlot` is made of what it owns
+    pub held_in : K → (d : HeapSlot.Denot)
+        → Step K 𝓛 (‵ (HeapSlot.own_val d (word d.at ∷ [])) ∷ Γ) G (‵ (held_owns d.at d.kept) ∷ Γ) G
+    held_in t d = step (λ s. let v : Val = word d.at in
+        nothing t $ feq_i t (List Val) (ptr_val d.at ∷ []) (ptr_val d.at ∷ []) refl $ fjoin t $
+        feq_i t (List Val) (v ∷ []) (v ∷ []) refl $ fjoin t $
+        fpack t (Valss (RawPtr ∷ [])) (within (shape held.the_type) (d.at, tt) (v ∷ []))
+        (ptr_val d.at ∷ [], tt) $ fjoin t $ s)
 
-  -- and is taken apart into it
-  pub held_out : K → (d : HeapSlot.Denot) (vs : List Val)
-      → (vs ≡ word d.at ∷ [] → Seq K 𝓛 (‵ (held_owns d.at d.kept) ∷ Γ) G) → Seq K 𝓛 (‵ (HeapSlot.own_val d vs) ∷ Γ) G
-  held_out t d vs k = fsplit t $ fpick t (λ vss. fsplit t $ feq_l t (λ ev. fsplit t $ feq_l t (λ ep. drop t $
-      k (ev ∙ ap (λ (ps : List Val). vstruct (of_list (ps ++ [])) ∷ []) ep))))
+    -- and is taken apart into it
+    pub held_out : K → (d : HeapSlot.Denot) (vs : List Val)
+        → (vs ≡ word d.at ∷ [] → Seq K 𝓛 (‵ (held_owns d.at d.kept) ∷ Γ) G)
+        → Seq K 𝓛 (‵ (HeapSlot.own_val d vs) ∷ Γ) G
+    held_out t d vs k =
+        fsplit t $ fpick t (λ vss. fsplit t $ feq_l t (λ ev. fsplit t $ feq_l t (λ ep. drop t $
+        k (ev ∙ ap (λ (ps : List Val). vstruct (of_list (ps ++ [])) ∷ []) ep))))
 
-  -- the same of a `RawBox`
-  pub place_in : K → (R : RattleType) (d : (RawBox R).Denot)
-      → Step K 𝓛 (‵ ((RawBox R).own_val d (word d.at ∷ [])) ∷ Γ) G (‵ (owns_at R d.at d.value) ∷ Γ) G
-  place_in t R d = step (λ s. let v : Val = word d.at in
-      nothing t $ feq_i t (List Val) (ptr_val d.at ∷ []) (ptr_val d.at ∷ []) refl $ fjoin t $
-      feq_i t (List Val) (v ∷ []) (v ∷ []) refl $ fjoin t $
-      fpack t (Valss (RawPtr ∷ [])) (within (shape (place.the_type R)) (d.at, tt) (v ∷ [])) (ptr_val d.at ∷ [], tt) $ fjoin t $ s)
+    -- the same of a `RawBox`
+    pub place_in : K → (R : RattleType) (d : (RawBox R).Denot)
+        → Step K 𝓛 (‵ ((RawBox R).own_val d (word d.at ∷ [])) ∷ Γ) G
+        (‵ (owns_at R d.at d.value) ∷ Γ)
+        G
+    place_in t R d = step (λ s. let v : Val = word d.at in
+        nothing t $ feq_i t (List Val) (ptr_val d.at ∷ []) (ptr_val d.at ∷ []) refl $ fjoin t $
+        feq_i t (List Val) (v ∷ []) (v ∷ []) refl $ fjoin t $
+        fpack t (Valss (RawPtr ∷ [])) (within (shape (place.the_type R)) (d.at, tt) (v ∷ []))
+        (ptr_val d.at ∷ [], tt) $ fjoin t $ s)
 
-  pub place_out : K → (R : RattleType) (d : (RawBox R).Denot) (vs : List Val)
-      → (vs ≡ word d.at ∷ [] → Seq K 𝓛 (‵ (owns_at R d.at d.value) ∷ Γ) G) → Seq K 𝓛 (‵ ((RawBox R).own_val d vs) ∷ Γ) G
-  place_out t R d vs k = fsplit t $ fpick t (λ vss. fsplit t $ feq_l t (λ ev. fsplit t $ feq_l t (λ ep. drop t $
-      k (ev ∙ ap (λ (ps : List Val). vstruct (of_list (ps ++ [])) ∷ []) ep))))
+    pub place_out : K → (R : RattleType) (d : (RawBox R).Denot) (vs : List Val)
+        → (vs ≡ word d.at ∷ [] → Seq K 𝓛 (‵ (owns_at R d.at d.value) ∷ Γ) G)
+        → Seq K 𝓛 (‵ ((RawBox R).own_val d vs) ∷ Γ) G
+    place_out t R d vs k =
+        fsplit t $ fpick t (λ vss. fsplit t $ feq_l t (λ ev. fsplit t $ feq_l t (λ ep. drop t $
+        k (ev ∙ ap (λ (ps : List Val). vstruct (of_list (ps ++ [])) ∷ []) ep))))
 
 -- the allocator's handle, as an argument of a generic call, and its drop, which does nothing
 abbrev pub Handle : RattleType

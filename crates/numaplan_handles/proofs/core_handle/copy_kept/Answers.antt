@@ -10,7 +10,9 @@ use Rattle.numaplan_handles.proofs.core_handle.copy_kept.Goals as goal
 pub returns-in-Some : goal.returns-in-Some
 returns-in-Some c = record {
   plan = IfOk-weaker c.copy.result _ _ (λ copy same core is.
-      let here = subst (λ (p : PlanData). IsPlanOf c.core_kept.result.now.space p) (sym same) c.in-Some.ensures.plan in
-      let plan = subst (λ (s : CoreState). IsPlanOf s.space copy) (same_Some _ _ (sym c.core_kept.ensures.core ∙ is)) here in
+      let here = subst (λ (p : PlanData). IsPlanOf c.core_kept.result.now.space p) (sym same)
+      c.in-Some.ensures.plan in
+      let plan = subst (λ (s : CoreState). IsPlanOf s.space copy)
+      (same_Some _ _ (sym c.core_kept.ensures.core ∙ is)) here in
       (plan, λ history stands. plan-stands core.space copy history plan stands)) c.copy.ensures;
 }

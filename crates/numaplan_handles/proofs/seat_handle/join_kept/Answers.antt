@@ -5,4 +5,5 @@ use Rattle.numaplan_handles.proofs.seat_handle.join_kept.Goals as goal
 
 pub join-requires : goal.join-requires
 join-requires c = c.requires.together c.in-Seat-kept.seat c.in-Seat.other
-    (ap (λ (k : Kept). seat_of (Some k)) c.in-Seat-kept.is) (ap (λ (k : Kept). seat_of (Some k)) c.in-Seat.is)
+    (ap (λ (k : Kept). seat_of (Some k)) c.in-Seat-kept.is)
+    (ap (λ (k : Kept). seat_of (Some k)) c.in-Seat.is)

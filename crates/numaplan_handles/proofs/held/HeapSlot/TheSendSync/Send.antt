@@ -18,11 +18,15 @@ use Rattle.numaplan_handles.specs.contracts.held.HeapSlot.{the_row, the_type}
 
 owns_no_key : (p : Ptr) (held : Option Kept) → Keyless (held_owns p held)
 owns_no_key p None = tt
-owns_no_key p (Some x) =
-    (lies kept.the_row the_send p x, frees.frees (record { memory = record { seal = tt } }) (raw (lone (kept.the_row).mir)) p)
+owns_no_key p (Some x) = (
+  lies kept.the_row the_send p x,
+  frees.frees (record { memory = record { seal = tt } })
+      (raw (lone (kept.the_row).mir)) p,
+)
 
 pub send : IsSend the_row
 send =
     let pointers : IsSend RawPtr = search sendable in
     owning_send the_type (pointers, tt) (λ h. owns_no_key h.at h.kept)
-    (λ k. quiet (to the_type) (exits_of k (fields the_type)) ((struct_send (shape the_type) (pointers, tt)).leaving k))
+    (λ k. quiet (to the_type) (exits_of k (fields the_type))
+    ((struct_send (shape the_type) (pointers, tt)).leaving k))
