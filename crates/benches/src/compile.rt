@@ -28,7 +28,7 @@ fn common() -> Option<Turns> {
     ])
 }
 
-/// Policies that no other range has, so that a rule is made for each and dropped behind it.
+/// Policies that no other range has, so that a rule is made for each and dropped after it.
 fn own() -> Option<Turns> {
     let middle = RANGES / 2;
     Some([
@@ -157,7 +157,7 @@ fn predicted(alloc: Global, space: &PlannedSpace) -> u64 {
     }
 }
 
-/// The number of a policy, a new one where it has none.
+/// The number of a policy, a new one if it has none.
 fn number_of(numbers: &mut HashMap<u64, u64>, policy: u64) -> Result<u64, AllocError> {
     if let Some(number) = numbers.get(&policy) {
         return Ok(*number);
@@ -208,7 +208,7 @@ static FIGURES: [Figure<Call>; 5] = [
     },
 ];
 
-/// A space of so many ranges, whose plan is made.
+/// A space of `ranges` ranges, whose plan is made.
 fn planned_of(alloc: Global, ranges: u64) -> Option<Planned> {
     let (common, own) = (common()?, own()?);
     let rows = rows_of(alloc, POLICIES).ok()?;

@@ -1,4 +1,4 @@
-//! Page faults beside what they are made of, and frames taken and given up beside bare steps.
+//! Page faults compared with their parts, and frames taken and given up compared with bare steps.
 mod placing;
 mod setting;
 
@@ -86,7 +86,7 @@ impl<R: Print> Subject<R> for Faulting {
     }
 }
 
-/// So many looks, each with the choice of a page; the sum of the first nodes.
+/// `FAULTS` looks, each with the choice of a page; the sum of the first nodes.
 fn choices(mut reader: PlanReader) -> (PlanReader, u64) {
     let mut sum = 0u64;
     for place in 0..FAULTS {
@@ -114,7 +114,7 @@ fn ask(place: &mut Option<PlanReader>) -> u64 {
     sum
 }
 
-/// Sets a bit of the word and clears it, so many times.
+/// Sets a bit of the word and clears it, `FAULTS` times.
 fn bits(word: &AtomicU64) -> u64 {
     let mut sum = 0u64;
     for _ in 0..FAULTS {

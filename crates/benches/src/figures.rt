@@ -1,4 +1,4 @@
-//! Figures: the time of a call beside that of a baseline, in turn, the best of some rounds of each.
+//! Figures: the time of a call and that of a baseline, in turn, the best of some rounds of each.
 use std::io;
 use std::mem::replace;
 use std::rt::Clock;
@@ -15,7 +15,7 @@ pub trait Subject<R> {
     /// Makes a call. All that the call answers has part in this number, so that none is left out.
     fn make(&mut self, rt: &R, call: &Self::Call) -> u64;
 
-    /// Puts everything back behind a call; it isn't timed.
+    /// Restores everything after a call; it isn't timed.
     fn settle(&mut self);
 }
 

@@ -23,7 +23,7 @@ pub const ROUND: u64 = 100_000;
 /// How many bytes a range has.
 const RANGE: u64 = 12_288;
 
-/// How many bytes a range begins behind the one before.
+/// The distance in bytes between the beginnings of two ranges.
 const STEP: u64 = 16_384;
 
 /// A row of a plain vector, as large as a range with a value of 8 bytes: first page, pages, index

@@ -41,7 +41,7 @@ enum Call {
     Set,
     /// A copy of as many bytes.
     Copy,
-    /// `counts` of so many pages.
+    /// `counts` of this many pages.
     Counts(u64),
 }
 
@@ -126,7 +126,7 @@ fn counts_of(plan: &Plan, pages: u64) -> u64 {
     sum
 }
 
-/// So many zeros.
+/// A vector of zeros.
 fn zeros(alloc: Global) -> Result<Vec<u8>, AllocError> {
     vec![in alloc; 0u8; FILLED]
 }

@@ -10,7 +10,7 @@ use std::io;
 use std::mem::size_of;
 use std::rt::Clock;
 
-/// How many ranges stand.
+/// The number of ranges.
 const RANGES: u64 = 65_000;
 
 /// How many words a range takes.

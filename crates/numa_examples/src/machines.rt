@@ -5,7 +5,7 @@ use crate::sets::{first_nodes, set_of};
 use numa_machine::Machine;
 use std::alloc::{AllocError, Global};
 
-/// Adds the distances from a node to each of so many nodes.
+/// Adds the distances from a node to each of `nodes` nodes.
 fn push_row(distances: &mut Vec<u8>, nodes: u32, from: u32) -> Result<(), AllocError> {
     for to in 0..nodes {
         distances.push(if from == to { 10 } else { 20 })?;
@@ -13,7 +13,7 @@ fn push_row(distances: &mut Vec<u8>, nodes: u32, from: u32) -> Result<(), AllocE
     Ok(())
 }
 
-/// The distances of so many nodes that are all 20 apart, row by row.
+/// The distances of `nodes` nodes, all at distance 20, row by row.
 ///
 /// # Errors
 /// `AllocError`: out of memory.
@@ -25,7 +25,7 @@ pub fn flat_distances(alloc: Global, nodes: u32) -> Result<Vec<u8>, AllocError> 
     Ok(distances)
 }
 
-/// A machine with so many frames on each node. All nodes have memory and are 20 apart.
+/// A machine with these frames on its nodes. All nodes have memory and are at distance 20.
 pub fn flat_machine(alloc: Global, frames: &[u32]) -> Option<Machine>
     ensures frames { IfSome result (λ machine. machine.frames ≡ frames.now) }
 {

@@ -15,7 +15,7 @@ pub fn limits() -> Limits
     limits
 }
 
-/// A space of a machine of so many nodes, ten at most, 20 apart and with 8 frames each.
+/// A space of a machine with `nodes` nodes, at most ten, at distance 20 and with 8 frames each.
 pub fn flat_space(alloc: Global, nodes: usize) -> Option<Space> {
     let frames = [8; 10];
     let machine = flat_machine(alloc, frames.get(..nodes)?)?;

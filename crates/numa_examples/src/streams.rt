@@ -3,7 +3,7 @@ use std::alloc::Global;
 use std::io;
 use std::io::{Read, Write};
 
-/// Gives one byte a call, and fails at the call with so many before it.
+/// Gives one byte a call, and fails after `fails_at` calls.
 #[derive(Drop)]
 pub struct Trickle<'a> {
     rest: &'a [u8],
@@ -42,7 +42,7 @@ impl Read for Trickle<'_> {
     }
 }
 
-/// Takes one byte a call, and once it has so many it takes none, or fails.
+/// Takes one byte a call, and once it is full takes none, or fails.
 #[derive(Drop)]
 pub struct Narrow {
     taken: Vec<u8>,
@@ -52,7 +52,7 @@ pub struct Narrow {
 }
 
 impl Narrow {
-    /// A writer with room for so many bytes.
+    /// A writer with room for `room` bytes.
     pub fn new(alloc: Global, room: usize, fails: bool) -> Narrow {
         Narrow {
             taken: Vec::new(alloc),

@@ -1,4 +1,4 @@
-//! The plain count that the kernels stand beside.
+//! A plain count, the baseline of the kernels.
 
 /// How many pages of a span lie on each node.
 #[inline(never)]

@@ -21,7 +21,7 @@ pub struct AtPools {
     ghost seat_same: { seat.table ≡ pools.table },
 }
 
-/// Places a page and gives its frame up again: 1 where it was placed.
+/// Places a page and gives its frame up again; 1 if it was placed.
 fn fault_and_release(worker: &mut FaultWorker, pools: &Pools, request: Request) -> u64
     requires { worker.old.seat.table ≡ pools.now.table }
     ensures { worker.new.seat.table ≡ pools.now.table }
@@ -71,7 +71,7 @@ pub fn placing_at(alloc: Global, desk: &mut Desk) -> Option<AtPools> {
 }
 
 impl AtPools {
-    /// So many faults, each frame given up again. How many were placed.
+    /// `count` faults, each frame given up again; how many were placed.
     pub fn faults(&mut self, count: u64) -> u64 {
         let mut placed = 0u64;
         for place in 0..count {
@@ -82,7 +82,7 @@ impl AtPools {
         placed
     }
 
-    /// So many frames of nodes 0 to 3 in turn, taken and given up again.
+    /// `count` frames of nodes 0 to 3 in turn, taken and given up again.
     pub fn takes(&mut self, count: u64) -> u64 {
         let mut sum = 0u64;
         for place in 0..count {
@@ -97,7 +97,7 @@ impl AtPools {
         self.worker.fault(&self.pools, request).ok()
     }
 
-    /// Places so many pages one by one; how many are kept then.
+    /// Places `pages` pages one by one; how many are kept then.
     pub fn fault_each(&mut self, pages: u64) -> u64 {
         for place in 0..pages {
             if let Some(placement) = self.fault(black_box(request_of(place))) {
@@ -107,7 +107,7 @@ impl AtPools {
         self.kept.len() as u64
     }
 
-    /// Places so many pages at once; how many are kept then.
+    /// Places `pages` pages by one call; how many are kept then.
     pub fn fault_span(&mut self, pages: usize) -> u64 {
         let first = black_box(FIRST);
         let _ = self.worker.fault_span(self.alloc, &self.pools, 1, 0, first, pages, &mut self.kept);

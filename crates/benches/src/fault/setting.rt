@@ -38,7 +38,7 @@ pub fn desk_of<R: Wait>(rt: &R, alloc: Global) -> Option<Desk> {
     Some(desk)
 }
 
-/// The request of task 1 for the page that stands at this place, round and round.
+/// The request of task 1 for the page at this place, cyclically.
 pub fn request_of(place: u64) -> Request {
     Request {
         task: 1,

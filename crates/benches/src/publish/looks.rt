@@ -5,7 +5,7 @@ use numa_publish::PlanReader;
 use numa_space::Request;
 use std::hint::black_box;
 
-/// Looks so many times, and adds up the versions that are seen.
+/// Looks `count` times, and sums the versions that are seen.
 pub fn looks(mut reader: PlanReader, count: u64) -> (PlanReader, u64) {
     let mut sum = 0u64;
     for _ in 0..count {
@@ -20,7 +20,7 @@ pub fn looks(mut reader: PlanReader, count: u64) -> (PlanReader, u64) {
     (reader, sum)
 }
 
-/// Looks so many times and asks for a page's list each time, and adds up how long the lists are.
+/// Looks `count` times and asks for a page's list each time, and sums the lengths of the lists.
 pub fn choices(mut reader: PlanReader, count: u64) -> (PlanReader, u64) {
     let mut sum = 0u64;
     for i in 0..count {

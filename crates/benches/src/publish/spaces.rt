@@ -20,7 +20,7 @@ pub fn bind_middle(desk: &mut Desk, number: u64) {
     }
 }
 
-/// Accepts so many ranges, with the policies in turn.
+/// Accepts `ranges` ranges, with the policies in turn.
 fn spread(desk: &mut Desk, ranges: u64) {
     for number in 0..ranges {
         let _ = desk.accept(&map(number));
@@ -30,7 +30,7 @@ fn spread(desk: &mut Desk, ranges: u64) {
     }
 }
 
-/// A desk that has published so many ranges.
+/// A desk that has published `ranges` ranges.
 pub fn desk_of<R: Wait>(rt: &R, alloc: Global, ranges: u64) -> Option<Desk> {
     let limits = Limits::new(65_536, 8, 4_000_000_000)?;
     let mut desk = Desk::new(rt, alloc, eight_nodes(alloc)?, limits, 4).ok()?;

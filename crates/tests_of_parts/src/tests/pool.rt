@@ -1,5 +1,5 @@
-//! What the end of pools counts, beside a seat that was not joined and of one that was; and many
-//! threads at once.
+//! What the end of pools counts, with a seat that wasn't joined and one that was; and many threads
+//! at once.
 ghost use Rattle.std.specs.Prelude.{◌≡◌};
 
 use crate::tests::same::same;
@@ -10,7 +10,7 @@ use numa_pool::{PoolSeat, Pools};
 use std::alloc::Global;
 use std::process::Abort;
 
-/// The pools of a machine with so many frames on each node.
+/// The pools of a machine with these frames on its nodes.
 fn open(rt: &impl Abort, alloc: Global, frames: &[u32]) -> (Pools, PoolSeat)
     ensures { result.1.table ≡ result.0.table }
 {

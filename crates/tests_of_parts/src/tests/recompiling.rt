@@ -13,7 +13,7 @@ use numa_space::{Command, Space};
 use std::alloc::Global;
 use std::process::Abort;
 
-/// The plan answers as one that is compiled anew.
+/// The plan answers as one that is compiled again.
 fn expect_compiled(rt: &impl Abort, alloc: Global, plan: &Plan, space: &Space) {
     let fresh = compile(alloc, space).expect(rt, "a plan");
     expect_alike(rt, plan, &fresh);

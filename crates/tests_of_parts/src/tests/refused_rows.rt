@@ -1,4 +1,4 @@
-//! Long lists beside a copy, with one growth refused between two marks: what was there stays as it
+//! Long lists and a copy, with one growth refused between two marks: what was there stays as it
 //! was, and the same call with memory does what it does without a refusal.
 //! tests/refused-growths/run-built plays each of these tests once for every growth between its
 //! marks; run by itself, none is refused.

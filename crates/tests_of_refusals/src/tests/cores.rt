@@ -31,7 +31,7 @@ fn is_lack(refusal: CoreRefusal) -> bool {
     refusal == CoreRefusal::NoMemory || refusal == CoreRefusal::Command(Refusal::NoMemory)
 }
 
-/// An event: 0 where it isn't refused, 1 where it is for want of memory, else 2.
+/// An event: 0 if it isn't refused, 1 if it is for lack of memory, else 2.
 fn cause_of(core: &mut Core, event: &Event) -> u32 {
     match core.step(*event) {
         Ok(_) => 0,
@@ -40,7 +40,7 @@ fn cause_of(core: &mut Core, event: &Event) -> u32 {
     }
 }
 
-/// An event, and once more where a growth was refused, which changed nothing.
+/// An event, and again if a growth was refused, which changed nothing.
 fn step(rt: &impl Abort, core: &mut Core, event: &Event) {
     let before = all_shown(core);
     let cause = cause_of(core, event);
@@ -93,7 +93,7 @@ fn events(rt: HostRuntime) {
     drop(commands);
 }
 
-/// Copies a core between the marks, and once more where a growth was refused.
+/// Copies a core between the marks, and again if a growth was refused.
 fn copy_of(rt: &impl Abort, alloc: Global, core: &Core) -> Core {
     mark(rt, alloc);
     let first = core.copy();

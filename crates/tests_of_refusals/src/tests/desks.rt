@@ -22,7 +22,7 @@ fn all_shown(desk: &Desk) -> (u64, u64, usize) {
     (summed(desk.space()), desk.published(), desk.pending())
 }
 
-/// Accepts a command, and once more where a growth was refused, which changed nothing.
+/// Accepts a command, and again if a growth was refused, which changed nothing.
 fn accept(rt: &impl Abort, desk: &mut Desk, command: &Command) {
     let before = all_shown(desk);
     let Err(refusal) = desk::accept(desk, command) else {
@@ -36,7 +36,7 @@ fn accept(rt: &impl Abort, desk: &mut Desk, command: &Command) {
     assert!(rt; desk::accept(desk, command).is_ok());
 }
 
-/// Publishes, and once more where a growth was refused, which changed nothing.
+/// Publishes, and again if a growth was refused, which changed nothing.
 fn publish(rt: &(impl Wait + Abort), desk: &mut Desk) {
     let before = all_shown(desk);
     if desk::publish(desk, rt).is_ok() {
@@ -67,7 +67,7 @@ fn calls(rt: HostRuntime) {
     drop(commands);
 }
 
-/// Opens a desk between the marks, and once more where a growth was refused; what it shows.
+/// Opens a desk between the marks, and again if a growth was refused; what it shows.
 fn opened(rt: &(impl Wait + Abort), alloc: Global) -> (u64, usize) {
     mark(rt, alloc);
     let first = open(rt, alloc);

@@ -37,7 +37,7 @@ fn shown(resident: &Resident) -> (u64, u64) {
     (count, right)
 }
 
-/// Records a page, and once more where a growth was refused, which changed nothing.
+/// Records a page, and again if a growth was refused, which changed nothing.
 fn record(rt: &impl Abort, resident: &mut Resident, page: u64) {
     let before = shown(resident);
     let Err(refusal) = resident.record(placed(page)) else {

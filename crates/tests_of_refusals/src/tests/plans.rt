@@ -28,7 +28,7 @@ fn shown(plan: &Plan) -> (u64, usize, usize, usize) {
     )
 }
 
-/// Makes a plan between the marks, and once more where a growth was refused.
+/// Makes a plan between the marks, and again if a growth was refused.
 fn made(rt: &impl Abort, alloc: Global, space: &Space) -> Plan {
     mark(rt, alloc);
     let first = compile(alloc, space);
@@ -50,8 +50,8 @@ fn building(rt: HostRuntime) {
     drop(space);
 }
 
-/// Copies a plan, and makes room for rules in the copy, between the marks, and once more where a
-/// growth was refused.
+/// Copies a plan, and makes room for rules in the copy, between the marks, and again if a growth
+/// was refused.
 fn copied(rt: &impl Abort, alloc: Global, plan: &Plan) -> Plan {
     mark(rt, alloc);
     let first = plan.copy(alloc);

@@ -38,7 +38,7 @@ fn update(map: &mut RangeMap<u32>, first: u64) -> Result<(), RangeError>
     map.update_span(first, 4, nine)
 }
 
-/// A step for one span: of eight pages, each 16 behind the last.
+/// A step for one span of eight pages, 16 pages after the last one.
 fn take(map: &mut RangeMap<u32>, step: Step, place: u64) -> Result<(), RangeError>
     requires { place < 160 }
 {
@@ -49,7 +49,7 @@ fn take(map: &mut RangeMap<u32>, step: Step, place: u64) -> Result<(), RangeErro
     }
 }
 
-/// The same, and once more where a growth was refused, which changed nothing.
+/// The same, and again if a growth was refused, which changed nothing.
 fn take_twice(rt: &impl Abort, map: &mut RangeMap<u32>, step: Step, place: u64)
     requires { place < 160 }
 {

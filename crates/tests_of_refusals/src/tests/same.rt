@@ -8,7 +8,7 @@ pub fn same<T: PartialEq + Debug>(rt: &impl Abort, found: &T, wanted: &T) {
     assert_eq!(rt; *found, *wanted);
 }
 
-/// Where the growths begin that may be refused, and where they end.
+/// Marks the beginning and the end of the growths that may be refused.
 pub fn mark(rt: &impl Abort, alloc: Global) {
     assert!(rt; numa_examples::mark(alloc));
 }

@@ -8,7 +8,7 @@ pub fn mixed(sum: u64, number: u64) -> u64 {
     (sum ^ number).wrapping_mul(0x0100_0000_01b3)
 }
 
-/// With a policy: its text, in which its nodes stand, and its home.
+/// With a policy: its text, which has its nodes, and its home.
 fn with_policy(sum: u64, policy: &Option<Record>) -> u64 {
     let Some(policy) = policy else {
         return mixed(sum, 1);

@@ -29,7 +29,7 @@ pub static COMMANDS: [ShortCommand<'static>; 18] = [
     Mbind(0x12000, 0x1000, 0, &[]),
 ];
 
-/// Carries out a command, and once more where a growth was refused, which changed nothing.
+/// Carries out a command, and again if a growth was refused, which changed nothing.
 fn apply(rt: &impl Abort, space: &mut Space, command: &Command) {
     let before = shown(space);
     let Err(refusal) = space.apply(command) else {

@@ -120,7 +120,7 @@ impl Tally {
     }
 }
 
-/// Looks until the last submit has returned, and at least so many times.
+/// Looks until the last submit has returned, and at least `LOOKS` times.
 fn look_on(reader: PlanReader, progress: &Progress) -> (PlanReader, Tally) {
     let mut held = reader;
     let mut tally = Tally {

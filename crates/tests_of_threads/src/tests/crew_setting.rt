@@ -43,7 +43,7 @@ fn worker(
     FaultWorker::new(reader(rt, desk), other)
 }
 
-/// So many workers.
+/// `count` workers.
 fn workers_of(
     rt: &(impl Wait + Abort),
     alloc: Global,
@@ -72,7 +72,7 @@ pub struct Workers {
 }
 
 impl Workers {
-    /// So many workers, at pools with so many free frames for each of two nodes.
+    /// Workers at pools with free frames on each of two nodes.
     pub fn open(
         rt: &(impl Wait + Abort),
         alloc: Global,
@@ -98,7 +98,7 @@ impl Workers {
     }
 }
 
-/// A request of task 1 on node 0 for each of so many pages from page 16 on.
+/// A request of task 1 on node 0 for each page from page 16 on.
 pub fn requests(rt: &impl Abort, alloc: Global, pages: u64) -> Vec<Request> {
     let mut requests = Vec::new(alloc);
     for place in 0..pages {

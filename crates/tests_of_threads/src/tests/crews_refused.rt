@@ -31,7 +31,7 @@ fn placements(answers: &[Answer]) -> usize {
 /// How a run went: its placements.
 type Run = Result<usize, CrewRefusal>;
 
-/// A run behind a mark.
+/// A run after a mark.
 fn run_once<R: Threads + Abort + Sync, G: Gate + Sync>(
     rt: &R,
     alloc: Global,

@@ -24,7 +24,7 @@ pub fn on(page: u64) -> Request {
     }
 }
 
-/// What such a fault is answered where it gets the one frame of this node, at this rank.
+/// The answer of a fault that gets the only frame of this node, at this rank.
 pub fn placed(page: u64, node: u8, rank: u32) -> Placement {
     Placement {
         version: 1,

@@ -35,7 +35,7 @@ fn ask_refused(
     asked
 }
 
-/// Asks with one growth refused, and once more where it was.
+/// Asks with one growth refused, and again if it was.
 fn ask_till_answered(
     rt: &impl Abort,
     alloc: Global,
@@ -80,7 +80,7 @@ enum Way {
     WithoutMemory,
 }
 
-/// What then stands in the list, and whether the worker has the frame of page 16.
+/// What is in the list afterwards, and whether the worker has the frame of page 16.
 fn asked(rt: &(impl Wait + Abort), alloc: Global, way: Way) -> (Vec<Placement>, bool) {
     let mut desk = desk(rt, alloc);
     let mut placing = Placing::open(rt, alloc, &mut desk);

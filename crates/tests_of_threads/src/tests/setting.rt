@@ -12,22 +12,22 @@ use std::sync::Wait;
 use std::sync::atomic::{AtomicU64, Ordering};
 use std::thread;
 
-/// What was found is what is wanted; else the test ends and prints both.
+/// What was found is what is expected; else the test ends and prints both.
 pub fn same<T: PartialEq + Debug>(rt: &impl Abort, found: &T, wanted: &T) {
     assert_eq!(rt; *found, *wanted);
 }
 
-/// Two nodes with so many frames each, 20 apart.
+/// Two nodes with `frames` frames each, at distance 20.
 pub fn machine_of(rt: &impl Abort, alloc: Global, frames: u32) -> Machine {
     flat_machine(alloc, &[frames, frames]).expect(rt, "a machine")
 }
 
-/// Limits that stand in nobody's way.
+/// The highest limits.
 pub fn limits(rt: &impl Abort) -> Limits {
     Limits::new(65_536, 1_024, 4_294_967_295).expect(rt, "limits")
 }
 
-/// A desk of two nodes with so many frames each, with places for so many readers.
+/// A desk of two nodes with `frames` frames each, for `readers` readers.
 pub fn desk_of(rt: &(impl Wait + Abort), alloc: Global, frames: u32, readers: u32) -> Desk
     requires some { 1 ≤ readers }
     requires few { readers ≤ 64 }
@@ -44,7 +44,7 @@ pub fn desk_for(rt: &(impl Wait + Abort), alloc: Global, readers: u32) -> Desk
     desk_of(rt, alloc, 8, readers)
 }
 
-/// Maps so many pages from page 0x10 on.
+/// Maps `pages` pages from page 0x10 on.
 pub fn map_of(pages: u64) -> Command {
     Command::Map {
         start: 0x10000,
@@ -81,7 +81,7 @@ pub fn accept_both(rt: &impl Abort, desk: &mut Desk)
     accept_as(rt, desk, &prefer(rt, 1), 2);
 }
 
-/// Publishes a map of so many pages, in version 1.
+/// Publishes a map of `pages` pages, in version 1.
 pub fn publish_map(rt: &(impl Wait + Abort), desk: &mut Desk, pages: u64) -> Receipt
     ensures { result.desk ≡ desk.new.desk }
 {
