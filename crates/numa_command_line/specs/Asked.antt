@@ -57,17 +57,17 @@ job_named name rows =
     if bytes_eq name (codes "storm") then option_map storm (workers_in rows)
     else option_and_then (scripts_asked rows) (word_named name)
 
--- what the parse found behind the word of this name
+-- what the parse found after the subcommand of this name
 abbrev pub rows_behind : Text → Option (Text × List Row) → Option (List Row)
 rows_behind name None = None
 rows_behind name (Some p) = if bytes_eq p.0 name then Some p.1 else None
 
--- the same, where the word behind the program's name names it
+-- the same, if the word after the program's name names it
 abbrev pub doings_found : List Text → Option (Text × List Row) → Option Doings
 doings_found words found = option_and_then
     (λ name. option_and_then (job_named name) (rows_behind name found)) (slice_get words 1)
 
--- the word behind the program's name says what is asked for, and the parse of the words behind it
+-- the word after the program's name says what is asked for, and the parse of the words after it
 -- says with which values
 abbrev pub doings_asked : App → List Text → Option Doings
 doings_asked program words = doings_found words (subcommand_of program words)
@@ -93,7 +93,7 @@ name_of (storm workers) = codes "storm"
 abbrev pub IsShown : ErrorKind → Type 0
 IsShown what = (what ≡ kind.DisplayHelp) ⊎ (what ≡ kind.DisplayVersion)
 
--- what an error is told as
+-- the result of an error
 abbrev pub IsTold : Error → JobFault → Type 0
 IsTold error (Help text) = IsShown (kind_of error)
 IsTold error (Usage text) = (kind_of error ≢ kind.OutOfMemory) × (IsShown (kind_of error) → ⊥)

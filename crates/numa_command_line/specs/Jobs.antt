@@ -60,7 +60,7 @@ abbrev pub doings_of : Job → Doings
 doings_of (Scripts files rules work) = scripts (map string_bytes files.items) rules (work_of work)
 doings_of (Storm workers) = storm workers
 
--- what is wanted is made, or is told to be faulty where nothing is wanted, or memory lacks
+-- what is wanted is made, or is refused as invalid if nothing is wanted, or memory ran out
 abbrev pub IsMade : {X Y : Type 0} → (X → Y) → Option Y → Result X JobFault → Type 0
 IsMade seen wanted (Ok made) = wanted ≡ Some (seen made)
 IsMade seen wanted (Err (Usage text)) = wanted ≡ None

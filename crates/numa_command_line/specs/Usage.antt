@@ -88,6 +88,6 @@ app_said said rules =
 abbrev pub shape_said : SubcommandHelp → Argument → Shape
 shape_said said rules = (app_said said rules).top
 
--- no argument of the command, nor of what stands below it, is one of each word
+-- no argument of the command, nor of its subcommands, is an argument of all subcommands
 abbrev pub IsLocal : Command → Type 0
 IsLocal command = (fields_of command).has_globals ≡ false

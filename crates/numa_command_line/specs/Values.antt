@@ -98,12 +98,12 @@ unit_of letter =
     else if letter == 84 || letter == 116 then Some 1099511627776
     else None
 
--- the pages of so many bytes, where they are whole pages, and fewer bytes than 2^64
+-- the pages of this many bytes, if they are whole pages and fewer than 2^64 bytes
 abbrev pub whole_pages : ℕ → Option ℕ
 whole_pages bytes =
     if nat_lt bytes (2 ^ 64) && bytes % 4096 == 0 then Some (bytes / 4096) else None
 
--- a number of pages, or one of units behind it
+-- a number of pages, or a number with a unit
 abbrev pub pages_by : Text → Option ℕ → Option ℕ
 pages_by text None = number_of text
 pages_by text (Some unit) = option_and_then (λ count. whole_pages (count * unit))
@@ -133,7 +133,7 @@ with_free named None next = None
 with_free named (Some one) next =
     if list_any (λ other. other.node == one.node) named then None else next (named ++ one ∷ [])
 
--- the nodes that are named in the parts, behind those that are named already
+-- the nodes that are named in the parts, after those that are already named
 abbrev pub frees_from : List FreePages → List Text → Option (List FreePages)
 frees_from named [] = Some named
 frees_from named (part ∷ rest) = with_free named (free_in part) (λ more. frees_from more rest)

@@ -1,4 +1,4 @@
--- What a Begin is judged by in a core that stands for a world.
+-- Judging a Begin in a core that stands for a world.
 use Rattle.std.specs.Prelude.{◌≡◌, ℕ, Option, Some, List}
 use Rattle.numa_space.specs.declared.request.Request.{Request}
 use Rattle.numa_space.specs.declared.event.Event.TheVariants.{Begin}

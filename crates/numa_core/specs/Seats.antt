@@ -27,7 +27,7 @@ pub record IsPassed (frames nodes words : List ℕ) (rank next : ℕ) : Type 0 w
   pub lower : (k : ℕ) → k < next → k < slice_index frames (slice_index nodes rank) →
       met_at frames words (slice_index nodes rank) k ≡ true
 
--- the cursor stands at the lowest unmet frame of the first listed node with one
+-- the cursor is the lowest unmet frame of the first listed node with one
 pub record IsCursor (frames nodes words : List ℕ) (rank next : ℕ) : Type 0 where
   pub passed : IsPassed frames nodes words rank next
   pub listed : rank < length nodes
@@ -72,7 +72,7 @@ core_of space plan seats owners = record {
 abbrev pub seat_frame_search : List ℕ → WorkerSeat → Option FrameSearch
 seat_frame_search frames seat = frame_search_of_busy frames (busy_of seat)
 
--- a job's cursor stands right
+-- the cursor of a search is right
 abbrev pub JobStands : List ℕ → Option OngoingSearch → List ℕ → List ℕ → Type 0
 JobStands frames None nodes words = Unit {0}
 JobStands frames (Some job) nodes words = IsCursor frames nodes words job.at.rank job.at.next
@@ -81,7 +81,7 @@ JobStands frames (Some job) nodes words = IsCursor frames nodes words job.at.ran
 abbrev pub HasRoom : List ℕ → ℕ → Type 0
 HasRoom frames words = frames_before frames (length frames) ≤ 64 * words
 
--- the seat has room for these frames, and while its worker is busy the cursor stands right
+-- the seat has room for these frames, and while its worker is busy the cursor is right
 pub record SeatFits (frames : List ℕ) (seat : WorkerSeat) : Type 0 where
   pub room : HasRoom frames (vec_len seat.met)
   pub cursor : JobStands frames seat.job seat.nodes.items seat.met.items

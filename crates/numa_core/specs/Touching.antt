@@ -55,7 +55,7 @@ module _ (s : Setup) where
         event (answer_of s world (newest_published world) event);
   }
 
-  -- such Trys one after the other, while there is one, and at most so many
+  -- such Trys one after the other, while there is one, and at most this many
   abbrev pub tried_on : ℕ → ℕ → Answered → Answered
   tried_on zero w so_far = so_far
   tried_on (suc n) w so_far =
@@ -71,7 +71,7 @@ module _ (s : Setup) where
 
 -- ---- what a touch comes to
 
--- the frame at the head of the list where there is one, else the spot behind the head
+-- the frame at the head of the list if there is one, else the spot after the head
 abbrev pub spot_or : Option Frame → Option Spot → Option Spot
 spot_or (Some frame) behind = Some (record { frame = frame; rank = 0 })
 spot_or None behind = option_map (λ spot. record { frame = spot.frame; rank = spot.rank + 1 })

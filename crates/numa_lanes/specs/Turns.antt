@@ -1,8 +1,8 @@
 -- How a cycle is kept.
 use Rattle.std.specs.Prelude.{◌≡◌, ℕ, ◌+◌, ◌%◌, ◌<◌, List, length, slice_index}
 
--- a table of the entries of a cycle of so many entries, and of as many turns more as a vector of 64
--- bytes takes
+-- a table of the entries of a cycle of this many entries, and of as many further turns as a vector
+-- of 64 bytes takes
 pub record IsTable (len : ℕ) (table : List ℕ) : Type 0 where
   pub some : 0 < len
   pub long : length table ≡ len + 64

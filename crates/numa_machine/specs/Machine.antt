@@ -103,7 +103,7 @@ cost_under (Kernel cpus) hardware from =
 abbrev pub fallback_cost : Hardware → ℕ → ℕ → ℕ
 fallback_cost hardware = cost_under hardware.fallback hardware
 
--- whether node a stands before node b in the order of a node: at one cost the lower number does
+-- whether node a comes before node b in the order of a node: at equal cost the lower number does
 abbrev pub precedes : Hardware → ℕ → ℕ → ℕ → Bool
 precedes hardware from = nearer_by (fallback_cost hardware from)
 

@@ -1,5 +1,5 @@
 -- A set of nodes is a number: node n is a member where bit n is 1. The nodes of a machine are below
--- 256. The operations are those of the Linux kernel's bitmaps; what stands in quotes is from the
+-- 256. The operations are those of the Linux kernel's bitmaps; text in quotes is from the
 -- comments in its lib/bitmap.c.
 use Rattle.std.specs.Prelude.{ℕ, ◌%◌, ◌^◌, ◌&&◌, not, Bool, Option, List, length}
 use Rattle.std.specs.Prelude.{map, filter, fold, count_by, nat_lt, ◌==◌, if◌then◌else◌}

@@ -6,8 +6,8 @@
 -- allowed nodes. A policy with its effective set is a record; a range's record may also have a home
 -- node.
 --
--- DEFAULT (0) asks for no policy: it removes the one that stands there, so no record has it. It
--- takes no nodes; one flag is taken and forgotten.
+-- DEFAULT (0) requests no policy: it removes the current one, so no record has it. It takes no
+-- nodes; one flag is taken and forgotten.
 --
 -- PREFERRED (1) has at most one node in its effective set, the lowest of those that its flag gives.
 -- Without nodes it is LOCAL, and then takes no flag.
@@ -63,7 +63,7 @@ pub record Specification : Type 0 where
   pub flag : NodeFlag
   pub mask : ℕ
 
--- a policy as it stands
+-- a policy in force
 pub record PolicyRecord : Type 0 where
   pub spec : Specification
   pub effective : ℕ

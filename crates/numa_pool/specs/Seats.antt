@@ -36,7 +36,7 @@ pub record IsShaped (table : TableId) (frames : List ℕ) : Type 0 where
   pub slots : table.slots ≡ 0
   pub low : (n : ℕ) → slice_index frames n ≤ 4096
 
--- these bits, so many words, mark these frames
+-- these bits, in this many words, mark these frames
 pub record Marks (wide : ℕ) (bits : List ℕ) (held : List Frame) : Type 0 where
   pub words : length bits ≡ wide
   pub exact : (n k : ℕ) → k < 4096 → bit_in bits n k ≡ min 1 (times n k held)

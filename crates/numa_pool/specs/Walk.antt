@@ -122,6 +122,6 @@ module _ (frames : List ℕ) where
       × (es ≡ later ++ first)
       × IsWalk ns found first × LoadsOnce first × WalksEach rows more later
 
--- no node stands twice
+-- no node occurs twice
 abbrev pub IsDistinct : List ℕ → Type 0
 IsDistinct ns = AllPairs (λ earlier later. earlier ≢ later) ns

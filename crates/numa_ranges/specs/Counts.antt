@@ -5,7 +5,7 @@ use Rattle.std.specs.Prelude.{suc, is_some, Option, Some, None, ◌==◌, if◌t
 use Rattle.numa_ranges.specs.declared.run.Run.{Run}
 use Rattle.numa_ranges.specs.Runs.{end_of}
 
--- whether a page goes on where the page before it stands: both mapped, with the next index and the
+-- whether a page continues the page before it: both are mapped, with consecutive indexes and the
 -- same value
 abbrev pub goes_on : {T : Type 0} → (T → T → Bool) → Option (ℕ × T) → Option (ℕ × T) → Bool
 goes_on same (Some before) (Some here) = (here.0 == before.0 + 1) && same before.1 here.1
@@ -29,7 +29,7 @@ abbrev pub range_count : {T : Type 0} → (T → T → Bool) → (ℕ → Option
 range_count same at = count_pages (is_start same at) 0 (2 ^ 35)
 
 -- a run is a range of the map: its indexes run on by one, its values are equal, it begins at its
--- first page, and the page behind its last does not go on
+-- first page, and the page after its last doesn't continue it
 pub record IsRange {T : Type 0} (same : T → T → Bool) (at : ℕ → Option (ℕ × T))
     (run : Run T) : Type 0 where
   pub some : 0 < run.pages

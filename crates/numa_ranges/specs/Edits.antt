@@ -50,7 +50,7 @@ abbrev pub maximal_runs : {T : Type 0} → (T → T → Bool) → List (Run T) �
 maximal_runs same [] = []
 maximal_runs same (run ∷ runs) = joined_from same runs run
 
--- the runs behind one that is still open, if one is
+-- the runs after one that is still open, if one is
 abbrev pub joined_after : {T : Type 0} → (T → T → Bool) → Option (Run T) → List (Run T)
     → List (Run T)
 joined_after same None runs = maximal_runs same runs
@@ -142,7 +142,7 @@ Each P [] = Unit {0}
 Each P (run ∷ runs) = P run × Each P runs
 
 -- a place among the runs where a span fits in: the runs before end before it, those from there on
--- begin behind it
+-- begin after it
 pub record HasRoom {T : Type 0} (runs : List (Run T)) (place first last : ℕ) : Type 0 where
   pub within : place ≤ length runs
   pub apart : AreApart 0 runs

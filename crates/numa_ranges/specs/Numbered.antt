@@ -15,7 +15,7 @@ run_of_row row (Some value) = record {
   value = value;
 } ∷ []
 
--- the run of a row with the value that stands under the row's number
+-- the run of a row with the value of the row's number
 abbrev pub run_of : {T : Type 0} → List T → Row → List (Run T)
 run_of values row = run_of_row row (slice_get values row.number)
 
@@ -23,7 +23,7 @@ run_of values row = run_of_row row (slice_get values row.number)
 abbrev pub runs_of : {T : Type 0} → List T → List Row → List (Run T)
 runs_of values rows = flat_map (run_of values) rows
 
--- a value stands under the number of each row
+-- the number of each row has a value
 abbrev pub AreNumbered : {T : Type 0} → List T → List Row → Type 0
 AreNumbered values [] = Unit {0}
 AreNumbered values (row ∷ rows) = (row.number < length values) × AreNumbered values rows

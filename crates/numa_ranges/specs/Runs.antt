@@ -7,7 +7,7 @@ use Rattle.numa_ranges.specs.declared.run.Run.{Run}
 abbrev pub in_pages : ℕ → ℕ → ℕ → Bool
 in_pages first pages page = nat_le first page && nat_lt page (first + pages)
 
--- the page behind a run's last
+-- the page after a run's last
 abbrev pub end_of : {T : Type 0} → Run T → ℕ
 end_of run = run.first + run.pages
 

@@ -1,6 +1,6 @@
--- A span of pages among the runs of a list: which runs it meets or stands beside, and what is left
--- of the list where only pages of the span are changed. A span is told by its first page and its
--- end, the page behind its last.
+-- A span of pages among the runs of a list: which runs it meets or is adjacent to, and what stays
+-- of the list if only pages of the span change. A span is given by its first page and its end, the
+-- page after its last.
 use Rattle.std.specs.Prelude.{◌≡◌, ℕ, ◌-◌, ◌<◌, ◌≤◌, ◌&&◌, Bool, List, length, take, drop, nat_lt}
 use Rattle.std.specs.Prelude.{nat_le, count_by}
 use Rattle.std.specs.List.{AllWithin}
@@ -24,7 +24,7 @@ abbrev pub starts_in : {T : Type 0} → ℕ → ℕ → List (Run T) → ℕ
 starts_in first end runs = count_by (begins_in first end) runs
 
 -- the places of the runs that meet the span or stand right beside it: those before `from` end
--- before its first page, and those from `to` on begin behind its end
+-- before its first page, and those from `to` on begin after its end
 pub record IsWindow {T : Type 0} (runs : List (Run T)) (first end from to : ℕ) : Type 0 where
   pub rises : from ≤ to
   pub within : to ≤ length runs
@@ -42,7 +42,7 @@ pub record AgreeOutside {T : Type 0} (first end : ℕ) (old new : List (Run T)) 
 abbrev pub to_now : {T : Type 0} → List (Run T) → List (Run T) → ℕ → ℕ
 to_now old new to = length new - (length old - to)
 
--- the two lists differ in a window alone: the runs before it are the same, and those behind it have
+-- the two lists differ in a window alone: the runs before it are the same, and those after it have
 -- only moved
 pub record Moves {T : Type 0} (old new : List (Run T)) (from to : ℕ) : Type 0 where
   pub front : take from new ≡ take from old

@@ -4,7 +4,7 @@ use Rattle.std.specs.Prelude.{List, [], ◌∷◌, nat_lt, max, min, if◌then�
 use Rattle.numa_ranges.specs.Runs.{in_pages}
 use Rattle.numa_reports.specs.declared.outlook.PageSpan.{PageSpan}
 
--- the page behind a span's last
+-- the page after a span's last
 abbrev pub span_end : PageSpan → ℕ
 span_end span = span.first + span.pages
 
@@ -20,7 +20,7 @@ AreRising from [] = Unit {0}
 AreRising from (span ∷ spans) = (from ≤ span.first) × (0 < span.pages) × (span_end span < 2 ^ 64)
     × AreRising (span_end span) spans
 
--- one span of the list begins at another's first page or before it, and ends at its end or behind
+-- one span of the list begins at another's first page or before it, and ends at its end or later
 abbrev pub IsInside : List PageSpan → PageSpan → Type 0
 IsInside [] inner = ⊥
 IsInside (span ∷ spans) inner =

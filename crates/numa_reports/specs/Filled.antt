@@ -1,4 +1,4 @@
--- Where pages go on nodes that have so many free pages each.
+-- Where pages go with limited free pages on each node.
 use Rattle.std.specs.Prelude.{ℕ, zero, suc, ◌+◌, ◌-◌, ◌==◌, Option, Some, None, List, [], ◌∷◌}
 use Rattle.std.specs.Prelude.{slice_index, slice_set, unwrap_or, if◌then◌else◌}
 use Rattle.numa_machine.specs.Machine.{Hardware}
@@ -19,14 +19,14 @@ abbrev pub one_less : List ℕ → Option ℕ → List ℕ
 one_less free None = free
 one_less free (Some node) = slice_set free node (slice_index free node - 1)
 
--- what is free behind so many pages from one on, the lowest first, where each takes a free page of
--- the first node of its list that has one
+-- what remains free after this many pages from one on, in ascending order, if each takes a free
+-- page of the first node of its list that has one
 unfoldable pub free_behind : (ℕ → List ℕ) → List ℕ → ℕ → ℕ → List ℕ
 free_behind nodes free first zero = free
 free_behind nodes free first (suc pages) =
     free_behind nodes (one_less free (first_free free (nodes first))) (first + 1) pages
 
--- what is free where some nodes are said to have so many free pages; the last word on a node counts
+-- what is free if named nodes have these free pages; of several numbers for a node the last counts
 abbrev pub with_named : List ℕ → List FreePages → List ℕ
 with_named free [] = free
 with_named free (one ∷ named) = with_named (slice_set free one.node one.pages) named

@@ -1,4 +1,4 @@
--- Ranges without their policies, and what stands at one moment.
+-- Ranges without their policies, and the state at one time.
 use Rattle.std.specs.Prelude.{◌≡◌, ℕ, Option, List}
 use Rattle.numa_machine.specs.Machine.{Hardware}
 use Rattle.numa_mode.specs.Policy.{PolicyRecord}

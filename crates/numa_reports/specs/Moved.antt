@@ -35,12 +35,12 @@ meant_moves machine before after task cpu first pages from to =
     count_pages (λ page. goes_to machine before task cpu from page
     && goes_to machine after task cpu to page) first pages
 
--- each entry of the table has so many pages more
+-- each entry of the table has this many more pages
 abbrev pub AddsMoves : List ℕ → List ℕ → (ℕ → ℕ → ℕ) → Type 0
 AddsMoves old new more = (from to : ℕ) → from < 256 → to < 256
     → moves_in new from to ≡ moves_in old from to + more from to
 
--- a table, each entry with room for so many pages more
+-- a table, each entry with room for this many more pages
 pub record HasRoomFor (table : List ℕ) (pages : ℕ) : Type 0 where
   pub entries : length table ≡ 65536
   pub room : (from to : ℕ) → from < 256 → to < 256 → moves_in table from to + pages < 2 ^ 64

@@ -1,4 +1,4 @@
--- What a taker is told of ranges, one after the other.
+-- What a taker receives of ranges, one after the other.
 use Rattle.std.specs.Prelude.{◌≡◌, ◌⊎◌, ℕ, ◌+◌, ◌-◌, ◌<◌, Option, List, [], ◌∷◌, slice_index}
 use Rattle.numa_machine.specs.Machine.{Hardware}
 use Rattle.numa_mode.specs.Policy.{PolicyRecord}

@@ -6,13 +6,13 @@ use Rattle.numa_ranges.specs.Runs.{page_at}
 use Rattle.numa_ranges.specs.declared.run.Run.{Run}
 use Rattle.numa_space.specs.Lists.{Setting, list_for}
 
--- of so many pages from one on, each has the list of the page one period on, where that is one of
+-- of this many pages from one on, each has the list of the page one period later, if that is one of
 -- them
 abbrev pub Repeats : (ℕ → List ℕ) → ℕ → ℕ → ℕ → Type 0
 Repeats nodes first pages period = (page : ℕ) → first ≤ page → page + period < first + pages
     → nodes (page + period) ≡ nodes page
 
--- the lists of a policy come again after so many indexes
+-- the lists of a policy repeat after this many indexes
 abbrev pub IsPeriod : Setting → Option PolicyRecord → ℕ → Type 0
 IsPeriod setting policy period = (cpu index : ℕ)
     → list_for setting policy cpu (index + period) ≡ list_for setting policy cpu index

@@ -23,7 +23,7 @@ use Rattle.numa_script.specs.declared.parameter.Parameter.TheVariants as paramet
 
 -- ---- the words behind the first
 
--- the table of lines: what each keyword wants behind it
+-- the table of lines: the words after each keyword
 abbrev pub parameters_of : Keyword → List Parameter
 parameters_of keyword.Limits = parameter.Ranges ∷ parameter.Tasks ∷ parameter.Commands ∷ []
 parameters_of keyword.Rules = parameter.Rules ∷ []
@@ -115,7 +115,7 @@ first_misfit k (p ∷ ps) column (word ∷ words) =
     misfit_else k p column (misfit_of (form_of p) word)
     (first_misfit k ps (column + length word + 1) words)
 
--- the bytes of words, each with the space behind it
+-- the bytes of words, each with the space after it
 abbrev pub width_of : List (List ℕ) → ℕ
 width_of [] = 0
 width_of (word ∷ words) = length word + 1 + width_of words
@@ -140,7 +140,7 @@ abbrev pub keyword_fault : Option Keyword → ℕ → List (List ℕ) → Option
 keyword_fault None column words = Some (record { cause = cause.UnknownWord; column = 1 })
 keyword_fault (Some k) column words = fault_behind k column words
 
--- the words of a line, of which none is empty: the second begins behind the first and its space
+-- the words of a line, none of them empty: the second begins after the first and its space
 abbrev pub words_fault : List (List ℕ) → Option Malformed
 words_fault [] = None
 words_fault (first ∷ words) = keyword_fault (keyword_of first) (length first + 2) words

@@ -55,7 +55,7 @@ first_word_of keyword.Give = codes "give"
 first_word_of keyword.Touch = codes "touch"
 first_word_of keyword.Release = codes "release"
 
--- the keywords whose first words have so many letters
+-- the keywords whose names have this many letters
 abbrev pub keywords_of : ℕ → List Keyword
 keywords_of letters =
     if letters == 3 then keyword.Try ∷ keyword.Map ∷ []

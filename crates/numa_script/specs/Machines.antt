@@ -1,5 +1,5 @@
 -- The words before a machine is ready: whose rules count, and those of a machine line that are
--- lists of numbers, its frames and its distances, with what the distances may stand behind.
+-- lists of numbers, its frames and its distances, with the prefix that the distances may have.
 use Rattle.std.specs.Prelude.{ℕ, ◌==◌, List, [], ◌∷◌, map, codes, Option, Some, None}
 use Rattle.std.specs.Prelude.{Bool, take, drop, if◌then◌else◌}
 use Rattle.std.specs.List.{range_with_len, flat_map}
@@ -53,7 +53,7 @@ behind_kernel word = if has_kernel_orders word then drop 7 word else word
 unfoldable pub distances_of : List ℕ → Option Distances
 distances_of word = written_distances (behind_kernel word)
 
--- the frames of a node, where each node with memory has so many
+-- the frames of a node, if each node with memory has this many
 abbrev pub frames_at : ℕ → ℕ → ℕ → ℕ
 frames_at memory frames node = if has memory node then frames else 0
 

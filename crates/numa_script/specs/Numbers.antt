@@ -65,7 +65,7 @@ node_of word = below 256 (number_of word)
 abbrev pub frame_number_of : List ℕ → Option ℕ
 frame_number_of word = below 65536 (number_of word)
 
--- so many pages, where they are at most 65,536
+-- a number of pages, if it is at most 65,536
 abbrev pub few_of : ℕ → Option ℕ
 few_of n = below 65537 (Some n)
 

@@ -51,7 +51,7 @@ form_of_three name first second =
     if bytes_eq first (codes "static") && bytes_eq second (codes "relative")
     then form_with true true name else None
 
--- what stands between `=`: a name, and then the flags
+-- the parts between `=`: a name, and then the flags
 abbrev pub form_of_parts : List (List ℕ) → Option PolicyForm
 form_of_parts (name ∷ []) = form_with false false name
 form_of_parts (name ∷ flag ∷ []) = form_of_two name flag

@@ -27,7 +27,7 @@ abbrev pub each_of : {A B : Type 0} → (A → Option B) → List A → Option (
 each_of f [] = Some []
 each_of f (x ∷ xs) = with_two (λ y ys. y ∷ ys) (f x) (each_of f xs)
 
--- the words, where they are so many
+-- the words, if they are this many
 abbrev pub two_words : List (List ℕ) → Option (List ℕ × List ℕ)
 two_words (a ∷ b ∷ []) = Some (a, b)
 two_words _ = None
@@ -40,7 +40,7 @@ abbrev pub four_words : List (List ℕ) → Option (List ℕ × List ℕ × List
 four_words (a ∷ b ∷ c ∷ d ∷ []) = Some (a, b, c, d)
 four_words _ = None
 
--- the values of the words, where they are so many and each has one
+-- the values of the words, if they are this many and each has one
 abbrev pub two_of : {A B : Type 0} → (List ℕ → Option A) → (List ℕ → Option B) → List (List ℕ)
     → Option (A × B)
 two_of f g words = option_and_then (λ v. with_two (λ x y. (x, y)) (f v.0) (g v.1)) (two_words words)

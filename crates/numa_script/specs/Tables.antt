@@ -2,7 +2,7 @@
 use Rattle.std.specs.Prelude.{ℕ, List, [], ◌∷◌, if◌then◌else◌, Option, Some, None}
 use Rattle.std.specs.Str.{bytes_eq}
 
--- what the word stands for, by the first entry that has it
+-- the meaning of the word, by the first entry that has it
 abbrev pub meaning_of : {T : Type 0} → List (List ℕ × T) → List ℕ → Option T
 meaning_of [] word = None
 meaning_of (entry ∷ entries) word =

@@ -29,7 +29,7 @@ within set nodes = filter (has set) nodes
 abbrev pub near : Setting → ℕ → List ℕ
 near setting node = within setting.allowed (fallback_order setting.machine node)
 
--- the nodes of a set in that order, and behind them the other allowed nodes
+-- the nodes of a set in that order, and after them the other allowed nodes
 abbrev pub before_others : Setting → ℕ → ℕ → List ℕ
 before_others setting set from =
     within set (fallback_order setting.machine from)
@@ -49,8 +49,8 @@ list_by_mode setting Interleave set from index = near setting (interleave_node s
 list_by_mode setting WeightedInterleave set from index =
     near setting (weighted_node setting.weight set index)
 
--- the list of a policy: its home, where it has one, stands in for the faulting node; without a
--- policy it is local
+-- the list of a policy: its home, if it has one, replaces the faulting node; without a policy it is
+-- local
 abbrev pub list_for : Setting → Option PolicyRecord → ℕ → ℕ → List ℕ
 list_for setting None cpu index = near setting cpu
 list_for setting (Some r) cpu index = list_by_mode setting r.spec.mode r.effective

@@ -27,7 +27,7 @@ pub record IsLowest (set node : ℕ) : Type 0 where
   pub member : Contains (members set) node
   pub lowest : (other : ℕ) → Contains (members set) other → node ≤ other
 
--- a row of the set, and behind it one of the allowed nodes that the set lacks
+-- a row of the set, and after it one of the allowed nodes that the set lacks
 pub record IsRowAndOthers (setting : Setting) (set from : ℕ) (row : List ℕ) : Type 0 where
   pub first : List ℕ
   pub others : List ℕ

@@ -31,7 +31,7 @@ span_pages (SetHome start bytes node) = page_count bytes
 span_pages (SetWeight node weight) = 0
 span_pages (SetMems mask) = 0
 
--- the page behind the span's last
+-- the page after the span's last
 abbrev pub span_end : Command → ℕ
 span_end command = span_first command + span_pages command
 

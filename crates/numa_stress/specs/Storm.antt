@@ -19,7 +19,7 @@ text_of r =
     ++ line_of (codes "frames held") r.held
 
 -- All went as it must on any schedule: the machine has 256 frames for the 320 pages, each of its
--- nodes stands in each list, and no frame is given up
+-- nodes is in each list, and no frame is given up
 abbrev pub went_well : Report → Bool
 went_well r =
     (r.placed == 256) && (r.exhausted == 64) && r.plans_match && (r.held == 256) && r.is_sound

@@ -33,14 +33,14 @@ Tallied = List (Way × Tally)
 abbrev pub tally_at : Tallied → Way → Tally
 tally_at tallies way = unwrap_or (lookup (is_at (way_cmp way)) tallies) no_accesses
 
--- a tally with so many accesses more, the first of them a fault or not
+-- a tally with this many more accesses, the first of them a fault or not
 abbrev pub with_accesses : Tally → ℕ → Bool → Tally
 with_accesses tally count is_fault = record {
   accesses = tally.accesses + count;
   faults = tally.faults + (if is_fault then 1 else 0);
 }
 
--- the tallies after so many accesses that went a way
+-- the tallies after this many accesses of a way
 abbrev pub Counts : Tallied → Way → ℕ → Bool → Tallied → Type 0
 Counts old way count is_fault new = (other : Way) → tally_at new other
     ≡ if is_way way other then with_accesses (tally_at old other) count is_fault
@@ -52,8 +52,8 @@ IsRoomFault TooMany = ⊤
 IsRoomFault NoMemory = ⊤
 IsRoomFault _ = ⊥
 
--- a number of the way would pass 2^64 - 1, if so many accesses were counted, the first of them a
--- fault or not
+-- a number of the way would exceed 2^64 - 1, if this many accesses were counted, the first of them
+-- a fault or not
 abbrev pub IsFull : Tallied → Way → ℕ → Bool → Type 0
 IsFull tallies way count is_fault = (2 ^ 64 ≤ (tally_at tallies way).accesses + count)
     ⊎ (2 ^ 64 ≤ (tally_at tallies way).faults + (if is_fault then 1 else 0))

@@ -86,7 +86,7 @@ IsMachineOf list frames distances options machine =
       fallback = options.fallback;
     })
 
--- that machine, these limits and so many workers
+-- that machine, these limits and this many workers
 abbrev pub IsSetUp : Result ℕ ListFault → List ℕ → List ℕ → Options → Bounds → ℕ → Setup → Type 0
 IsSetUp list frames distances options bounds workers setup =
     IsMachineOf list frames distances options setup.machine × (setup.bounds ≡ bounds)

@@ -14,7 +14,7 @@ abbrev pub fill_code : Result (Unit {0}) PlaceRefusal → ℕ
 fill_code (Ok done) = 0
 fill_code (Err cause) = place_code cause
 
--- how many nodes the list has is told where there is one, room or not
+-- the number of nodes of the list is returned if there is one, room or not
 abbrev pub AreTold : Result ℕ ChoiceRefusal → ℕ → ℕ → Type 0
 AreTold (Ok count) old new = new ≡ count
 AreTold (Err (refused.TooShort count)) old new = new ≡ count

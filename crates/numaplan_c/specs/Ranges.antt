@@ -28,8 +28,8 @@ abbrev pub own_word : Option PolicyRecord → List ℕ
 own_word None = []
 own_word (Some policy) = policy_text policy
 
--- a range is told with the word of its policy; where there is too little room for the word only its
--- length is told, and where there is no range nothing
+-- a range is returned with the word of its policy; if there is too little room for the word only
+-- its length, and without a range nothing
 abbrev pub TellsRange : Option (Run (Option PolicyRecord)) → ℕ → NpRange → NpRange → List ℕ
     → List ℕ → ℕ → ℕ → Type 0
 TellsRange None code span span-then old new told told-then =

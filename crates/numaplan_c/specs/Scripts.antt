@@ -16,7 +16,7 @@ line_code (Ok count) = 0
 line_code (Err refused.NoMemory) = 3
 line_code (Err refused.AnswerLost) = 6
 
--- how long the answer is is told where there is one
+-- the length of the answer is returned if there is one
 abbrev pub length_told : Result ℕ LineRefusal → ℕ → ℕ
 length_told (Ok count) old = count
 length_told (Err refusal) old = old

@@ -10,7 +10,7 @@ abbrev pub length_copied : Result ℕ ℕ → ℕ
 length_copied (Ok count) = count
 length_copied (Err count) = count
 
--- the text stands in front of the room, or there was no room for it: it is told how long it is
+-- the text is at the beginning of the room, or there was no room for it; its length is returned
 abbrev pub IsWritten : List ℕ → ℕ → List ℕ → List ℕ → ℕ → Type 0
 IsWritten text code old new count = (told : Result ℕ ℕ) × (code ≡ copy_code told)
     × (count ≡ length_copied told) × Copies text told old new

@@ -12,7 +12,7 @@ use Rattle.numa_space.specs.declared.command.Command.{Command}
 use Rattle.numa_maps.specs.Listing.{AreRangesOf, IsListing, listing_in}
 use Rattle.numa_maps.specs.Residents.{Kept}
 
--- there are so many ranges, as many as the accepted commands mean
+-- there are this many ranges, as many as the accepted commands mean
 abbrev pub HasRanges : Option CoreState → ℕ → Type 0
 HasRanges kept count = (core : CoreState) → kept ≡ Some core → (count ≡ length core.space.ranges)
     × ((history : List Command) → StandsFor core.space history
@@ -25,7 +25,7 @@ HasRangeAt kept place found = (core : CoreState) → kept ≡ Some core →
     × ((history : List Command) → StandsFor core.space history
     → AreRangesOf core.space.machine history core.space.ranges)
 
--- the ranges before the place end at the page or before it, and those from there on behind it: so
+-- the ranges before the place end at the page or before it, and those from there on after it: so
 -- the range at the place has the page, where one has it, and else is the next
 pub record IsPlaceOf {T : Type 0} (ranges : List (Run T)) (page place : ℕ) : Type 0 where
   pub within : place ≤ length ranges

@@ -35,7 +35,7 @@ abbrev pub ServesKept : List ℕ → Option Dialog → Option Dialog → Result 
 ServesKept line old new answer = (before : Dialog) → old ≡ Some before →
     (later : Dialog) × (new ≡ Some later) × Serves before line answer later
 
--- the answer stands in front of the room, which held `old`, or it is longer than the room
+-- the answer is at the beginning of the room, which held `old`, or it is longer than the room
 abbrev pub Copies : List ℕ → Result ℕ ℕ → List ℕ → List ℕ → Type 0
 Copies answer (Ok count) old new = (count ≡ length answer) × (take count new ≡ answer)
     × (drop count new ≡ drop count old)

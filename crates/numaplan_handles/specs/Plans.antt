@@ -20,7 +20,7 @@ HasNoList None page cpu cause = Unit {0}
 HasNoList (Some plan) page cpu cause = place_refusal plan page cpu ≡ Some cause
 
 -- the answer to the question for a page's list, and what the room for it held before and after: the
--- list stands in front, or there is no room, or no list
+-- list is at the beginning, or there is no room, or no list
 abbrev pub Chooses : Option PlanData → ℕ → ℕ → ℕ → Result ℕ ChoiceRefusal → List ℕ → List ℕ → Type 0
 Chooses plan task page cpu (Ok count) old new =
     IsListOf plan task page cpu (take count new) × (drop count new ≡ drop count old)

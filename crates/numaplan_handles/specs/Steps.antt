@@ -56,7 +56,7 @@ Publishes kept plan = (core : CoreState) → kept ≡ Some core → (plan ≡ co
     × ((world : World) → CoreStandsFor core world → PlanStandsFor core.space.machine plan
     (first_commands (newest_published world) world.history))
 
--- so many commands are accepted, and so many of them are published
+-- this many commands are accepted, and this many of them are published
 abbrev pub HasVersions : Option CoreState → ℕ → ℕ → Type 0
 HasVersions kept accepted published = (core : CoreState) → kept ≡ Some core →
     (accepted ≡ core.space.version) × (published ≡ core.plan.version)
