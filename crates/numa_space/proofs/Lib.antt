@@ -19,7 +19,7 @@ pub mod Kept
 pub mod Chosen
 pub mod Looked
 pub mod Changes
-pub mod RangeRows
+pub mod CountRows
 pub mod ListSizes
 pub mod Meant
 pub mod ModeRows
