@@ -12,6 +12,7 @@ pub mod PlanLemmas
 pub mod PutLemmas
 pub mod RangeLemmas
 pub mod Replies
+pub mod RiseLemmas
 pub mod RowLemmas
 pub mod RowSteps
 pub mod RuleSteps

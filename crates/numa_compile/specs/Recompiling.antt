@@ -61,9 +61,16 @@ pub record WritesBoth (few_runs few_rules : ℕ) (old new : Counted) : Type 0 wh
   pub rules : new.rules ≤ old.rules + few_rules
   pub rules_rise : old.rules ≤ new.rules
 
+-- no count falls
+pub record Rises (old new : Counted) : Type 0 where
+  pub compares : old.comparisons ≤ new.comparisons
+  pub runs : old.runs ≤ new.runs
+  pub rules : old.rules ≤ new.rules
+
 -- how much a command has written at most: a command of a span a run for each that it meets, and two
 -- for the runs beside it; mbind one rule, and a home one for each run that it meets; a task one
--- rule; a weight the rules of weighted interleave. A change of the allowed nodes may write all
+-- rule; a weight the rules of weighted interleave. A change of the allowed nodes may write all, but
+-- no count falls
 abbrev pub WritesFew : Command → PlanData → Counted → Counted → Type 0
 WritesFew (Map start bytes offset) plan old new = WritesBoth (met_by start bytes plan + 2) 0 old new
 WritesFew (Unmap start bytes) plan old new = WritesBoth (met_by start bytes plan + 2) 0 old new
@@ -74,7 +81,7 @@ WritesFew (SetTask task spec) plan old new = WritesRules 1 old new
 WritesFew (Inherit task from) plan old new = WritesRules 1 old new
 WritesFew (SetWeight node weight) plan old new =
     WritesRules (count_by holds_weighted plan.slots) old new
-WritesFew (SetMems mask) plan old new = Unit {0}
+WritesFew (SetMems mask) plan old new = Rises old new
 
 -- ---- what stays
 

@@ -13,6 +13,7 @@ ghost use Rattle.numa_space.specs.Standing.{setting_in};
 ghost use Rattle.numa_compile.specs.Copies.{AreCopies, HasTasks, HasRunsMore, IsUnderWay};
 ghost use Rattle.numa_compile.specs.Copies.{SharesRules};
 ghost use Rattle.numa_compile.specs.Follows.{Follows};
+ghost use Rattle.numa_compile.specs.Recompiling.{Rises};
 ghost use Rattle.numa_compile.specs.Rules.{IsReady, IsRuleOf};
 ghost use Rattle.numa_compile.specs.Standing.{IsPlanOf, PlanStandsFor};
 
@@ -60,6 +61,7 @@ fn put_waiting(
     ensures more { OnOk result (HasRunsMore plan.old plan.new) }
     ensures runs { OnOk result (plan.new.runs ≡ plan.old.runs ++ waiting.old.items) }
     ensures none { OnOk result (waiting.new.items ≡ []) }
+    ensures rises { Rises steps.old steps.new }
 {
     let end = plan.run_count();
     plan.splice_runs(end, end, waiting, steps)?;
@@ -81,6 +83,7 @@ fn add_run(
     ensures more { OnOk result (HasRunsMore plan.old plan.new) }
     ensures runs { OnOk result (plan.new.runs ++ waiting.new.items
         ≡ plan.old.runs ++ (waiting.old.items ++ run ∷ [])) }
+    ensures rises { Rises steps.old steps.new }
 {
     waiting.push(run)?;
     if waiting.len() < BLOCK {
@@ -105,6 +108,7 @@ fn add_runs(
         AreCopies (slice_get records.keys) space.now.ranges plan.new.runs) }
     ensures tasks { OnOk result (plan.new.tasks ≡ []) }
     ensures room { IfOk result (λ records. length records.keys ≤ length space.now.ranges) }
+    ensures rises { Rises steps.old steps.new }
 {
     survey(space);
     let mut records = IndexSet::new(alloc);
@@ -165,6 +169,7 @@ fn set_tasks(
     ensures copies { OnOk result
         (AreCopies (slice_get records.new.keys) space.now.ranges plan.new.runs) }
     ensures tasks { OnOk result (HasTasks (slice_get records.new.keys) space.now.tasks plan.new) }
+    ensures rises { Rises steps.old steps.new }
 {
     for k in 0..space.task_count() {
         let held = task_there(space, k);
@@ -188,6 +193,7 @@ fn copy_space(
     requires local { IsRuleOf (setting_in space.now) plan.old.local None }
     ensures follows { OnOk result (Follows space.now plan.new) }
     ensures rules { OnOk result (SharesRules space.now plan.new) }
+    ensures rises { Rises steps.old steps.new }
 {
     survey(space);
     let mut records = add_runs(alloc, space, plan, steps)?;
@@ -214,6 +220,7 @@ pub(crate) fn compile_counted(
 ) -> Result<Plan, NoMemory>
     ensures follows { IfOk result (λ plan. Follows space.now plan) }
     ensures rules { IfOk result (λ plan. SharesRules space.now plan) }
+    ensures rises { Rises steps.old steps.new }
 {
     survey(space);
     let local = local_rule(alloc, space)?;

@@ -7,7 +7,7 @@ ghost use Rattle.numa_space.specs.Policies.{where_live};
 ghost use Rattle.numa_space.specs.Standing.{IsInForce};
 ghost use Rattle.numa_plan.specs.Slots.{policy_in};
 ghost use Rattle.numa_compile.specs.Copies.{AreKnown, Grows, IsNumber, Serves};
-ghost use Rattle.numa_compile.specs.Recompiling.{IsAdded, WritesRules};
+ghost use Rattle.numa_compile.specs.Recompiling.{IsAdded, Rises, WritesRules};
 ghost use Rattle.numa_compile.specs.Rules.{IsReady};
 
 use crate::rules::rule_of;
@@ -80,6 +80,7 @@ fn number_of(
     ensures serves { OnOk result (Serves space.now plan.new records.new.keys) }
     ensures grows { OnOk result (Grows records.old.keys (Some policy) records.new.keys) }
     ensures rest { OnOk result (plan.new ≡ record plan.old { slots = plan.new.slots }) }
+    ensures rises { Rises steps.old steps.new }
 {
     let (number, is_new) = place_of(records, policy)?;
     if is_new {
@@ -114,6 +115,7 @@ pub(crate) fn number_for(
     ensures serves { OnOk result (Serves space.now plan.new records.new.keys) }
     ensures grows { OnOk result (Grows records.old.keys policy records.new.keys) }
     ensures rest { OnOk result (plan.new ≡ record plan.old { slots = plan.new.slots }) }
+    ensures rises { Rises steps.old steps.new }
 {
     let Some(policy) = policy else {
         return Ok(None);
@@ -160,6 +162,7 @@ pub(crate) fn number_for_range(
     ensures grows { OnOk result (Grows records.old.keys (slice_index_or values.now value None)
         records.new.keys) }
     ensures rest { OnOk result (plan.new ≡ record plan.old { slots = plan.new.slots }) }
+    ensures rises { Rises steps.old steps.new }
     ensures size { length known.new.items ≡ length values.now }
     ensures known { OnOk result
         (AreKnown (slice_get records.new.keys) values.now known.new.items) }

@@ -99,7 +99,7 @@ fn edit(
 /// A command of a span writes a run at most for each run that it meets, and for two beside it;
 /// mbind(2) one rule at most, a home one for each of these runs. A task's policy takes one rule, a
 /// weight the rules of weighted interleave. A change of the allowed nodes makes the plan anew.
-/// `steps` counts what is written, for contracts alone.
+/// `steps` counts what is written, for contracts alone; no count falls.
 ///
 /// # Errors
 /// `NoMemory` where there is none for what is written, or where the plan's runs and tasks, or its

@@ -1,6 +1,7 @@
 //! Recompiling for a change of the allowed nodes.
 ghost use Rattle.std.specs.Prelude.{◌≡◌, OnOk, OnErr};
 ghost use Rattle.numa_compile.specs.Follows.{Follows};
+ghost use Rattle.numa_compile.specs.Recompiling.{Rises};
 
 use crate::compiler::compile_counted;
 use numa_machine::NoMemory;
@@ -28,6 +29,7 @@ pub(crate) fn recompile_mems(
     steps: &mut Steps,
 ) -> Result<(), NoMemory>
     ensures follows { OnOk result (Follows space.now plan.new) }
+    ensures rises { Rises steps.old steps.new }
     ensures unchanged { OnErr result (plan.new ≡ plan.old) }
 {
     let fresh = compile_counted(alloc, space, steps)?;

@@ -12,6 +12,7 @@ use Rattle.numa_compile.proofs.KnownLemmas.{known-none, range-of, range-first, r
 use Rattle.numa_compile.proofs.CopyLemmas.{copies-apart, apart-take, grows-one}
 use Rattle.numa_compile.proofs.PlanLemmas.{used-range}
 use Rattle.numa_compile.proofs.RangeLemmas.{range-in_force}
+use Rattle.numa_compile.proofs.RiseLemmas.{rises-both, rises-none}
 use Rattle.numa_compile.proofs.compiler.add_runs.Goals as goal
 
 pub loop-row-init : goal.loop-row-init
@@ -32,6 +33,7 @@ loop-row-init c = record {
       let no : Option (Option ℕ) = None in
       let all : ◌≡◌ {A = ℕ} (n - vec_len c.new-known.result) n = omega (arith, c.new-known.ensures.len) in
       c.in_ok-resize.ensures.items ∙ ((λ i. take n (c.new-known.ensures.items i) ++ replicate (all i) no) ∙ ap (λ (l : List (Option (Option ℕ))). l ++ replicate n no) (take_all n [] (omega arith))));
+  rises = rises-none c.args.steps.now;
 }
 
 pub number_for_range-requires-clause-in_force : goal.number_for_range-requires-clause-in_force
@@ -118,6 +120,7 @@ loop-row-preserved c =
       numbered = rest-numbered c.range_rows-rows.result.1.now c.loop-row.row-iterator c.next.new.self row c.loop-row.invariant.numbered c.in-Some.ensures.steps;
       size = c.in_ok-value.ensures.size;
       known = c.in_ok-value.ensures.known;
+      rises = rises-both c.args.steps.now c.number_for_range.new.steps c.add_run.new.steps (rises-both c.args.steps.now c.loop-row.steps c.number_for_range.new.steps c.loop-row.invariant.rises c.number_for_range.ensures.rises) c.add_run.ensures.rises;
     }
 
 pub put_waiting-requires-clause-apart : goal.put_waiting-requires-clause-apart
@@ -171,3 +174,21 @@ number_for_range-requires-clause-known c = c.loop-row.invariant.known
 
 pub number_for_range-requires-clause-ready : goal.number_for_range-requires-clause-ready
 number_for_range-requires-clause-ready c = c.survey.ensures.ready
+
+pub returns-in_err-resize-clause-rises : goal.returns-in_err-resize-clause-rises
+returns-in_err-resize-clause-rises c = rises-none c.args.steps.now
+
+pub returns-in_err-waiting-clause-rises : goal.returns-in_err-waiting-clause-rises
+returns-in_err-waiting-clause-rises c = rises-none c.args.steps.now
+
+pub returns-in_err-value-clause-rises : goal.returns-in_err-value-clause-rises
+returns-in_err-value-clause-rises c = rises-both c.args.steps.now c.loop-row.steps c.number_for_range.new.steps c.loop-row.invariant.rises c.number_for_range.ensures.rises
+
+pub returns-in_err-add_run-clause-rises : goal.returns-in_err-add_run-clause-rises
+returns-in_err-add_run-clause-rises c = rises-both c.args.steps.now c.number_for_range.new.steps c.add_run.new.steps (rises-both c.args.steps.now c.loop-row.steps c.number_for_range.new.steps c.loop-row.invariant.rises c.number_for_range.ensures.rises) c.add_run.ensures.rises
+
+pub returns-in_err-put_waiting-clause-rises : goal.returns-in_err-put_waiting-clause-rises
+returns-in_err-put_waiting-clause-rises c = rises-both c.args.steps.now c.loop-row.steps c.put_waiting.new.steps c.loop-row.invariant.rises c.put_waiting.ensures.rises
+
+pub returns-clause-rises : goal.returns-clause-rises
+returns-clause-rises c = rises-both c.args.steps.now c.loop-row.steps c.put_waiting.new.steps c.loop-row.invariant.rises c.put_waiting.ensures.rises

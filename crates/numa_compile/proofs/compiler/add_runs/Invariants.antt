@@ -1,6 +1,7 @@
 use Rattle.numa_ranges.specs.Numbered.{AreNumbered, runs_of}
 use Rattle.std.proofs.Common.{◌≡◌, length, slice_get}
 use Rattle.numa_compile.specs.Copies.{AreKnown}
+use Rattle.numa_compile.specs.Recompiling.{Rises}
 use Rattle.numa_compile.proofs.CompileSteps.{HasAdded}
 use Rattle.numa_compile.proofs.compiler.add_runs.Given as goal
 
@@ -10,4 +11,5 @@ invariant-loop-row l = record {
   numbered : AreNumbered l.values l.row-iterator;
   size : length l.known.items ≡ length l.values;
   known : AreKnown (slice_get l.records.keys) l.values l.known.items;
+  rises : Rises l.initial.steps l.steps;
 }

@@ -4,6 +4,7 @@ use Rattle.numa_plan.specs.Slots.{rule_in}
 use Rattle.numa_ranges.specs.Runs.{AreApart}
 use Rattle.numa_ranges.specs.declared.run.Run.{Run}
 use Rattle.numa_plan.specs.Meaning.{PlanData}
+use Rattle.numa_compile.proofs.RiseLemmas.{rises-runs, rises-same}
 use Rattle.numa_compile.proofs.WaitLemmas.{spliced-end, named-behind, spliced-more}
 use Rattle.numa_compile.proofs.compiler.put_waiting.Goals as goal
 
@@ -26,3 +27,9 @@ returns-clause-runs c =
     ap (λ (p : PlanData). p.runs) c.in_ok-splice_runs.ensures.ok.0
     ∙ spliced-end c.args.plan.now.runs c.deref.result.now c.run_count-end.result c.run_count-end.ensures.count
     ∙ ap (λ (items : List (Run (Option ℕ))). c.args.plan.now.runs ++ items) c.deref.ensures.value
+
+pub returns-in_err-splice_runs-clause-rises : goal.returns-in_err-splice_runs-clause-rises
+returns-in_err-splice_runs-clause-rises c = rises-same c.args.steps.now c.splice_runs.new.steps c.in_err-splice_runs.ensures.err.1
+
+pub returns-clause-rises : goal.returns-clause-rises
+returns-clause-rises c = rises-runs c.args.steps.now c.splice_runs.new.steps _ c.in_ok-splice_runs.ensures.ok.1

@@ -6,6 +6,7 @@ use Rattle.numa_compile.specs.Copies.{AreCopies, AreUsed, HasTasks}
 use Rattle.numa_compile.proofs.CompileSteps.{served-number, under-task}
 use Rattle.numa_compile.proofs.CopyLemmas.{copies-grow, grows-one, tasks-grow, tasks-next}
 use Rattle.numa_compile.proofs.PlanLemmas.{used-task}
+use Rattle.numa_compile.proofs.RiseLemmas.{rises-both, rises-none}
 use Rattle.numa_compile.proofs.compiler.set_tasks.Goals as goal
 
 pub number_for-requires-clause-in_force : goal.number_for-requires-clause-in_force
@@ -26,6 +27,7 @@ loop-k-preserved c =
       runs = runs ∙ c.loop-k.invariant.runs;
       room = omega (arith, grows-one c.loop-k.records.keys (Some c.task_there-held.result.1) c.number_for.new.records.keys c.in_ok-number.ensures.grows, c.loop-k.invariant.room);
       few = omega (arith, c.in_ok-set_task.ensures.sized, ap length tasks, c.loop-k.invariant.few);
+      rises = rises-both c.args.steps.now c.loop-k.steps c.number_for.new.steps c.loop-k.invariant.rises c.number_for.ensures.rises;
     }
 
 pub number_for-requires-clause-nodes : goal.number_for-requires-clause-nodes
@@ -50,6 +52,7 @@ loop-k-init c = record {
   runs = refl;
   few = omega (arith, ap length c.requires.tasks);
   room = omega arith;
+  rises = rises-none c.args.steps.now;
 }
 
 pub returns-clause-under_way : goal.returns-clause-under_way
@@ -60,3 +63,12 @@ returns-clause-copies c = c.loop-k.invariant.copies
 
 pub number_for-requires-clause-ready : goal.number_for-requires-clause-ready
 number_for-requires-clause-ready c = c.requires.ready
+
+pub returns-in_err-number-clause-rises : goal.returns-in_err-number-clause-rises
+returns-in_err-number-clause-rises c = rises-both c.args.steps.now c.loop-k.steps c.number_for.new.steps c.loop-k.invariant.rises c.number_for.ensures.rises
+
+pub returns-in_err-set_task-clause-rises : goal.returns-in_err-set_task-clause-rises
+returns-in_err-set_task-clause-rises c = rises-both c.args.steps.now c.loop-k.steps c.number_for.new.steps c.loop-k.invariant.rises c.number_for.ensures.rises
+
+pub returns-clause-rises : goal.returns-clause-rises
+returns-clause-rises c = c.loop-k.invariant.rises

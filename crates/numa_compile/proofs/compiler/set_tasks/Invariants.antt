@@ -1,5 +1,6 @@
 use Rattle.std.proofs.Common.{◌≡◌, ◌+◌, ◌≤◌, take, length, slice_get}
 use Rattle.numa_compile.specs.Copies.{AreCopies, HasTasks, IsUnderWay}
+use Rattle.numa_compile.specs.Recompiling.{Rises}
 use Rattle.numa_compile.proofs.compiler.set_tasks.Given as goal
 
 abbrev pub invariant-loop-k : goal.invariant-loop-k
@@ -10,4 +11,5 @@ invariant-loop-k l = record {
   runs : l.plan.runs ≡ l.initial.plan.runs;
   few : length l.plan.tasks ≤ l.k;
   room : length l.records.keys ≤ length l.initial.records.keys + l.k;
+  rises : Rises l.initial.steps l.steps;
 }
