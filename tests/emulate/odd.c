@@ -200,6 +200,24 @@ static void closed(void) {
     MUST(*at == 1 && node_of(at) == 1);
 }
 
+/* mremap(2) keeps a policy as it was asked for, with its home. */
+static void moved(void) {
+    enum { PREFER_STATIC = 0x8001, MANY_STATIC = 0x8005 };
+    unsigned long mask = 3, got[16];
+    for (int node = 0; node < 2; node++)
+        for (int mode = PREFER_STATIC; mode <= MANY_STATIC; mode += 4) {
+            char *at = some_pages(1), *room = some_pages(1);
+            int told = -1;
+            MUST(syscall(SYS_mbind, at, 4096L, (long)mode, &mask, 65L, 0L) == 0);
+            MUST(mode == PREFER_STATIC || syscall(450L, at, 4096L, (long)node, 0L) == 0);
+            MUST(mremap(at, 4096, 4096, MREMAP_MAYMOVE | MREMAP_FIXED, room) == room);
+            MUST(syscall(SYS_get_mempolicy, &told, got, 1024L, room, 2L) == 0);
+            MUST(told == mode && got[0] == 3);
+            *room = 1;
+            MUST(mode == PREFER_STATIC || node_of(room) == node);
+        }
+}
+
 /* Private memory that was read alone isn't placed: move_pages(2) answers EFAULT, and a write goes by the policy. (On
  * Linux before 6.7 it counts as touched.) */
 static void only_read(void) {
@@ -249,8 +267,8 @@ int main(int count, char **words) {
         void (*run)(void);
     } rows[] = {{"after-exec", after_exec}, {"vfork", by_vfork}, {"exec-from-thread", exec_from_thread},
                 {"signals", signals}, {"threads", threads}, {"children", children}, {"killed", killed},
-                {"areas", areas}, {"apart", apart}, {"closed", closed}, {"read", only_read}, {"processes", processes},
-                {"rights", rights}};
+                {"areas", areas}, {"apart", apart}, {"closed", closed}, {"moved", moved}, {"read", only_read},
+                {"processes", processes}, {"rights", rights}};
     self = words[0];
     for (size_t k = 0; k < sizeof rows / sizeof rows[0]; k++)
         if (count == 2 && !strcmp(rows[k].name, words[1])) {

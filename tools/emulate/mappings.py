@@ -5,7 +5,7 @@ import errno
 
 from .areas import Areas
 from .calls import whole_pages
-from .policies import to_ask
+from .policies import word_of
 from .tracing import MAP_FIXED, PAGE, TOP, set_registers, text_at
 
 FAILED = 2**64 - 4096  # results from here on are error numbers
@@ -75,7 +75,7 @@ def mremap(all_, task, old, old_length, new_length, *_):
         return None
     all_.look(task, old, old + old_length)
     all_.sweep(task, old, old + old_length)
-    pieces = list(space.ranges(old, old + old_length))
+    pieces = [(*piece, space.core.policy_at(piece[0])) for piece in space.ranges(old, old + old_length)]
 
     def follow(registers):
         if registers.rax < FAILED:
@@ -85,12 +85,13 @@ def mremap(all_, task, old, old_length, new_length, *_):
 
 
 def moved(space, pieces, old, new):
-    """Maps the pieces anew, each with its policy; the last one is as long as the new span."""
+    """Maps the pieces anew, each with its policy as it was asked for, and its home; the last one is as long as
+    the new span."""
     (from_, old_length), (to, new_length) = old, new
     kept = space.take(from_, from_ + min(old_length, new_length))
     space.unmap(from_, from_ + old_length)
     space.unmap(to, to + new_length)
-    for place, (start, end, index, policy) in enumerate(pieces):
+    for place, (start, end, index, _, policy) in enumerate(pieces):
         if not kept and index == start // PAGE:
             index += (to - from_) // PAGE  # (anonymous, and never touched: the index moves too)
         first = to + start - from_
@@ -100,7 +101,9 @@ def moved(space, pieces, old, new):
         space.do("map", first, after - first, index)
         space.spans.add(first, after)
         if policy:
-            space.do("mbind", first, after - first, to_ask(policy))
+            space.do("mbind", first, after - first, word_of(policy.mode, set(policy.asked)))
+        if policy and policy.home is not None:
+            space.do("set_home", first, after - first, policy.home)
     for page, (node, frame) in kept.items():
         space.put(page + (to - from_) // PAGE, node, frame)
 

@@ -2,7 +2,6 @@
 scripts. Not proved."""
 
 import errno
-import re
 
 import numaplan
 
@@ -10,10 +9,7 @@ from .tracing import PAGE, fail, peek, poke
 from .words import list_text
 
 MODES = ["default", "prefer", "bind", "interleave", "local", "many", "weighted"]
-SHOWN = {"prefer (many)": "many", "weighted interleave": "weighted"}
-WORD = re.compile(r"(weighted interleave|prefer \(many\)|[a-z]+)(=static|=relative)?(?::(.*))?$")
 STATIC, RELATIVE, BALANCING = 0x8000, 0x4000, 0x2000
-FLAGS = {"=static": STATIC, "=relative": RELATIVE}
 MOST_BITS = 1024  # MAX_NUMNODES of usual kernels
 
 
@@ -51,20 +47,6 @@ def word_of(mode, nodes):
         fail(errno.EINVAL)
     flag = "=static" if flags & STATIC else "=relative" if flags & RELATIVE else ""
     return MODES[mode] + flag + (":" + list_text(nodes) if nodes else "")
-
-
-def mode_and_nodes(word):
-    """The mode with its flags, and the nodes, of a policy as the library shows it."""
-    if not word:
-        return 0, set()
-    found = WORD.match(word)
-    mode = MODES.index(SHOWN.get(found[1], found[1])) | FLAGS.get(found[2], 0)
-    return mode, set(numaplan.nodes(found[3])) if found[3] else set()
-
-
-def to_ask(shown):
-    """The word of a script for a policy as the library shows it."""
-    return shown.replace("prefer (many)", "many").replace("weighted interleave", "weighted")
 
 
 def is_interleaved(word):
