@@ -7,15 +7,13 @@ import re
 import sys
 from collections import Counter
 
-STRICT, WEIGHTED = 1, "6"
-
 
 def is_untouched(call, got, wanted):
     """A page that wasn't touched: ENOENT here and on Linux 6.12, EFAULT on 6.1."""
-    if call.startswith("nodes"):
-        return len(got) == len(wanted) and all(one == other or (one, other) == (".", "_") for one, other in zip(got, wanted))
-    pairs = list(zip(got.split(), wanted.split()))
-    return call.startswith("status") and all(one == other or (one, other) == ("-2", "-14") for one, other in pairs)
+    known = (".", "_") if call.startswith("nodes") else ("-2", "-14")
+    pages, others = (list(text) if call.startswith("nodes") else text.split() for text in (got, wanted))
+    return call.startswith(("nodes", "status")) and len(pages) == len(others) and all(
+        one == other or (one, other) == known for one, other in zip(pages, others))
 
 
 def is_bind(call, mode=None):
@@ -24,21 +22,13 @@ def is_bind(call, mode=None):
     return bool(found) and (mode is None or found[1][-1] == mode)
 
 
-def is_strict(call):
-    return is_bind(call) and int(call.split()[-1], 16) & STRICT
-
-
 # By cause: whether a difference (call, answer here, the kernel's) is of it, and whether what follows is alike.
 KNOWN = {
     "a page that wasn't touched (EFAULT on Linux 6.1)": (is_untouched, True),
-    "weighted (EINVAL on Linux 6.1)": (
-        lambda call, *two: (is_bind(call, WEIGHTED) or re.match(r"set_mempolicy [0-9a-f]*6 ", call)) and two[1] == "EINVAL",
-        False),
     "home without a policy (ENOENT)": (lambda call, *two: call.startswith("home") and two == ("0", "ENOENT"), True),
     "nodes that aren't allowed, over a hole (EINVAL)": (
         lambda call, *two: is_bind(call) and two == ("EFAULT", "EINVAL"), True),
     "DEFAULT over a hole (accepted)": (lambda call, *two: is_bind(call, "0") and two == ("EFAULT", "0"), False),
-    "MPOL_MF_STRICT over a hole (EIO)": (lambda call, *two: is_strict(call) and two == ("EFAULT", "EIO"), False),
 }
 
 

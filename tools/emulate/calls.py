@@ -3,6 +3,8 @@
 import errno
 import struct
 
+import numaplan
+
 from .common import move
 from .cpus import getcpu
 from .policies import read_mask, word_of, write_mask
@@ -40,11 +42,33 @@ def mbind(all_, task, start, length, mode, mask, most, flags):
             pages = space.placed_between(start, start + length)
             astray = [page for page in pages if space.placed[page] not in (nodes or ())]
     if astray and not flags & (MOVE | MOVE_ALL):
-        space.would("mbind", start, length, word)  # (a fault of the words, or a hole, comes first)
-        fail(errno.EIO)
+        refuse_astray(space, start, length, word, astray)
     space.do("mbind", start, length, word)
     move_astray(all_, task, astray, flags)
     return 0
+
+
+def refuse_astray(space, start, length, word, pages):
+    """Pages are on other nodes (EIO); a fault of the words comes before that, and mostly a hole."""
+    try:
+        space.would("mbind", start, length, word)
+    except numaplan.Hole:
+        if not is_met_first(space, start, start + length, pages):
+            raise
+    fail(errno.EIO)
+
+
+def is_met_first(space, start, end, pages):
+    """Whether the kernel meets one of the pages before a hole: it goes from area to area, and looks for a hole
+    behind each one before it looks at its pages."""
+    at, rows = start, list(space.ranges(start, end))
+    for (first, after, *_), following in zip(rows, rows[1:] + [(None,)]):
+        if at < first or after < end and following[0] != after:
+            return False
+        if any(first <= page * PAGE < after for page in pages):
+            return True
+        at = after
+    return False
 
 
 def move_astray(all_, task, pages, flags):
