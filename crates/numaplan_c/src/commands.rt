@@ -107,7 +107,7 @@ pub extern "C" fn np_core_set_task(
     accept(alloc, core, Command::SetTask { task, spec })
 }
 
-/// Gives a task the policy that another has, or takes its own away where the other has none.
+/// Gives a task the policy of another, or removes its policy if the other has none.
 #[unsafe(no_mangle)]
 pub extern "C" fn np_core_inherit(alloc: Global, core: &mut CoreHandle, task: u32, from: u32) -> u32
     ensures { Answers (core_in core.old) (Event.Accept (Command.Inherit task from)) result
