@@ -12,13 +12,19 @@ use Rattle.numa_reports.proofs.filling.fill_ranges.Given as goal
 
 abbrev pub invariant-loop-range : goal.invariant-loop-range
 invariant-loop-range g l = record {
-  left : (history : List Command) → StandsFor l.space history → PlanStandsFor l.space.machine l.plan history
-      → free_runs (planned_nodes l.plan l.touch.task l.touch.cpu) l.free l.range-iterator ≡ free_runs (planned_nodes l.plan l.touch.task l.touch.cpu) l.fn.free l.space.ranges;
+  left : (history : List Command) → StandsFor l.space history
+      → PlanStandsFor l.space.machine l.plan history
+      → free_runs (planned_nodes l.plan l.touch.task l.touch.cpu) l.free l.range-iterator
+      ≡ free_runs (planned_nodes l.plan l.touch.task l.touch.cpu) l.fn.free l.space.ranges;
   apart : AreApart 0 l.space.ranges;
   known : l.touch.cpu < l.space.machine.nodes;
   rest : AreLeft l.range-iterator l.space.ranges;
-  lack : LacksOne g.T.TakeRange.lacks l.range-iterator → LacksOne g.T.TakeRange.lacks l.space.ranges;
-  told : (history : List Command) → StandsFor l.space history → PlanStandsFor l.space.machine l.plan history → (end : g.row.T.Denot)
-      → FilledEach g.T.TakeRange.told (IsTaken l.space.machine history l.touch.task) (planned_nodes l.plan l.touch.task l.touch.cpu) l.free l.range-iterator l.taker end
-      → FilledEach g.T.TakeRange.told (IsTaken l.space.machine history l.touch.task) (planned_nodes l.plan l.touch.task l.touch.cpu) l.fn.free l.space.ranges l.fn.taker end;
+  lack : LacksOne g.T.TakeRange.lacks l.range-iterator
+      → LacksOne g.T.TakeRange.lacks l.space.ranges;
+  told : (history : List Command) → StandsFor l.space history
+      → PlanStandsFor l.space.machine l.plan history → (end : g.row.T.Denot)
+      → FilledEach g.T.TakeRange.told (IsTaken l.space.machine history l.touch.task)
+      (planned_nodes l.plan l.touch.task l.touch.cpu) l.free l.range-iterator l.taker end
+      → FilledEach g.T.TakeRange.told (IsTaken l.space.machine history l.touch.task)
+      (planned_nodes l.plan l.touch.task l.touch.cpu) l.fn.free l.space.ranges l.fn.taker end;
 }

@@ -13,12 +13,20 @@ use Rattle.numa_reports.proofs.prediction.predict_ranges.Given as goal
 abbrev pub invariant-loop-range : goal.invariant-loop-range
 invariant-loop-range g l = record {
   none : AreNone l.said.counts;
-  all : (node : ℕ) → node < 256 → get_or l.all node 0 + count_runs (λ page. is_number node (planned_first l.plan l.touch.task page l.touch.cpu)) l.range-iterator ≡ count_runs (λ page. is_number node (planned_first l.plan l.touch.task page l.touch.cpu)) l.space.ranges;
+  all : (node : ℕ) → node < 256
+      → get_or l.all node 0 + count_runs
+      (λ page. is_number node (planned_first l.plan l.touch.task page l.touch.cpu)) l.range-iterator
+      ≡ count_runs (λ page. is_number node (planned_first l.plan l.touch.task page l.touch.cpu))
+      l.space.ranges;
   apart : AreApart 0 l.space.ranges;
   rest : AreLeft l.range-iterator l.space.ranges;
-  lack : LacksOne g.T.TakeRange.lacks l.range-iterator → LacksOne g.T.TakeRange.lacks l.space.ranges;
+  lack : LacksOne g.T.TakeRange.lacks l.range-iterator
+      → LacksOne g.T.TakeRange.lacks l.space.ranges;
   long : length l.all ≡ 256;
-  told : (history : List Command) → StandsFor l.space history → PlanStandsFor l.space.machine l.plan history → (end : g.row.T.Denot)
-      → ToldEach g.T.TakeRange.told (IsPrediction l.space.machine history l.touch.task l.touch.cpu) l.range-iterator l.taker end
-      → ToldEach g.T.TakeRange.told (IsPrediction l.space.machine history l.touch.task l.touch.cpu) l.space.ranges l.fn.taker end;
+  told : (history : List Command) → StandsFor l.space history
+      → PlanStandsFor l.space.machine l.plan history → (end : g.row.T.Denot)
+      → ToldEach g.T.TakeRange.told (IsPrediction l.space.machine history l.touch.task l.touch.cpu)
+      l.range-iterator l.taker end
+      → ToldEach g.T.TakeRange.told (IsPrediction l.space.machine history l.touch.task l.touch.cpu)
+      l.space.ranges l.fn.taker end;
 }
