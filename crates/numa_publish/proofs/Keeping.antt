@@ -1,5 +1,5 @@
 -- Steps that keep the rule of the published log.
-use Rattle.std.proofs.Common.{Result, Ok, Err, MatchResult, is_err, false, ◌≡◌, ℕ, ◌≢◌, List, set, refl, sym, subst, ⊎_elim, ◌∙◌, ap, true}
+use Rattle.std.proofs.Common.{Result, Ok, Err, MatchResult, is_err, false, ◌≡◌, ℕ, ◌≢◌, zero, suc, List, [], ◌∷◌, set, refl, sym, subst, ⊎_elim, ◌∙◌, ap, true}
 use mathlib.Core.Option.{some}
 use lib.ListN.{get_elem?}
 use Rattle.left_right.specs.Register.{Admits, TurnsAt, Forks, Merges}
@@ -10,7 +10,7 @@ use Rattle.numa_publish.specs.declared.issue.Shown.{Shown}
 use Rattle.numa_publish.specs.declared.rule.Knows.{Knows}
 use Rattle.numa_publish.specs.Knowing.{IsEarlier, KnowsThePast, Sees, MayShow, ShowsOrKeeps, told, told_by, newcomer, knowledge_of_desk}
 use Rattle.numa_publish.proofs.Lists.{prefix_self, prefix_trans, extends_self, extends_trans}
-use Rattle.std.proofs.lemmas.List.{append-nil}
+use Rattle.numa_publish.proofs.Logs.{extends_oldest}
 
 pub earlier_self : (v : Knows) → IsEarlier v v
 earlier_self v = record { log = prefix_self _; versions = extends_self _; desk = λ _. refl }
@@ -19,11 +19,21 @@ earlier_self v = record { log = prefix_self _; versions = extends_self _; desk =
 pub earlier_trans : (u v w : Knows) → v.named ≡ true → IsEarlier u v → IsEarlier v w → IsEarlier u w
 earlier_trans u v w named p q = record { log = prefix_trans _ _ _ p.log q.log; versions = extends_trans _ _ _ p.versions q.versions; desk = λ h. p.desk h ∙ q.desk named }
 
-pub earlier_new : (w : Knows) → IsEarlier newcomer w
-earlier_new w = record { log = (w.front.log, refl); versions = (w.versions, (let e = append-nil w.versions in cc (e))); desk = λ h. absurd cc }
+pub earlier_new : (x : Shown) → IsEarlier newcomer (told x)
+earlier_new x =
+    let issue : Issue = arc_value x.issue in
+    record { log = (issue.front.log, refl); versions = extends_oldest issue.front.log issue.oldest; desk = λ h. absurd cc }
 
 pub admits : Admits KnowsThePast newcomer
-admits x views h seat v at = ⊎_elim (h seat v) (λ (e : newcomer ≡ v). subst (λ (z : Knows). IsEarlier z (told x)) e (earlier_new (told x))) (at_snoc views newcomer v seat at)
+admits x views h seat v at = ⊎_elim (h seat v) (λ (e : newcomer ≡ v). subst (λ (z : Knows). IsEarlier z (told x)) e (earlier_new x)) (at_snoc views newcomer v seat at)
+
+none_at : (seat : ℕ) (v : Knows) → get_elem? {A = Knows} [] seat ≡ some v → ⊥
+none_at zero v e = absurd (cc (e))
+none_at (suc seat) v e = absurd (cc (e))
+
+-- the writer's seat is the first, before it knows anything
+pub opens : (x : Shown) → KnowsThePast x (newcomer ∷ [])
+opens x seat v at = admits x [] (λ j u e. absurd (none_at j u e)) seat v at
 
 set_keeps : (x : Shown) (views : List Knows) (seat : ℕ) (v : Knows) → KnowsThePast x views → IsEarlier v (told x) → KnowsThePast x (set views seat v)
 set_keeps x views seat v h low j u e =
@@ -44,7 +54,7 @@ forks seat v x views h at j u e = ⊎_elim (set_keeps x views seat v h (h seat v
 pub merges : (seat : ℕ) (v : Knows) (other : ℕ) (w : Knows) → Merges KnowsThePast seat v other w (knowledge_of_desk v w) newcomer
 merges seat v other w x views h at apart there =
     let b : IsEarlier w (told x) = ⊎_elim (λ (t : (other ≡ seat) × (knowledge_of_desk v w ≡ w)). absurd (apart t.0)) (λ (t : (other ≢ seat) × (get_elem? views other ≡ some w)). h other w t.1) (at_set views seat other (knowledge_of_desk v w) w there) in
-    let fresh = earlier_new (told x) in
+    let fresh = earlier_new x in
     let n : IsEarlier (knowledge_of_desk v w) (told x) = record { log = fresh.log; versions = fresh.versions; desk = b.desk } in
     set_keeps x (set views seat (knowledge_of_desk v w)) other newcomer (set_keeps x views seat (knowledge_of_desk v w) h n) fresh
 

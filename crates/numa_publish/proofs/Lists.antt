@@ -1,10 +1,11 @@
 -- Beginnings of a log, and what a history extends.
-use Rattle.std.proofs.Common.{◌≡◌, ◌≤◌, List, [], ◌∷◌, ◌++◌, length, Option, Result, Ok, Err, IfOk, refl, ap, sym, ◌∙◌, arith, append_assoc, length-append}
+use Rattle.std.proofs.Common.{◌≡◌, ◌≤◌, ◌+◌, List, [], ◌∷◌, ◌++◌, length, Option, Result, Ok, Err, IfOk, refl, ap, sym, ◌∙◌, arith, append_assoc, length-append}
 use Rattle.std.proofs.lemmas.List.{append-nil}
 use Rattle.core.specs.Option.{ok_or}
 use Rattle.core.specs.Result.{result_ok}
 use mathlib.Core.List.{IsPrefix}
 use Rattle.numa_space.specs.declared.command.Command.{Command}
+use Rattle.numa_publish.specs.declared.batch.Batch.{Batch}
 use Rattle.numa_publish.specs.Batches.{history_of, Extends}
 
 pub prefix_self : {A : Type 0} (xs : List A) → IsPrefix xs xs
@@ -34,29 +35,25 @@ extends_shorter [] b xs ys e le =
 extends_shorter (x ∷ a) [] xs ys e le = (x ∷ a, sym e)
 extends_shorter (x ∷ a) (y ∷ b) xs ys e le = extends_shorter a b xs ys (cc (e)) le
 
-pub history-append : (xs ys : List (List Command)) → history_of (xs ++ ys) ≡ history_of ys ++ history_of xs
+pub history-append : (xs ys : List Batch) → history_of (xs ++ ys) ≡ history_of ys ++ history_of xs
 history-append [] ys = sym (append-nil (history_of ys))
-history-append (x ∷ xs) ys = ap (λ w. w ++ x) (history-append xs ys) ∙ append_assoc (history_of ys) (history_of xs) x
+history-append (x ∷ xs) ys = ap (λ w. w ++ x.commands) (history-append xs ys) ∙ append_assoc (history_of ys) (history_of xs) x.commands
 
-pub history-snoc : (xs : List (List Command)) (b : List Command) → history_of (xs ++ b ∷ []) ≡ b ++ history_of xs
+pub history-snoc : (xs : List Batch) (b : Batch) → history_of (xs ++ b ∷ []) ≡ b.commands ++ history_of xs
 history-snoc xs b = history-append xs (b ∷ [])
 
-pub prefix_extends : (xs ys : List (List Command)) → IsPrefix xs ys → Extends (history_of xs) (history_of ys)
+pub count-snoc : (xs : List Batch) (b : Batch) → length (history_of (xs ++ b ∷ [])) ≡ length b.commands + length (history_of xs)
+count-snoc xs b = ap (λ (w : List Command). length w) (history-snoc xs b) ∙ length-append b.commands (history_of xs)
+
+pub prefix_extends : (xs ys : List Batch) → IsPrefix xs ys → Extends (history_of xs) (history_of ys)
 prefix_extends xs ys p = (history_of p.0, sym (ap history_of p.1) ∙ history-append xs p.0)
 
 -- of two beginnings of one log the one with more commands extends the other
-pub history_shorter : (xs ys both : List (List Command)) → IsPrefix xs both → IsPrefix ys both → length (history_of xs) ≤ length (history_of ys) → Extends (history_of xs) (history_of ys)
+pub history_shorter : (xs ys both : List Batch) → IsPrefix xs both → IsPrefix ys both → length (history_of xs) ≤ length (history_of ys) → Extends (history_of xs) (history_of ys)
 history_shorter xs ys both p q le =
     let a = prefix_extends xs both p in
     let b = prefix_extends ys both q in
     extends_shorter a.0 b.0 (history_of xs) (history_of ys) (sym a.1 ∙ b.1) le
-
--- a beginning with as many commands as the whole has the whole's history
-pub history_whole : (xs ys : List (List Command)) → IsPrefix xs ys → length (history_of ys) ≤ length (history_of xs) → history_of ys ≡ history_of xs
-history_whole xs ys p le =
-    let a = prefix_extends xs ys p in
-    let n : length a.0 ≤ 0 = omega (arith, ap (λ w. length w) a.1, length-append a.0 (history_of xs)) in
-    a.1 ∙ ap (λ w. w ++ history_of xs) (no_length a.0 n)
 
 -- what holds of a result's value holds of it under another refusal
 pub ok_or_kept : {A E F : Type 0} (r : Result A E) (o : Option A) (s : Result A F) (f : F) (P : A → Type 0) → o ≡ result_ok r → s ≡ ok_or o f → IfOk r P → IfOk s P

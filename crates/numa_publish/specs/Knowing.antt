@@ -10,7 +10,7 @@ use Rattle.logbook.specs.Pages.{Book}
 use Rattle.numa_publish.specs.declared.issue.Issue.{Issue}
 use Rattle.numa_publish.specs.declared.issue.Shown.{Shown}
 use Rattle.numa_publish.specs.declared.rule.Knows.{Knows}
-use Rattle.numa_publish.specs.Batches.{Extends}
+use Rattle.numa_publish.specs.Batches.{Extends, versions_of}
 use Rattle.numa_publish.specs.Ghosts.{no_machine}
 use Rattle.numa_publish.specs.Shown.{DeskIdentity}
 
@@ -24,7 +24,6 @@ newcomer = record {
   named = false;
   machine = no_machine;
   front = record { marker = record {}; book = no_book; names = []; log = [] };
-  versions = [];
 }
 
 -- all that an issue tells
@@ -33,7 +32,6 @@ told_by issue = record {
   named = true;
   machine = issue.machine;
   front = issue.front;
-  versions = issue.versions;
 }
 
 -- all that the shown issue tells
@@ -44,11 +42,11 @@ told shown = told_by (arc_value shown.issue)
 abbrev pub desk_of : Knows → DeskIdentity
 desk_of known = record { book = known.front.book; machine = known.machine }
 
--- the first is what a thread may have known before the second was shown: a beginning of the log, an
--- earlier list of versions, and the same desk once it is named
+-- the first is what a thread may have known before the second was shown: a beginning of the log,
+-- up to which the versions are an earlier list of those, and the same desk once it is named
 pub record IsEarlier (before after : Knows) : Type 0 where
   pub log : IsPrefix before.front.log after.front.log
-  pub versions : Extends before.versions after.versions
+  pub versions : Extends (versions_of before.front.log) (versions_of after.front.log)
   pub desk : before.named ≡ true → desk_of before ≡ desk_of after
 
 -- the rule: what each seat knows was published before what is shown now
@@ -88,5 +86,4 @@ knowledge_of_desk known note = record {
     names = note.front.names;
     log = [];
   };
-  versions = [];
 }

@@ -29,7 +29,7 @@ pub record ReceiptState : Type 0 where
   pub versions : List ℕ
 
 -- a reader: of which desk, the history that it has seen or learnt, the versions published up to the
--- one at which it looked last, how many enters it made, and how many of them were refused
+-- one that it saw last, how many enters it made, and how many of them were refused
 pub record ReaderState : Type 0 where
   pub desk : DeskIdentity
   pub history : List Command
@@ -66,7 +66,13 @@ versions_after desk = and_newest desk.pending (length (accepted_commands desk)) 
 
 -- a reader of this desk that has seen nothing but version 0 and never entered
 abbrev pub new_reader : DeskIdentity → ReaderState
-new_reader desk = record { desk = desk; history = []; versions = []; enters = 0; refused = 0 }
+new_reader desk = record {
+  desk = desk;
+  history = [];
+  versions = 0 ∷ [];
+  enters = 0;
+  refused = 0;
+}
 
 -- the third history is the first or the second
 abbrev pub IsOneOf : List Command → List Command → List Command → Type 0

@@ -8,6 +8,7 @@ ghost use Rattle.numa_space.specs.Standing.{StandsFor};
 ghost use Rattle.numa_publish.specs.Shown.{Refuses, accepted_commands, new_reader, versions_after};
 ghost use Rattle.numa_publish.specs.Submits.{LeavesAfter};
 
+use crate::ghosts::About;
 use crate::issue::Issue;
 use crate::log::{Log, Pending};
 use crate::publishing::{next_issue, opened, show_at};
@@ -45,7 +46,7 @@ impl Model for Desk {
     ghost use Rattle.std.specs.Prelude.{◌≡◌, reverse};
     ghost use Rattle.std.specs.Arc.{arc_value};
     ghost use Rattle.left_right.specs.Sides.{view as place_view};
-    ghost use Rattle.numa_publish.specs.Batches.{history_of};
+    ghost use Rattle.numa_publish.specs.Batches.{history_of, versions_of};
     ghost use Rattle.numa_publish.specs.Kept.{IsDeskKept};
     ghost use Rattle.numa_publish.specs.Knowing.{told_by};
     ghost use Rattle.numa_publish.specs.Shown.{DeskState};
@@ -56,7 +57,7 @@ impl Model for Desk {
       desk = record { book = d.log.seen.book; machine = d.space.machine };
       bounds = d.space.bounds;
       published = history_of (arc_value d.writer.desk.shown.value.issue).front.log;
-      versions = (arc_value d.writer.desk.shown.value.issue).versions;
+      versions = versions_of (arc_value d.writer.desk.shown.value.issue).front.log;
       pending = reverse d.pending.commands.items;
     } };
 
@@ -162,16 +163,15 @@ impl Desk {
         Ok(self.space.space().version())
     }
 
-    /// A receipt of the published version.
-    fn receipt(&self) -> Receipt
+    /// A receipt of the published version. It waits for nobody.
+    pub fn receipt(&self) -> Receipt
         ensures { (result.desk ≡ self.now.desk) × (result.history ≡ self.now.published)
             × (result.versions ≡ self.now.versions) }
     {
         let issue: &Issue = &self.writer.published().issue;
         Receipt::new(
             &issue.front,
-            self.space.space().machine(),
-            &issue.versions,
+            About::of(self.space.space().machine()),
             issue.plan.version(),
         )
     }

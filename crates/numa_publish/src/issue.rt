@@ -1,34 +1,32 @@
 //! What is published: a plan, with the history that it stands for.
-ghost use Rattle.std.specs.Prelude.{◌≡◌, ℕ, ◌<◌, length, slice_index};
+ghost use Rattle.std.specs.Prelude.{◌≡◌, ℕ, ◌<◌, length};
 ghost use Rattle.std.specs.Option.{ForSome};
 ghost use Rattle.numa_plan.specs.Meaning.{planned_list};
 ghost use Rattle.numa_space.specs.Policies.{allowed_nodes};
 ghost use Rattle.numa_space.specs.Refusals.{range_count_of};
 ghost use Rattle.numa_space.specs.Standing.{IsNodeList};
 ghost use Rattle.numa_compile.specs.Standing.{PlanStandsFor};
-ghost use Rattle.numa_publish.specs.Batches.{history_of};
+ghost use Rattle.numa_publish.specs.Batches.{HasOldest, history_of};
 
-use crate::ghosts::{About, Versions};
+use crate::ghosts::About;
 use crate::log::Front;
 use left_right::Absorb;
 use numa_plan::Plan;
 use std::alloc::AllocError;
 use std::sync::Arc;
 
-/// A plan; and, without bytes, its machine, the log up to it and the versions published up to it,
-/// its own in front.
+/// A plan; and, without bytes, its machine and the log up to it.
 #[derive(Drop)]
 pub struct Issue {
     pub plan: Plan,
     pub machine: About,
     pub front: Front,
-    pub versions: Versions,
     pub ghost stands: { PlanStandsFor machine plan (history_of front.log) },
     pub ghost ranges: { length plan.runs ≡ range_count_of machine (history_of front.log) },
     pub ghost sound: { (task page cpu : ℕ) → cpu < plan.nodes →
         ForSome (planned_list plan task page cpu)
         (IsNodeList (allowed_nodes machine (history_of front.log))) },
-    pub ghost newest: { slice_index versions 0 ≡ length (history_of front.log) },
+    pub ghost oldest: { HasOldest front.log },
 }
 
 /// The value of which readers look at one copy while the writer has the other. What is applied last

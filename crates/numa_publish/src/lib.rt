@@ -6,9 +6,11 @@
 //! the version before the published one.
 #![tactic(auto)]
 
+mod batch;
 pub mod desk;
 mod ghosts;
 mod issue;
+pub mod laws;
 mod log;
 mod past;
 mod publishing;

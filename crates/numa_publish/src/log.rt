@@ -1,17 +1,14 @@
 //! The log of accepted commands, in batches. It has no bytes but the number of its commands.
-ghost use Rattle.std.specs.Prelude.{◌≡◌, ◌+◌, ◌++◌, [], length};
+ghost use Rattle.std.specs.Prelude.{◌≡◌, ◌+◌, ◌<◌, ◌∷◌, ◌++◌, [], length};
 ghost use Rattle.std.specs.Bool.{OnTrue, OnFalse};
 ghost use mathlib.Core.List.{IsPrefix};
-ghost use Rattle.numa_publish.specs.Batches.{history_of, not_logged};
+ghost use Rattle.numa_publish.specs.Batches.{batch_of, history_of, not_logged};
 ghost use Rattle.numa_publish.specs.LogRule.{count_word};
 
+use crate::batch::Batch;
 use logbook::{Gain, Offer, Plain, Play, Seen, Start, Word};
 use numa_ghost::{BareRule, Holding};
 use numa_space::Command;
-use std::collections::LinkedList;
-
-/// Commands that were logged together, the newest first. No value of it is made.
-pub type Batch = LinkedList<Command>;
 
 /// The log's word is the number of its commands.
 pub struct CommandCount;
@@ -46,13 +43,21 @@ impl Play<Batch, u64> for Add {
     ghost then = { AddsBatch };
 }
 
-impl Plain<Pending, Batch, u64> for Add {
+/// What a batch is made of: the commands that wait, and the beginning of the log that is published.
+#[derive(Drop)]
+struct Waiting<'a> {
+    pending: &'a Pending,
+    shown: &'a Front,
+}
+
+impl<'a> Plain<Waiting<'a>, Batch, u64> for Add {
     ghost use Rattle.std.specs.Prelude.{None};
-    ghost use Rattle.numa_publish.specs.Batches.{not_logged};
+    ghost use Rattle.numa_publish.specs.Batches.{batch_of};
 
-    ghost ask = { λ p. not_logged p.commands.items p.logged };
+    ghost ask = { λ w. batch_of w.pending.now.commands.items w.pending.now.logged
+        w.shown.now.log };
 
-    ghost state = { λ p. None };
+    ghost state = { λ w. None };
 }
 
 /// Commands that are accepted and not published, the oldest first. The log has the first `logged`
@@ -92,21 +97,24 @@ impl Log {
         }
     }
 
-    /// Adds what the log lacks yet; `count` is the number of its commands then. Nobody else adds,
-    /// so it always answers `true`; no proof can see this.
-    pub fn add(&mut self, pending: &Pending, count: u64) -> bool
-        requires { count ≡ length (not_logged pending.now.commands.items pending.now.logged)
+    /// Adds what the log lacks yet, behind what is published at this beginning of it; `count` is
+    /// the number of its commands then. Nobody else adds, so it always answers `true`; no proof can
+    /// see this.
+    pub fn add(&mut self, pending: &Pending, shown: &Front, count: u64) -> bool
+        requires some { 0 < length (not_logged pending.now.commands.items pending.now.logged) }
+        requires shown { IsPrefix shown.now.log self.old.seen.log }
+        requires count { count ≡ length (not_logged pending.now.commands.items pending.now.logged)
             + length (history_of self.old.seen.log) }
-        ensures added { OnTrue result (history_of self.new.seen.log
-            ≡ not_logged pending.now.commands.items pending.now.logged
-            ++ history_of self.old.seen.log) }
+        ensures added { OnTrue result (self.new.seen.log ≡ self.old.seen.log
+            ++ batch_of pending.now.commands.items pending.now.logged shown.now.log ∷ []) }
         ensures prefix { IsPrefix self.old.seen.log self.new.seen.log }
         ensures book { self.new.seen.book ≡ self.old.seen.book }
         ensures unchanged { OnFalse result (self.new.seen ≡ self.old.seen) }
     {
         let mut seen = self.seen.again();
-        let mut offer: Offer<Batch, u64, LogRule, Nothing> = seen.plain::<Nothing, Pending, Add>(
-            pending,
+        let waiting = Waiting { pending, shown };
+        let mut offer: Offer<Batch, u64, LogRule, Nothing> = seen.plain::<Nothing, Waiting, Add>(
+            &waiting,
         );
         let mut pen = seen.no_pen();
         let found = self

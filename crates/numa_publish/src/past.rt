@@ -1,16 +1,16 @@
 //! What a reader has behind it.
-ghost use Rattle.std.specs.Prelude.{◌≡◌, []};
+ghost use Rattle.std.specs.Prelude.{◌≡◌};
 
-use crate::ghosts::Versions;
 use crate::log::Front;
 use numa_ghost::Count;
 
 /// What a reader takes along, whether it looks or not: the beginning of the log that it has seen or
-/// learnt, the versions published up to the one that it saw last, the version of that beginning, how many enters it made, and how many of them were refused.
+/// learnt, the one that it saw last, the version of the first, how many enters it made, and how
+/// many of them were refused.
 #[derive(Drop)]
 pub struct Past {
     pub front: Front,
-    pub versions: Versions,
+    pub seen: Front,
     pub version: u64,
     pub enters: Count,
     pub refused: Count,
@@ -21,15 +21,15 @@ impl Past {
     pub fn none(front: Front) -> Past
         ensures { result ≡ record {
           front = front;
-          versions = [];
+          seen = front;
           version = 0;
           enters = 0;
           refused = 0;
         } }
     {
         Past {
+            seen: front.again(),
             front,
-            versions: Versions::none(),
             version: 0,
             enters: Count::zero(),
             refused: Count::zero(),

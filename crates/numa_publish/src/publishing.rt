@@ -1,14 +1,15 @@
 //! What a desk publishes, and the steps of its writer.
-ghost use Rattle.std.specs.Prelude.{◌≡◌, ◌≤◌, [], drop, IfOk};
+ghost use Rattle.std.specs.Prelude.{◌≡◌, ◌≤◌, ◌<◌, ◌∷◌, ◌++◌, drop, length, reverse, IfOk};
+ghost use Rattle.std.specs.Bool.{OnTrue};
 ghost use Rattle.std.specs.Arc.{arc_value};
 ghost use Rattle.left_right.specs.Sides.{view as place_view};
 ghost use Rattle.numa_space.specs.Standing.{StandsFor};
-ghost use Rattle.numa_publish.specs.Batches.{history_of};
+ghost use Rattle.numa_publish.specs.Batches.{history_of, versions_of};
 ghost use Rattle.numa_publish.specs.Kept.{IsDeskKept, IsIssueOf, IsNextIssue};
 ghost use Rattle.numa_publish.specs.Knowing.{IsEarlier, MayShow, ShowsOrKeeps};
 ghost use Rattle.numa_publish.specs.Knowing.{last_of, told, told_by};
 
-use crate::ghosts::{About, Versions};
+use crate::ghosts::About;
 use crate::issue::{Issue, Shown};
 use crate::log::{Front, Log, Pending};
 use crate::rule::{Look, ShownWriter};
@@ -19,19 +20,16 @@ use numa_machine::NoMemory;
 use std::alloc::{AllocError, Global};
 use std::sync::{Arc, Wait};
 
-/// The issue of this space: its plan stands for all that this beginning of the log has, and its
-/// version comes in front of those before it.
-fn issued(
-    alloc: Global,
-    space: &mut PlannedSpace,
-    front: &Front,
-    before: &Versions,
-) -> Result<Arc<Issue>, NoMemory>
+/// The issue of this space: its plan stands for all that this beginning of the log has.
+fn issued(alloc: Global, space: &mut PlannedSpace, front: &Front) -> Result<Arc<Issue>, NoMemory>
     requires { StandsFor space.old (history_of front.now.log) }
     ensures same { space.new ≡ space.old }
     ensures issue { IfOk result (λ a.
-        IsIssueOf space.old front.now.log front.now.book before.now (arc_value a)) }
+        IsIssueOf space.old front.now.log front.now.book (arc_value a)) }
 {
+    // Tells the proof that the log keeps its rule.
+    let mut log = front.again();
+    log.learn(front);
     let Ok(plan) = space.plan_copy(alloc) else {
         return Err(NoMemory);
     };
@@ -42,9 +40,34 @@ fn issued(
         plan,
         machine: About::of(accepted.machine()),
         front: front.again(),
-        versions: before.and(accepted.version()),
     };
     Arc::new(alloc, issue).ok().ok_or(NoMemory)
+}
+
+/// The log has all that is pending from then on, behind what is shown. What it had before, where a
+/// publish lacked memory, stays as it is.
+fn logged(space: &PlannedSpace, log: &mut Log, pending: &mut Pending, shown: &Issue) -> bool
+    requires kept { IsDeskKept space.now shown.now log.old.seen.log log.old.seen.book
+        pending.old.commands.items pending.old.logged }
+    requires some { 0 < length pending.old.commands.items }
+    ensures kept { IsDeskKept space.now shown.now log.new.seen.log log.new.seen.book
+        pending.new.commands.items pending.new.logged }
+    ensures same { (pending.new.commands ≡ pending.old.commands)
+        × (log.new.seen.book ≡ log.old.seen.book) }
+    ensures whole { OnTrue result (history_of log.new.seen.log
+        ≡ reverse pending.old.commands.items ++ history_of shown.now.front.log) }
+    ensures versions { OnTrue result (versions_of log.new.seen.log
+        ≡ length (history_of log.new.seen.log) ∷ versions_of shown.now.front.log) }
+{
+    if pending.logged == pending.commands.len() {
+        return true;
+    }
+    // Nobody else adds to the log, so it always does: no proof can see this.
+    if !log.add(pending, &shown.front, space.space().version()) {
+        return false;
+    }
+    pending.logged = pending.commands.len();
+    true
 }
 
 /// The issue of all that was accepted, beside the one that is shown. What is pending is in the log
@@ -56,8 +79,9 @@ pub(crate) fn next_issue(
     pending: &mut Pending,
     shown: &Issue,
 ) -> Result<Arc<Issue>, NoMemory>
-    requires { IsDeskKept space.old shown.now log.old.seen.log log.old.seen.book
+    requires kept { IsDeskKept space.old shown.now log.old.seen.log log.old.seen.book
         pending.old.commands.items pending.old.logged }
+    requires some { 0 < length pending.old.commands.items }
     ensures kept { IsDeskKept space.old shown.now log.new.seen.log log.new.seen.book
         pending.new.commands.items pending.new.logged }
     ensures same { (pending.new.commands ≡ pending.old.commands)
@@ -66,12 +90,10 @@ pub(crate) fn next_issue(
     ensures next { IfOk result (λ a. IsNextIssue space.old shown.now (arc_value a)
         log.new.seen.log log.new.seen.book pending.old.commands.items) }
 {
-    // Nobody else adds to the log, so it always does: no proof can see this.
-    if !log.add(pending, space.space().version()) {
+    if !logged(space, log, pending, shown) {
         return Err(NoMemory);
     }
-    pending.logged = pending.commands.len();
-    issued(alloc, space, &log.seen, &shown.versions)
+    issued(alloc, space, &log.seen)
 }
 
 /// A writer that shows the issue of a space in which nothing was accepted, version 0, and knows
@@ -86,12 +108,12 @@ pub(crate) fn opened<R: Wait>(
     requires some { (1 ≤ readers) × (readers ≤ 64) }
     requires stands { StandsFor space.old (history_of start.now.log) }
     ensures space { space.new ≡ space.old }
-    ensures issue { IfOk result (λ w. IsIssueOf space.old start.now.log start.now.book []
+    ensures issue { IfOk result (λ w. IsIssueOf space.old start.now.log start.now.book
         (arc_value w.desk.shown.value.issue)) }
     ensures knows { IfOk result (λ w.
         place_view w.desk.place ≡ told_by (arc_value w.desk.shown.value.issue)) }
 {
-    let Ok(first) = issued(alloc, space, start, &Versions::none()) else {
+    let Ok(first) = issued(alloc, space, start) else {
         return Err(NoMemory);
     };
     let Ok(second) = Arc::try_clone(&first) else {

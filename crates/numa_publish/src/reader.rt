@@ -1,5 +1,6 @@
 //! Readers that aren't looking.
-ghost use Rattle.std.specs.Prelude.{◌≡◌, ◌+◌, [], true, length, slice_index, IfOk, MatchResult};
+ghost use Rattle.std.specs.Prelude.{◌≡◌, ◌+◌, [], ℕ, true, List, length, slice_get, slice_index};
+ghost use Rattle.std.specs.Prelude.{Some, IfOk, MatchResult};
 ghost use Rattle.left_right.specs.Sides.{view as place_view};
 ghost use Rattle.numa_publish.specs.Batches.{Extends};
 ghost use Rattle.numa_publish.specs.Kept.{IsReaderKept, reader_shown};
@@ -17,8 +18,9 @@ use std::marker::Model;
 /// may go to another thread. It has seen a published version, 0 at first, and never looks at an
 /// earlier one.
 ///
-/// Clauses see of which desk it is, the history that it has seen, how many enters it made, and how
-/// many of them were refused. But for the version none of these takes a byte.
+/// Clauses see of which desk it is, the history that it has seen or learnt, the versions published
+/// up to the one that it saw last, how many enters it made, and how many of them were refused. But
+/// for the version none of these takes a byte.
 #[derive(Drop)]
 pub struct PlanReader {
     reader: ShownReader,
@@ -42,7 +44,7 @@ impl PlanReader {
     pub(crate) fn new(reader: ShownReader, front: Front) -> PlanReader
         requires named { (place_view reader.place).named ≡ true }
         requires book { (place_view reader.place).front.book ≡ front.book }
-        requires empty { front.log ≡ [] }
+        requires empty { (front.log ≡ []) × ((place_view reader.place).front.log ≡ []) }
         ensures { result ≡ new_reader
             (record { book = front.book; machine = (place_view reader.place).machine }) }
     {
@@ -62,6 +64,9 @@ impl PlanReader {
 
     /// The reader, which has seen the longer of what it had seen and what the receipt shows. It
     /// waits for nobody and takes no memory.
+    ///
+    /// Where the receipt's version is counted among the reader's, the versions up to it are the
+    /// receipt's: so an earlier view of that version and the receipt show the same.
     pub fn learn(self, receipt: &Receipt) -> PlanReader
         requires { receipt.now.desk ≡ self.desk }
         ensures desk { result.desk ≡ self.desk }
@@ -69,12 +74,18 @@ impl PlanReader {
         ensures own { Extends self.history result.history }
         ensures told { Extends receipt.now.history result.history }
         ensures versions { result.versions ≡ self.versions }
+        ensures same { (earlier : List ℕ) → Extends earlier self.versions
+            → slice_get earlier 0 ≡ Some (length receipt.now.history)
+            → earlier ≡ receipt.now.versions }
         ensures counts { (result.enters ≡ self.enters) × (result.refused ≡ self.refused) }
     {
         let PlanReader { reader, mut past } = self;
         let told = receipt.version();
         let mut both = past.front.again();
         both.learn(&receipt.front);
+        // Tells the proof that what was seen last is of this log too.
+        let mut all = both.again();
+        all.learn(&past.seen);
         if past.version < told {
             past.front = receipt.front.again();
             past.version = told;
@@ -123,7 +134,7 @@ impl PlanReader {
             return Err(PlanReader::back(reader, past));
         }
         past.front = next;
-        past.versions = issue.versions.again();
+        past.seen = issue.front.again();
         past.version = shown;
         Ok(PlanView::new(reading, past))
     }

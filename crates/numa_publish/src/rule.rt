@@ -6,15 +6,13 @@ use crossbeam_utils::rule::{Outcome, Protocol};
 use left_right::reader::{Reader, Reading};
 use left_right::writer::Writer;
 use numa_machine::Machine;
-use std::collections::LinkedList;
 
-/// What a thread knows: whether it knows its desk, the desk's machine, a beginning of the log, and
-/// the versions published up to it. No value of it is made.
+/// What a thread knows: whether it knows its desk, the desk's machine, and a beginning of the log.
+/// No value of it is made.
 pub struct Knows {
     pub named: bool,
     pub machine: Machine,
     pub front: Front,
-    pub versions: LinkedList<u64>,
 }
 
 /// The rule, which six kinds of step keep: the opening, a new reader, a publish, the writer's note

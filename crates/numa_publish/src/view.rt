@@ -16,6 +16,7 @@ ghost use Rattle.numa_publish.specs.Spans.{SpanStands};
 use crate::issue::Issue;
 use crate::past::Past;
 use crate::reader::PlanReader;
+use crate::receipt::Receipt;
 use crate::rule::ShownReading;
 use numa_compile::every_plan;
 use numa_plan::{Steps, Tally};
@@ -161,6 +162,15 @@ impl PlanView {
         let _ = issue.plan.run_count();
         let counts = issue.plan.counts(task, cpu, first, pages)?;
         Ok(counts)
+    }
+
+    /// A receipt of this version. It waits for nobody and takes no memory.
+    pub fn receipt(&self) -> Receipt
+        ensures { (result.desk ≡ self.now.desk) × (result.history ≡ self.now.history)
+            × (result.versions ≡ self.now.versions) }
+    {
+        let issue: &Issue = &self.reading.get().issue;
+        Receipt::new(&self.past.front, issue.machine.again(), self.past.version)
     }
 
     /// The reader, which has seen this version.

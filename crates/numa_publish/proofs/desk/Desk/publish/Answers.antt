@@ -4,7 +4,7 @@ use Rattle.std.specs.Arc.{arc_value}
 use Rattle.numa_space.specs.declared.command.Command.{Command}
 use Rattle.numa_publish.specs.declared.issue.Issue.{Issue}
 use Rattle.numa_publish.specs.declared.issue.Shown.{Shown}
-use Rattle.numa_publish.specs.Batches.{history_of}
+use Rattle.numa_publish.specs.Batches.{history_of, versions_of}
 use Rattle.numa_publish.specs.Kept.{IsDeskKept, IsNextIssue}
 use Rattle.numa_publish.specs.Knowing.{told_by}
 use Rattle.numa_publish.specs.Shown.{accepted_commands, versions_after}
@@ -23,8 +23,11 @@ returns-then-is_empty g c =
       unchanged = tt;
     }
 
-pub next_issue-requires : goal.next_issue-requires
-next_issue-requires g c =
+pub next_issue-requires-clause-some : goal.next_issue-requires-clause-some
+next_issue-requires-clause-some g c = search (tests, rules)
+
+pub next_issue-requires-clause-kept : goal.next_issue-requires-clause-kept
+next_issue-requires-clause-kept g c =
     let is : c.deref.result.now ≡ arc_value c.self.inside.writer.desk.shown.value.issue = c.deref.ensures ∙ ap (λ (s : Shown). arc_value s.issue) c.published.ensures in
     rw is c.self.invariant.0
 
@@ -84,8 +87,8 @@ returns g c =
       );
       receipt = c.receipt-2.ensures;
       versions =
-          ap (λ (i : Issue). i.versions) done.0 ∙ (next.versions
-          ∙ (ap (λ (h : List Command). length h ∷ (arc_value c.self.inside.writer.desk.shown.value.issue).versions) next.whole
+          ap (λ (i : Issue). versions_of i.front.log) done.0 ∙ (next.versions
+          ∙ (ap (λ (h : List Command). length h ∷ versions_of (arc_value c.self.inside.writer.desk.shown.value.issue).front.log) next.whole
           ∙ (sym (newest_in c.self.inside.pending.commands.items _ _ some) ∙ ap versions_after c.self.view_is)));
       desk = rw (c.next_issue.ensures.same.1, c.next_issue.ensures.space, ← c.self.view_is) (refl, refl);
       unchanged = tt;
