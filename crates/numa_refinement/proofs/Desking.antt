@@ -3,12 +3,13 @@ use Rattle.std.proofs.Common.{◌≡◌, ◌≢◌, ℕ, ◌+◌, ◌-◌, ◌==
 use Rattle.std.specs.Prelude.{slice_get}
 use Rattle.std.specs.List.{list_any}
 use Rattle.std.proofs.lemmas.Bool.{eq-eqb}
+use Rattle.std.proofs.lemmas.Bool.Decides.{nat_tests}
 use Rattle.std.proofs.lemmas.List.{append_assoc, drop_at, length-append, length-drop}
 use Rattle.numa_space.specs.Refusals.{refusal_of as command_refusal}
 use Rattle.numa_space.specs.declared.command.Command.{Command}
 use Rattle.numa_space.specs.declared.refusal.Refusal.{Refusal}
 use Rattle.numa_publish.specs.Batches.{Extends}
-use Rattle.numa_publish.proofs.Lists.{extends_shorter, no_length}
+use Rattle.numa_publish.proofs.Lists.{extends_shorter, extends_trans, no_length}
 use Rattle.numa_publish.specs.Shown.{DeskState, Refuses, ViewState, accepted_commands, and_newest}
 use Rattle.numa_core.specs.World.{Setup, World, first_commands, is_published, opening, owner_of}
 use Rattle.numa_core.specs.Steps.{because, refused_or, effect_of, world_after}
@@ -19,7 +20,7 @@ use Rattle.numa_space.specs.declared.event.Event.TheVariants.{Accept, Publish, B
 use Rattle.numa_space.specs.declared.event.CoreReply.{CoreReply}
 use Rattle.numa_space.specs.declared.event.CoreReply.TheVariants.{Accepted, Published}
 use Rattle.numa_core.proofs.Tracking.{first_commands-more}
-use Rattle.numa_refinement.specs.LegalSteps.{IsPublishedIn, after_core_step, core_step_of}
+use Rattle.numa_refinement.specs.LegalSteps.{HasPublished, IsPublishedIn, after_core_step, core_step_of}
 use Rattle.numa_refinement.specs.Desks.{Accepts, IsDeskOf, IsNew, LeadsTo, Publishes}
 
 pub opens : (s : Setup) (desk : DeskState) → IsNew s.machine s.bounds desk → IsDeskOf s opening desk
@@ -186,3 +187,77 @@ stays s world version (Try v frame) (Ok reply) history is = go (owner_of world f
     go : (o : Option ℕ) → owner_of world frame ≡ o → IsPublishedIn (effect_of s world version (Try v frame)) history
     go (Some u) e = rw e record { published = is.published; commands = is.commands }
     go None e = rw e record { published = is.published; commands = is.commands }
+
+-- ---- all that is published up to a version
+
+-- it is so in the world of the desk that shows it
+pub all-shown : (s : Setup) (world : World) (desk : DeskState) → IsDeskOf s world desk → HasPublished world desk.published desk.versions
+all-shown s world desk is = record { commands = (desk.pending, is.history); numbers = ([], is.versions) }
+
+pub newest-published : (world : World) (history : List Command) (versions : List ℕ) → HasPublished world history versions → slice_get versions 0 ≡ Some (length history) → IsPublishedIn world history
+newest-published world history versions has newest = record {
+  published = ap (λ (ns : List ℕ). list_any (λ n. n == length history) ns) has.numbers.1
+      ∙ any-behind has.numbers.0 versions (length history) (first-any versions (length history) newest);
+  commands = ap (λ (h : List Command). first_commands (length history) h) has.commands.1 ∙ behind has.commands.0 history;
+}
+
+pub earlier : (world : World) (history longer : List Command) (versions more : List ℕ) → HasPublished world longer more → Extends history longer → Extends versions more
+    → slice_get versions 0 ≡ Some (length history) → IsPublishedIn world history
+earlier world history longer versions more has p q newest =
+    newest-published world history versions (record { commands = extends_trans history longer world.history p has.commands; numbers = extends_trans versions more world.published q has.numbers }) newest
+
+abbrev Counted : List ℕ → ℕ → Type 0
+Counted versions v = (some : List ℕ) × Extends some versions × (slice_get some 0 ≡ Some v)
+
+in-front : (n : ℕ) (versions : List ℕ) (v : ℕ) (b : Bool) → (n == v) ≡ b → ((n == v) || list_any (λ m. m == v) versions) ≡ true → (list_any (λ m. m == v) versions ≡ true → Counted versions v) → Counted (n ∷ versions) v
+in-front n versions v true is e again =
+    let same : n ≡ v = grind (arith, nat_tests) in
+    (n ∷ versions, ([], refl), ap (λ (k : ℕ). Some k) same)
+in-front n versions v false is e again =
+    let there : list_any (λ m. m == v) versions ≡ true = rw is at e in
+    let rest : Counted versions v = again there in
+    (rest.0, (n ∷ rest.1.0, ap (λ (ns : List ℕ). n ∷ ns) rest.1.1), rest.2)
+
+-- a number that is among them is the newest of some of them
+counted : (versions : List ℕ) (v : ℕ) → list_any (λ n. n == v) versions ≡ true → Counted versions v
+counted [] v e = absurd (cc (e))
+counted (n ∷ versions) v e = in-front n versions v (n == v) refl e (λ rest. counted versions v rest)
+
+-- a receipt beside its desk
+pub compared : (s : Setup) (world : World) (desk : DeskState) (history : List Command) (versions : List ℕ) → IsDeskOf s world desk
+    → ((some : List ℕ) → Extends some desk.versions → slice_get some 0 ≡ Some (length history) → (some ≡ versions) × Extends history desk.published)
+    → is_published world (length history) ≡ true → HasPublished world history versions
+compared s world desk history versions is agree among =
+    let found = counted desk.versions (length history) (ap (λ (ns : List ℕ). list_any (λ n. n == length history) ns) (sym is.versions) ∙ among) in
+    let same = agree found.0 found.1 found.2 in
+    record {
+      commands = extends_trans history desk.published world.history same.1 (desk.pending, is.history);
+      numbers = subst (λ (ns : List ℕ). Extends ns world.published) same.0 (extends_trans found.0 desk.versions world.published found.1 ([], is.versions));
+    }
+
+-- what an earlier view of a reader showed that learns a receipt of the version which it saw last
+pub seen-earlier : (world : World) (view told both reader : List Command) (seen shown receipt : List ℕ) → Extends view reader → Extends reader both → Extends told both
+    → Extends seen shown → slice_get seen 0 ≡ Some (length view) → length view ≤ length told → shown ≡ receipt → HasPublished world told receipt → IsPublishedIn world view
+seen-earlier world view told both reader seen shown receipt a b c more newest le same has =
+    let whole = extends_trans view reader both a b in
+    earlier world view told seen receipt has (extends_shorter whole.0 c.0 view told (sym whole.1 ∙ c.1) le) (subst (λ (ns : List ℕ). Extends seen ns) same more) newest
+
+pub lasts : (s : Setup) (world : World) (version : ℕ) (event : Event) (answer : Result CoreReply CoreRefusal) (history : List Command) (versions : List ℕ) → HasPublished world history versions
+    → HasPublished (world_after s world version event answer) history versions
+lasts s world version event (Err refusal) history versions has = has
+lasts s world version (Accept command) (Ok reply) history versions has = record {
+  commands = (command ∷ has.commands.0, ap (λ (h : List Command). command ∷ h) has.commands.1);
+  numbers = has.numbers;
+}
+lasts s world version Publish (Ok reply) history versions has = record {
+  commands = has.commands;
+  numbers = (length world.history ∷ has.numbers.0, ap (λ (ns : List ℕ). length world.history ∷ ns) has.numbers.1);
+}
+lasts s world version (Begin v request) (Ok reply) history versions has = record { commands = has.commands; numbers = has.numbers }
+lasts s world version (Look v word) (Ok reply) history versions has = record { commands = has.commands; numbers = has.numbers }
+lasts s world version (Give v frame) (Ok reply) history versions has = record { commands = has.commands; numbers = has.numbers }
+lasts s world version (Try v frame) (Ok reply) history versions has = go (owner_of world frame) refl
+  where
+    go : (o : Option ℕ) → owner_of world frame ≡ o → HasPublished (effect_of s world version (Try v frame)) history versions
+    go (Some u) e = rw e record { commands = has.commands; numbers = has.numbers }
+    go None e = rw e record { commands = has.commands; numbers = has.numbers }

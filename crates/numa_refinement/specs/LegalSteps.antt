@@ -1,6 +1,7 @@
 -- Legal steps of the core's world, one at a time, and the histories that are published in it.
-use Rattle.std.specs.Prelude.{◌≡◌, true, Result, List, length}
+use Rattle.std.specs.Prelude.{◌≡◌, ℕ, true, Result, List, length}
 use Rattle.numa_space.specs.declared.command.Command.{Command}
+use Rattle.numa_publish.specs.Batches.{Extends}
 use Rattle.numa_core.specs.World.{Setup, World, first_commands, is_published}
 use Rattle.numa_core.specs.Steps.{IsAnswer, MayTake, world_after}
 use Rattle.numa_core.specs.Executions.{CoreStep}
@@ -25,3 +26,8 @@ core_step_of event answer = record { event = event; version = 0; answer = answer
 pub record IsPublishedIn (world : World) (history : List Command) : Type 0 where
   pub published : is_published world (length history) ≡ true
   pub commands : first_commands (length history) world.history ≡ history
+
+-- what the world accepted begins with this history, and what it published with these versions
+pub record HasPublished (world : World) (history : List Command) (versions : List ℕ) : Type 0 where
+  pub commands : Extends history world.history
+  pub numbers : Extends versions world.published

@@ -1,15 +1,18 @@
 //! The calls of a desk beside the core's world. Each function hands its call on; its clauses say
 //! which step of the world the call is.
-ghost use Rattle.std.specs.Prelude.{◌≡◌, ◌≢◌, ◌≤◌, [], length, Ok, Err, IfOk, IfErr, OnOk, OnErr};
-ghost use Rattle.numa_publish.specs.Shown.{accepted_commands};
-ghost use Rattle.numa_core.specs.World.{Setup, World, opening};
+ghost use Rattle.std.specs.Prelude.{◌≡◌, ◌≢◌, ◌≤◌, true, [], length, slice_get};
+ghost use Rattle.std.specs.Prelude.{Some, Ok, Err, IfOk, IfErr, OnOk, OnErr};
+ghost use Rattle.numa_publish.specs.Batches.{Extends};
+ghost use Rattle.numa_publish.specs.Shown.{ViewState, accepted_commands};
+ghost use Rattle.numa_core.specs.World.{Setup, World, is_published, opening};
 ghost use Rattle.numa_space.specs.declared.event.CoreRefusal.{CoreRefusal};
 ghost use Rattle.numa_space.specs.declared.event.Event.{Event};
 ghost use Rattle.numa_space.specs.declared.event.CoreReply.{CoreReply};
 ghost use Rattle.numa_refinement.specs.Desks.{IsDeskOf, LeadsTo};
-ghost use Rattle.numa_refinement.specs.LegalSteps.{IsPublishedIn, core_step_of};
+ghost use Rattle.numa_refinement.specs.LegalSteps.{HasPublished, IsPublishedIn, core_step_of};
 
 use numa_machine::{Machine, NoMemory};
+use numa_publish::laws::equal_versions_agree;
 use numa_publish::{Desk, PlanReader, Receipt};
 use numa_space::{Command, Limits, Refusal};
 use std::alloc::Global;
@@ -65,16 +68,38 @@ pub fn publish<R: Wait>(desk: &mut Desk, rt: &R) -> Result<Receipt, NoMemory>
         → LeadsTo s world (core_step_of Event.Publish (Err CoreRefusal.NoMemory)) desk.new) }
     ensures receipt { IfOk result (λ r. (s : Setup) (world : World) → IsDeskOf s world desk.new
         → IsPublishedIn world r.history) }
+    ensures versions { IfOk result (λ r. (s : Setup) (world : World) → IsDeskOf s world desk.new
+        → HasPublished world r.history r.versions) }
 {
     desk.publish(rt)
 }
 
+/// A receipt beside its desk, whoever gave it, such as a view: where its number is that of a
+/// version which the desk's world has published, the world has published all that it shows.
+pub fn compare(desk: &Desk, receipt: &Receipt)
+    requires { receipt.now.desk ≡ desk.now.desk }
+    ensures { (s : Setup) (world : World) → IsDeskOf s world desk.now
+        → is_published world (length receipt.now.history) ≡ true
+        → HasPublished world receipt.now.history receipt.now.versions }
+{
+    let published = desk.receipt();
+    equal_versions_agree(&published, receipt);
+}
+
 /// `PlanReader::learn`: where the receipt is of the version that the reader has seen, what it has
-/// seen is published in each world in which the receipt's history is.
+/// seen is published in each world in which the receipt's history is; and where it is of the
+/// version that the reader saw last, so is what each earlier view of the reader showed.
 pub fn learn(reader: PlanReader, receipt: &Receipt) -> PlanReader
     requires { receipt.now.desk ≡ reader.desk }
     ensures seen { (world : World) → length reader.history ≡ length receipt.now.history
         → IsPublishedIn world receipt.now.history → IsPublishedIn world reader.history }
+    ensures earlier { (world : World) (view : ViewState) → Extends view.history reader.history
+        → Extends view.versions reader.versions
+        → slice_get view.versions 0 ≡ Some (length view.history)
+        → length view.history ≤ length receipt.now.history
+        → slice_get reader.versions 0 ≡ Some (length receipt.now.history)
+        → HasPublished world receipt.now.history receipt.now.versions
+        → IsPublishedIn world view.history }
 {
     reader.learn(receipt)
 }

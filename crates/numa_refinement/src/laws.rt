@@ -25,7 +25,8 @@ ghost use Rattle.numa_refinement.specs.Tie.{IsTied};
 ghost use Rattle.numa_refinement.specs.Desks.{Accepts, IsDeskOf, IsNew, LeadsTo, Publishes};
 ghost use Rattle.numa_refinement.specs.Faults.{Falls, IsReady, LeavesLast, begun_world, last_world};
 ghost use Rattle.numa_refinement.specs.Interleaved.{Calls, HaveNoBegin, begins, turns_in};
-ghost use Rattle.numa_refinement.specs.LegalSteps.{IsPublishedIn, after_core_step, core_step_of};
+ghost use Rattle.numa_refinement.specs.LegalSteps.{HasPublished, IsPublishedIn};
+ghost use Rattle.numa_refinement.specs.LegalSteps.{after_core_step, core_step_of};
 
 /// A new desk is that of the opening world. A command that it accepts is the world's Accept, and a
 /// publish of something pending is the world's Publish, each a legal step with the same number as
@@ -70,8 +71,9 @@ pub fn a_desk_stays_the_worlds()
 {}
 
 /// What a desk has published is published in its world, and stays so at every step. So is what a
-/// view shows, which the desk had published at some time; and what a reader has seen, where it
-/// learns a receipt of the same version.
+/// view shows, which the desk had published at some time; what a reader has seen, where it learns a
+/// receipt of the same version; and what an earlier version shows than one of which the world has
+/// published all.
 pub fn what_is_published_stays()
     ensures desk { (s : Setup) (world : World) (desk : DeskState) → IsDeskOf s world desk
         → IsPublishedIn world desk.published }
@@ -84,6 +86,12 @@ pub fn what_is_published_stays()
         → Extends reader.history learnt.history → Extends receipt.history learnt.history
         → length reader.history ≡ length receipt.history → IsPublishedIn world receipt.history
         → IsPublishedIn world reader.history }
+    ensures earlier { (world : World) (history longer : List Command) (versions more : List ℕ)
+        → HasPublished world longer more → Extends history longer → Extends versions more
+        → slice_get versions 0 ≡ Some (length history) → IsPublishedIn world history }
+    ensures lasts { (s : Setup) (world : World) (m : CoreStep) (history : List Command)
+        (versions : List ℕ) → HasPublished world history versions
+        → HasPublished (after_core_step s world m) history versions }
     ensures stays { (s : Setup) (world : World) (m : CoreStep) (history : List Command)
         → IsPublishedIn world history
         → IsPublishedIn (after_core_step s world m) history }
