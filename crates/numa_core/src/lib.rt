@@ -139,7 +139,8 @@ impl Core {
             (result ≡ (result_of_touch (setup_of self.old) world worker request).answer)
             × CoreStandsFor self.new
             (result_of_touch (setup_of self.old) world worker request).world }
-        ensures executions { (past : List CoreStep) → LeadsTo past self.old → (core_steps : List CoreStep)
+        ensures executions { (past : List CoreStep) → LeadsTo past self.old
+            → (core_steps : List CoreStep)
             × IsTouch worker request result core_steps × LeadsTo (core_steps ++ past) self.new }
         ensures unchanged { OnErr result (self.new ≡ self.old) }
         ensures setup { setup_of self.new ≡ setup_of self.old }

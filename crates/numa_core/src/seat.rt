@@ -7,7 +7,8 @@ ghost use Rattle.numa_core.specs.World.{Setup, World};
 ghost use Rattle.numa_core.specs.Steps.{goes_on, going_on};
 ghost use Rattle.numa_core.specs.Standing.{frames_before, owner_at, place_in, is_met, met_at};
 ghost use Rattle.numa_core.specs.Standing.{frame_search_in};
-ghost use Rattle.numa_core.specs.Seats.{busy_at, busy_of, seat_frame_search, fresh, HasRoom, IsPassed};
+ghost use Rattle.numa_core.specs.Seats.{busy_at, busy_of, seat_frame_search, fresh, HasRoom};
+ghost use Rattle.numa_core.specs.Seats.{IsPassed};
 ghost use Rattle.numa_core.specs.Seats.{IsCursor, IsAllMet, IsSeatCopy};
 ghost use Rattle.numa_core.specs.Seats.{SeatFits, SeatLooks, SeatTries};
 ghost use Rattle.numa_core.specs.declared.seat.OngoingSearch.{OngoingSearch};
@@ -133,7 +134,8 @@ impl WorkerSeat {
         ensures reply { (s : Setup) → places.now ≡ s.machine.frames →
             result ≡ goes_on s (frame_search_in places.now
             (busy_at job self.old.nodes.items self.old.met.items)) }
-        ensures frame_search { (s : Setup) → places.now ≡ s.machine.frames → seat_frame_search places.now self.new
+        ensures frame_search { (s : Setup) → places.now ≡ s.machine.frames
+            → seat_frame_search places.now self.new
             ≡ going_on s (frame_search_in places.now
             (busy_at job self.old.nodes.items self.old.met.items)) }
         ensures fits { SeatFits places.now self.new }
@@ -162,7 +164,8 @@ impl WorkerSeat {
         requires fits { SeatFits places.now self.old }
         ensures reply { (s : Setup) → places.now ≡ s.machine.frames →
             result ≡ goes_on s (fresh request version row.now) }
-        ensures frame_search { (s : Setup) → places.now ≡ s.machine.frames → seat_frame_search places.now self.new
+        ensures frame_search { (s : Setup) → places.now ≡ s.machine.frames
+            → seat_frame_search places.now self.new
             ≡ going_on s (fresh request version row.now) }
         ensures fits { SeatFits places.now self.new }
     {

@@ -1,6 +1,7 @@
 //! Where all mapped pages would go, with limited free pages on each node.
 ghost use Rattle.std.specs.Prelude.{◌≡◌, ◌⊎◌, ◌+◌, ◌-◌, ◌<◌, ◌≤◌, ◌^◌, ℕ, List, Err};
-ghost use Rattle.std.specs.Prelude.{IfErr, IfOk, OnOk, length, option_and_then, replicate, slice_index};
+ghost use Rattle.std.specs.Prelude.{IfErr, IfOk, OnOk, length, option_and_then, replicate};
+ghost use Rattle.std.specs.Prelude.{slice_index};
 ghost use Rattle.numa_compile.specs.Standing.{PlanStandsFor};
 ghost use Rattle.numa_plan.specs.Meaning.{RefusesSpan, place_refusal};
 ghost use Rattle.numa_ranges.specs.Runs.{page_at};
@@ -236,7 +237,8 @@ fn fill_next<T: TakeRange>(
     Ok(())
 }
 
-/// The pages of each node that remain free, as by [`fill_all`], if the machine has the faulting node.
+/// The pages of each node that remain free, as by [`fill_all`], if the machine has the faulting
+/// node.
 ///
 /// # Errors
 /// `Refused`: the plan isn't one of the space. `Memory`: the taker had none.

@@ -1,6 +1,7 @@
 //! The pages of a space: a range map, with a space's refusals.
 ghost use Rattle.std.specs.Prelude.{◌≡◌, ◌≢◌, ◌+◌, ◌<◌, ◌≤◌, ◌^◌, ℕ, Some, None, Option, Ok, Err};
-ghost use Rattle.std.specs.Prelude.{IfOk, MatchResult, is_some, not, false, [], length, Contains, ◌↔◌};
+ghost use Rattle.std.specs.Prelude.{IfOk, MatchResult, is_some, not, false, [], length, Contains};
+ghost use Rattle.std.specs.Prelude.{◌↔◌};
 ghost use Rattle.std.specs.Prelude.{slice_get};
 ghost use Rattle.numa_mode.specs.Policy.{PolicyRecord};
 ghost use Rattle.numa_ranges.specs.Runs.{AreApart, AreMaximal, page_at};

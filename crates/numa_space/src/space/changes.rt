@@ -1,5 +1,6 @@
 //! The effects of each command.
-ghost use Rattle.std.specs.Prelude.{◌≡◌, ◌+◌, ◌<◌, ◌≤◌, ◌^◌, ◌&&◌, ◌||◌, ◌-◌, ◌==◌, ℕ, true, false, not, nat_le, nat_lt};
+ghost use Rattle.std.specs.Prelude.{◌≡◌, ◌+◌, ◌<◌, ◌≤◌, ◌^◌, ◌&&◌, ◌||◌, ◌-◌, ◌==◌, ℕ, true, false};
+ghost use Rattle.std.specs.Prelude.{not, nat_le, nat_lt};
 ghost use Rattle.std.specs.Prelude.{is_some, length, Option, Some, None, MatchResult, IfErr};
 ghost use Rattle.std.specs.Prelude.{◌≢◌, MatchOption, IfSome};
 ghost use Rattle.std.specs.Prelude.{if◌then◌else◌};
