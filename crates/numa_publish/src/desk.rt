@@ -1,4 +1,4 @@
-//! The desk, which accepts commands and publishes plans.
+//! Desks, which accept commands and publish plans.
 ghost use Rattle.std.specs.Prelude.{◌≡◌, ◌+◌, ◌≤◌, ◌∷◌, ◌++◌, [], length, reverse, slice_index};
 ghost use Rattle.std.specs.Prelude.{None, IfOk, IfErr, OnOk, OnErr};
 ghost use Rattle.std.specs.Arc.{arc_value};
@@ -23,17 +23,17 @@ use std::alloc::Global;
 use std::marker::Model;
 use std::sync::Wait;
 
-/// Accepts commands and publishes plans of all that was accepted, for 1 to 64 readers at once. A
+/// Accepts commands and publishes plans of all accepted commands, for 1 to 64 readers at once. A
 /// version is a number of accepted commands; version 0 is published from the start. A desk can't be
 /// dropped: `end` it.
 ///
-/// Clauses see which desk it is and its machine, its limits, the published history, the versions
-/// published so far and the pending commands, which are accepted and not published; each list has
-/// its newest in front. The accepted history is the pending commands in front of the published
-/// history.
+/// Contracts see the identity of the desk and its machine, its limits, the published history, the
+/// versions published so far and the pending commands, which are accepted and not yet published;
+/// each list has its newest entry in front. The accepted history is the pending commands in front
+/// of the published history.
 ///
-/// It keeps a plan of all that was accepted, which each command edits in place, and publishes
-/// copies of it; so a published version costs what its commands touched.
+/// It keeps a plan of all accepted commands, which each command edits in place, and publishes
+/// copies of it; so the cost of a version depends on what its commands affect.
 pub struct Desk {
     alloc: Global,
     writer: ShownWriter,
@@ -67,17 +67,17 @@ impl Model for Desk {
         × (place_view d.writer.desk.place ≡ told_by (arc_value d.writer.desk.shown.value.issue)) };
 }
 
-/// No place for one reader more was found.
+/// All readers' places are in use.
 #[derive(Clone, Copy, Debug, PartialEq, Eq, Drop)]
 pub struct NoReader;
 
 impl Desk {
     /// A desk of this machine, with these limits, for at most `readers` readers at once. Nothing is
     /// accepted, and version 0 is published. It takes a `Wait` for one step by which its writer
-    /// learns which desk it is of; there is no reader yet for whom that step could wait.
+    /// learns its desk; there is no reader yet for which that step could wait.
     ///
     /// # Errors
-    /// `NoMemory` where there is none for the plan of version 0 or for the readers' places.
+    /// `NoMemory`: there is no memory for the plan of version 0 or for the readers' places.
     pub fn new<R: Wait>(
         rt: &R,
         alloc: Global,
@@ -108,7 +108,7 @@ impl Desk {
         })
     }
 
-    /// How many commands are accepted and not published.
+    /// The number of commands that are accepted and not published.
     pub fn pending(&self) -> usize
         ensures { result ≡ length self.now.pending }
     {
@@ -133,13 +133,14 @@ impl Desk {
         self.space.space()
     }
 
-    /// Accepts a command, or refuses it as the space does, and answers how many commands are
-    /// accepted then. It is pending until the next publish that is Ok. A refusal changes nothing.
+    /// Accepts a command, or refuses it as the space does, and returns the number of accepted
+    /// commands. The command is pending until the next successful publish. A refusal changes
+    /// nothing.
     ///
     /// # Errors
-    /// What refuses the command after all that was accepted; or `NoMemory`, also in place of
-    /// another refusal, since the room for one pending command more is made before the command is
-    /// looked at.
+    /// The refusal of the command after all accepted ones; or `NoMemory`, also instead of another
+    /// refusal, since memory for one more pending command is reserved before the command is looked
+    /// at.
     pub fn accept(&mut self, command: &Command) -> Result<u64, Refusal>
         ensures allowed { OnOk result (refusal_of self.old.desk.machine self.old.bounds
             (accepted_commands self.old) command.now ≡ None) }
@@ -176,13 +177,13 @@ impl Desk {
         )
     }
 
-    /// Publishes all that was accepted, and gives a receipt of it; with nothing pending, a receipt
-    /// of the published version, and nothing else is done. Looks that begin later see it. It waits
-    /// for views of the version before the published one.
+    /// Publishes all accepted commands, and returns a receipt. With nothing pending it only returns
+    /// a receipt of the published version. Looks that begin later see the new version. It blocks
+    /// until views of the version before the published one are gone.
     ///
     /// # Errors
-    /// `NoMemory`: what is published and what is pending are as they were, and the next publish
-    /// takes the same.
+    /// `NoMemory`: out of memory. Then nothing has changed, and the next publish will publish the
+    /// same.
     pub fn publish<R: Wait>(&mut self, rt: &R) -> Result<Receipt, NoMemory>
         ensures ok { OnOk result
             ((self.new.published ≡ accepted_commands self.old) × (self.new.pending ≡ [])) }
@@ -216,8 +217,8 @@ impl Desk {
     /// Accepts a command and publishes.
     ///
     /// # Errors
-    /// `Refused` as `accept` refuses, and nothing changed; else `Held` where `publish` has no
-    /// memory, and the command is pending.
+    /// `Refused`: as `accept`, and nothing has changed; else `Held`: `publish` ran out of memory,
+    /// and the command is pending.
     pub(crate) fn submit<R: Wait>(
         &mut self,
         rt: &R,
@@ -240,10 +241,10 @@ impl Desk {
         }
     }
 
-    /// A reader that has seen version 0 alone.
+    /// A new reader, which has seen only version 0.
     ///
     /// # Errors
-    /// `NoReader` where each place is in use, or is found so while readers come and go.
+    /// `NoReader`: each place is in use, or was found in use while readers come and go.
     pub fn reader(&mut self) -> Result<PlanReader, NoReader>
         ensures same { self.new ≡ self.old }
         ensures new { IfOk result (λ r. r ≡ new_reader self.old.desk) }
@@ -256,8 +257,7 @@ impl Desk {
         Ok(PlanReader::new(reader, self.log.start.again()))
     }
 
-    /// Ends the desk. It waits for the views that are held; each `enter` from then on hands its
-    /// reader back.
+    /// Ends the desk. It blocks until no view is held; from then on each `enter` fails.
     pub fn end<R: Wait>(self, rt: &R) {
         let Desk {
             alloc: _,

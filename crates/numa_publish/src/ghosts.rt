@@ -1,4 +1,4 @@
-//! A machine that clauses alone read. It has no bytes.
+//! A machine that only contracts see. It has no bytes.
 ghost use Rattle.std.specs.Prelude.{◌≡◌};
 
 use logbook::{Opening, Seen, Start};
@@ -15,7 +15,7 @@ impl Opening<Machine, Machine> for Alone {
     ghost log = { λ n machine. machine ∷ [] };
 }
 
-/// A machine that clauses alone read.
+/// A machine that only contracts see.
 #[derive(Drop)]
 pub struct About {
     list: GhostList<Machine>,

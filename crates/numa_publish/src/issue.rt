@@ -1,4 +1,4 @@
-//! What is published: a plan, with the history that it stands for.
+//! Published plans with their histories.
 ghost use Rattle.std.specs.Prelude.{◌≡◌, ℕ, ◌<◌, length};
 ghost use Rattle.std.specs.Option.{ForSome};
 ghost use Rattle.numa_plan.specs.Meaning.{planned_list};
@@ -29,8 +29,8 @@ pub struct Issue {
     pub ghost oldest: { HasOldest front.log },
 }
 
-/// The value of which readers look at one copy while the writer has the other. What is applied last
-/// is the value, so an operation is the next value itself, and both copies share its issue.
+/// The value of which readers look at one copy while the writer has the other. An operation is the
+/// next value itself, and both copies share its issue.
 #[derive(Drop)]
 pub struct Shown {
     pub issue: Arc<Issue>,

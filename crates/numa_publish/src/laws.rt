@@ -1,12 +1,12 @@
-//! What receipts of one desk have in common, whoever gave them: the desk, a publish, or a view.
+//! A law on receipts of one desk, whether from the desk, a publish, or a view.
 ghost use Rattle.std.specs.Prelude.{◌≡◌, ◌≤◌, ℕ, List, length, slice_get, Some};
 ghost use Rattle.numa_publish.specs.Batches.{Extends};
 
 use crate::receipt::Receipt;
 
-/// Equal version numbers mean equal lists. Of two receipts of one desk the one of the higher
-/// version has the other's commands, behind its own; receipts of one version show the same commands
-/// and the same versions; and where the number of one is counted among the versions of the other,
+/// Equal version numbers mean equal lists. Of two receipts of one desk, the one with the higher
+/// version has the other's commands after its newer ones; receipts of one version show the same
+/// commands and the same versions; and if the number of one is among the versions of the other,
 /// these are the same up to it. It does nothing at run time.
 pub fn equal_versions_agree(one: &Receipt, other: &Receipt)
     requires { other.now.desk ≡ one.now.desk }

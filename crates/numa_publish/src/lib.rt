@@ -1,8 +1,8 @@
-//! Published versions of plans. One desk accepts commands and publishes plans of them; up to 64
-//! readers, in any thread, look at what was published last, without a wait and without memory.
+//! Publishing versions of plans. One desk accepts commands and publishes plans; up to 64 readers,
+//! in any thread, look at the latest published plan without blocking and without allocating.
 //!
 //! A reader enters and gets a view, which lends the published plan until the reader leaves. A
-//! publish changes the copy at which nobody looks, and then shows it; it waits only for views of
+//! publish changes the copy at which nobody looks, and then shows it; it blocks only for views of
 //! the version before the published one.
 #![tactic(auto)]
 

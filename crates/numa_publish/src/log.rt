@@ -22,10 +22,10 @@ impl Holding<Batch> for CommandCount {
 /// The rule of the log.
 type LogRule = BareRule<CommandCount>;
 
-/// A beginning of the log that was reached. It has no bytes.
+/// A prefix of the log. It has no bytes.
 pub type Front = Seen<Batch, u64, LogRule>;
 
-/// Nobody trades anything for a step of the log.
+/// Steps of the log hand nothing over.
 struct Nothing;
 
 impl Gain<Batch, u64> for Nothing {
@@ -43,7 +43,7 @@ impl Play<Batch, u64> for Add {
     ghost then = { AddsBatch };
 }
 
-/// What a batch is made of: the commands that wait, and the beginning of the log that is published.
+/// The parts of a batch: the waiting commands, and the published prefix of the log.
 #[derive(Drop)]
 struct Waiting<'a> {
     pending: &'a Pending,
@@ -61,14 +61,14 @@ impl<'a> Plain<Waiting<'a>, Batch, u64> for Add {
 }
 
 /// Commands that are accepted and not published, the oldest first. The log has the first `logged`
-/// of them: those whose publishing failed once they were in the log.
+/// of them: those whose publication failed after they were logged.
 #[derive(Drop)]
 pub struct Pending {
     pub commands: Vec<Command>,
     pub logged: usize,
 }
 
-/// The log's word, its empty beginning, and all that was logged.
+/// The log's word, its empty prefix, and everything that was logged.
 #[derive(Drop)]
 pub struct Log {
     word: Word<Batch, u64, LogRule>,
@@ -82,7 +82,7 @@ pub struct Log {
 }
 
 impl Log {
-    /// A log of its own, which is empty.
+    /// A new, empty log.
     pub fn new() -> Log
         ensures { result.seen.log ≡ [] }
     {
@@ -97,9 +97,9 @@ impl Log {
         }
     }
 
-    /// Adds what the log lacks yet, behind what is published at this beginning of it; `count` is
-    /// the number of its commands then. Nobody else adds, so it always answers `true`; no proof can
-    /// see this.
+    /// Adds the commands that the log lacks, after those that are published at this prefix of it;
+    /// `count` is the number of its commands afterwards. Nobody else adds, so it always returns
+    /// `true`, which no proof can see.
     pub fn add(&mut self, pending: &Pending, shown: &Front, count: u64) -> bool
         requires some { 0 < length (not_logged pending.now.commands.items pending.now.logged) }
         requires shown { IsPrefix shown.now.log self.old.seen.log }

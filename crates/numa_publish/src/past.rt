@@ -1,12 +1,12 @@
-//! What a reader has behind it.
+//! A reader's past.
 ghost use Rattle.std.specs.Prelude.{◌≡◌};
 
 use crate::log::Front;
 use numa_ghost::Count;
 
-/// What a reader takes along, whether it looks or not: the beginning of the log that it has seen or
-/// learnt, the one that it saw last, the version of the first, how many enters it made, and how
-/// many of them were refused.
+/// What a reader keeps, whether it looks or not: the prefix of the log that it has seen or learnt,
+/// the one that it saw last, the version of the first, and the number of its enters and of refused
+/// ones.
 #[derive(Drop)]
 pub struct Past {
     pub front: Front,
@@ -17,7 +17,7 @@ pub struct Past {
 }
 
 impl Past {
-    /// The past of a reader that has seen nothing but version 0.
+    /// The past of a reader that has seen only version 0.
     pub fn none(front: Front) -> Past
         ensures { result ≡ record {
           front = front;

@@ -1,4 +1,4 @@
-//! What a desk publishes, and the steps of its writer.
+//! Issues of a desk, and the steps of its writer.
 ghost use Rattle.std.specs.Prelude.{◌≡◌, ◌≤◌, ◌<◌, ◌∷◌, ◌++◌, drop, length, reverse, IfOk};
 ghost use Rattle.std.specs.Bool.{OnTrue};
 ghost use Rattle.std.specs.Arc.{arc_value};
@@ -20,7 +20,7 @@ use numa_machine::NoMemory;
 use std::alloc::{AllocError, Global};
 use std::sync::{Arc, Wait};
 
-/// The issue of this space: its plan stands for all that this beginning of the log has.
+/// The issue of this space: its plan stands for this prefix of the log.
 fn issued(alloc: Global, space: &mut PlannedSpace, front: &Front) -> Result<Arc<Issue>, NoMemory>
     requires { StandsFor space.old (history_of front.now.log) }
     ensures same { space.new ≡ space.old }
@@ -44,8 +44,8 @@ fn issued(alloc: Global, space: &mut PlannedSpace, front: &Front) -> Result<Arc<
     Arc::new(alloc, issue).ok().ok_or(NoMemory)
 }
 
-/// The log has all that is pending from then on, behind what is shown. What it had before, where a
-/// publish lacked memory, stays as it is.
+/// Logs all pending commands, after those that are shown. What was logged before, when a publish
+/// ran out of memory, stays as it is.
 fn logged(space: &PlannedSpace, log: &mut Log, pending: &mut Pending, shown: &Issue) -> bool
     requires kept { IsDeskKept space.now shown.now log.old.seen.log log.old.seen.book
         pending.old.commands.items pending.old.logged }
@@ -62,7 +62,7 @@ fn logged(space: &PlannedSpace, log: &mut Log, pending: &mut Pending, shown: &Is
     if pending.logged == pending.commands.len() {
         return true;
     }
-    // Nobody else adds to the log, so it always does: no proof can see this.
+    // Nobody else adds to the log, so it always succeeds, which no proof can see.
     if !log.add(pending, &shown.front, space.space().version()) {
         return false;
     }
@@ -70,8 +70,8 @@ fn logged(space: &PlannedSpace, log: &mut Log, pending: &mut Pending, shown: &Is
     true
 }
 
-/// The issue of all that was accepted, beside the one that is shown. What is pending is in the log
-/// from then on.
+/// The issue of all accepted commands, to follow the one that is shown. Pending commands are in the
+/// log from then on.
 pub(crate) fn next_issue(
     alloc: Global,
     space: &mut PlannedSpace,
@@ -96,8 +96,8 @@ pub(crate) fn next_issue(
     issued(alloc, space, &log.seen)
 }
 
-/// A writer that shows the issue of a space in which nothing was accepted, version 0, and knows
-/// that it does, for so many readers.
+/// A writer for `readers` readers that shows version 0, the issue of a space in which nothing is
+/// accepted, and knows that it does.
 pub(crate) fn opened<R: Wait>(
     rt: &R,
     alloc: Global,
@@ -135,8 +135,8 @@ pub(crate) fn opened<R: Wait>(
     Ok(writer)
 }
 
-/// Readers take the last issue that was appended from now on, and the writer knows it; where none
-/// was appended it learns which desk it is of.
+/// Shows readers the last appended issue from now on, and the writer knows it; if none was appended
+/// the writer learns its desk.
 fn turned<R: Wait>(writer: ShownWriter, rt: &R) -> (ShownWriter, Result<(), AllocError>)
     requires { MayShow writer.desk.place.id (place_view writer.desk.place) writer.desk.shown.value
         (last_of (arc_value writer.desk.shown.value.issue) (drop writer.behind writer.log.items)) }
@@ -148,7 +148,7 @@ fn turned<R: Wait>(writer: ShownWriter, rt: &R) -> (ShownWriter, Result<(), Allo
     writer.publish_as::<Look, R>(rt)
 }
 
-/// Readers take this issue from now on.
+/// Shows readers this issue from now on.
 fn show<R: Wait>(
     mut writer: ShownWriter,
     rt: &R,

@@ -14,13 +14,13 @@ use crate::rule::{Look, ShownReader};
 use crate::view::PlanView;
 use std::marker::Model;
 
-/// A reader of one desk, with a place of its own among the desk's readers until it is dropped. It
-/// may go to another thread. It has seen a published version, 0 at first, and never looks at an
+/// A reader of one desk, with its own place among the desk's readers until it is dropped. It can be
+/// sent to another thread. It has seen a published version, initially 0, and never looks at an
 /// earlier one.
 ///
-/// Clauses see of which desk it is, the history that it has seen or learnt, the versions published
-/// up to the one that it saw last, how many enters it made, and how many of them were refused. But
-/// for the version none of these takes a byte.
+/// Contracts see its desk, the history that it has seen or learnt, the versions published up to the
+/// one that it saw last, and the number of its enters and of refused ones. Apart from the version
+/// none of these takes a byte.
 #[derive(Drop)]
 pub struct PlanReader {
     reader: ShownReader,
@@ -40,7 +40,7 @@ impl Model for PlanReader {
 }
 
 impl PlanReader {
-    /// A reader at a place that knows its desk, which has seen nothing but version 0.
+    /// A reader at a place that knows its desk, which has seen only version 0.
     pub(crate) fn new(reader: ShownReader, front: Front) -> PlanReader
         requires named { (place_view reader.place).named ≡ true }
         requires book { (place_view reader.place).front.book ≡ front.book }
@@ -62,11 +62,11 @@ impl PlanReader {
         PlanReader { reader, past }
     }
 
-    /// The reader, which has seen the longer of what it had seen and what the receipt shows. It
-    /// waits for nobody and takes no memory.
+    /// Returns the reader, which has now seen the longer of the receipt's history and its own. It
+    /// doesn't block or allocate.
     ///
-    /// Where the receipt's version is counted among the reader's, the versions up to it are the
-    /// receipt's: so an earlier view of that version and the receipt show the same.
+    /// If the receipt's version is among the reader's, the versions up to it are the receipt's: so
+    /// an earlier view of that version and the receipt show the same.
     pub fn learn(self, receipt: &Receipt) -> PlanReader
         requires { receipt.now.desk ≡ self.desk }
         ensures desk { result.desk ≡ self.desk }
@@ -94,12 +94,26 @@ impl PlanReader {
         PlanReader::back(reader, past)
     }
 
-    /// Looks at the version that is published now: a view of it, which is no earlier than what was
-    /// seen. It waits for nobody and takes no memory.
+    /// Returns a view of the version that is published now, which isn't older than what the reader
+    /// has seen. It doesn't block or allocate.
     ///
     /// # Errors
-    /// The reader itself, which has seen what it had seen, where there is no entry to be had:
-    /// always once the desk has ended. It may also come without cause.
+    /// The reader, unchanged: always once the desk has ended. May fail spuriously.
+    ///
+    /// # Examples
+    /// ```
+    /// match reader.enter() {
+    ///     Ok(view) => {
+    ///         let version = view.version();
+    ///         let row = match view.fallback_list(1, 0x10, 0) {
+    ///             Ok(row) => Ok((row[0], row[row.len() - 1])),
+    ///             Err(refusal) => Err(refusal),
+    ///         };
+    ///         (view.leave(), Some((version, row)))
+    ///     }
+    ///     Err(reader) => (reader, None),
+    /// }
+    /// ```
     pub fn enter(self) -> Result<PlanView, PlanReader>
         ensures desk { MatchResult result (λ v. v.desk ≡ self.desk) (λ r. r.desk ≡ self.desk) }
         ensures seen { MatchResult result
@@ -126,8 +140,8 @@ impl PlanReader {
         let next = issue.front.again();
         let mut both = past.front.again();
         both.learn(&next);
-        // A receipt is made once its version is published, so what is shown is never older: no
-        // proof can see this.
+        // A receipt is made after its version was published, so what is shown is never older, which
+        // no proof can see.
         if shown < past.version {
             let reader = reading.leave();
             past.refused = past.refused.next();

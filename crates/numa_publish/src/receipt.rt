@@ -6,11 +6,11 @@ use crate::ghosts::About;
 use crate::log::Front;
 use std::marker::Model;
 
-/// What was published at one time. It has no bytes but the version, and may go to another thread. A
-/// reader that learns it sees that version or a later one at its next look.
+/// What was published at one time. It has no bytes but the version, and can be sent to another
+/// thread. A reader that learns it sees that version or a later one at its next look.
 ///
-/// Clauses see of which desk it is, the history that was published, and the versions published up
-/// to it. What two receipts of one desk have in common, `laws::equal_versions_agree` tells.
+/// Contracts see its desk, the history that was published, and the versions published up to it.
+/// `laws::equal_versions_agree` says what two receipts of one desk have in common.
 #[derive(Drop)]
 pub struct Receipt {
     pub(crate) front: Front,
@@ -35,7 +35,7 @@ impl Model for Receipt {
 }
 
 impl Receipt {
-    /// The receipt of this beginning of the log.
+    /// The receipt of this prefix of the log.
     pub(crate) fn new(front: &Front, machine: About, version: u64) -> Receipt
         requires { version ≡ length (history_of front.now.log) }
         ensures desk { result.desk ≡ record { book = front.now.book; machine = machine } }
@@ -49,7 +49,7 @@ impl Receipt {
         }
     }
 
-    /// The published version: how many commands were accepted up to it.
+    /// The published version: the number of commands accepted up to it.
     pub fn version(&self) -> u64
         ensures length { result ≡ length self.now.history }
         ensures newest { slice_get self.now.versions 0 ≡ Some result }

@@ -1,4 +1,4 @@
-//! The rule of what is published: what each thread knows was published before what is shown now.
+//! The rule of published plans: what each thread knows was published before what is shown now.
 use crate::issue::Shown;
 use crate::log::Front;
 use atomic_table::{Join, Split};
@@ -7,8 +7,8 @@ use left_right::reader::{Reader, Reading};
 use left_right::writer::Writer;
 use numa_machine::Machine;
 
-/// What a thread knows: whether it knows its desk, the desk's machine, and a beginning of the log.
-/// No value of it is made.
+/// What a thread knows: whether it knows its desk, the desk's machine, and a prefix of the log. No
+/// value of this type is ever made.
 pub struct Knows {
     pub named: bool,
     pub machine: Machine,
@@ -16,7 +16,7 @@ pub struct Knows {
 }
 
 /// The rule, which six kinds of step keep: the opening, a new reader, a publish, the writer's note
-/// of which desk it is, a reader's taking in of that note, and an enter.
+/// of its desk, a reader's taking in of that note, and an enter.
 pub struct PublishedLog;
 
 impl Protocol<Shown, Knows> for PublishedLog {
@@ -27,7 +27,7 @@ impl Protocol<Shown, Knows> for PublishedLog {
     ghost first = { newcomer };
 }
 
-/// What a publish and an enter tell.
+/// What a publish and an enter pass on.
 pub struct Look;
 
 impl Outcome<Shown, Knows> for Look {
@@ -36,7 +36,7 @@ impl Outcome<Shown, Knows> for Look {
     ghost then = { Sees };
 }
 
-/// The writer tells all that it knows, and a new reader takes in which desk it is of.
+/// The writer passes on all that it knows, and a new reader learns its desk.
 pub struct Introduces;
 
 impl Split<Knows> for Introduces {
@@ -53,7 +53,7 @@ impl Join<Knows> for Introduces {
     ghost spent = { newcomer };
 }
 
-/// A place among the readers, which isn't looking.
+/// A place among the readers that isn't looking.
 pub type ShownReader = Reader<Shown, Knows, PublishedLog>;
 
 /// A place among the readers, with the copy at which it looks.

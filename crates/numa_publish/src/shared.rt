@@ -1,4 +1,4 @@
-//! A desk that threads share.
+//! Desks that threads share.
 ghost use Rattle.std.specs.Prelude.{◌≡◌, ◌∷◌, List, IfOk};
 ghost use Rattle.numa_space.specs.declared.command.Command.{Command};
 ghost use Rattle.numa_publish.specs.Shown.{new_reader};
@@ -11,8 +11,8 @@ use numa_space::{Command, Refusal};
 use std::marker::{Brand, Model, PhantomData};
 use std::sync::{Mutex, Wait};
 
-/// Names one desk, by which its receipts and readers are known to be of one. It has no calls. A
-/// function generic in it is called with `Brand`, for the desk that its caller holds.
+/// A type-level name of a desk, by which its receipts and readers are known to belong together. It
+/// has no methods. A function that is generic in it is called with `Brand`, for its caller's desk.
 pub trait DeskName {
     ghost use Rattle.numa_publish.specs.Shown.{DeskIdentity};
 
@@ -26,17 +26,17 @@ impl DeskName for Brand {
     ghost desk = { record { book = no_book; machine = no_machine } };
 }
 
-/// Why a submit gave no receipt.
+/// Why a submit returned no receipt.
 #[derive(Clone, Copy, Debug, PartialEq, Eq, Drop)]
 pub enum SubmitRefusal {
-    /// The command was refused, and nothing changed.
+    /// The command was refused, and nothing has changed.
     Refused(Refusal),
-    /// The command was accepted, as this version, and there was no memory to publish it. The next
-    /// submit that is Ok publishes it too.
+    /// The command was accepted, as this version, but there was no memory to publish it. The next
+    /// successful submit publishes it too.
     Held(u64),
 }
 
-/// The desk that K names, as the lock has it.
+/// The desk that K names, inside the lock.
 struct NamedDesk<K: DeskName> {
     desk: Desk,
     of: PhantomData<K>,
@@ -71,14 +71,14 @@ impl<K: DeskName> NamedDesk<K> {
     }
 }
 
-/// A desk under a lock, by which threads submit commands and take readers. Readers look beside it
+/// A desk in a lock, through which threads submit commands and take readers. Readers look at plans
 /// without the lock.
 pub struct SharedDesk<K: DeskName> {
     lock: Mutex<ManuallyDrop<NamedDesk<K>>>,
 }
 
 impl<K: DeskName> SharedDesk<K> {
-    /// The desk, for threads to share.
+    /// Wraps a desk for sharing.
     pub fn new(desk: Desk) -> SharedDesk<K>
         requires { desk.desk ≡ K.desk }
     {
@@ -92,11 +92,11 @@ impl<K: DeskName> SharedDesk<K> {
         }
     }
 
-    /// Accepts a command and publishes all that is accepted then. The receipt's history has the
-    /// command in front. It waits for the lock, and as `Desk::publish` for views.
+    /// Accepts a command and publishes all accepted commands. The receipt's history has the command
+    /// in front. It blocks for the lock, and like `Desk::publish` for views.
     ///
     /// # Errors
-    /// `Refused` as `Desk::accept` refuses; else `Held` where there is no memory to publish.
+    /// `Refused`: as `Desk::accept`; else `Held`: there is no memory to publish.
     pub fn submit<R: Wait>(&self, rt: &R, command: &Command) -> Result<Receipt, SubmitRefusal>
         ensures desk { IfOk result (λ r. r.desk ≡ K.desk) }
         ensures newest { IfOk result (λ r.
@@ -105,17 +105,17 @@ impl<K: DeskName> SharedDesk<K> {
         self.lock.lock(rt).submit(rt, command)
     }
 
-    /// A reader that has seen version 0 alone. It waits for the lock.
+    /// A new reader, which has seen only version 0. It blocks for the lock.
     ///
     /// # Errors
-    /// `NoReader` as `Desk::reader`.
+    /// `NoReader`: as `Desk::reader`.
     pub fn reader<R: Wait>(&self, rt: &R) -> Result<PlanReader, NoReader>
         ensures { IfOk result (λ r. r ≡ new_reader K.desk) }
     {
         self.lock.lock(rt).reader()
     }
 
-    /// The desk, once no thread shares it.
+    /// Unwraps the desk, once no thread shares it.
     pub fn into_desk(self) -> Desk
         ensures { result.desk ≡ K.desk }
     {

@@ -1,4 +1,4 @@
-//! Readers that are looking at a plan.
+//! Views: readers that are looking at a plan.
 ghost use Rattle.std.specs.Prelude.{◌≡◌, ◌+◌, ◌<◌, ◌≤◌, ℕ, true, length, slice_index, Some, IfOk};
 ghost use Rattle.std.specs.Prelude.{IfErr, OnOk, OnErr, EachIndex};
 ghost use Rattle.std.specs.Arc.{arc_value};
@@ -23,12 +23,12 @@ use numa_plan::{Steps, Tally};
 use numa_space::{PlaceRefusal, Request};
 use std::marker::Model;
 
-/// A reader with the published plan at which it looks, which stays the same while it is held. A
-/// publish after the next one, and the end of the desk, wait for it. It can't be dropped: `leave`
-/// gives the reader back.
+/// A reader with the published plan at which it looks, which doesn't change while the view is held.
+/// A publish after the next one, and the end of the desk, block for it. It can't be dropped:
+/// `leave` returns the reader.
 ///
-/// Clauses see of which desk it is, the history for which the plan stands, the versions published
-/// up to it, and the reader's numbers of enters and of refused enters.
+/// Contracts see its desk, the history for which the plan stands, the versions published up to it,
+/// and the reader's numbers of enters and of refused ones.
 pub struct PlanView {
     reading: ShownReading,
     past: Past,
@@ -49,7 +49,7 @@ impl Model for PlanView {
 }
 
 impl PlanView {
-    /// A view of what this place reads, by a reader that has seen it.
+    /// A view of the plan at this place, by a reader that has seen it.
     pub(crate) fn new(reading: ShownReading, past: Past) -> PlanView
         requires { IsViewKept past (place_view reading.place)
             (arc_value reading.part.value.issue) }
@@ -58,22 +58,22 @@ impl PlanView {
         PlanView { reading, past }
     }
 
-    /// The version: how many commands were accepted up to it.
+    /// The version: the number of commands accepted up to it.
     pub fn version(&self) -> u64
         ensures { result ≡ length self.now.history }
     {
         self.past.version
     }
 
-    /// The list of nodes for a fault, lent by the view: from 1 to 256 allowed nodes, each once, in
-    /// the order in which memory is looked for on them.
+    /// The node list for a fault: from 1 to 256 allowed nodes, each once, in the order in which
+    /// memory is looked for on them. The view lends it.
     ///
-    /// The page is compared with the first pages of at most as many ranges as the number of ranges
-    /// has binary digits. `steps` counts these comparisons, for contracts alone.
+    /// The page is compared with the first pages of at most log2(ranges + 1) ranges, rounded up.
+    /// `steps` counts these comparisons, for contracts only.
     ///
     /// # Errors
-    /// `BadCpu` where `cpu` is none of the machine's nodes; else `Unmapped` where this version
-    /// doesn't map the page.
+    /// `BadCpu`: the machine has no node `cpu`; else `Unmapped`: the page isn't mapped in this
+    /// version.
     #[inline(always)]
     pub fn choice(&self, request: Request, steps: &mut Steps) -> Result<&[u8], PlaceRefusal>
         ensures mapped { OnOk result ((request.cpu < self.now.desk.machine.nodes)
@@ -94,13 +94,13 @@ impl PlanView {
         issue.plan.choice(task, page, cpu, steps)
     }
 
-    /// The fallback list of a page, for a task and a fault on the node `cpu`, lent by the view: 1 to
-    /// 256 allowed nodes, each once, in the order in which memory is looked for on them. It is the
-    /// list of [`PlanView::choice`], without the counter of comparisons.
+    /// The fallback list of a page, for a task and a fault on node `cpu`: from 1 to 256 allowed
+    /// nodes, each once, in the order in which memory is looked for on them. The view lends it. It
+    /// is the list of [`PlanView::choice`], without the counter of comparisons.
     ///
     /// # Errors
-    /// `BadCpu`: `cpu` is none of the machine's nodes. `Unmapped`: this version doesn't map the
-    /// page.
+    /// `BadCpu`: the machine has no node `cpu`; else `Unmapped`: the page isn't mapped in this
+    /// version.
     #[inline(always)]
     pub fn fallback_list(&self, task: u32, page: u64, cpu: u32) -> Result<&[u8], PlaceRefusal>
         ensures mapped { OnOk result ((cpu < self.now.desk.machine.nodes)
@@ -116,12 +116,11 @@ impl PlanView {
         self.choice(Request { task, page, cpu }, &mut Steps::new())
     }
 
-    /// Writes the first node of each page's list, for the pages from `first` on, as many as `out`
-    /// has places.
+    /// Writes the first node of each page's list, for the `out.len()` pages from page `first` on.
     ///
     /// # Errors
-    /// `BadCpu` where `cpu` is none of the machine's nodes, also for no pages; else `Unmapped`
-    /// where this version doesn't map some page of the span. A refusal leaves `out` as it was.
+    /// `BadCpu`: the machine has no node `cpu`, even if the span has no pages; else `Unmapped`: a
+    /// page of the span isn't mapped in this version. Then nothing has been written.
     pub fn fill(&self, task: u32, cpu: u32, first: u64, out: &mut [u8]) -> Result<(), PlaceRefusal>
         ensures ok { OnOk result (EachIndex out.new (λ k. slice_index out.new k
             ≡ first_node self.now.desk.machine self.now.history task (first + k) cpu)) }
@@ -136,18 +135,18 @@ impl PlanView {
     {
         every_plan();
         let issue: &Issue = &self.reading.get().issue;
-        // Tells the proof that the plan's runs are apart and end by page 2^35.
+        // Tells the proof that the plan's runs are disjoint and end by page 2^35.
         let _ = issue.plan.run_count();
         issue.plan.fill(task, cpu, first, out)?;
         Ok(())
     }
 
-    /// How many of the `pages` pages from `first` on have each node as the first of their list. The
-    /// time grows with the ranges of the span and not with its pages.
+    /// For each node, the number of the `pages` pages from page `first` on whose list begins with
+    /// it. The time depends on the ranges of the span, not on the number of pages.
     ///
     /// # Errors
-    /// `BadCpu` where `cpu` is none of the machine's nodes, also for no pages; else `Unmapped`
-    /// where this version doesn't map some page of the span.
+    /// `BadCpu`: the machine has no node `cpu`, even if the span has no pages; else `Unmapped`: a
+    /// page of the span isn't mapped in this version.
     pub fn counts(&self, task: u32, cpu: u32, first: u64, pages: u64) -> Result<Tally, PlaceRefusal>
         ensures ok { IfOk result (λ counts. (node : ℕ) → node < 256 → slice_index counts node
             ≡ meant_count self.now.desk.machine self.now.history task cpu first pages node) }
@@ -158,13 +157,13 @@ impl PlanView {
     {
         every_plan();
         let issue: &Issue = &self.reading.get().issue;
-        // Tells the proof that the plan's runs are apart and end by page 2^35.
+        // Tells the proof that the plan's runs are disjoint and end by page 2^35.
         let _ = issue.plan.run_count();
         let counts = issue.plan.counts(task, cpu, first, pages)?;
         Ok(counts)
     }
 
-    /// A receipt of this version. It waits for nobody and takes no memory.
+    /// A receipt of this version. It doesn't block or allocate.
     pub fn receipt(&self) -> Receipt
         ensures { (result.desk ≡ self.now.desk) × (result.history ≡ self.now.history)
             × (result.versions ≡ self.now.versions) }
@@ -173,7 +172,7 @@ impl PlanView {
         Receipt::new(&self.past.front, issue.machine.again(), self.past.version)
     }
 
-    /// The reader, which has seen this version.
+    /// Returns the reader, which has seen this version.
     pub fn leave(self) -> PlanReader
         ensures desk { result.desk ≡ self.desk }
         ensures history { result.history ≡ self.history }
