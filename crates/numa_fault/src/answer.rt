@@ -1,4 +1,4 @@
-//! What a crew answers.
+//! The answers of a crew.
 use crate::refusal::FaultRefusal;
 use numa_space::Placement;
 
@@ -7,6 +7,6 @@ use numa_space::Placement;
 pub enum Answer {
     /// The page was placed.
     Placed(Placement),
-    /// The page was not placed.
+    /// The page wasn't placed.
     Refused(FaultRefusal),
 }

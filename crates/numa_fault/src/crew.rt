@@ -1,4 +1,4 @@
-//! Crews: several workers at once, each in a thread of its own.
+//! Crews: several workers at once, each in its own thread.
 ghost use Rattle.std.specs.Prelude.{◌≡◌, ℕ, ◌+◌, ◌/◌, ◌<◌, ◌≤◌, [], length, reverse};
 ghost use Rattle.std.specs.Prelude.{slice_index_or, IfOk, IfErr, OnOk, OnErr};
 ghost use Rattle.std.specs.List.{All};
@@ -16,21 +16,22 @@ use std::alloc::Global;
 use std::thread;
 use std::thread::Threads;
 
-/// What is called round each fault of a crew, by the thread that serves it. The threads share it.
+/// Called before and after each fault of a crew, by the thread that serves it. The threads share
+/// it.
 pub trait Gate {
-    /// Called once before the fault on the request with this place in the list, from 0.
+    /// Called once before the fault for request number `request` of the list, from 0.
     fn before(&self, request: usize);
 
     /// Called once after it.
     fn after(&self, request: usize);
 }
 
-/// Why a crew did not run. Nothing was taken, and no worker entered.
+/// Why a crew didn't run. No frame was taken, and no worker entered.
 #[derive(Clone, Copy, PartialEq, Eq, Debug, Drop)]
 pub enum CrewRefusal {
     /// There is no worker, or there are more than 16.
     NoWorkers,
-    /// There was no memory for the answers.
+    /// Out of memory for the answers.
     NoMemory,
 }
 
@@ -38,14 +39,13 @@ pub enum CrewRefusal {
 pub struct Crew;
 
 impl Crew {
-    /// Serves the requests, each worker in a thread of its own (where the system starts none,
-    /// another thread serves them): of K workers the one at place w serves the requests w, w + K, w
-    /// + 2 K, .., in this order. Answer i is that to request i. All memory is asked for before a
-    /// thread starts, and what the workers were lent of it is given back at the end. The pools must
-    /// be those of each seat. It returns once each call of the gate did.
+    /// Serves the requests, each worker in its own thread (if the system starts none, in another
+    /// thread): of K workers, worker w serves requests w, w + K, w + 2 K, .., in this order. Answer
+    /// i is that to request i. All memory is allocated before a thread starts. The pools must be
+    /// those of each seat. It returns after all calls of the gate have returned.
     ///
     /// # Errors
-    /// `NoWorkers` for 0 workers or more than 16; `NoMemory`.
+    /// `NoWorkers`: there are 0 workers or more than 16; `NoMemory`: out of memory.
     pub fn run<R: Threads + Sync, G: Gate + Sync>(
         rt: &R,
         alloc: Global,
@@ -82,8 +82,8 @@ impl Crew {
     }
 }
 
-/// Each worker serves its requests, in a thread of its own, and keeps their answers, the last one
-/// first. It has room for its share of them and at most one more.
+/// Each worker serves its requests in its own thread, and keeps their answers, the last one first.
+/// It has room for its share of them and at most one more.
 fn serve_all<R: Threads + Sync, G: Gate + Sync>(
     rt: &R,
     workers: &mut [FaultWorker],

@@ -1,4 +1,4 @@
-//! Room for a crew's answers, and how they come together.
+//! Room for a crew's answers, and gathering them.
 ghost use Rattle.std.specs.Prelude.{◌≡◌, ℕ, ◌<◌, ◌≤◌, [], length, reverse, slice_index_or, OnOk};
 ghost use Rattle.std.specs.Prelude.{vec_capacity};
 ghost use Rattle.std.specs.List.{All};
@@ -11,7 +11,7 @@ use crate::answer::Answer;
 use crate::worker::FaultWorker;
 use std::alloc::{AllocError, Global};
 
-/// Lends each worker room for so many answers.
+/// Lends each worker room for `count` answers.
 pub(crate) fn make_room(
     alloc: Global,
     workers: &mut [FaultWorker],
@@ -28,8 +28,8 @@ pub(crate) fn make_room(
     Ok(())
 }
 
-/// Puts the workers' answers into the order of the requests: they are dealt out in turn. One worker
-/// has them so, and they aren't copied.
+/// Gathers the workers' answers in the order of the requests. Those of a single worker already are
+/// in that order and aren't copied.
 pub(crate) fn gather(workers: &mut [FaultWorker], count: usize, answers: &mut Vec<Answer>)
     requires workers { 0 < length workers.old }
     requires room { (answers.old.items ≡ []) × (count ≤ vec_capacity answers.old) }

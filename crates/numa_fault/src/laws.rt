@@ -1,4 +1,5 @@
-//! Laws of the definitions that contracts cite.
+//! Laws of the definitions that contracts cite. The functions do nothing: what each one ensures is
+//! a law.
 ghost use Rattle.std.specs.Prelude.{◌≡◌, ◌≢◌, ℕ, ◌+◌, ◌*◌, ◌<◌, ◌≤◌, List, length, Option, Some};
 ghost use Rattle.std.specs.Prelude.{Result, Ok, Err, slice_get, slice_index_or, ◌↔◌};
 ghost use Rattle.std.specs.Option.{ForSome};
@@ -20,9 +21,9 @@ ghost use Rattle.numa_fault.specs.declared.refusal.FaultRefusal.{FaultRefusal};
 ghost use Rattle.numa_fault.specs.declared.refusal.SpanRefusal.{SpanRefusal};
 ghost use Rattle.numa_fault.specs.declared.span.Span.{Span};
 
-/// The answer of a fault is no matter of choice, but for the frames that it finds free. It enters
-/// once. It answers `NoView` exactly where that entry was refused; else it tells the refusal of the
-/// page exactly as the history that it sees has it, and the version of that history.
+/// The answer of a fault is determined but for the frames that it finds free. It enters once. It is
+/// `NoView` exactly if that entry was refused; else it is the page's refusal exactly as the history
+/// that it sees has it, with the version of that history.
 pub fn answers_are_exact()
     ensures enters { (frames : List ℕ) (request : Request) (before after : Parts)
         (answer : Result Placement FaultRefusal) → Faults frames request before after answer
@@ -41,9 +42,9 @@ pub fn answers_are_exact()
         → ForSome (version_told answer) (λ version. version ≡ length after.reader.history) }
 {}
 
-/// The same of a span: one entry, `NoView` exactly where it was refused, and else `BadCpu` and
-/// `Unmapped` exactly where the history that it sees refuses the span. Only frames and memory are
-/// left to chance.
+/// The same for a span: one entry, `NoView` exactly if it was refused, and else `BadCpu` and
+/// `Unmapped` exactly if the history that it sees refuses the span. Only frames and memory are left
+/// to chance.
 pub fn spans_are_exact()
     ensures enters { (frames : List ℕ) (span : Span) (before after : Parts)
         (old new : List Placement) (answer : Result ℕ SpanRefusal)
@@ -62,9 +63,9 @@ pub fn spans_are_exact()
         ↔ IsRefused after.reader.desk.machine after.reader.history span refusal }
 {}
 
-/// Where a page was placed, each frame of each node earlier in its list was found taken in the walk
-/// of this page, and where no frame was found each frame of each node of the list was. What was met
-/// for another page counts for nothing.
+/// If a page was placed, each frame of each earlier node of its list was found taken in the walk
+/// for this page, and if no frame was found each frame of each node of the list was. Frames found
+/// for another page don't count.
 pub fn a_win_means()
     ensures won { (frames : List ℕ) (machine : Hardware) (history : List Command)
         (request : Request) (placement : Placement) (before after : SeatView)
@@ -77,8 +78,8 @@ pub fn a_win_means()
         (length (list_of machine history request)) before after }
 {}
 
-/// What a worker sees only grows, and the versions that its answers tell never fall. The history at
-/// a version that was told extends what was seen before, and what is seen later extends it.
+/// What a worker sees only grows, and the versions in its answers never decrease. The history of
+/// such a version extends what was seen before, and what is seen later extends it.
 pub fn versions_never_fall()
     ensures grows { (frames : List ℕ) (requests : List Request) (before after : Parts)
         (answers : List Answer) → Serves frames requests before after answers
@@ -98,7 +99,7 @@ pub fn versions_never_fall()
         × Extends before.reader.history history × Extends history after.reader.history }
 {}
 
-/// Of a list, entry j of what falls to place w of so many is entry w + j times so many.
+/// Entry j of column w, of K columns of a list, is entry w + j K of the list.
 pub fn columns_take_turns()
     ensures requests { (count w j : ℕ) (requests : List Request) → 0 < count
         → slice_get (column count w requests) j ≡ slice_get requests (w + j * count) }
@@ -106,8 +107,8 @@ pub fn columns_take_turns()
         → slice_get (column count w answers) j ≡ slice_get answers (w + j * count) }
 {}
 
-/// No frame is placed twice among the answers of a crew: where its workers' seats are different
-/// seats of the same pools, whose rule says that no two seats hold one frame.
+/// No frame is placed twice among the answers of a crew, if its workers' seats are different seats
+/// of the same pools, whose rule says that no two seats hold one frame.
 pub fn crews_place_apart()
     ensures { (frames : List ℕ) (requests : List Request) (old new : List WorkerState)
         (answers : List Answer) → IsCrew (length old) → length new ≡ length old

@@ -1,6 +1,6 @@
-//! Workers that serve page faults. Each sees the published plans through a reader of its own and
-//! takes page frames through a seat of its own, so that workers in different threads share no lock
-//! and never wait for each other. A crew is several workers at once, each in a thread.
+//! Workers that serve page faults. Each sees the published plans through its own reader and takes
+//! page frames through its own seat, so that workers in different threads share no lock and never
+//! block each other. A crew is several workers at once, each in a thread.
 #![tactic(auto)]
 
 pub mod answer;

@@ -1,4 +1,4 @@
-//! One page of a span, whose first node is known.
+//! Placing one page of a span whose first node is known.
 ghost use Rattle.std.specs.Prelude.{◌≡◌, ◌<◌, ◌++◌, List, None, Some, length, slice_index};
 ghost use Rattle.std.specs.Prelude.{MatchOption, IfSome, slice_get};
 ghost use Rattle.numa_space.specs.declared.placement.Placement.{Placement};
@@ -16,7 +16,7 @@ use numa_pool::{PoolSeat, Pools, take_along};
 use numa_publish::PlanView;
 use numa_space::{Placement, Request};
 
-/// Where a frame that was taken puts the page of a request.
+/// The placement of a request's page in a frame that was taken.
 #[inline(always)]
 pub(crate) fn placement_of(version: u64, request: &Request, rank: u32, frame: &Frame) -> Placement
     ensures { result ≡ record {
@@ -43,9 +43,9 @@ pub(crate) fn placement_of(version: u64, request: &Request, rank: u32, frame: &F
     }
 }
 
-/// Takes a frame of the node with which the page's list begins, or else of the first of the others
-/// that has one. Tells the node's place in the list. The list is asked for only where the first
-/// node has no frame.
+/// Takes a frame of the first node of the page's list, or else of the first of the others that has
+/// one, and returns the node's place in the list too. The list is looked up only if the first node
+/// has no frame.
 fn take_first_or_behind(
     view: &PlanView,
     pools: &Pools,
@@ -82,7 +82,7 @@ fn take_first_or_behind(
     Some((rank + 1, frame))
 }
 
-/// Places a page whose list begins with this node. `None` where no node of the list has a frame.
+/// Places a page whose list begins with this node. `None` if no node of the list has a frame.
 pub(crate) fn place_page(
     view: &PlanView,
     pools: &Pools,

@@ -1,4 +1,4 @@
-//! One page, by the plan that is published now.
+//! Placing one page by the plan that is published now.
 ghost use Rattle.std.specs.Prelude.{◌≡◌};
 ghost use Rattle.numa_fault.specs.Fault.{Faults, IsServed};
 
@@ -36,7 +36,7 @@ fn place(
     Ok(placement_of(version, &request, rank as u32, &frame))
 }
 
-/// A fault: looks at what is published now, and serves the request by it.
+/// A fault: enters, and serves the request by the plan that is published now.
 #[inline(always)]
 pub(crate) fn fault_by(
     reader: PlanReader,

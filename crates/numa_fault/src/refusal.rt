@@ -1,12 +1,11 @@
-//! Why a fault was not served.
+//! Why a fault wasn't served.
 
-/// Why a page was not placed, in the order in which the causes are looked for.
+/// Why a page wasn't placed: the first of these that applies.
 #[derive(Clone, Copy, PartialEq, Eq, Debug, Drop)]
 pub enum FaultRefusal {
-    /// No published plan could be looked at: the desk has ended, or an entry was refused without a
-    /// cause.
+    /// The reader couldn't enter: the desk has ended, or the entry failed spuriously.
     NoView,
-    /// The faulting node is none of the machine's.
+    /// The machine lacks the faulting node.
     BadCpu,
     /// The page isn't mapped in this version.
     Unmapped(u64),
@@ -14,19 +13,18 @@ pub enum FaultRefusal {
     Exhausted(u64),
 }
 
-/// Why a span of pages was not placed in full, in the order in which the causes are looked for.
+/// Why a span of pages wasn't placed in full: the first of these that applies.
 #[derive(Clone, Copy, PartialEq, Eq, Debug, Drop)]
 pub enum SpanRefusal {
-    /// No published plan could be looked at: the desk has ended, or an entry was refused without a
-    /// cause.
+    /// The reader couldn't enter: the desk has ended, or the entry failed spuriously.
     NoView,
-    /// The faulting node is none of the machine's.
+    /// The machine lacks the faulting node.
     BadCpu,
-    /// A page of the span isn't mapped in this version. Nothing was taken.
+    /// A page of the span isn't mapped in this version. No frame was taken.
     Unmapped(u64),
-    /// In this version so many pages from the first on were placed. For the next one each frame of
-    /// each node of its list was found taken.
+    /// In this version the given number of pages was placed, from the first on. For the next one
+    /// each frame of each node of its list was found taken.
     Exhausted(u64, usize),
-    /// There was no memory for the placements. Nothing was taken.
+    /// Out of memory for the placements. No frame was taken.
     NoMemory,
 }

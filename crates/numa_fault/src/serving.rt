@@ -1,4 +1,4 @@
-//! What one worker of a crew does.
+//! Serving the requests of one worker of a crew.
 ghost use Rattle.std.specs.Prelude.{◌≡◌, ◌+◌, ◌/◌, ◌<◌, ◌≤◌, [], length, reverse};
 ghost use Rattle.numa_fault.specs.Crew.{column, result_of, Serves};
 ghost use Rattle.numa_fault.specs.Fault.{Faults};

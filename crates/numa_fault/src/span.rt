@@ -1,4 +1,4 @@
-//! Spans of pages, by the one plan that is published now.
+//! Placing spans of pages by the plan that is published now.
 ghost use Rattle.std.specs.Prelude.{◌≡◌, ℕ, ◌+◌, ◌<◌, ◌≤◌, ◌++◌, List, length, slice_index};
 ghost use Rattle.std.specs.Prelude.{vec_len, vec_capacity};
 ghost use Rattle.numa_space.specs.declared.placement.Placement.{Placement};
@@ -16,7 +16,7 @@ use numa_publish::{PlanReader, PlanView};
 use numa_space::{PlaceRefusal, Placement, Request};
 use std::alloc::Global;
 
-/// A span: so many pages from a first one on, which a task touches from processors of one node.
+/// A span of pages that a task touches from CPUs of one node: the first page, and their number.
 #[derive(Clone, Copy, Drop)]
 pub struct Span {
     pub task: u32,
@@ -26,7 +26,7 @@ pub struct Span {
 }
 
 /// Places the pages of a span, whose lists begin with these nodes, up to the first one for which no
-/// frame is found. Tells how many were placed, and appends their placements.
+/// frame is found. Returns how many were placed, and appends their placements.
 fn place_each(
     view: &PlanView,
     pools: &Pools,
@@ -69,7 +69,7 @@ fn place_each(
     choices.len()
 }
 
-/// Places the pages of a span. All that wants memory comes before the first frame is taken.
+/// Places the pages of a span. All allocation comes before the first frame is taken.
 fn place_span(
     view: &PlanView,
     alloc: Global,
@@ -105,7 +105,7 @@ fn place_span(
     Ok(version)
 }
 
-/// A fault on a span: looks at what is published now, and serves the span by it.
+/// A fault on a span: enters, and serves the span by the plan that is published now.
 pub(crate) fn fault_span_by(
     reader: PlanReader,
     alloc: Global,

@@ -18,14 +18,14 @@ use std::alloc::Global;
 use std::marker::Model;
 use std::mem;
 
-/// What one thread serves page faults with: a reader of published plans, and a seat at the pools. A
-/// contract sees both, so also how often the reader entered, and each step of the seat.
+/// One thread's worker for page faults: a reader of published plans, and a seat at the pools.
+/// Contracts see both, and so also the number of the reader's enters, and each step of the seat.
 #[derive(Drop)]
 pub struct FaultWorker {
     // A view has it while a fault is served.
     reader: Option<PlanReader>,
     seat: PoolSeat,
-    // While a crew runs: the answers that are not gathered yet.
+    // While a crew runs: the answers that aren't gathered yet.
     kept: Option<Vec<Answer>>,
 }
 
@@ -72,13 +72,25 @@ impl FaultWorker {
     }
 
     /// Places one page: enters once, and takes a frame of the first node of the page's list that
-    /// has one, by the published plan that it sees. It waits for nobody and takes no memory. The
-    /// pools must be those of the seat.
+    /// has one, by the published plan that it sees. It doesn't block or allocate. The pools must be
+    /// those of the seat.
     ///
     /// # Errors
-    /// `NoView` where the entry was refused; then `BadCpu`, `Unmapped` and `Exhausted`, with the
-    /// plan's version. In none of them a frame is taken.
-    // (in its caller the answer needs no way through memory, on which each atomic step would wait)
+    /// The first that applies: `NoView`, the reader couldn't enter, which may happen spuriously;
+    /// `BadCpu`, the machine has no such node; `Unmapped` and `Exhausted`, with the plan's version.
+    /// Then no frame is taken.
+    // Inlined, so that its result doesn't pass through memory, on which each atomic step would
+    // wait.
+    ///
+    /// # Examples
+    /// Places a page, and gives its frame up again:
+    ///
+    /// ```
+    /// let Ok(placement) = worker.fault(pools, request) else {
+    ///     return 0;
+    /// };
+    /// worker.release(pools, placement);
+    /// ```
     #[inline(always)]
     pub fn fault(&mut self, pools: &Pools, request: Request) -> Result<Placement, FaultRefusal>
         requires { self.old.seat.table ≡ pools.now.table }
@@ -91,21 +103,21 @@ impl FaultWorker {
             unreachable!()
         };
         let (reader, answer) = fault_by(reader, pools, &mut self.seat, request);
-        // (what it replaces is `None`: forgotten, it isn't looked at for something to drop)
+        // The replaced value is `None`; forgetting it avoids a check for something to drop.
         mem::forget(self.reader.replace(reader));
         answer
     }
 
-    /// Places `pages` pages from page `first` on, which the task touches from processors of the
-    /// node `cpu`: enters once, and places all pages by this one plan. Their placements are
-    /// appended in the order of the pages. The answer is the plan's version. It waits for nobody.
-    /// The pools must be those of the seat.
+    /// Places `pages` pages from page `first` on, which the task touches from CPUs of node `cpu`:
+    /// enters once, and places all pages by this one plan. Their placements are appended in the
+    /// order of the pages. Returns the plan's version. It doesn't block. The pools must be those of
+    /// the seat.
     ///
     /// # Errors
-    /// `NoView` where the entry was refused; then `BadCpu`, `Unmapped` where a page isn't mapped,
-    /// and `NoMemory`, in each of which nothing is taken; and `Exhausted` where for some page no
-    /// frame was found: the pages before it are placed. The span is judged before any memory is
-    /// asked for.
+    /// The first that applies: `NoView`, the reader couldn't enter; `BadCpu`, the machine has no
+    /// node `cpu`; `Unmapped`, a page isn't mapped; `NoMemory`, out of memory: then no frame is
+    /// taken. `Exhausted`: no frame was found for some page, and the pages before it are placed.
+    /// The span is checked before any memory is allocated.
     pub fn fault_span(
         &mut self,
         alloc: Global,
@@ -144,8 +156,7 @@ impl FaultWorker {
         self.seat.holds(&placement.frame)
     }
 
-    /// Gives up the frame of the placement, and no other. It must be one that the worker's seat
-    /// holds, as `owns` tells.
+    /// Gives up the frame of the placement, and no other. The worker's seat must hold it (`owns`).
     pub fn release(&mut self, pools: &Pools, placement: Placement)
         requires table { self.old.seat.table ≡ pools.now.table }
         requires owned { Holds self.old.seat.held placement.frame }
@@ -169,7 +180,7 @@ impl FaultWorker {
         self.kept = Some(answers);
     }
 
-    /// Keeps one answer more.
+    /// Keeps one more answer.
     pub(crate) fn note(&mut self, answer: Answer)
         requires { length self.old.kept < self.old.room }
         ensures same { parts_of self.new ≡ parts_of self.old }
@@ -184,7 +195,7 @@ impl FaultWorker {
         };
     }
 
-    /// Turns the answers round, so that the first one is handed out first.
+    /// Reverses the answers, so that the first one is handed out first.
     pub(crate) fn turn_round(&mut self)
         ensures same { parts_of self.new ≡ parts_of self.old }
         ensures kept { self.new.kept ≡ reverse self.old.kept }
@@ -206,7 +217,7 @@ impl FaultWorker {
         }
     }
 
-    /// Hands all answers over in place of an empty list, the one that was handed out last first.
+    /// Swaps all answers with an empty list.
     pub(crate) fn hand_over(&mut self, answers: &mut Vec<Answer>)
         requires { answers.old.items ≡ [] }
         ensures same { parts_of self.new ≡ parts_of self.old }
@@ -218,7 +229,7 @@ impl FaultWorker {
         }
     }
 
-    /// Keeps no answers any more, and gives their room back.
+    /// Keeps no more answers, and frees their room.
     pub(crate) fn keep_nothing(&mut self)
         ensures same { parts_of self.new ≡ parts_of self.old }
         ensures nothing { KeepsNothing self.new }
