@@ -1,5 +1,5 @@
-//! The calls of a desk beside the core's world. Each function hands its call on; its clauses say
-//! which step of the world the call is.
+//! The calls of a desk as steps of the core's world. Each function makes the call; its clauses say
+//! which step of the world it is.
 ghost use Rattle.std.specs.Prelude.{◌≡◌, ◌≢◌, ◌≤◌, true, [], length, slice_get};
 ghost use Rattle.std.specs.Prelude.{Some, Ok, Err, IfOk, IfErr, OnOk, OnErr};
 ghost use Rattle.numa_publish.specs.Batches.{Extends};
@@ -18,7 +18,7 @@ use numa_space::{Command, Limits, Refusal};
 use std::alloc::Global;
 use std::sync::Wait;
 
-/// `Desk::new`: the desk of the opening world of each setup with this machine and these limits.
+/// `Desk::new`: the desk of the opening world of any setup with this machine and these limits.
 ///
 /// # Errors
 /// As `Desk::new`.
@@ -37,7 +37,7 @@ pub fn open<R: Wait>(
     Desk::new(rt, alloc, machine, limits, readers)
 }
 
-/// `Desk::accept`: an Accept with the same answer, unless memory was wanting.
+/// `Desk::accept`: an Accept with the same answer, except on out-of-memory.
 ///
 /// # Errors
 /// As `Desk::accept`.
@@ -53,7 +53,7 @@ pub fn accept(desk: &mut Desk, command: &Command) -> Result<u64, Refusal>
     desk.accept(command)
 }
 
-/// `Desk::publish`: a Publish where something is pending, and no step where nothing is.
+/// `Desk::publish`: a Publish if something is pending, else no step.
 ///
 /// # Errors
 /// As `Desk::publish`.
@@ -74,8 +74,8 @@ pub fn publish<R: Wait>(desk: &mut Desk, rt: &R) -> Result<Receipt, NoMemory>
     desk.publish(rt)
 }
 
-/// A receipt beside its desk, whoever gave it, such as a view: where its number is that of a
-/// version which the desk's world has published, the world has published all that it shows.
+/// Compares a receipt, of a publish or a view, with its desk: if its number is that of a version
+/// that the desk's world has published, the world has published all that it shows.
 pub fn compare(desk: &Desk, receipt: &Receipt)
     requires { receipt.now.desk ≡ desk.now.desk }
     ensures { (s : Setup) (world : World) → IsDeskOf s world desk.now
@@ -86,9 +86,9 @@ pub fn compare(desk: &Desk, receipt: &Receipt)
     equal_versions_agree(&published, receipt);
 }
 
-/// `PlanReader::learn`: where the receipt is of the version that the reader has seen, what it has
-/// seen is published in each world in which the receipt's history is; and where it is of the
-/// version that the reader saw last, so is what each earlier view of the reader showed.
+/// `PlanReader::learn`: if the receipt is of the version that the reader has seen, what it has seen
+/// is published in each world in which the receipt's history is; and if it is of the version that
+/// the reader saw last, so is what each earlier view of the reader showed.
 pub fn learn(reader: PlanReader, receipt: &Receipt) -> PlanReader
     requires { receipt.now.desk ≡ reader.desk }
     ensures seen { (world : World) → length reader.history ≡ length receipt.now.history

@@ -1,4 +1,5 @@
-//! Laws of the running threads and the core's world.
+//! Laws that relate desks and fault workers to the core's world. The functions do nothing: what
+//! each one ensures is a law.
 ghost use Rattle.std.specs.Prelude.{◌≡◌, ◌≢◌, ℕ, ◌<◌, ◌≤◌, None, Some, Ok, Err, List};
 ghost use Rattle.std.specs.Prelude.{[], ◌∷◌, ◌++◌, length, slice_get, slice_index};
 ghost use Rattle.numa_core.specs.Executions.{CoreStep, IsExecution, worker_of, world_of};
@@ -30,8 +31,8 @@ ghost use Rattle.numa_refinement.specs.LegalSteps.{after_core_step, core_step_of
 
 /// A new desk is that of the opening world. A command that it accepts is the world's Accept, and a
 /// publish of something pending is the world's Publish, each a legal step with the same number as
-/// its answer. A refusal with a cause is the world's refusal of the Accept, and lack of memory for
-/// a publish is one that the world allows. With nothing pending a publish changes nothing: it is no
+/// its answer. A refusal with a cause is the world's refusal of the Accept, and out of memory for a
+/// publish is one that the world allows. With nothing pending a publish changes nothing: it is no
 /// step, and a Publish would lead to a world that isn't the desk's.
 pub fn a_desk_is_the_worlds()
     ensures opens { (s : Setup) (desk : DeskState) → IsNew s.machine s.bounds desk
@@ -71,9 +72,9 @@ pub fn a_desk_stays_the_worlds()
 {}
 
 /// What a desk has published is published in its world, and stays so at every step. So is what a
-/// view shows, which the desk had published at some time; what a reader has seen, where it learns a
+/// view shows, which the desk had published at some time; what a reader has seen, if it learns a
 /// receipt of the same version; and what an earlier version shows than one of which the world has
-/// published all.
+/// published everything.
 pub fn what_is_published_stays()
     ensures desk { (s : Setup) (world : World) (desk : DeskState) → IsDeskOf s world desk
         → IsPublishedIn world desk.published }
@@ -110,9 +111,9 @@ pub fn others_leave_a_worker()
         → IsTied s (after_core_step s world m) state }
 {}
 
-/// A worker that is ready by the history that a fault sees may begin by it: the core refuses its
-/// Begin at that version exactly as the fault is refused, and where nothing refuses it, the Begin
-/// has exactly the page's list.
+/// A worker that is ready for the history that a fault sees may begin with it: the core refuses its
+/// Begin at that version exactly as the fault is refused, and otherwise the Begin has exactly the
+/// page's list.
 pub fn a_fault_begins()
     ensures bad_cpu { (s : Setup) (w : ℕ) (history : List Command) (request : Request)
         (before after : SeatView) (first : World) → IsReady s w history first
@@ -129,12 +130,12 @@ pub fn a_fault_begins()
         → MayBegin s first w (length history) request (list_of s.machine history request) }
 {}
 
-/// A fault is a frame search of the core. Where it answers `Exhausted` or a placement, its Begin
-/// and the steps that its seat gained, the oldest first, are steps of the core's world, none is
-/// refused, each but the last is to go on, and the last reply is Exhausted with this version, or
-/// Won with this placement, whose frame is the worker's then. Each step may fall in any world that
-/// is tied to the pools, whatever other threads did before it, as long as the worker's frame search
-/// is as its step before had left it.
+/// A fault is a frame search of the core. If it answers `Exhausted` or a placement, its Begin and
+/// the steps that its seat gained, the oldest first, are steps of the core's world, none is
+/// refused, the reply to each but the last is Still, and the last reply is Exhausted with this
+/// version, or Won with this placement, whose frame is the worker's then. Each step may fall in any
+/// world that is tied to the pools, whatever other threads did before it, as long as the worker's
+/// frame search is as its step before had left it.
 pub fn a_fault_is_a_frame_search()
     ensures exhausted { (s : Setup) (w : ℕ) (history : List Command) (request : Request)
         (first : World) (before after : SeatView) (turns : List Turn) (version : ℕ)
@@ -154,9 +155,9 @@ pub fn a_fault_is_a_frame_search()
         → owner_of (last_world s w history request first turns) placement.frame ≡ Some w }
 {}
 
-/// After a frame search the worker is idle, and what it was told last is the version of its fault.
-/// So it is ready again, by that history or a longer one that is published: each page that a span
-/// places, all by one history, is such a frame search, and so is the next fault.
+/// After a frame search the worker is idle, and its last version is that of its fault. So it is
+/// ready again, for that history or a longer published one: each page that a span places, all by
+/// one history, is such a frame search, and so is the next fault.
 pub fn a_fault_leaves_its_worker_ready()
     ensures exhausted { (s : Setup) (w : ℕ) (history longer : List Command) (request : Request)
         (first next : World) (before after : SeatView) (turns : List Turn) (version : ℕ)
@@ -175,9 +176,9 @@ pub fn a_fault_leaves_its_worker_ready()
         → IsPublishedIn next longer → length history ≤ length longer → IsReady s w longer next }
 {}
 
-/// So it is in every interleaving: where worker w was ready and began by the history that a fault
-/// saw, and did not begin anew, the steps that its seat made since, each in the world and the pools
-/// that it found, are a fault as it falls. Others told the worker nothing.
+/// This holds in every interleaving: if worker w was ready and began with the history that a fault
+/// saw, and didn't begin again, the steps of its seat since then, each in the world and the pools
+/// that it found, are a fault as it falls. No other step changed the worker's version.
 pub fn faults_of_an_interleaving_fall()
     ensures falls { (s : Setup) (w : ℕ) → ((n : ℕ) → slice_index s.machine.frames n ≤ 4096)
         → (first pools : PoolState) (done later : List Done) (history : List Command)

@@ -1,4 +1,5 @@
-//! What holds between the pools' walks and the core's frame searches.
+//! Laws that relate the pools' walks to the core's frame searches. The functions do nothing: what
+//! each one ensures is a law.
 ghost use Rattle.std.specs.Prelude.{◌≡◌, ℕ, ◌+◌, ◌*◌, ◌<◌, ◌≤◌, true, List, [], ◌∷◌, length};
 ghost use Rattle.std.specs.Prelude.{slice_index, slice_set, Option, Some, None};
 ghost use mathlib.Core.Option.{some};
@@ -29,9 +30,9 @@ ghost use Rattle.numa_refinement.specs.Plays.{Done, IsPlay, NoneRefused, by_seat
 ghost use Rattle.numa_refinement.specs.Plays.{pools_of, execution_of, since_of};
 ghost use Rattle.numa_refinement.specs.Tie.{HasMet, HaveMet, IsAt, IsTied, OwnsWhatIsHeld, noted};
 
-/// Where a frame search has met what a walk's steps found taken, the walk's current node is the
-/// frame search's, and what the walk may do next the frame search may do. A frame search with a
-/// current node goes on; where each listed node is full it is over, and the reply is Exhausted.
+/// If a frame search has met what a walk's steps found taken, the walk's current node is the frame
+/// search's, and what the walk may do next the frame search may do. A frame search with a current
+/// node goes on; if each listed node is full it is over, and the reply is Exhausted.
 pub fn walks_are_frame_searches()
     ensures current { (s : Setup) (frame_search : FrameSearch) (es : List Entry) (n : ℕ) → HasMet frame_search es
         → IsCurrent s.machine.frames es frame_search.nodes n → IsAt s frame_search n }
@@ -116,7 +117,7 @@ pub fn walks_keep_the_tie()
         → HaveMet (effect_of s world version (event_of id e)) (noted since id e) }
 {}
 
-/// Where its worker is idle, a return of a frame that the seat holds is a Give.
+/// If its worker is idle, a return of a frame that the seat holds is a Give.
 pub fn return_is_a_give()
     ensures core_step { (s : Setup) (world : World) (old new : PoolState) (id version : ℕ) (f : Frame)
         → IsTied s world old → frame_search_of world id ≡ None → Makes (Entry.Gave f) id old new
@@ -148,9 +149,9 @@ pub fn begin_starts_a_walk()
         → HaveMet (effect_of s world version (Event.Begin id request)) (put since id []) }
 {}
 
-/// Pools that are opened are tied to the opening world. A split changes nothing there. A join hands
-/// the second seat's frames over to the first. No event of the core does that to a frame, so where
-/// there are any the world is tied no more.
+/// Pools that are opened are tied to the opening world. A split changes nothing there. A join moves
+/// the second seat's frames to the first. No event of the core does that, so if there are any, the
+/// world is no longer tied.
 pub fn seats_come_and_go()
     ensures opening { (s : Setup) (state : PoolState)
         → ((n : ℕ) → slice_index s.machine.frames n ≤ 4096) → 0 < s.workers
