@@ -1,5 +1,6 @@
 -- The exchange that adds a batch keeps the rule of the log.
-use Rattle.std.proofs.Common.{◌≡◌, ℕ, ◌+◌, ◌<◌, ◌==◌, Bool, true, false, List, [], ◌∷◌, ◌++◌, length, refl, ap, sym, subst, arith, inl, length-append, None}
+use Rattle.std.proofs.Common.{◌≡◌, ℕ, ◌+◌, ◌<◌, ◌==◌, Bool, true, false, List, [], ◌∷◌, ◌++◌}
+use Rattle.std.proofs.Common.{length, refl, ap, sym, subst, arith, inl, length-append, None}
 use Rattle.std.proofs.lemmas.List.{append-nil}
 use Rattle.std.proofs.lemmas.Bool.Decides.{nat_tests}
 use mathlib.Core.List.{IsPrefix}
@@ -18,13 +19,25 @@ shown log = []
 abbrev pub moved : List Batch → List Batch → ℕ → Type 0
 moved xs ys n = Unit {0}
 
-pub adds_goes : (log v : List Batch) (e : Batch) (old new : ℕ) → length (history_of v) ≡ old → new ≡ length e.commands + old → MayFollow v e → IsPrefix v log → IsLog log
+pub adds_goes : (log v : List Batch) (e : Batch) (old new : ℕ) → length (history_of v) ≡ old
+    → new ≡ length e.commands + old → MayFollow v e → IsPrefix v log → IsLog log
     → (b : Bool) → (length (history_of log) == old) ≡ b
-    → Goes CountsCommands shown moved 0 (v, (no_nib, None)) (λ n. either (n == old) new n) (AddsBatch (step 0 old new e) (v, (no_nib, None))) ((length (history_of log), true) ∷ (0, true) ∷ []) log
+    → Goes CountsCommands shown moved 0 (v, (no_nib, None)) (λ n. either (n == old) new n)
+    (AddsBatch (step 0 old new e) (v, (no_nib, None))) ((length (history_of log), true) ∷ (0, true)
+    ∷ []) log
 adds_goes log v e old new len more may pre is_log true is =
     let here : length (history_of log) ≡ old = grind (arith, nat_tests) in
     let same : v ≡ log = log_whole v log pre is_log (omega (arith, len, here)) in
-    let n : either (length (history_of log) == old) new (length (history_of log)) ≡ length (history_of (log ++ e ∷ [])) = rw is (omega (arith, more, here, length-append e.commands (history_of log), ap (λ (w : List Command). length w) (history-snoc log e))) in (
+    let n : either (length (history_of log) == old) new (length (history_of log))
+    ≡ length (history_of (log ++ e ∷ [])) =
+    rw is
+    (omega (
+      arith,
+      more,
+      here,
+      length-append e.commands (history_of log),
+      ap (λ (w : List Command). length w) (history-snoc log e),
+    )) in (
       keeps,
       e ∷ [],
       None,
@@ -38,7 +51,9 @@ adds_goes log v e old new len more may pre is_log true is =
     )
 adds_goes log v e old new len more may pre is_log false is =
     let all : log ++ [] ≡ log = append-nil log in
-    let n : either (length (history_of log) == old) new (length (history_of log)) ≡ length (history_of (log ++ [])) = rw is (ap (λ (w : List Batch). length (history_of w)) (sym all)) in (
+    let n : either (length (history_of log) == old) new (length (history_of log))
+    ≡ length (history_of (log ++ [])) =
+    rw is (ap (λ (w : List Batch). length (history_of w)) (sym all)) in (
       keeps,
       [],
       None,
@@ -51,8 +66,17 @@ adds_goes log v e old new len more may pre is_log false is =
       rw is tt,
     )
 
-pub adds_moves : (v : List Batch) (e : Batch) (old new : ℕ) → length (history_of v) ≡ old → new ≡ length e.commands + old → MayFollow v e
-    → Moves CountsCommands shown moved 0 (v, (no_nib, None)) (λ n. either (n == old) new n) (AddsBatch (step 0 old new e) (v, (no_nib, None)))
+pub adds_moves : (v : List Batch) (e : Batch) (old new : ℕ) → length (history_of v) ≡ old
+    → new ≡ length e.commands + old → MayFollow v e
+    → Moves CountsCommands shown moved 0 (v, (no_nib, None)) (λ n. either (n == old) new n)
+    (AddsBatch (step 0 old new e) (v, (no_nib, None)))
 adds_moves v e old new len more may cs log kept pre away =
-    let P : List Cell → Type 0 = λ c. (0 < length c) × ((cell c 0).1 ≡ true) × Goes CountsCommands shown moved 0 (v, (no_nib, None)) (λ n. either (n == old) new n) (AddsBatch (step 0 old new e) (v, (no_nib, None))) c log in
-    subst P (sym kept.cells_are) (omega arith, refl, adds_goes log v e old new len more may pre kept.is_log (length (history_of log) == old) refl)
+    let P : List Cell → Type 0 = λ c. (0 < length c) × ((cell c 0).1 ≡ true)
+    × Goes CountsCommands shown moved 0 (v, (no_nib, None)) (λ n. either (n == old) new n)
+    (AddsBatch (step 0 old new e) (v, (no_nib, None))) c log in
+    subst P (sym kept.cells_are) (
+      omega arith,
+      refl,
+      adds_goes log v e old new len more may pre kept.is_log
+          (length (history_of log) == old) refl,
+    )

@@ -15,34 +15,53 @@ use Rattle.numa_publish.proofs.publishing.issued.Goals as goal
 
 pub invariant_of-issue-clause-stands : goal.invariant_of-issue-clause-stands
 invariant_of-issue-clause-stands c =
-    let here : ◌≡◌ {A = SpaceState} c.space-accepted.result.now c.args.space.now = c.space-accepted.ensures ∙ c.plan_copy.ensures.same in
-    rw (c.of.ensures, c.machine.ensures, here, c.again.ensures) (c.in-Ok.ensures.stands _ c.requires)
+    let here : ◌≡◌ {A = SpaceState} c.space-accepted.result.now c.args.space.now =
+    c.space-accepted.ensures ∙ c.plan_copy.ensures.same in
+    rw (c.of.ensures, c.machine.ensures, here, c.again.ensures)
+    (c.in-Ok.ensures.stands _ c.requires)
 
 pub invariant_of-issue-clause-ranges : goal.invariant_of-issue-clause-ranges
 invariant_of-issue-clause-ranges c =
-    let here : ◌≡◌ {A = SpaceState} c.space-accepted.result.now c.args.space.now = c.space-accepted.ensures ∙ c.plan_copy.ensures.same in
-    let machine : ◌≡◌ {A = Hardware} c.of.result c.space-accepted.result.now.machine = c.of.ensures ∙ c.machine.ensures in
-    let stands = subst (λ (s : SpaceState). StandsFor s (history_of c.args.front.now.log)) (sym here) c.requires in
-    c.in-Ok.ensures.plan.one_run_each ∙ (ap (λ (s : SpaceState). length s.ranges) (sym here) ∙ (sym c.ranges-2.ensures.ranges ∙ (c.ranges-2.ensures.meaning _ stands ∙ sym (λ i. range_count_of (machine i) (history_of (c.again.ensures i).log)))))
+    let here : ◌≡◌ {A = SpaceState} c.space-accepted.result.now c.args.space.now =
+    c.space-accepted.ensures ∙ c.plan_copy.ensures.same in
+    let machine : ◌≡◌ {A = Hardware} c.of.result c.space-accepted.result.now.machine = c.of.ensures
+    ∙ c.machine.ensures in
+    let stands = subst (λ (s : SpaceState). StandsFor s (history_of c.args.front.now.log))
+    (sym here) c.requires in
+    c.in-Ok.ensures.plan.one_run_each ∙ (ap (λ (s : SpaceState). length s.ranges) (sym here)
+    ∙ (sym c.ranges-2.ensures.ranges
+    ∙ (c.ranges-2.ensures.meaning _ stands
+    ∙ sym (λ i. range_count_of (machine i) (history_of (c.again.ensures i).log)))))
 
 pub invariant_of-issue-clause-oldest : goal.invariant_of-issue-clause-oldest
 invariant_of-issue-clause-oldest c =
     subst (λ (l : List Batch). HasOldest l) (sym (ap (λ s. s.log) c.again.ensures))
-    (has_oldest c.args.front.now.log (log_begins c.args.front.now.log c.learn.new.self.log c.learn.ensures.3 c.learn.ensures.4.1.is_log))
+    (has_oldest c.args.front.now.log
+    (log_begins c.args.front.now.log c.learn.new.self.log c.learn.ensures.3
+    c.learn.ensures.4.1.is_log))
 
 pub invariant_of-issue-clause-sound : goal.invariant_of-issue-clause-sound
 invariant_of-issue-clause-sound c task page cpu low nodes is =
-    let here : ◌≡◌ {A = SpaceState} c.space-accepted.result.now c.args.space.now = c.space-accepted.ensures ∙ c.plan_copy.ensures.same in
-    let machine : ◌≡◌ {A = Hardware} c.of.result c.args.space.now.machine = c.of.ensures ∙ (c.machine.ensures ∙ ap (λ (s : SpaceState). s.machine) here) in
-    let allowed : c.args.space.now.allowed ≡ allowed_nodes c.of.result (history_of c.again.result.log) = c.requires.allowed ∙ sym (λ i. allowed_nodes (machine i) (history_of (c.again.ensures i).log)) in
-    subst (λ (set : ℕ). IsNodeList set nodes) allowed (c.in-Ok.ensures.sound task page cpu low nodes is)
+    let here : ◌≡◌ {A = SpaceState} c.space-accepted.result.now c.args.space.now =
+    c.space-accepted.ensures ∙ c.plan_copy.ensures.same in
+    let machine : ◌≡◌ {A = Hardware} c.of.result c.args.space.now.machine = c.of.ensures
+    ∙ (c.machine.ensures ∙ ap (λ (s : SpaceState). s.machine) here) in
+    let allowed : c.args.space.now.allowed ≡ allowed_nodes c.of.result
+    (history_of c.again.result.log) = c.requires.allowed
+    ∙ sym (λ i. allowed_nodes (machine i) (history_of (c.again.ensures i).log)) in
+    subst (λ (set : ℕ). IsNodeList set nodes) allowed
+    (c.in-Ok.ensures.sound task page cpu low nodes is)
 
 pub returns-clause-issue : goal.returns-clause-issue
 returns-clause-issue c =
-    let here : ◌≡◌ {A = SpaceState} c.space-accepted.result.now c.args.space.now = c.space-accepted.ensures ∙ c.plan_copy.ensures.same in
-    ok_or_kept c.new.result c.ok.result c.ok_or.result _ (λ a. IsIssueOf c.args.space.now c.args.front.now.log c.args.front.now.book (arc_value a)) c.ok.ensures.value c.ok_or.ensures.value (
+    let here : ◌≡◌ {A = SpaceState} c.space-accepted.result.now c.args.space.now =
+    c.space-accepted.ensures ∙ c.plan_copy.ensures.same in
+    ok_or_kept c.new.result c.ok.result c.ok_or.result _
+    (λ a. IsIssueOf c.args.space.now c.args.front.now.log c.args.front.now.book (arc_value a))
+    c.ok.ensures.value c.ok_or.ensures.value (
     IfOk-weaker c.new.result _ _ (λ a e. record {
-      machine_is = ap (λ (i : Issue). i.machine) e ∙ (c.of.ensures ∙ (c.machine.ensures ∙ ap (λ (s : SpaceState). s.machine) here));
+      machine_is = ap (λ (i : Issue). i.machine) e
+          ∙ (c.of.ensures ∙ (c.machine.ensures ∙ ap (λ (s : SpaceState). s.machine) here));
       book_is = ap (λ (i : Issue). i.front.book) e ∙ ap (λ s. s.book) c.again.ensures;
       log_is = ap (λ (i : Issue). i.front.log) e ∙ ap (λ s. s.log) c.again.ensures;
     }) c.new.ensures.ok

@@ -9,4 +9,7 @@ pub returns : goal.returns
 returns g c =
     let from = c.args.writer in
     let to = c.publish_as.result.0 in
-    shown_result _ _ c.publish_as.result.1 from.desk.shown.value to.desk.shown.value (place_view from.desk.place) (place_view to.desk.place) (last_of (arc_value from.desk.shown.value.issue) (drop from.behind from.log.items)) c.publish_as.ensures.values c.publish_as.ensures.rule
+    shown_result _ _ c.publish_as.result.1 from.desk.shown.value to.desk.shown.value
+    (place_view from.desk.place) (place_view to.desk.place)
+    (last_of (arc_value from.desk.shown.value.issue) (drop from.behind from.log.items))
+    c.publish_as.ensures.values c.publish_as.ensures.rule

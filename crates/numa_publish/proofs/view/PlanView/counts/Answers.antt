@@ -10,7 +10,11 @@ use Rattle.numa_publish.proofs.view.PlanView.counts.Goals as goal
 pub returns-clause-stands : goal.returns-clause-stands
 returns-clause-stands c =
     let issue = c.deref-issue.result.now in
-    let is : issue ≡ arc_value c.self.inside.reading.part.value.issue = c.deref-issue.ensures ∙ ap (λ (s : Shown). arc_value s.issue) c.get.ensures in
-    let stands : PlanStandsFor (place_view c.self.inside.reading.place).machine issue.plan (history_of c.self.inside.past.front.log) = rw (c.self.invariant.log_is, c.self.invariant.machine_is, ← is) issue.stands in
+    let is : issue ≡ arc_value c.self.inside.reading.part.value.issue = c.deref-issue.ensures
+    ∙ ap (λ (s : Shown). arc_value s.issue) c.get.ensures in
+    let stands : PlanStandsFor (place_view c.self.inside.reading.place).machine issue.plan
+    (history_of c.self.inside.past.front.log) =
+    rw (c.self.invariant.log_is, c.self.invariant.machine_is, ← is) issue.stands in
     let ok = c.in_ok-counts.ensures.ok in
-    rw (← c.self.view_is) (span-judged _ issue.plan _ stands c.run_count.ensures.apart c.args.cpu c.args.first c.args.pages ok.0 ok.1)
+    rw (← c.self.view_is) (span-judged _ issue.plan _ stands c.run_count.ensures.apart c.args.cpu
+    c.args.first c.args.pages ok.0 ok.1)

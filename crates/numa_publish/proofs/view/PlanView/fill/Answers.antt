@@ -14,24 +14,46 @@ use Rattle.numa_publish.proofs.view.PlanView.fill.Goals as goal
 pub returns-clause-ok : goal.returns-clause-ok
 returns-clause-ok c =
     let issue = c.deref-issue.result.now in
-    let is : issue ≡ arc_value c.self.inside.reading.part.value.issue = c.deref-issue.ensures ∙ ap (λ (s : Shown). arc_value s.issue) c.get.ensures in
-    let stands : PlanStandsFor (place_view c.self.inside.reading.place).machine issue.plan (history_of c.self.inside.past.front.log) = rw (c.self.invariant.log_is, c.self.invariant.machine_is, ← is) issue.stands in
+    let is : issue ≡ arc_value c.self.inside.reading.part.value.issue = c.deref-issue.ensures
+    ∙ ap (λ (s : Shown). arc_value s.issue) c.get.ensures in
+    let stands : PlanStandsFor (place_view c.self.inside.reading.place).machine issue.plan
+    (history_of c.self.inside.past.front.log) =
+    rw (c.self.invariant.log_is, c.self.invariant.machine_is, ← is) issue.stands in
     let ok = c.in_ok-fill.ensures.ok in
-    rw (← c.self.view_is) (λ k l. (span-filled _ issue.plan _ c.args.task c.args.cpu c.args.first c.fill.new.out stands ok.0 ok.1 k l).1)
+    rw (← c.self.view_is)
+    (λ k l.
+    (span-filled _ issue.plan _ c.args.task c.args.cpu c.args.first c.fill.new.out stands ok.0
+    ok.1 k l).1)
 
 pub returns-clause-stands : goal.returns-clause-stands
 returns-clause-stands c =
     let issue = c.deref-issue.result.now in
-    let is : issue ≡ arc_value c.self.inside.reading.part.value.issue = c.deref-issue.ensures ∙ ap (λ (s : Shown). arc_value s.issue) c.get.ensures in
-    let stands : PlanStandsFor (place_view c.self.inside.reading.place).machine issue.plan (history_of c.self.inside.past.front.log) = rw (c.self.invariant.log_is, c.self.invariant.machine_is, ← is) issue.stands in
+    let is : issue ≡ arc_value c.self.inside.reading.part.value.issue = c.deref-issue.ensures
+    ∙ ap (λ (s : Shown). arc_value s.issue) c.get.ensures in
+    let stands : PlanStandsFor (place_view c.self.inside.reading.place).machine issue.plan
+    (history_of c.self.inside.past.front.log) =
+    rw (c.self.invariant.log_is, c.self.invariant.machine_is, ← is) issue.stands in
     let ok = c.in_ok-fill.ensures.ok in
-    rw (← c.self.view_is) (span-stands _ issue.plan _ stands c.run_count.ensures.apart c.args.cpu c.args.first (length c.fill.new.out) ok.0 (λ k l. (span-filled _ issue.plan _ c.args.task c.args.cpu c.args.first c.fill.new.out stands ok.0 ok.1 k l).0))
+    rw (← c.self.view_is) (span-stands _ issue.plan _ stands c.run_count.ensures.apart c.args.cpu
+    c.args.first (length c.fill.new.out) ok.0
+    (λ k l.
+    (span-filled _ issue.plan _ c.args.task c.args.cpu c.args.first c.fill.new.out stands ok.0
+    ok.1 k l).0))
 
 pub returns-clause-lists : goal.returns-clause-lists
 returns-clause-lists c =
     let issue = c.deref-issue.result.now in
-    let is : issue ≡ arc_value c.self.inside.reading.part.value.issue = c.deref-issue.ensures ∙ ap (λ (s : Shown). arc_value s.issue) c.get.ensures in
-    let stands : PlanStandsFor (place_view c.self.inside.reading.place).machine issue.plan (history_of c.self.inside.past.front.log) = rw (c.self.invariant.log_is, c.self.invariant.machine_is, ← is) issue.stands in
+    let is : issue ≡ arc_value c.self.inside.reading.part.value.issue = c.deref-issue.ensures
+    ∙ ap (λ (s : Shown). arc_value s.issue) c.get.ensures in
+    let stands : PlanStandsFor (place_view c.self.inside.reading.place).machine issue.plan
+    (history_of c.self.inside.past.front.log) =
+    rw (c.self.invariant.log_is, c.self.invariant.machine_is, ← is) issue.stands in
     let ok = c.in_ok-fill.ensures.ok in
-    let sound : (task page cpu : ℕ) → cpu < issue.plan.nodes → ForSome (planned_list issue.plan task page cpu) (IsNodeList (allowed_nodes (place_view c.self.inside.reading.place).machine (history_of c.self.inside.past.front.log))) = rw (c.self.invariant.log_is, c.self.invariant.machine_is, ← is) issue.sound in
-    rw (← c.self.view_is) (span-lists _ issue.plan _ c.args.task c.args.cpu c.args.first c.fill.new.out stands sound ok.0 ok.1)
+    let sound : (task page cpu : ℕ) → cpu < issue.plan.nodes
+    → ForSome (planned_list issue.plan task page cpu)
+    (IsNodeList (allowed_nodes (place_view c.self.inside.reading.place).machine
+    (history_of c.self.inside.past.front.log))) =
+    rw (c.self.invariant.log_is, c.self.invariant.machine_is, ← is) issue.sound in
+    rw (← c.self.view_is)
+    (span-lists _ issue.plan _ c.args.task c.args.cpu c.args.first c.fill.new.out stands sound
+    ok.0 ok.1)
