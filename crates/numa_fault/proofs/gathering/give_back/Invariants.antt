@@ -6,6 +6,7 @@ use Rattle.numa_fault.proofs.gathering.give_back.Given as goal
 abbrev pub invariant-loop-w : goal.invariant-loop-w
 invariant-loop-w l = record {
   long : length l.workers ≡ length l.fn.workers;
-  same : (w : ℕ) (d : FaultWorker) → w < length l.workers → parts_of (slice_index_or l.workers w d) ≡ parts_of (slice_index_or l.fn.workers w d);
+  same : (w : ℕ) (d : FaultWorker) → w < length l.workers → parts_of (slice_index_or l.workers w d)
+      ≡ parts_of (slice_index_or l.fn.workers w d);
   nothing : (w : ℕ) (d : FaultWorker) → w < l.w → KeepsNothing (slice_index_or l.workers w d);
 }

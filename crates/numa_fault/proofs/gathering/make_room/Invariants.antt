@@ -6,6 +6,8 @@ use Rattle.numa_fault.proofs.gathering.make_room.Given as goal
 abbrev pub invariant-loop-w : goal.invariant-loop-w
 invariant-loop-w l = record {
   long : length l.workers ≡ length l.fn.workers;
-  same : (w : ℕ) (d : FaultWorker) → w < length l.workers → parts_of (slice_index_or l.workers w d) ≡ parts_of (slice_index_or l.fn.workers w d);
-  ready : (w : ℕ) (d : FaultWorker) → w < l.w → ((slice_index_or l.workers w d).kept ≡ []) × ((slice_index_or l.workers w d).room ≡ l.answers);
+  same : (w : ℕ) (d : FaultWorker) → w < length l.workers → parts_of (slice_index_or l.workers w d)
+      ≡ parts_of (slice_index_or l.fn.workers w d);
+  ready : (w : ℕ) (d : FaultWorker) → w < l.w → ((slice_index_or l.workers w d).kept ≡ [])
+      × ((slice_index_or l.workers w d).room ≡ l.answers);
 }

@@ -16,8 +16,15 @@ returns-clause-fault c =
       desk = left.desk ∙ entered.desk;
       enters = left.counts.0 ∙ entered.enters;
       refused = left.counts.1 ∙ entered.refused;
-      history = subst (λ (h : List Command). Extends reader.history h) (sym left.history) entered.seen;
-      versions = subst (λ (ns : List ℕ). Extends reader.versions ns) (sym left.versions) entered.versions;
+      history = subst (λ (h : List Command). Extends reader.history h) (sym left.history)
+          entered.seen;
+      versions = subst (λ (ns : List ℕ). Extends reader.versions ns) (sym left.versions)
+          entered.versions;
     } in
-    let served = subst (λ (p : DeskIdentity × List Command). IsServed c.args.pools.now.frames p.0.machine p.1 c.args.request c.args.seat.now seat c.place-answer.result) (λ i. (sym left.desk i, sym left.history i)) c.place-answer.ensures.served in
-    serves c.args.pools.now.frames c.args.request (record { reader = reader; seat = c.args.seat.now }) c.leave.result seat c.place-answer.result let_in served
+    let served =
+    subst (λ (p : DeskIdentity × List Command). IsServed c.args.pools.now.frames p.0.machine p.1
+    c.args.request c.args.seat.now seat c.place-answer.result)
+    (λ i. (sym left.desk i, sym left.history i)) c.place-answer.ensures.served in
+    serves c.args.pools.now.frames c.args.request
+    (record { reader = reader; seat = c.args.seat.now }) c.leave.result seat
+    c.place-answer.result let_in served

@@ -1,4 +1,5 @@
-use Rattle.std.proofs.Common.{◌+◌, ◌∷◌, ◌++◌, ◌∙◌, [], List, ap, sym, subst, refl, arith, length, drop, get_or, append_assoc, length-append}
+use Rattle.std.proofs.Common.{◌+◌, ◌∷◌, ◌++◌, ◌∙◌, [], List, ap, sym, subst, refl, arith, length}
+use Rattle.std.proofs.Common.{drop, get_or, append_assoc, length-append}
 use Rattle.numa_space.specs.declared.request.Request.{Request}
 use Rattle.numa_fault.specs.Crew.{column, Serves}
 use Rattle.numa_fault.specs.Worker.{Parts, parts_of}
@@ -14,7 +15,12 @@ pub loop-request-init : goal.loop-request-init
 loop-request-init g c = record {
   table = refl;
   room = c.requires.room.1;
-  served = ([], column-drop c.args.step c.args.first c.args.requests.now, subst (λ (l : List Answer). Serves c.args.pools.now.frames [] (parts_of c.args.worker.now) (parts_of c.args.worker.now) l) (sym c.requires.room.0) refl);
+  served = (
+    [],
+    column-drop c.args.step c.args.first c.args.requests.now,
+    subst (λ (l : List Answer). Serves c.args.pools.now.frames [] (parts_of c.args.worker.now)
+        (parts_of c.args.worker.now) l) (sym c.requires.room.0) refl,
+  );
 }
 
 pub note-requires : goal.note-requires
@@ -23,11 +29,14 @@ note-requires g c =
     let done = i.served.0 in
     let xs = c.args.requests.now in
     let step = c.args.step in
-    let next = column-next step c.loop-request.request xs nothing c.requires.step.0 c.loop-request-test.true in
-    let whole = ap (λ (l : List Request). length l) (i.served.1 ∙ ap (λ l. done ++ l) next) ∙ length-append done _ in
+    let next = column-next step c.loop-request.request xs nothing c.requires.step.0
+    c.loop-request-test.true in
+    let whole = ap (λ (l : List Request). length l) (i.served.1 ∙ ap (λ l. done ++ l) next)
+    ∙ length-append done _ in
     let some_few = length-column step c.args.first xs in
     let few = share-few step c.args.first (length xs) c.requires.step.0 in
-    let kept = serves-length c.args.pools.now.frames done (parts_of c.args.worker.now) (parts_of c.loop-request.worker) c.loop-request.worker.kept i.served.2 in
+    let kept = serves-length c.args.pools.now.frames done (parts_of c.args.worker.now)
+    (parts_of c.loop-request.worker) c.loop-request.worker.kept i.served.2 in
     let same = ap (λ (l : List Answer). length l) c.answer-answer.ensures.kept.0 in
     let roomy = i.room in
     let stays = c.answer-answer.ensures.kept.1 in
@@ -54,8 +63,12 @@ loop-request-preserved g c =
       room = omega arith;
       served = (
         done ++ r ∷ [],
-        i.served.1 ∙ ap (λ l. done ++ l) next ∙ sym (append_assoc done (r ∷ []) (column step 0 (drop (at + step) xs))),
-        subst (λ (p : Parts × List Answer). Serves frames (done ++ r ∷ []) (parts_of c.args.worker.now) p.0 p.1) (λ j. (sym hands j, sym kept j))
-            (serves-more frames done (parts_of c.args.worker.now) (parts_of c.loop-request.worker) (parts_of c.answer-answer.new.worker) c.loop-request.worker.kept r a i.served.2 c.answer-answer.ensures.answer),
+        i.served.1 ∙ ap (λ l. done ++ l) next
+            ∙ sym (append_assoc done (r ∷ []) (column step 0 (drop (at + step) xs))),
+        subst (λ (p : Parts × List Answer). Serves frames (done ++ r ∷ [])
+            (parts_of c.args.worker.now) p.0 p.1) (λ j. (sym hands j, sym kept j))
+            (serves-more frames done (parts_of c.args.worker.now) (parts_of c.loop-request.worker)
+            (parts_of c.answer-answer.new.worker) c.loop-request.worker.kept r a i.served.2
+            c.answer-answer.ensures.answer),
       );
     }

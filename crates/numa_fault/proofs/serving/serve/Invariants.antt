@@ -8,7 +8,8 @@ abbrev pub invariant-loop-request : goal.invariant-loop-request
 invariant-loop-request g l = record {
   table : l.worker.seat.table ≡ l.fn.worker.seat.table;
   room : length l.requests / l.step + 1 ≤ l.worker.room;
-  served : (done : List Request) × (column l.step l.first l.requests ≡ done ++ column l.step 0 (drop l.request l.requests))
+  served : (done : List Request)
+      × (column l.step l.first l.requests ≡ done ++ column l.step 0 (drop l.request l.requests))
       × Serves l.pools.frames done (parts_of l.fn.worker) (parts_of l.worker) l.worker.kept;
 }
 

@@ -15,6 +15,8 @@ gather-requires-clause-kept g c w d l =
     let many : length after ≡ length before = c.serve_all.auto.workers in
     let served = c.serve_all.ensures.each w d (subst (λ (n : ℕ). w < n) many l) in
     sym (length-reverse (get_or after w d).kept)
-    ∙ serves-length c.args.pools.now.frames (column (length before) w xs) (parts_of (get_or before w d)) (parts_of (get_or after w d)) (reverse (get_or after w d).kept) served
+    ∙ serves-length c.args.pools.now.frames (column (length before) w xs)
+    (parts_of (get_or before w d)) (parts_of (get_or after w d)) (reverse (get_or after w d).kept)
+    served
     ∙ length-column (length before) w xs
     ∙ ap (λ (n : ℕ). share n w (length xs)) (sym many)
