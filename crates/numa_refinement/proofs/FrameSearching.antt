@@ -1,29 +1,38 @@
 -- A walk, step by step, is a frame search.
-use Rattle.std.proofs.Common.{◌≡◌, ℕ, nat_le, List, [], ◌∷◌, Bool, false, Option, Some, None, unwrap_or, refl, sym, ap, ◌∙◌, subst, eq-eqb, if◌then◌else◌}
+use Rattle.std.proofs.Common.{◌≡◌, ℕ, nat_le, List, [], ◌∷◌, Bool, false, Option, Some, None}
+use Rattle.std.proofs.Common.{unwrap_or, refl, sym, ap, ◌∙◌, subst, eq-eqb, if◌then◌else◌}
 use Rattle.std.specs.Prelude.{slice_get, ◌||◌}
 use Rattle.numa_machine.specs.declared.frame.Frame.{Frame}
 use Rattle.numa_space.specs.declared.request.Request.{Request}
 use Rattle.numa_core.specs.Seats.{fresh}
-use Rattle.numa_core.specs.World.{Setup, World, FrameSearch, frame_search_of, last_of, list_at, frame_search_after_look, look_finds, frame_search_past, is_frame}
-use Rattle.numa_core.specs.Steps.{effect_of, goes_on, going_on, placement_of, with_owner, with_worker}
+use Rattle.numa_core.specs.World.{Setup, World, FrameSearch, frame_search_of, last_of, list_at}
+use Rattle.numa_core.specs.World.{frame_search_after_look, look_finds, frame_search_past, is_frame}
+use Rattle.numa_core.specs.Steps.{effect_of, goes_on, going_on, placement_of, with_owner}
+use Rattle.numa_core.specs.Steps.{with_worker}
 use Rattle.numa_space.specs.declared.event.Event.TheVariants.{Begin}
 use Rattle.numa_space.specs.declared.event.CoreReply.{CoreReply}
 use Rattle.numa_space.specs.declared.event.CoreReply.TheVariants.{Still, Won as replied_won}
 use Rattle.numa_pool.specs.declared.view.Entry.{Entry}
 use Rattle.numa_pool.specs.declared.view.Entry.TheVariants.{Load, Won, Lost, Gave}
 use Rattle.numa_pool.specs.Walk.{met, Searches, IsWalk, IsNext}
-use Rattle.numa_refinement.specs.FrameSearches.{Turn, steps_of, world_left, TakesTurns, IsFrameSearch, IsPlaced, Tells}
+use Rattle.numa_refinement.specs.FrameSearches.{Turn, steps_of, world_left, TakesTurns}
+use Rattle.numa_refinement.specs.FrameSearches.{IsFrameSearch, IsPlaced, Tells}
 use Rattle.numa_refinement.specs.WalkSteps.{IsCoreStep, MayBegin, MayCome, event_of}
 use Rattle.numa_refinement.specs.Moves.{PoolState, Makes}
 use Rattle.numa_refinement.specs.Tie.{HasMet, IsTied}
 use Rattle.numa_refinement.proofs.Allowed.{no_less, look-effect, won-effect, lost-effect}
 use Rattle.numa_refinement.proofs.Current.{is-at, still, over}
-use Rattle.numa_refinement.proofs.Keeping.{there-of, free-of, owner-of, look-core_step, won-core_step, lost-core_step, look-meets}
+use Rattle.numa_refinement.proofs.Keeping.{there-of, free-of, owner-of, look-core_step}
+use Rattle.numa_refinement.proofs.Keeping.{won-core_step, lost-core_step, look-meets}
 use Rattle.numa_refinement.proofs.Meeting.{misses_alike}
 
 -- a worker's own frame search, after it changed
-own-frame_search : (world : World) (id last : ℕ) (o : Option FrameSearch) → frame_search_of (with_worker world id last o) id ≡ o
-own-frame_search world id last o = ap (λ b. (if b then (record { last = last; frame_search = o }) else world.worker id).frame_search) (eq-eqb id id refl)
+own-frame_search : (world : World) (id last : ℕ) (o : Option FrameSearch)
+    → frame_search_of (with_worker world id last o) id ≡ o
+own-frame_search world id last o =
+    ap (λ b.
+    (if b then (record { last = last; frame_search = o }) else world.worker id).frame_search)
+    (eq-eqb id id refl)
 
 module _ (s : Setup) (id version : ℕ) (request : Request) (nodes : List ℕ) where
   -- the frame search for the request that has met these frames
@@ -32,26 +41,35 @@ module _ (s : Setup) (id version : ℕ) (request : Request) (nodes : List ℕ) w
 
   -- what holds of the frame search once these steps were made, which led to this world
   abbrev Follows : World → List Entry → (ℕ → ℕ → Bool) → Type 0
-  Follows world es seen = HasMet (searching seen) es × (frame_search_of world id ≡ going_on s (searching seen))
+  Follows world es seen = HasMet (searching seen) es
+      × (frame_search_of world id ≡ going_on s (searching seen))
 
   module _ (first : World) (may : MayBegin s first id version request nodes) where
-    begun-as : frame_search_of (effect_of s first version (Begin id request)) id ≡ going_on s (fresh request version nodes)
-    begun-as = own-frame_search first id version (going_on s (fresh request version (unwrap_or (list_at s.machine first.history version request) [])))
+    begun-as : frame_search_of (effect_of s first version (Begin id request)) id
+        ≡ going_on s (fresh request version nodes)
+    begun-as =
+        own-frame_search first id version
+        (going_on s
+        (fresh request version (unwrap_or (list_at s.machine first.history version request) [])))
         ∙ ap (λ o. going_on s (fresh request version (unwrap_or o []))) may.listed
 
     begins : IsCoreStep s first version (Begin id request) (goes_on s (fresh request version nodes))
     begins =
         let there : nat_le s.workers id ≡ false = no_less s.workers id may.there in
-        let cpu : nat_le s.machine.nodes request.cpu ≡ false = no_less s.machine.nodes request.cpu may.cpu in
+        let cpu : nat_le s.machine.nodes request.cpu ≡ false =
+        no_less s.machine.nodes request.cpu may.cpu in
         let idle = may.idle in
         let listed = may.listed in
         ((may.published, may.not_older), rw (there, idle, cpu, listed) refl)
 
   -- one more step of the search
   abbrev Next : World → Entry → List Entry → Type 0
-  Next world e es = (seen : ℕ → ℕ → Bool) × Follows (effect_of s world 0 (event_of id e)) (e ∷ es) seen × IsCoreStep s world 0 (event_of id e) (goes_on s (searching seen))
+  Next world e es = (seen : ℕ → ℕ → Bool) × Follows (effect_of s world 0 (event_of id e)) (e ∷ es)
+      seen × IsCoreStep s world 0 (event_of id e) (goes_on s (searching seen))
 
-  goes : (world : World) (before after : PoolState) (e : Entry) (es : List Entry) (seen : ℕ → ℕ → Bool) → IsTied s world before → Makes e id before after → HasMet (searching seen) es → frame_search_of world id ≡ Some (searching seen)
+  goes : (world : World) (before after : PoolState) (e : Entry) (es : List Entry)
+      (seen : ℕ → ℕ → Bool) → IsTied s world before → Makes e id before after
+      → HasMet (searching seen) es → frame_search_of world id ≡ Some (searching seen)
       → Searches s.machine.frames nodes (e ∷ es) → Next world e es
   goes world before after (Load n w x) es seen tied m met busy h =
       let frame_search = searching seen in
@@ -60,7 +78,9 @@ module _ (s : Setup) (id version : ℕ) (request : Request) (nodes : List ℕ) w
         (λ i k. look_finds s world w frame_search i k || seen i k),
         (
           look-meets s world id 0 frame_search es before after tied busy met n w x m next,
-          ap (λ v. frame_search_of v id) (look-effect s world 0 id there frame_search busy w) ∙ own-frame_search world id (last_of world id) (going_on s (frame_search_after_look s world w frame_search)),
+          ap (λ v. frame_search_of v id) (look-effect s world 0 id there frame_search busy w)
+              ∙ own-frame_search world id (last_of world id)
+              (going_on s (frame_search_after_look s world w frame_search)),
         ),
         look-core_step s world id 0 frame_search es before after tied busy met n w x m next,
       )
@@ -71,7 +91,10 @@ module _ (s : Setup) (id version : ℕ) (request : Request) (nodes : List ℕ) w
         (λ i k. is_frame f i k || seen i k),
         (
           misses_alike frame_search es f met,
-          ap (λ v. frame_search_of v id) (lost-effect s world 0 id there frame_search busy f owner.0 owner.1) ∙ own-frame_search world id (last_of world id) (going_on s (frame_search_past f frame_search)),
+          ap (λ v. frame_search_of v id)
+              (lost-effect s world 0 id there frame_search busy f owner.0 owner.1)
+              ∙ own-frame_search world id (last_of world id)
+              (going_on s (frame_search_past f frame_search)),
         ),
         lost-core_step s world id 0 frame_search es before after tied busy met f m h.1,
       )
@@ -79,13 +102,16 @@ module _ (s : Setup) (id version : ℕ) (request : Request) (nodes : List ℕ) w
   goes world before after (Gave f) es seen tied m met busy h = absurd h
 
   -- a search that may go on has a current node
-  may-go : (e : Entry) (es : List Entry) (seen : ℕ → ℕ → Bool) → HasMet (searching seen) es → Searches s.machine.frames nodes (e ∷ es) → (goes_on s (searching seen) ≡ Still) × (going_on s (searching seen) ≡ Some (searching seen))
+  may-go : (e : Entry) (es : List Entry) (seen : ℕ → ℕ → Bool) → HasMet (searching seen) es
+      → Searches s.machine.frames nodes (e ∷ es) → (goes_on s (searching seen) ≡ Still)
+      × (going_on s (searching seen) ≡ Some (searching seen))
   may-go (Load n w x) es seen met h = still s (searching seen) es met n h.1
   may-go (Lost f) es seen met h = still s (searching seen) es met f.node h.1.0
   may-go (Won f) es seen met h = absurd h
   may-go (Gave f) es seen met h = absurd h
 
-  earlier : (e : Entry) (es : List Entry) → Searches s.machine.frames nodes (e ∷ es) → Searches s.machine.frames nodes es
+  earlier : (e : Entry) (es : List Entry) → Searches s.machine.frames nodes (e ∷ es)
+      → Searches s.machine.frames nodes es
   earlier (Load n w x) es h = h.0
   earlier (Lost f) es h = h.0
   earlier (Won f) es h = absurd h
@@ -96,27 +122,42 @@ module _ (s : Setup) (id version : ℕ) (request : Request) (nodes : List ℕ) w
     start = effect_of s first version (Begin id request)
 
     abbrev Searched : List Turn → Type 0
-    Searched turns = (seen : ℕ → ℕ → Bool) × Follows (world_left s id start turns) (steps_of turns) seen × IsFrameSearch s id first version request (goes_on s (searching seen)) turns
+    Searched turns = (seen : ℕ → ℕ → Bool) × Follows (world_left s id start turns) (steps_of turns)
+        seen × IsFrameSearch s id first version request (goes_on s (searching seen)) turns
 
-    searched : (turns : List Turn) → TakesTurns s id start turns → Searches s.machine.frames nodes (steps_of turns) → Searched turns
+    searched : (turns : List Turn) → TakesTurns s id start turns
+        → Searches s.machine.frames nodes (steps_of turns) → Searched turns
     searched [] took h = ((λ n k. false), ((λ n k. refl), begun-as first may), begins first may)
     searched (t ∷ turns) took h =
         let so_far = searched turns took.0 (earlier t.step (steps_of turns) h) in
         let on = may-go t.step (steps_of turns) so_far.0 so_far.1.0 h in
         let busy = took.3 ∙ so_far.1.1 ∙ on.1 in
-        let now = goes t.world t.before t.after t.step (steps_of turns) so_far.0 took.1 took.2 so_far.1.0 busy h in
-        (now.0, now.1, (now.2, subst (λ r. IsFrameSearch s id first version request r turns) on.0 so_far.2))
+        let now = goes t.world t.before t.after t.step (steps_of turns) so_far.0 took.1 took.2
+        so_far.1.0 busy h in (
+          now.0,
+          now.1,
+          (now.2, subst (λ r. IsFrameSearch s id first version request r turns) on.0 so_far.2),
+        )
 
     abbrev Ends : Option Frame → List Turn → Type 0
-    Ends found turns = ((reply : CoreReply) × Tells version request nodes found reply × IsFrameSearch s id first version request reply turns) × (frame_search_of (world_left s id start turns) id ≡ None)
+    Ends found turns =
+        ((reply : CoreReply) × Tells version request nodes found reply
+        × IsFrameSearch s id first version request reply turns)
+        × (frame_search_of (world_left s id start turns) id ≡ None)
 
     -- the last step wins a frame
-    wins : (f : Frame) (world : World) (before after : PoolState) (e : Entry) (turns : List Turn) → e ≡ Won f → IsTied s world before → Makes e id before after → frame_search_of world id ≡ frame_search_of (world_left s id start turns) id
-        → TakesTurns s id start turns → Searches s.machine.frames nodes (steps_of turns) → IsNext s.machine.frames (steps_of turns) nodes f
-        → ((reply : CoreReply) × Tells version request nodes (Some f) reply × IsCoreStep s world 0 (event_of id e) reply × IsFrameSearch s id first version request Still turns) × (frame_search_of (effect_of s world 0 (event_of id e)) id ≡ None)
+    wins : (f : Frame) (world : World) (before after : PoolState) (e : Entry) (turns : List Turn)
+        → e ≡ Won f → IsTied s world before → Makes e id before after
+        → frame_search_of world id ≡ frame_search_of (world_left s id start turns) id
+        → TakesTurns s id start turns → Searches s.machine.frames nodes (steps_of turns)
+        → IsNext s.machine.frames (steps_of turns) nodes f
+        → ((reply : CoreReply) × Tells version request nodes (Some f) reply
+        × IsCoreStep s world 0 (event_of id e) reply × IsFrameSearch s id first version request
+        Still turns) × (frame_search_of (effect_of s world 0 (event_of id e)) id ≡ None)
     wins f world before after (Won g) turns is tied m same took h next =
         let frames_same : g ≡ f = cc in
-        let next_g = subst (λ x. IsNext s.machine.frames (steps_of turns) nodes x) (sym frames_same) next in
+        let next_g = subst (λ x. IsNext s.machine.frames (steps_of turns) nodes x) (sym frames_same)
+        next in
         let so_far = searched turns took h in
         let frame_search = searching so_far.0 in
         let on = still s frame_search (steps_of turns) so_far.1.0 g.node next_g.0 in
@@ -124,25 +165,42 @@ module _ (s : Setup) (id version : ℕ) (request : Request) (nodes : List ℕ) w
         let there = there-of s world before after id tied m.1.before m.1.shown in
         let free = free-of s world before after id tied g next_g.1 m.0 in
         let at = is-at s frame_search (steps_of turns) so_far.1.0 g.node next_g.0 in
-        let placed : IsPlaced version request nodes g (placement_of s frame_search g) = record { version_is = refl; task = refl; page = refl; frame_is = refl; node = refl; rank = ap (λ o. slice_get nodes (unwrap_or o 0)) at.1 ∙ at.2 } in (
+        let placed : IsPlaced version request nodes g (placement_of s frame_search g) =
+        record {
+          version_is = refl;
+          task = refl;
+          page = refl;
+          frame_is = refl;
+          node = refl;
+          rank = ap (λ o. slice_get nodes (unwrap_or o 0)) at.1 ∙ at.2;
+        } in (
           (
             replied_won (placement_of s frame_search g),
-            (placement_of s frame_search g, refl, subst (λ x. IsPlaced version request nodes x (placement_of s frame_search g)) frames_same placed),
-            won-core_step s world id 0 frame_search (steps_of turns) before after tied busy so_far.1.0 g m next_g,
+            (
+              placement_of s frame_search g,
+              refl,
+              subst (λ x. IsPlaced version request nodes x (placement_of s frame_search g))
+                  frames_same placed,
+            ),
+            won-core_step s world id 0 frame_search (steps_of turns) before after tied busy
+                so_far.1.0 g m next_g,
             subst (λ r. IsFrameSearch s id first version request r turns) on.0 so_far.2,
           ),
-          ap (λ v. frame_search_of v id) (won-effect s world 0 id there g free) ∙ own-frame_search (with_owner world g (Some id)) id (last_of world id) None,
+          ap (λ v. frame_search_of v id) (won-effect s world 0 id there g free)
+              ∙ own-frame_search (with_owner world g (Some id)) id (last_of world id) None,
         )
     wins f world before after (Load n w x) turns is tied m same took h next = absurd (cc)
     wins f world before after (Lost g) turns is tied m same took h next = absurd (cc)
     wins f world before after (Gave g) turns is tied m same took h next = absurd (cc)
 
-    pub ends : (found : Option Frame) (turns : List Turn) → TakesTurns s id start turns → IsWalk s.machine.frames nodes found (steps_of turns) → Ends found turns
+    pub ends : (found : Option Frame) (turns : List Turn) → TakesTurns s id start turns
+        → IsWalk s.machine.frames nodes found (steps_of turns) → Ends found turns
     ends None turns took h =
         let all = searched turns took h.0 in
         let end = over s (searching all.0) (steps_of turns) all.1.0 h.1 in
         ((goes_on s (searching all.0), end.0, all.2), all.1.1 ∙ end.1)
     ends (Some f) [] took h = absurd h
     ends (Some f) (t ∷ turns) took h =
-        let last = wins f t.world t.before t.after t.step turns h.0 took.1 took.2 took.3 took.0 h.1 h.2 in
+        let last = wins f t.world t.before t.after t.step turns h.0 took.1 took.2 took.3 took.0 h.1
+        h.2 in
         ((last.0.0, last.0.1, (last.0.2, last.0.3)), last.1)

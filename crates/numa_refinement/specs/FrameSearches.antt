@@ -32,20 +32,21 @@ module _ (s : Setup) (id : ℕ) where
   world_left first (t ∷ turns) = effect_of s t.world 0 (event_of id t.step)
 
   -- Seat id makes these steps, the newest first, after this world. Others may act between any two
-  -- of them: the world is tied to the pools at each, and none of the others changes the frame search of the
-  -- seat's worker
+  -- of them: the world is tied to the pools at each, and none of the others changes the frame
+  -- search of the seat's worker
   abbrev pub TakesTurns : World → List Turn → Type 0
   TakesTurns first [] = Unit {0}
   TakesTurns first (t ∷ turns) =
       TakesTurns first turns × IsTied s t.world t.before × Makes t.step id t.before t.after
       × (frame_search_of t.world id ≡ frame_search_of (world_left first turns) id)
 
-  -- A frame search: in this world the worker begins, and looks and tries at each turn. None of it is
-  -- refused, the newest step is answered so, and each before it Still
+  -- A frame search: in this world the worker begins, and looks and tries at each turn. None of it
+  -- is refused, the newest step is answered so, and each before it Still
   abbrev pub IsFrameSearch : World → ℕ → Request → CoreReply → List Turn → Type 0
   IsFrameSearch first version request reply [] = IsCoreStep s first version (Begin id request) reply
   IsFrameSearch first version request reply (t ∷ turns) =
-      IsCoreStep s t.world 0 (event_of id t.step) reply × IsFrameSearch first version request Still turns
+      IsCoreStep s t.world 0 (event_of id t.step) reply × IsFrameSearch first version request Still
+      turns
 
 module _ (version : ℕ) (request : Request) (nodes : List ℕ) where
   -- the placement is of this frame, for this request, at the version; its node stands at its rank

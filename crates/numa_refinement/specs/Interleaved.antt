@@ -9,7 +9,8 @@ use Rattle.numa_space.specs.declared.event.Event.TheVariants.{Look, Try, Give}
 use Rattle.numa_publish.specs.Shown.{DeskState}
 use Rattle.numa_refinement.specs.FrameSearches.{Turn}
 use Rattle.numa_refinement.specs.Moves.{PoolState}
-use Rattle.numa_refinement.specs.Plays.{Deed, makes_step, splits, has_event, Done, pools_of, execution_of}
+use Rattle.numa_refinement.specs.Plays.{Deed, makes_step, splits, has_event, Done, pools_of}
+use Rattle.numa_refinement.specs.Plays.{execution_of}
 use Rattle.numa_refinement.specs.Desks.{Accepts, IsNew, Publishes}
 
 -- the event is no Begin of worker w

@@ -23,10 +23,12 @@ OwnsWhatIsHeld world views =
 abbrev pub HasMet : FrameSearch → List Entry → Type 0
 HasMet frame_search es = (n k : ℕ) → frame_search.met n k ≡ met es n k
 
--- the frame search's current node is this one: it stands in the frame search's list at the current rank
+-- the frame search's current node is this one: it stands in the frame search's list at the current
+-- rank
 abbrev pub IsAt : Setup → FrameSearch → ℕ → Type 0
 IsAt s frame_search n =
-    (rank : ℕ) × (current_rank s frame_search ≡ Some rank) × (slice_get frame_search.nodes rank ≡ Some n)
+    (rank : ℕ) × (current_rank s frame_search ≡ Some rank)
+    × (slice_get frame_search.nodes rank ≡ Some n)
 
 -- The world is tied to the pools: their rule holds, as the counts that each step keeps; each
 -- frame's owner is the seat that holds it; and each seat has a worker
@@ -38,7 +40,8 @@ pub record IsTied (s : Setup) (world : World) (state : PoolState) : Type 0 where
 
 -- each busy worker's frame search has met what its seat's steps since the Begin found taken
 abbrev pub HaveMet : World → (ℕ → List Entry) → Type 0
-HaveMet world since = (id : ℕ) (frame_search : FrameSearch) → frame_search_of world id ≡ Some frame_search → HasMet frame_search (since id)
+HaveMet world since = (id : ℕ) (frame_search : FrameSearch)
+    → frame_search_of world id ≡ Some frame_search → HasMet frame_search (since id)
 
 -- each seat's steps since its worker's Begin, after one more step of seat id
 abbrev pub noted : (ℕ → List Entry) → ℕ → Entry → ℕ → List Entry

@@ -1,7 +1,8 @@
 -- CoreSteps of the core's world, and what a seat's steps are there.
 use Rattle.std.specs.Prelude.{◌≡◌, ℕ, ◌*◌, ◌<◌, ◌≤◌, ◌==◌, true, List, slice_index}
 use Rattle.std.specs.Prelude.{Option, Some, None, Ok, if◌then◌else◌}
-use Rattle.numa_core.specs.World.{Setup, World, FrameSearch, frame_search_of, is_published, last_of, list_at}
+use Rattle.numa_core.specs.World.{Setup, World, FrameSearch, frame_search_of, is_published, last_of}
+use Rattle.numa_core.specs.World.{list_at}
 use Rattle.numa_core.specs.Executions.{CoreStep}
 use Rattle.numa_core.specs.Steps.{MayTake, answer_of}
 use Rattle.numa_space.specs.declared.event.Event.{Event}
@@ -51,7 +52,8 @@ MayCome frames ns es (Gave f) = ⊥
 module _ (s : Setup) (world : World) (since : ℕ → List Entry) where
   -- In a world that is tied to the pools the worker of seat id is searching, and the seat makes a
   -- step that may come next in its walk
-  pub record WalksOn (id : ℕ) (frame_search : FrameSearch) (e : Entry) (old new : PoolState) : Type 0 where
+  pub record WalksOn (id : ℕ) (frame_search : FrameSearch) (e : Entry) (old new : PoolState) :
+      Type 0 where
     pub tied : IsTied s world old
     pub met : HaveMet world since
     pub busy : frame_search_of world id ≡ Some frame_search

@@ -11,10 +11,12 @@ pub returns-clause-view : goal.returns-clause-view
 returns-clause-view c = viewed
 
 pub returns-clause-receipt : goal.returns-clause-receipt
-returns-clause-receipt c world reader learnt receipt own told e is = receipted world reader.history receipt.history learnt.history own told e is
+returns-clause-receipt c world reader learnt receipt own told e is =
+    receipted world reader.history receipt.history learnt.history own told e is
 
 pub returns-clause-earlier : goal.returns-clause-earlier
 returns-clause-earlier c = earlier
 
 pub returns-clause-lasts : goal.returns-clause-lasts
-returns-clause-lasts c s world m history versions has = lasts s world m.version m.event m.answer history versions has
+returns-clause-lasts c s world m history versions has = lasts s world m.version m.event m.answer
+    history versions has

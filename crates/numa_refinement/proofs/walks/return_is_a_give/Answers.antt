@@ -10,4 +10,5 @@ pub returns-clause-tied : goal.returns-clause-tied
 returns-clause-tied c = give-ties
 
 pub returns-clause-met : goal.returns-clause-met
-returns-clause-met c s world since id version f idle met = met-idle world since met id idle (Gave f ∷ since id)
+returns-clause-met c s world since id version f idle met =
+    met-idle world since met id idle (Gave f ∷ since id)
