@@ -362,11 +362,7 @@ module _ (space : SpaceState) (plan : PlanData) (places : List ℕ) (seats : Lis
         → IsAnswer (setup_of (core_of space plan seats owners)) world (newest_published world) (Begin w request) (Ok reply) × CoreStandsFor (core_of space plan (set seats w new) owners) (effect_of (setup_of (core_of space plan seats owners)) world (newest_published world) (Begin w request))
     begin-follows request row version new reply is allowed listed answer frame_search =
         let newest : version ≡ newest_published world = is ∙ version-newest (core_of space plan seats owners) world stands in (
-          begin_answer (setup_of (core_of space plan seats owners)) world (newest_published world) w
-              request row reply (allowed world stands) (listed world stands)
-              (answer (setup_of (core_of space plan seats owners)) same
-              ∙ ap (λ v. goes_on (setup_of (core_of space plan seats owners)) (fresh request v row))
-              newest),
+          begin_answer (setup_of (core_of space plan seats owners)) world (newest_published world) w request row reply (allowed world stands) (listed world stands) (answer (setup_of (core_of space plan seats owners)) same ∙ ap (λ v. goes_on (setup_of (core_of space plan seats owners)) (fresh request v row)) newest),
           moved new owners _
               (with_new new (newest_published world) _
               (frame_search (setup_of (core_of space plan seats owners)) same
@@ -391,11 +387,7 @@ module _ (space : SpaceState) (plan : PlanData) (places : List ℕ) (seats : Lis
         )
 
     -- a Try of a free frame that is refused
-    pub refused-follows : (frame : Frame) (place : ℕ) (refusal : CoreRefusal) (new : WorkerSeat)
-        → place_in places frame.node frame.number ≡ Some place
-        → is_some (owner_at owners (Some place)) ≡ false → new ≡ old
-        → SeatTries places (setup_of (core_of space plan seats owners)) false frame old
-        (Err refusal) new
+    pub refused-follows : (frame : Frame) (place : ℕ) (refusal : CoreRefusal) (new : WorkerSeat) → place_in places frame.node frame.number ≡ Some place → is_some (owner_at owners (Some place)) ≡ false → new ≡ old → SeatTries places (setup_of (core_of space plan seats owners)) false frame old (Err refusal) new
         → IsAnswer (setup_of (core_of space plan seats owners)) world (newest_published world) (Try w frame) (Err refusal) × CoreStandsFor (core_of space plan (set seats w new) owners) world
     refused-follows frame place refusal new at free is tries =
         let own : is_some (owner_of world frame) ≡ false = ap is_some (told_owner frame.node frame.number ∙ ap (owner_at owners) at) ∙ free in (
@@ -412,16 +404,8 @@ module _ (space : SpaceState) (plan : PlanData) (places : List ℕ) (seats : Lis
         (tries-nowhere (setup_of (core_of space plan seats owners)) places false frame old old refusal same at why)).0
 
     -- a Try of a free frame that is won
-    pub won-follows : (frame : Frame) (place : ℕ) (reply : CoreReply) (new : WorkerSeat)
-        → place_in places frame.node frame.number ≡ Some place → place < length owners
-        → is_some (owner_at owners (Some place)) ≡ false
-        → SeatTries places (setup_of (core_of space plan seats owners)) false frame old (Ok reply)
-        new
-        → IsAnswer (setup_of (core_of space plan seats owners)) world (newest_published world)
-        (Try w frame) (Ok reply)
-        × CoreStandsFor (core_of space plan (set seats w new) (set owners place (Some w)))
-        (effect_of (setup_of (core_of space plan seats owners)) world (newest_published world)
-        (Try w frame))
+    pub won-follows : (frame : Frame) (place : ℕ) (reply : CoreReply) (new : WorkerSeat) → place_in places frame.node frame.number ≡ Some place → place < length owners → is_some (owner_at owners (Some place)) ≡ false → SeatTries places (setup_of (core_of space plan seats owners)) false frame old (Ok reply) new
+        → IsAnswer (setup_of (core_of space plan seats owners)) world (newest_published world) (Try w frame) (Ok reply) × CoreStandsFor (core_of space plan (set seats w new) (set owners place (Some w))) (effect_of (setup_of (core_of space plan seats owners)) world (newest_published world) (Try w frame))
     won-follows frame place reply new at within free tries =
         let own : is_some (owner_of world frame) ≡ false = ap is_some (told_owner frame.node frame.number ∙ ap (owner_at owners) at) ∙ free in
         let answer = try_answer (setup_of (core_of space plan seats owners)) world (newest_published world) w frame false (seat_frame_search places old) (seat_frame_search places new) (Ok reply) few its_frame_search (λ ok. own) tries in
