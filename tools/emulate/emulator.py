@@ -189,7 +189,7 @@ class Emulator:
         child = self.add_task(number, space, task.word, task, flags)
         if space.core is not None and child.word:
             try:
-                space.do("set_task", number, child.word)
+                space.do("inherit", number, task.number)
             except numaplan.Refused:  # (too many tasks with a policy: the report says so)
                 child.word = None
         if number in self.early:

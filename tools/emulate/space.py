@@ -16,7 +16,7 @@ from .words import list_text
 
 LINES = {
     "map": "map 0x{:x} 0x{:x} 0x{:x}", "unmap": "unmap 0x{:x} 0x{:x}", "mbind": "mbind 0x{:x} 0x{:x} {}",
-    "set_task": "task {} {}", "set_home": "home 0x{:x} 0x{:x} {}",
+    "set_task": "task {} {}", "inherit": "inherit {} {}", "set_home": "home 0x{:x} 0x{:x} {}",
 }
 
 
