@@ -45,6 +45,9 @@ def made_up():
     want(read("/sys/devices/system/cpu/online"), "0-7", "cpu/online")
     want(read("/sys/devices/system/cpu/cpu5/topology/physical_package_id"), "2", "the package of CPU 5")
     want(read("/proc/cpuinfo").count("processor\t"), 8, "the CPUs of cpuinfo")
+    rows = [row.split() for row in read("/proc/stat").splitlines()]
+    want([row[0] for row in rows[:10]], ["cpu", *(f"cpu{cpu}" for cpu in range(8)), "intr"], "the rows of /proc/stat")
+    want({len(row) for row in rows[:9]}, {11}, "their columns")
     want(status_row("Cpus_allowed_list:"), "0-7", "Cpus_allowed_list")
     want(here(), (0, 0), "the first CPU")
     os.sched_setaffinity(0, {3, 6, 99})  # (what isn't there doesn't count)

@@ -124,6 +124,15 @@ def cpuinfo_text(cpus):
     return "".join(parts)
 
 
+def times_text(cpus):
+    """/proc/stat: each CPU with the times of one of this machine's."""
+    with open("/proc/stat", encoding="ascii") as file:
+        rows = file.read().splitlines(keepends=True)
+    times = [row.split(" ", 1)[1] for row in rows if re.match(r"cpu\d", row)]
+    made = [f"cpu{cpu} {times[cpu % len(times)]}" for cpu in cpus.node_of]
+    return "".join(rows[:1] + made + rows[1 + len(times):])
+
+
 def range_rows(space, word):
     """(start, end, policy that serves it, nodes of placed pages) of each range."""
     served = shown_form(word, space.machine.allowed) or "default"
@@ -147,6 +156,9 @@ def numa_maps_text(all_, task):
     return "".join(rows)
 
 
+OF_ALL_CPUS = {"/proc/cpuinfo": cpuinfo_text, "/proc/stat": times_text}
+
+
 def text_of(all_, task, path):
     """What a file holds that is made up when it is opened; None: it is as it is."""
     found = PROCESS.match(path)
@@ -160,9 +172,12 @@ def text_of(all_, task, path):
         return status_text(all_, number) if found[3] == "status" else numa_maps_text(all_, other)
     if MEMS_SET.match(path):
         return list_text(all_.machine.allowed) + "\n"
-    if all_.machine.cpus.are_made_up and (CPU_SET.match(path) or path == "/proc/cpuinfo"):
-        is_set, cpus = path != "/proc/cpuinfo", all_.machine.cpus
-        return list_text(cpus.node_of) + "\n" if is_set else cpuinfo_text(cpus)
+    if all_.machine.cpus.are_made_up:
+        cpus = all_.machine.cpus
+        if path in OF_ALL_CPUS:
+            return OF_ALL_CPUS[path](cpus)
+        if CPU_SET.match(path):
+            return list_text(cpus.node_of) + "\n"
     found = OF_NODE.match(path)
     if found and int(found[1]) < all_.machine.count:
         if all_.follows(task):
