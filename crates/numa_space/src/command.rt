@@ -32,7 +32,7 @@ pub enum Command {
         spec: PolicySpec,
     },
     /// Gives a task the policy that another has, as a new thread or process begins with that of the
-    /// one that made it (fork(2), clone(2)); where the other has none, takes it away.
+    /// one that made it (fork(2), clone(2)); if the other has none, removes its policy.
     Inherit {
         task: u32,
         from: u32,
