@@ -2,6 +2,7 @@
 //! every growth between its two marks, with that growth refused; run by itself, none is refused.
 mod cores;
 mod desks;
+mod edits;
 mod placed;
 mod plans;
 mod ranges;

@@ -3,7 +3,7 @@ use crate::tests::same::{mark, same};
 use crate::tests::shown::summed;
 use crate::tests::spaces::COMMANDS;
 use numa_examples::{commands_of, flat_machine, limits};
-use numa_machine::NoMemory;
+use numa_machine::{Machine, NoMemory};
 use numa_publish::Desk;
 use numa_refinement::desk;
 use numa_space::{Command, Refusal};
@@ -11,10 +11,14 @@ use std::alloc::Global;
 use std::process::Abort;
 use std::sync::Wait;
 
-/// A desk of four nodes for two readers.
+/// A machine of four nodes.
+fn machine_for(rt: &impl Abort, alloc: Global) -> Machine {
+    flat_machine(alloc, &[8, 8, 8, 8]).expect(rt, "a machine")
+}
+
+/// A desk of that machine for two readers.
 fn open(rt: &(impl Wait + Abort), alloc: Global) -> Result<Desk, NoMemory> {
-    let machine = flat_machine(alloc, &[8, 8, 8, 8]).expect(rt, "a machine");
-    desk::open(rt, alloc, machine, limits(), 2)
+    desk::open(rt, alloc, machine_for(rt, alloc), limits(), 2)
 }
 
 /// What a desk shows: its space, the published version, and how many commands are pending.
@@ -69,8 +73,9 @@ fn calls(rt: HostRuntime) {
 
 /// Opens a desk between the marks, and again if a growth was refused; what it shows.
 fn opened(rt: &(impl Wait + Abort), alloc: Global) -> (u64, usize) {
+    let machine = machine_for(rt, alloc);
     mark(rt, alloc);
-    let first = open(rt, alloc);
+    let first = desk::open(rt, alloc, machine, limits(), 2);
     mark(rt, alloc);
     let desk = match first {
         Ok(desk) => desk,

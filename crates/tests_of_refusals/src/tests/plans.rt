@@ -1,5 +1,5 @@
 //! Plans: built from a space, copied, and given room. Their edits by each command are tested in
-//! tests_of_parts.
+//! tests_of_parts, and their own calls in edits.rt.
 use crate::tests::same::{mark, same};
 use crate::tests::spaces::COMMANDS;
 use numa_compile::compile;

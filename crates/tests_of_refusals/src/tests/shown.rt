@@ -9,7 +9,7 @@ pub fn mixed(sum: u64, number: u64) -> u64 {
 }
 
 /// With a policy: its text, which has its nodes, and its home.
-fn with_policy(sum: u64, policy: &Option<Record>) -> u64 {
+pub fn with_policy(sum: u64, policy: &Option<Record>) -> u64 {
     let Some(policy) = policy else {
         return mixed(sum, 1);
     };
