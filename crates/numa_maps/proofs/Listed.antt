@@ -13,10 +13,10 @@ use Rattle.numa_space.specs.Standing.{SpaceState, StandsFor, policy_in}
 use Rattle.numa_space.specs.declared.command.Command.{Command}
 use Rattle.numa_maps.specs.Listing.{IsListing, listing, listing_in, range_line}
 use Rattle.numa_maps.specs.Residents.{Kept}
-use Rattle.line_server.specs.Watching.{has_failed}
-use Rattle.line_server.specs.Written.{Said}
-use Rattle.line_server.specs.declared.watched.Watched.{Watched}
-use Rattle.line_server.proofs.Adding.{said_both, said_lost}
+use Rattle.numa_lines.specs.Watching.{has_failed}
+use Rattle.numa_lines.specs.Written.{Said}
+use Rattle.numa_lines.specs.declared.watched.Watched.{Watched}
+use Rattle.numa_lines.proofs.Adding.{said_both, said_lost}
 
 pub apart-next : (from : ℕ) (range : Run (Option PolicyRecord))
     (left rest : List (Run (Option PolicyRecord))) → left ≡ range ∷ rest → AreApart from left

@@ -1,14 +1,14 @@
 //! The listing of a space's ranges.
 ghost use Rattle.std.specs.Prelude.{◌≡◌, [], OnOk, OnErr, List, true, false};
-ghost use Rattle.line_server.specs.Watching.{has_failed, held_in};
-ghost use Rattle.line_server.specs.Written.{Said};
+ghost use Rattle.numa_lines.specs.Watching.{has_failed, held_in};
+ghost use Rattle.numa_lines.specs.Written.{Said};
 ghost use Rattle.numa_maps.specs.Listing.{IsListing, listing_in};
 ghost use Rattle.numa_space.specs.Standing.{StandsFor};
 ghost use Rattle.numa_space.specs.declared.command.Command.{Command};
 
 use crate::line::{LineText, write_line};
 use crate::resident::Resident;
-use line_server::Watched;
+use numa_lines::Watched;
 use numa_space::Space;
 use std::io::Write;
 

@@ -4,10 +4,10 @@ ghost use Rattle.numa_compile.specs.Standing.{PlanStandsFor};
 ghost use Rattle.numa_machine.specs.Machine.{Hardware};
 ghost use Rattle.numa_space.specs.History.{page_of};
 ghost use Rattle.numa_space.specs.declared.command.Command.{Command};
-ghost use Rattle.line_server.specs.Written.{Said};
+ghost use Rattle.numa_lines.specs.Written.{Said};
 ghost use Rattle.numa_run.specs.Questions.{count_text, place_text, span_text, unless_starved};
 
-use line_server::Watched;
+use numa_lines::Watched;
 use numa_plan::Plan;
 use numa_script::tell::{say_counts, say_nodes, say_place_refusal, say_starved};
 use numa_space::{PAGE_BYTES, Request};

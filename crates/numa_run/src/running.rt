@@ -1,6 +1,6 @@
 //! A machine that is running.
 ghost use Rattle.std.specs.Prelude.{◌≡◌, Bool, [], None, Some, false, MatchResult};
-ghost use Rattle.line_server.specs.Written.{Said};
+ghost use Rattle.numa_lines.specs.Written.{Said};
 ghost use Rattle.numa_core.specs.Standing.{setup_of};
 ghost use Rattle.numa_run.specs.Answers.{State};
 ghost use Rattle.numa_run.specs.Judged.{question_cause};
@@ -13,8 +13,8 @@ ghost use Rattle.numa_script.specs.Replies.{reply_to};
 
 use crate::judging::refusal_by_plan;
 use crate::questions::{fault_at, say_pages, say_place, say_span};
-use line_server::Watched;
 use numa_core::Core;
+use numa_lines::Watched;
 use numa_machine::Frame;
 use numa_maps::{RecordRefusal, Resident, write_maps};
 use numa_script::tell::{say_ranges, say_starved};

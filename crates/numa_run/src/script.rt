@@ -1,7 +1,7 @@
 //! A script that is being answered.
 ghost use Rattle.std.specs.Prelude.{◌≡◌, ℕ, ◌+◌, Bool, List, Option, None, Some, Ok, MatchOption};
 ghost use Rattle.std.specs.Prelude.{◌↔◌, length, IsTrue};
-ghost use Rattle.line_server.specs.Written.{Said};
+ghost use Rattle.numa_lines.specs.Written.{Said};
 ghost use Rattle.numa_run.specs.Answers.{State, after, answer_of, start, start_by};
 ghost use Rattle.numa_run.specs.Judged.{IsStarved};
 ghost use Rattle.numa_run.specs.Scripts.{IsCoreIn, IsResidentIn, ScriptJudges, ScriptReplies};
@@ -12,8 +12,8 @@ use crate::build::build;
 use crate::judging::{fault_in, lacks_memory};
 use crate::running::{Running, Taken};
 use crate::settings::Settings;
-use line_server::{Serve, Watched};
 use numa_core::Core;
+use numa_lines::{Serve, Watched};
 use numa_machine::{MachineFault, Rules};
 use numa_maps::Resident;
 use numa_mask::{ListFault, NodeMask};

@@ -1,13 +1,13 @@
 //! A script from a reader, and its answers to a writer.
 ghost use Rattle.std.specs.Prelude.{◌≤◌, ◌+◌, OnOk, IsErrOf};
-ghost use Rattle.line_server.specs.Runs.{AnswersAll, NeverBegins, StopsAtRead, StopsAtWrite};
-ghost use Rattle.line_server.specs.Runs.{most_reads};
-ghost use Rattle.line_server.specs.Watching.{read_count};
+ghost use Rattle.numa_lines.specs.Runs.{AnswersAll, NeverBegins, StopsAtRead, StopsAtWrite};
+ghost use Rattle.numa_lines.specs.Runs.{most_reads};
+ghost use Rattle.numa_lines.specs.Watching.{read_count};
 ghost use Rattle.numa_run.specs.Answers.{start, start_by, answer_to, after_bytes};
 ghost use Rattle.numa_run.specs.Scripts.{ScriptStandsFor};
 
 use crate::script::Script;
-use line_server::{RunFault, Serve, Watched, serve_script};
+use numa_lines::{RunFault, Serve, Watched, serve_script};
 use numa_machine::Rules;
 use std::alloc::Global;
 use std::io::{Read, Write};

@@ -7,7 +7,7 @@ use Rattle.std.proofs.lemmas.List.{take_all, length-take-le}
 use Rattle.std.proofs.lemmas.Bool.Decides.{nat_tests}
 use Rattle.numa_script.specs.Lines.{line_of, is_silent}
 use Rattle.numa_script.specs.declared.line.Line.TheVariants.{Silent, Malformed}
-use Rattle.line_server.specs.Lines.{given_part}
+use Rattle.numa_lines.specs.Lines.{given_part}
 
 silent_take : (n : ℕ) (line : List ℕ) → is_silent (take (suc n) line) ≡ is_silent line
 silent_take n [] = refl

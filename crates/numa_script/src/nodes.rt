@@ -1,11 +1,11 @@
 //! Nodes as text, gathered before they are written.
 ghost use Rattle.std.specs.Prelude.{◌≡◌, ◌+◌, ◌*◌, ◌<◌, ◌≤◌, ◌++◌, ◌∷◌, codes, decimal, length};
-ghost use Rattle.line_server.specs.Written.{Said};
+ghost use Rattle.numa_lines.specs.Written.{Said};
 ghost use Rattle.numa_script.specs.Texts.{nodes_answer, nodes_text};
 
 use arrayvec::ArrayVec;
 use itoa::Buffer;
-use line_server::Watched;
+use numa_lines::Watched;
 use std::io::Write;
 
 /// The most nodes that are gathered.

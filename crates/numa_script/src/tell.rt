@@ -2,7 +2,7 @@
 //! nothing more is written.
 ghost use Rattle.std.specs.Prelude.{◌≡◌, ℕ, ◌+◌, ◌≤◌, ◌++◌, List, Option, length, decimal, codes};
 ghost use Rattle.std.specs.Prelude.{flat_map, slice_index};
-ghost use Rattle.line_server.specs.Written.{Said};
+ghost use Rattle.numa_lines.specs.Written.{Said};
 ghost use Rattle.numa_space.specs.Errors.{errno_of};
 ghost use Rattle.numa_maps.specs.Listing.{node_text as count_of_node, nodes_text as counts_text};
 ghost use Rattle.numa_script.specs.Texts.{cause_name, counts_answer, errno_name, frame_text};
@@ -13,7 +13,7 @@ use crate::names::Named;
 use crate::nodes::{FEW, say_each_node, say_few};
 use crate::policy::WordError;
 use crate::reply::{Reply, Win};
-use line_server::Watched;
+use numa_lines::Watched;
 use numa_machine::Frame;
 use numa_space::{CoreRefusal, PlaceRefusal, Refusal};
 use std::io::Write;

@@ -1,7 +1,7 @@
 //! The worked scripts of folders.
 use crate::files::{Source, Texts, add_file, open_fault, open_file};
 use numa_command_line::JobFault;
-use numa_files::{Stop, is_worked};
+use numa_lines::{RunFault, is_worked};
 use std::alloc::AllocError;
 use std::io::IsTerminal;
 use std::rt::Files;
@@ -23,7 +23,7 @@ fn holds_answer<R: Files + AllocGlobal>(rt: &R, path: &str) -> Result<bool, Allo
     };
     match is_worked(rt.alloc(), file) {
         Ok(holds) => Ok(holds),
-        Err(Stop::Memory) => Err(AllocError),
+        Err(RunFault::Memory) => Err(AllocError),
         Err(_) => Ok(true),
     }
 }

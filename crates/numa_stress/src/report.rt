@@ -1,9 +1,9 @@
 //! The report of a storm.
 ghost use Rattle.std.specs.Prelude.{◌≡◌, ◌++◌, codes};
-ghost use Rattle.line_server.specs.Written.{Said};
+ghost use Rattle.numa_lines.specs.Written.{Said};
 ghost use Rattle.numa_stress.specs.Storm.{line_of, match_line, status_of, text_of};
 
-use line_server::Watched;
+use numa_lines::Watched;
 use std::io::Write;
 
 /// The results of a storm.

@@ -1,6 +1,6 @@
 //! Reading traces, line by line.
 ghost use Rattle.std.specs.Prelude.{◌≡◌, None, IfOk, IfErr, IsSome, OnOk};
-ghost use Rattle.numa_files.specs.declared.reading.Stop.TheVariants as stop;
+ghost use Rattle.numa_lines.specs.declared.fault.RunFault.TheVariants as run_fault;
 ghost use Rattle.numa_traces.specs.Accesses.{access_of};
 ghost use Rattle.numa_traces.specs.Reading.{EndsAtLine, IsBegun, ReplaysLine, TakesLine};
 ghost use Rattle.numa_traces.specs.declared.fault.ReplayError.TheVariants as fault;
@@ -8,7 +8,7 @@ ghost use Rattle.numa_traces.specs.declared.fault.ReplayError.TheVariants as fau
 use crate::access::read_access;
 use crate::fault::ReplayError;
 use crate::replay::Replay;
-use numa_files::{Lines, Stop, TakeLine, read_all};
+use numa_lines::{Lines, RunFault, TakeLine, read_all};
 use numa_machine::Machine;
 use numa_plan::Plan;
 use std::alloc::{AllocError, Global};
@@ -73,12 +73,18 @@ impl<'a> Replaying<'a> {
     }
 }
 
-impl TakeLine for Replaying<'_> {
-    fn take(&mut self, _name: &str, place: u64, line: &[u8]) -> Result<(), Stop>
+impl TakeLine<()> for Replaying<'_> {
+    fn take(
+        &mut self,
+        _name: &str,
+        place: u64,
+        line: &[u8],
+        _output: &mut (),
+    ) -> Result<(), RunFault>
         ensures over { IsSome self.old.fault → OnOk result (self.new ≡ self.old) }
         ensures next { self.old.fault ≡ None → OnOk result
             (TakesLine place (access_of line.now) self.old self.new) }
-        ensures stop { IfErr result (λ why. (why ≡ stop.Memory)
+        ensures stop { IfErr result (λ why. (why ≡ run_fault.Memory)
             × EndsAtLine (access_of line.now) self.old fault.NoMemory) }
     {
         if let Some(_) = self.fault {
@@ -86,12 +92,16 @@ impl TakeLine for Replaying<'_> {
         }
         match self.take_access(line) {
             Ok(()) => Ok(()),
-            Err(ReplayError::NoMemory) => Err(Stop::Memory),
+            Err(ReplayError::NoMemory) => Err(RunFault::Memory),
             Err(fault) => {
                 self.fault = Some((place, fault));
                 Ok(())
             }
         }
+    }
+
+    fn hand_over(&mut self, _output: &mut ()) -> Result<(), RunFault> {
+        Ok(())
     }
 }
 
@@ -103,9 +113,12 @@ pub fn replay_lines<'a, R: Read + Drop>(
     alloc: Global,
     trace: Vec<(String, R)>,
     replaying: Replaying<'a>,
-) -> Result<Replaying<'a>, Stop> {
-    let mut lines = Lines::new(alloc, replaying);
-    if let Err(why) = read_all(trace, &mut lines) {
+) -> Result<Replaying<'a>, RunFault> {
+    let Ok(mut lines) = Lines::new(alloc, replaying) else {
+        drop(trace);
+        return Err(RunFault::Memory);
+    };
+    if let Err(why) = read_all(trace, &mut lines, &mut ()) {
         drop(lines);
         return Err(why);
     }

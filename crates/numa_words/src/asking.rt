@@ -4,7 +4,7 @@ use crate::halt::{Halt, halt_of};
 use crate::playing::{Scripts, play};
 use crate::question::{space_after, space_of, write};
 use numa_compile::compile;
-use numa_files::{Stop, TakeLine};
+use numa_lines::{RunFault, TakeLine};
 use numa_reports::{Format, FreePages, Outlook, Touch, difference_text, filling_text, outlook_of};
 use numa_run::Script;
 use std::alloc::Global;
@@ -51,7 +51,7 @@ fn prediction<T: Write>(
         return Err(Halt::NoFreeNode(node, nodes));
     }
     let Ok(plan) = compile(alloc, space) else {
-        return Err(Halt::Stopped(Stop::Memory));
+        return Err(Halt::Stopped(RunFault::Memory));
     };
     let text = filling_text(alloc, space, &plan, asked, format, free);
     drop(plan);
@@ -86,10 +86,10 @@ pub fn predict<R: Read + Drop, W: Write, T: Write + Drop>(
 }
 
 /// Plays the added lines, and ends what is told.
-fn play_lines<T: Write>(findings: &mut Findings<T>, lines: &[String]) -> Result<(), Stop> {
+fn play_lines<T: Write>(findings: &mut Findings<T>, lines: &[String]) -> Result<(), RunFault> {
     let mut place = 1u64;
     for line in lines {
-        if let Err(why) = findings.take(ADDED, place, line.as_str().as_bytes()) {
+        if let Err(why) = findings.take(ADDED, place, line.as_str().as_bytes(), &mut ()) {
             return Err(why);
         }
         place = place.saturating_add(1);

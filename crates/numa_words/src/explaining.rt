@@ -4,7 +4,7 @@ use crate::halt::Halt;
 use crate::playing::{Scripts, play};
 use crate::question::{space_of, write};
 use numa_diagnose::{Explanation, ReasonError, say_by_other, say_explanation};
-use numa_files::Stop;
+use numa_lines::RunFault;
 use numa_machine::Machine;
 use numa_reports::Touch;
 use numa_rules::by_other_rules;
@@ -19,7 +19,7 @@ fn text_of(alloc: Global, machine: &Machine, said: &Explanation) -> Result<Vec<u
         Ok(()) => Ok(text),
         Err(_) => {
             drop(text);
-            Err(Halt::Stopped(Stop::Memory))
+            Err(Halt::Stopped(RunFault::Memory))
         }
     }
 }
@@ -32,7 +32,7 @@ fn reasons_in(alloc: Global, space: &Space, asked: Touch, page: u64) -> Result<V
             drop(said);
             text
         }
-        Err(ReasonError::NoMemory) => Err(Halt::Stopped(Stop::Memory)),
+        Err(ReasonError::NoMemory) => Err(Halt::Stopped(RunFault::Memory)),
         Err(ReasonError::Refused(PlaceRefusal::Unmapped)) => Err(Halt::Unmapped),
         Err(ReasonError::Refused(PlaceRefusal::BadCpu)) => {
             Err(Halt::NoNode(space.machine().nodes()))
@@ -58,7 +58,7 @@ fn with_other(
         Ok(()) => Ok(whole),
         Err(_) => {
             drop(whole);
-            Err(Halt::Stopped(Stop::Memory))
+            Err(Halt::Stopped(RunFault::Memory))
         }
     }
 }

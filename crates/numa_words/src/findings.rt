@@ -5,7 +5,7 @@ ghost use Rattle.numa_words.specs.Faults.{ended_by, has_faults};
 use numa_diagnose::{
     Detail, Finding, hint_of, judge, reply_by_other, say_hint, say_line, say_unjudged,
 };
-use numa_files::{Stop, TakeLine};
+use numa_lines::{RunFault, TakeLine, Watched};
 use numa_machine::Rules;
 use numa_rules::{Otherwise, other_rules};
 use numa_run::{Script, lacks_memory};
@@ -13,9 +13,6 @@ use numa_script::Reply;
 use numa_space::{CoreRefusal, Refusal, Space};
 use std::alloc::Global;
 use std::io::Write;
-
-/// How many bytes are gathered before they are written.
-const GATHERED: usize = 4096;
 
 /// Which lines of the scripts an answer goes by.
 #[derive(Clone, Copy, Debug, PartialEq, Eq)]
@@ -37,8 +34,8 @@ pub struct Findings<W> {
     other: Option<Script>,
     // Whether hints are told.
     hints: bool,
-    output: W,
-    // What is to be written.
+    output: Watched<W>,
+    // What is told of a line.
     text: Vec<u8>,
     // How many lines were told of, and how many weren't judged, since no machine was ready.
     told: u64,
@@ -49,6 +46,9 @@ impl<W: Write> Findings<W> {
     /// Before the first line; what is found is told to the writer. These rules count where no line
     /// gives others.
     pub fn new(alloc: Global, rules: Rules, output: W) -> Findings<W> {
+        let mut output = Watched::new(output);
+        // Without that memory each text is written alone.
+        let _ = output.gather(alloc);
         Findings {
             alloc,
             script: Script::by(rules),
@@ -106,30 +106,14 @@ impl<W: Write> Findings<W> {
         }
     }
 
-    /// Writes what is to be written.
-    ///
-    /// # Errors
-    /// `Stop::Write` where writing failed.
-    pub fn flush(&mut self) -> Result<(), Stop> {
-        if self.text.is_empty() {
-            return Ok(());
-        }
-        if let Err(_) = self.output.write_all(self.text.as_slice()) {
-            return Err(Stop::Write);
-        }
-        self.text.clear();
-        Ok(())
-    }
-
     /// Tells what was found in a line.
-    fn tell(&mut self, name: &str, place: u64, finding: &Finding) -> Result<(), Stop> {
+    fn tell(&mut self, name: &str, place: u64, finding: &Finding) -> Result<(), RunFault> {
+        self.text.clear();
         if let Err(_) = say_line(&mut self.text, name, place, finding) {
-            return Err(Stop::Memory);
+            return Err(RunFault::Memory);
         }
+        self.output.say(self.text.as_slice());
         self.told = self.told.saturating_add(1);
-        if self.text.len() >= GATHERED {
-            return self.flush();
-        }
         Ok(())
     }
 
@@ -145,16 +129,20 @@ impl<W: Write> Findings<W> {
     }
 
     /// Tells what a kernel would do otherwise with a line, if it would.
-    fn tell_hint(&mut self, name: &str, place: u64, hint: Option<Otherwise>) -> Result<(), Stop> {
+    fn tell_hint(
+        &mut self,
+        name: &str,
+        place: u64,
+        hint: Option<Otherwise>,
+    ) -> Result<(), RunFault> {
         let Some(otherwise) = hint else {
             return Ok(());
         };
+        self.text.clear();
         if let Err(_) = say_hint(&mut self.text, name, place, &otherwise) {
-            return Err(Stop::Memory);
+            return Err(RunFault::Memory);
         }
-        if self.text.len() >= GATHERED {
-            return self.flush();
-        }
+        self.output.say(self.text.as_slice());
         Ok(())
     }
 
@@ -165,7 +153,7 @@ impl<W: Write> Findings<W> {
         place: u64,
         finding: &Finding,
         hint: Option<Otherwise>,
-    ) -> Result<(), Stop> {
+    ) -> Result<(), RunFault> {
         match self.tell(name, place, finding) {
             Ok(()) if !is_spent(finding) => self.tell_hint(name, place, hint),
             told => told,
@@ -173,12 +161,12 @@ impl<W: Write> Findings<W> {
     }
 
     /// Plays a line by the other rules, where that is asked for.
-    fn follow(&mut self, line: &[u8]) -> Result<(), Stop> {
+    fn follow(&mut self, line: &[u8]) -> Result<(), RunFault> {
         let Some(other) = &mut self.other else {
             return Ok(());
         };
         match reply_by_other(self.alloc, other, line) {
-            Some(reply) if lacks_memory(reply) => Err(Stop::Memory),
+            Some(reply) if lacks_memory(reply) => Err(RunFault::Memory),
             _ => Ok(()),
         }
     }
@@ -186,14 +174,16 @@ impl<W: Write> Findings<W> {
     /// Tells how many lines weren't judged, where some weren't, and writes what is to be written.
     ///
     /// # Errors
-    /// `Stop::Write` where writing failed, `Stop::Memory` where there was no memory for the text.
-    pub fn end(&mut self) -> Result<(), Stop> {
+    /// `Write` where writing failed, `Memory` where there was no memory for the text.
+    pub fn end(&mut self) -> Result<(), RunFault> {
         if self.unjudged > 0 {
+            self.text.clear();
             if let Err(_) = say_unjudged(&mut self.text, self.unjudged) {
-                return Err(Stop::Memory);
+                return Err(RunFault::Memory);
             }
+            self.output.say(self.text.as_slice());
         }
-        self.flush()
+        self.output.hand_over()
     }
 }
 
@@ -202,15 +192,21 @@ fn is_spent(finding: &Finding) -> bool {
     finding.fault == Reply::Refused(CoreRefusal::Command(Refusal::CommandsSpent))
 }
 
-impl<W: Write> TakeLine for Findings<W> {
-    fn take(&mut self, name: &str, place: u64, line: &[u8]) -> Result<(), Stop> {
+impl<W: Write> TakeLine<()> for Findings<W> {
+    fn take(
+        &mut self,
+        name: &str,
+        place: u64,
+        line: &[u8],
+        _output: &mut (),
+    ) -> Result<(), RunFault> {
         if let Err(why) = self.follow(line) {
             return Err(why);
         }
         let hint = self.hint(line);
         match judge(self.alloc, &mut self.script, line) {
             None => self.tell_hint(name, place, hint),
-            Some(finding) if lacks_memory(finding.fault) => Err(Stop::Memory),
+            Some(finding) if lacks_memory(finding.fault) => Err(RunFault::Memory),
             Some(
                 Finding {
                     detail: Detail::NoMachine,
@@ -222,5 +218,9 @@ impl<W: Write> TakeLine for Findings<W> {
             }
             Some(finding) => self.tell_both(name, place, &finding, hint),
         }
+    }
+
+    fn hand_over(&mut self, _output: &mut ()) -> Result<(), RunFault> {
+        self.output.hand_over()
     }
 }

@@ -1,9 +1,9 @@
 //! Why a question about played scripts has no answer.
 ghost use Rattle.std.specs.Prelude.{◌≡◌};
-ghost use Rattle.numa_files.specs.declared.reading.Stop.TheVariants as stop;
+ghost use Rattle.numa_lines.specs.declared.fault.RunFault.TheVariants as run_fault;
 ghost use Rattle.numa_words.specs.declared.halt.Halt.TheVariants as halt;
 
-use numa_files::Stop;
+use numa_lines::RunFault;
 use numa_reports::ReportError;
 use numa_traces::ReplayError;
 use std::alloc::AllocError;
@@ -13,7 +13,7 @@ use std::alloc::AllocError;
 #[derive(Clone, Copy, Debug)]
 pub enum Halt {
     /// A read or a write failed, or there was no memory.
-    Stopped(Stop),
+    Stopped(RunFault),
     /// No line of the scripts made a machine.
     NoMachine,
     /// The machine has so many nodes, and not the one that is asked of.
@@ -26,8 +26,8 @@ pub enum Halt {
     BadAccess(u64, ReplayError),
 }
 
-impl From<Stop> for Halt {
-    fn from(why: Stop) -> Halt
+impl From<RunFault> for Halt {
+    fn from(why: RunFault) -> Halt
         ensures { result ≡ halt.Stopped why }
     {
         Halt::Stopped(why)
@@ -36,9 +36,9 @@ impl From<Stop> for Halt {
 
 impl From<AllocError> for Halt {
     fn from(_error: AllocError) -> Halt
-        ensures { result ≡ halt.Stopped stop.Memory }
+        ensures { result ≡ halt.Stopped run_fault.Memory }
     {
-        Halt::Stopped(Stop::Memory)
+        Halt::Stopped(RunFault::Memory)
     }
 }
 
@@ -46,6 +46,6 @@ impl From<AllocError> for Halt {
 pub(crate) fn halt_of(fault: ReportError, nodes: u32) -> Halt {
     match fault {
         ReportError::Refused(_) => Halt::NoNode(nodes),
-        ReportError::Memory => Halt::Stopped(Stop::Memory),
+        ReportError::Memory => Halt::Stopped(RunFault::Memory),
     }
 }

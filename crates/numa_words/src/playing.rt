@@ -1,6 +1,6 @@
 //! Scripts that are played to their end.
 use crate::findings::{Ended, Findings};
-use numa_files::{Lines, Stop, TakeText, read_all};
+use numa_lines::{Lines, RunFault, read_all};
 use numa_machine::Rules;
 use std::alloc::Global;
 use std::io::{Read, Write};
@@ -13,29 +13,6 @@ pub struct Scripts<R> {
     pub rules: Rules,
 }
 
-/// The lines of scripts; what is found is written before the next read.
-#[derive(Drop)]
-struct Checking<W> {
-    lines: Lines<Findings<W>>,
-}
-
-impl<W: Write> TakeText for Checking<W> {
-    fn begin(&mut self, name: &str) -> Result<(), Stop> {
-        self.lines.begin(name)
-    }
-
-    fn take(&mut self, piece: &[u8]) -> Result<(), Stop> {
-        match self.lines.take(piece) {
-            Ok(()) => self.lines.taker.flush(),
-            Err(why) => Err(why),
-        }
-    }
-
-    fn end(&mut self) -> Result<(), Stop> {
-        self.lines.end()
-    }
-}
-
 /// Reads texts in turn, plays their lines as one script, and reports what is wrong with them: the
 /// text's name, the line, for bad words the column, the answer, and its cause. `Findings::end`
 /// reports how many lines weren't judged.
@@ -46,21 +23,22 @@ pub fn play<R: Read + Drop, W: Write + Drop>(
     alloc: Global,
     texts: Vec<(String, R)>,
     findings: Findings<W>,
-) -> Result<Findings<W>, Stop> {
-    let mut checking = Checking {
-        lines: Lines::new(alloc, findings),
+) -> Result<Findings<W>, RunFault> {
+    let Ok(mut lines) = Lines::new(alloc, findings) else {
+        drop(texts);
+        return Err(RunFault::Memory);
     };
-    match read_all(texts, &mut checking) {
-        Ok(()) => Ok(checking.lines.taker),
+    match read_all(texts, &mut lines, &mut ()) {
+        Ok(()) => Ok(lines.taker),
         Err(why) => {
-            drop(checking);
+            drop(lines);
             Err(why)
         }
     }
 }
 
 /// Ends what is told. Which lines were accepted.
-fn end<W: Write>(findings: &mut Findings<W>) -> Result<Ended, Stop> {
+fn end<W: Write>(findings: &mut Findings<W>) -> Result<Ended, RunFault> {
     match findings.end() {
         Ok(()) => Ok(findings.ended()),
         Err(why) => Err(why),
@@ -76,7 +54,7 @@ pub fn check<R: Read + Drop, W: Write + Drop>(
     alloc: Global,
     scripts: Scripts<R>,
     output: W,
-) -> Result<Ended, Stop> {
+) -> Result<Ended, RunFault> {
     let Scripts { texts, rules } = scripts;
     let told = Findings::new(alloc, rules, output).with_hints();
     let mut findings = match play(alloc, texts, told) {

@@ -3,7 +3,7 @@ ghost use Rattle.std.specs.Prelude.{◌≡◌, IfOk};
 
 use crate::findings::{Ended, Findings};
 use crate::halt::Halt;
-use numa_files::Stop;
+use numa_lines::RunFault;
 use numa_run::Script;
 use numa_space::Space;
 use std::io::Write;
@@ -40,6 +40,6 @@ pub(crate) fn write<W: Write>(
     drop(text);
     match written {
         Ok(()) => Ok(ended),
-        Err(_) => Err(Halt::Stopped(Stop::Write)),
+        Err(_) => Err(Halt::Stopped(RunFault::Write)),
     }
 }

@@ -4,7 +4,7 @@ use crate::halt::Halt;
 use crate::playing::{Scripts, play};
 use crate::question::{space_after, write};
 use numa_compile::compile;
-use numa_files::Stop;
+use numa_lines::RunFault;
 use numa_plan::Plan;
 use numa_space::Space;
 use numa_traces::{Replaying, Shape, replay_lines, report_text};
@@ -23,7 +23,7 @@ fn met(
     }
     match report_text(alloc, space.machine(), replaying.replay(), format) {
         Ok(text) => Ok(text),
-        Err(_) => Err(Halt::Stopped(Stop::Memory)),
+        Err(_) => Err(Halt::Stopped(RunFault::Memory)),
     }
 }
 
@@ -37,7 +37,7 @@ fn replayed_by<S: Read + Drop>(
 ) -> Result<Vec<u8>, Halt> {
     let Ok(replaying) = Replaying::new(alloc, space.machine(), plan) else {
         drop(trace);
-        return Err(Halt::Stopped(Stop::Memory));
+        return Err(Halt::Stopped(RunFault::Memory));
     };
     match replay_lines(alloc, trace, replaying) {
         Ok(replaying) => {
@@ -66,7 +66,7 @@ fn replayed<S: Read + Drop, T: Write>(
     };
     let Ok(plan) = compile(alloc, space) else {
         drop(trace);
-        return Err(Halt::Stopped(Stop::Memory));
+        return Err(Halt::Stopped(RunFault::Memory));
     };
     let text = replayed_by(alloc, space, &plan, trace, format);
     drop(plan);

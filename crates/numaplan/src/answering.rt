@@ -1,6 +1,5 @@
 //! Answering a script line by line, into texts.
-use line_server::Watched;
-use numa_files::Respond;
+use numa_lines::{Respond, Watched};
 use numa_machine::Rules;
 use numa_run::Script;
 use numa_script::line::parse;

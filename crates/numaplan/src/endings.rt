@@ -1,7 +1,6 @@
 //! Exit statuses and messages.
-use line_server::RunFault;
 use numa_command_line::JobFault;
-use numa_files::Stop;
+use numa_lines::RunFault;
 use numa_reports::Touch;
 use numa_sources::Outlet;
 use numa_words::{Ended, Halt};
@@ -62,20 +61,11 @@ pub fn tell_fault<R: Print + Eprint>(rt: &R, fault: JobFault) -> ExitCode {
     }
 }
 
-/// Ends after reading ended early.
-pub fn stop(rt: &impl Eprint, why: Stop) -> ExitCode {
-    match why {
-        Stop::Read => fail(rt, RunFault::Read),
-        Stop::Write => fail(rt, RunFault::Write),
-        Stop::Memory => fail(rt, RunFault::Memory),
-    }
-}
-
 /// Ends after reading ended early; silently if nobody reads the answer any more.
-pub fn stop_quietly(rt: &impl Eprint, why: Stop, outlet: &Outlet) -> ExitCode {
+pub fn stop_quietly(rt: &impl Eprint, why: RunFault, outlet: &Outlet) -> ExitCode {
     match why {
-        Stop::Write if outlet.is_shut() => ExitCode::FAILURE,
-        _ => stop(rt, why),
+        RunFault::Write if outlet.is_shut() => ExitCode::FAILURE,
+        _ => fail(rt, why),
     }
 }
 

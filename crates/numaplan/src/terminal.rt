@@ -1,8 +1,8 @@
 //! Scripts that are typed at a terminal.
 use crate::answering::Answering;
-use crate::endings::{StandardError, stop};
+use crate::endings::{StandardError, fail};
 use numa_diagnose::{judge, say_line};
-use numa_files::{Lines, Respond, Stop, TakeLine, read_all};
+use numa_lines::{Lines, Respond, RunFault, TakeLine, read_all};
 use numa_machine::Rules;
 use numa_run::Script;
 use std::alloc::Global;
@@ -62,10 +62,10 @@ struct Typed<W, T> {
 }
 
 /// Writes some bytes.
-fn put<W: Write>(output: &mut W, bytes: &[u8]) -> Result<(), Stop> {
+fn put<W: Write>(output: &mut W, bytes: &[u8]) -> Result<(), RunFault> {
     match output.write_all(bytes) {
         Ok(()) => Ok(()),
-        Err(_) => Err(Stop::Write),
+        Err(_) => Err(RunFault::Write),
     }
 }
 
@@ -77,22 +77,22 @@ fn find(
     place: u64,
     line: &[u8],
     text: &mut Vec<u8>,
-) -> Result<(), Stop> {
+) -> Result<(), RunFault> {
     let Some(finding) = judge(alloc, script, line) else {
         return Ok(());
     };
     match say_line(text, name, place, &finding) {
         Ok(()) => Ok(()),
-        Err(_) => Err(Stop::Memory),
+        Err(_) => Err(RunFault::Memory),
     }
 }
 
 impl<W: Write, T: Write> Typed<W, T> {
     /// Writes the answer to a line, and what is wrong with it.
-    fn answer(&mut self, name: &str, place: u64, line: &[u8]) -> Result<(), Stop> {
+    fn answer(&mut self, name: &str, place: u64, line: &[u8]) -> Result<(), RunFault> {
         self.text.clear();
         if let Err(_) = self.answering.respond(line, &mut self.text) {
-            return Err(Stop::Memory);
+            return Err(RunFault::Memory);
         }
         put(&mut self.output, self.text.as_slice())?;
         self.text.clear();
@@ -102,14 +102,20 @@ impl<W: Write, T: Write> Typed<W, T> {
     }
 
     /// Writes the help.
-    fn help(&mut self) -> Result<(), Stop> {
+    fn help(&mut self) -> Result<(), RunFault> {
         put(&mut self.output, LINES.as_bytes())?;
         put(&mut self.output, WORDS.as_bytes())
     }
 }
 
-impl<W: Write, T: Write> TakeLine for Typed<W, T> {
-    fn take(&mut self, name: &str, place: u64, line: &[u8]) -> Result<(), Stop> {
+impl<W: Write, T: Write> TakeLine<()> for Typed<W, T> {
+    fn take(
+        &mut self,
+        name: &str,
+        place: u64,
+        line: &[u8],
+        _output: &mut (),
+    ) -> Result<(), RunFault> {
         if line == b"help".as_slice() {
             self.help()?;
         } else {
@@ -117,10 +123,14 @@ impl<W: Write, T: Write> TakeLine for Typed<W, T> {
         }
         put(&mut self.output, PROMPT.as_bytes())
     }
+
+    fn hand_over(&mut self, _output: &mut ()) -> Result<(), RunFault> {
+        Ok(())
+    }
 }
 
 /// Answers a typed script, with a prompt before each line.
-fn answer_all<R, S>(rt: &R, texts: Vec<(String, S)>, rules: Rules) -> Result<(), Stop>
+fn answer_all<R, S>(rt: &R, texts: Vec<(String, S)>, rules: Rules) -> Result<(), RunFault>
 where
     R: Print + Eprint + AllocGlobal,
     S: Read + Drop,
@@ -136,8 +146,11 @@ where
         output,
         told: StandardError { rt },
     };
-    let mut lines = Lines::new(alloc, typed);
-    let read = read_all(texts, &mut lines);
+    let Ok(mut lines) = Lines::new(alloc, typed) else {
+        drop(texts);
+        return Err(RunFault::Memory);
+    };
+    let read = read_all(texts, &mut lines, &mut ());
     drop(lines);
     read
 }
@@ -154,6 +167,6 @@ where
             let _ = println!(rt; "");
             ExitCode::SUCCESS
         }
-        Err(why) => stop(rt, why),
+        Err(why) => fail(rt, why),
     }
 }

@@ -1,6 +1,6 @@
 -- What an exported call about scripts answers.
 use Rattle.std.specs.Prelude.{◌≡◌, ℕ, Bool, List, Result, Ok, Err}
-use Rattle.line_server.specs.Output.{output_of}
+use Rattle.numa_lines.specs.Output.{output_of}
 use Rattle.numa_run.specs.Answers.{start, answer_to, after_bytes}
 use Rattle.numaplan_handles.specs.declared.dialog.LineRefusal.{LineRefusal}
 use Rattle.numaplan_handles.specs.declared.dialog.LineRefusal.TheVariants as refused

@@ -14,7 +14,7 @@ use crate::codes::Code;
 use crate::keeping::{ensure_closed, memory_code};
 use crate::options::rules_of;
 use crate::texts::{copy_code, length_copied, write};
-use line_server::Watched;
+use numa_lines::Watched;
 use numa_machine::Rules;
 use numa_run::run;
 use numaplan_handles::{LineRefusal, ScriptHandle};

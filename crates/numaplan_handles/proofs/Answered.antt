@@ -4,9 +4,9 @@ use Rattle.std.specs.Prelude.{if◌then◌else◌}
 use Rattle.std.proofs.Common.{refl, sym, ap, ◌∙◌, subst}
 use Rattle.std.proofs.lemmas.List.{append-nil}
 use Rattle.std.specs.Io.KnownBytes.{Appends}
-use Rattle.line_server.specs.Watching.{has_failed, held_in, unsent}
-use Rattle.line_server.specs.Written.{IsSaid, Said, SaidNothing}
-use Rattle.line_server.specs.declared.watched.Watched.{Watched}
+use Rattle.numa_lines.specs.Watching.{has_failed, held_in, unsent}
+use Rattle.numa_lines.specs.Written.{IsSaid, Said, SaidNothing}
+use Rattle.numa_lines.specs.declared.watched.Watched.{Watched}
 
 held-none : (failed : Bool) (held : List ℕ) → failed ≡ false → (if failed then [] else held) ≡ []
     → held ≡ []

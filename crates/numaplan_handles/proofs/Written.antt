@@ -2,7 +2,7 @@
 use Rattle.std.proofs.Common.{◌≡◌, ℕ, ◌++◌, Bool, true, false, Option, Some, List, [], refl, sym}
 use Rattle.std.proofs.Common.{ap, subst, ◌∙◌}
 use Rattle.std.proofs.lemmas.List.{append-nil}
-use Rattle.line_server.specs.Written.{IsSaid}
+use Rattle.numa_lines.specs.Written.{IsSaid}
 
 begun : (failed : Bool) (held : List ℕ) → failed ≡ false → held ≡ []
     → IsSaid (Some []) (Some []) failed held []

@@ -5,7 +5,7 @@ ghost use Rattle.numa_run.specs.Scripts.{ScriptStandsFor};
 ghost use Rattle.numaplan_handles.specs.Dialogs.{IsFresh, Serves, Copies};
 
 use crate::room::copy_bytes;
-use line_server::{Serve, Watched};
+use numa_lines::{Serve, Watched};
 use numa_machine::Rules;
 use numa_run::Script;
 use std::alloc::Global;

@@ -1,7 +1,7 @@
 //! Compares worked scripts with the answers to their lines.
 use crate::answering::Answering;
 use crate::endings::stop_quietly;
-use numa_files::{Expect, Stop, read_all};
+use numa_lines::{Expect, RunFault, read_all};
 use numa_sources::Outlet;
 use numa_words::Scripts;
 use std::io;
@@ -15,14 +15,14 @@ const DIFFERENT: u8 = 3;
 fn compare_by<S: Read + Drop, W: Write>(
     texts: Vec<(String, S)>,
     expect: &mut Expect<Answering, W>,
-) -> Result<bool, Stop> {
-    read_all(texts, expect)?;
+) -> Result<bool, RunFault> {
+    read_all(texts, expect, &mut ())?;
     expect.tell_counts()?;
     Ok(expect.counts().are_as_wanted())
 }
 
 /// Compares worked scripts, and returns whether all answers are as expected.
-fn compare<R, S>(rt: &R, scripts: Scripts<S>, outlet: &Outlet) -> Result<bool, Stop>
+fn compare<R, S>(rt: &R, scripts: Scripts<S>, outlet: &Outlet) -> Result<bool, RunFault>
 where
     R: Print + AllocGlobal,
     S: Read + Drop,

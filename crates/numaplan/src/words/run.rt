@@ -1,8 +1,7 @@
 //! Answers scripts.
 use crate::answering::Answering;
-use crate::endings::{fail, stop};
-use line_server::{RunFault, Watched};
-use numa_files::{Echo, Joined, Lines, Stop, read_all};
+use crate::endings::fail;
+use numa_lines::{Echo, Joined, Lines, RunFault, Watched, read_all};
 use numa_run::run_by;
 use numa_sources::without_names;
 use numa_words::Scripts;
@@ -29,7 +28,7 @@ where
 }
 
 /// Answers scripts, and writes each line beside its answer.
-fn echo_all<R, S>(rt: &R, scripts: Scripts<S>) -> Result<(), Stop>
+fn echo_all<R, S>(rt: &R, scripts: Scripts<S>) -> Result<(), RunFault>
 where
     R: Print + AllocGlobal,
     S: Read + Drop,
@@ -37,8 +36,11 @@ where
     let Scripts { texts, rules } = scripts;
     let answering = Answering::new(rt.alloc(), rules);
     let echo = Echo::new(rt.alloc(), answering, io::writer(rt));
-    let mut lines = Lines::new(rt.alloc(), echo);
-    let read = read_all(texts, &mut lines);
+    let Ok(mut lines) = Lines::new(rt.alloc(), echo) else {
+        drop(texts);
+        return Err(RunFault::Memory);
+    };
+    let read = read_all(texts, &mut lines, &mut ());
     drop(lines);
     read
 }
@@ -49,13 +51,12 @@ where
     R: Print + Eprint + AllocGlobal,
     S: Read + Drop,
 {
-    if echo {
-        return match echo_all(rt, scripts) {
-            Ok(()) => ExitCode::SUCCESS,
-            Err(why) => stop(rt, why),
-        };
-    }
-    match answer_all(rt, scripts) {
+    let run = if echo {
+        echo_all(rt, scripts)
+    } else {
+        answer_all(rt, scripts)
+    };
+    match run {
         Ok(()) => ExitCode::SUCCESS,
         Err(fault) => fail(rt, fault),
     }

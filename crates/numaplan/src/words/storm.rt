@@ -2,7 +2,7 @@
 ghost use Rattle.numa_stress.specs.Crew.{IsCrew};
 
 use crate::endings::fail;
-use line_server::Watched;
+use numa_lines::Watched;
 use std::io;
 use std::process::ExitCode;
 use std::sync::Wait;

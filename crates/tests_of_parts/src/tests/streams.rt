@@ -1,6 +1,6 @@
 //! A script that is answered by a writer on which a call has failed before.
 use crate::tests::same::same;
-use line_server::{CallFailed, Watched};
+use numa_lines::{RunFault, Watched};
 use numa_run::run;
 use std::io;
 use std::io::Write;
@@ -33,7 +33,7 @@ fn earlier_faults_are_forgotten(rt: HostRuntime) {
         has_failed: false,
         taken: 0,
     });
-    same(&rt, &output.put(b"lost"), &Err(CallFailed));
+    same(&rt, &output.put(b"lost"), &Err(RunFault::Write));
     let mut input = Watched::new(b"x\n".as_slice());
     let result = run(rt.alloc(), &mut input, &mut output);
     // "bad words" and the end of its line.

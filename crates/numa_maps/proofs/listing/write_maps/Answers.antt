@@ -1,5 +1,5 @@
 use Rattle.std.proofs.Common.{rules, ◌≡◌, ap, sym, subst, ◌∙◌, [], ◌++◌}
-use Rattle.line_server.proofs.Adding.{said_both, said_lost, said_nothing, said_still}
+use Rattle.numa_lines.proofs.Adding.{said_both, said_lost, said_nothing, said_still}
 use Rattle.numa_ranges.specs.Runs.{AreApart, end_of}
 use Rattle.numa_space.specs.Standing.{policy_in}
 use Rattle.numa_maps.specs.Listing.{listing, listing_in, range_line}

@@ -1,6 +1,6 @@
 use Rattle.std.proofs.Common.{◌≡◌, ℕ, List, [], ◌++◌, false}
-use Rattle.line_server.specs.Watching.{has_failed, held_in}
-use Rattle.line_server.specs.Written.{Said}
+use Rattle.numa_lines.specs.Watching.{has_failed, held_in}
+use Rattle.numa_lines.specs.Written.{Said}
 use Rattle.numa_ranges.specs.Runs.{AreApart}
 use Rattle.numa_space.specs.Standing.{policy_in}
 use Rattle.numa_maps.specs.Listing.{listing, listing_in}

@@ -1,5 +1,5 @@
 use Rattle.std.proofs.Common.{◌∙◌, ap, slice_index, length}
-use Rattle.line_server.proofs.Adding.{said_same}
+use Rattle.numa_lines.proofs.Adding.{said_same}
 use Rattle.numa_run.proofs.Spanned.{count-ok, span-err}
 use Rattle.numa_script.specs.Texts.{counts_answer}
 use Rattle.numa_compile.specs.Spans.{meant_count}

@@ -1,5 +1,5 @@
 use Rattle.std.proofs.Common.{◌∙◌, ap}
-use Rattle.line_server.proofs.Adding.{said_same}
+use Rattle.numa_lines.proofs.Adding.{said_same}
 use Rattle.numa_run.proofs.Spanned.{place-ok, place-err}
 use Rattle.numa_script.specs.Texts.{nodes_answer}
 use Rattle.numa_run.proofs.questions.say_place.Goals as goal

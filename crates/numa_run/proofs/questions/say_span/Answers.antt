@@ -1,5 +1,5 @@
 use Rattle.std.proofs.Common.{◌∙◌, ap, ℕ, length, ◌≡◌}
-use Rattle.line_server.proofs.Adding.{said_same}
+use Rattle.numa_lines.proofs.Adding.{said_same}
 use Rattle.numa_run.specs.Questions.{span_text}
 use Rattle.numa_run.proofs.questions.say_span.Goals as goal
 

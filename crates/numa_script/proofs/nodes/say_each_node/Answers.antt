@@ -2,7 +2,7 @@ use Rattle.std.proofs.Common.{◌≡◌, [], refl, sym, ap, ◌∙◌, ◌++◌,
 use Rattle.std.proofs.Common.{append_assoc, ℕ, List}
 use Rattle.std.proofs.lemmas.Grind.{flat_map-append}
 use Rattle.std.proofs.lemmas.List.{take-append-drop}
-use Rattle.line_server.proofs.Adding.{said_both, said_nothing, said_same}
+use Rattle.numa_lines.proofs.Adding.{said_both, said_nothing, said_same}
 use Rattle.numa_script.specs.Texts.{nodes_text}
 use Rattle.numa_script.proofs.nodes.say_each_node.Goals as goal
 

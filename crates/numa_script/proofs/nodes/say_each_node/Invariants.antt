@@ -1,5 +1,5 @@
 use Rattle.std.proofs.Common.{◌≡◌, ◌++◌, List, ℕ, length}
-use Rattle.line_server.specs.Written.{Said}
+use Rattle.numa_lines.specs.Written.{Said}
 use Rattle.numa_script.specs.Texts.{nodes_text}
 use Rattle.numa_script.proofs.nodes.say_each_node.Given as goal
 

@@ -1,5 +1,5 @@
 use Rattle.std.proofs.Common.{ℕ, slice_index, sym, arith}
-use Rattle.line_server.proofs.Adding.{said_both, said_nothing, said_same}
+use Rattle.numa_lines.proofs.Adding.{said_both, said_nothing, said_same}
 use Rattle.numa_script.proofs.Counts.{counts-none, counts-more, counts-all}
 use Rattle.numa_script.proofs.tell.say_each_count.Goals as goal
 

@@ -1,5 +1,5 @@
 use Rattle.std.proofs.Common.{slice_index}
-use Rattle.line_server.specs.Written.{Said}
+use Rattle.numa_lines.specs.Written.{Said}
 use Rattle.numa_script.proofs.Counts.{counts_below}
 use Rattle.numa_script.proofs.tell.say_each_count.Given as goal
 

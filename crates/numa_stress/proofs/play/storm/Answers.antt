@@ -1,8 +1,8 @@
 use Rattle.std.proofs.Common.{[], ap, ◌∙◌, sym}
 use Rattle.std.specs.Prelude.{if◌then◌else◌}
-use Rattle.line_server.specs.Watching.{held_in}
-use Rattle.line_server.proofs.Adding.{said_still}
-use Rattle.line_server.proofs.Endings.{HasBegun, wrote_all, wrote_front}
+use Rattle.numa_lines.specs.Watching.{held_in}
+use Rattle.numa_lines.proofs.Adding.{said_still}
+use Rattle.numa_lines.proofs.Endings.{HasBegun, wrote_all, wrote_front}
 use Rattle.numa_stress.specs.Storm.{text_of}
 use Rattle.numa_stress.proofs.play.storm.Goals as goal
 

@@ -1,4 +1,4 @@
-use Rattle.line_server.proofs.Adding.{said_both}
+use Rattle.numa_lines.proofs.Adding.{said_both}
 use Rattle.numa_stress.proofs.report.say_report.Goals as goal
 
 pub returns : goal.returns

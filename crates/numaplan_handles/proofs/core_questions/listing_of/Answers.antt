@@ -1,5 +1,5 @@
 use Rattle.std.proofs.Common.{◌≡◌, []}
-use Rattle.line_server.specs.Watching.{has_failed, held_in}
+use Rattle.numa_lines.specs.Watching.{has_failed, held_in}
 use Rattle.numa_maps.specs.Listing.{listing_in}
 use Rattle.numaplan_handles.proofs.Written.{text-written}
 use Rattle.numaplan_handles.proofs.core_questions.listing_of.Goals as goal

@@ -1,5 +1,5 @@
 use Rattle.std.proofs.Common.{◌∙◌, ap, sym, refl, false, ℕ, subst, ◌++◌, codes, decimal}
-use Rattle.line_server.proofs.Adding.{said_same}
+use Rattle.numa_lines.proofs.Adding.{said_same}
 use Rattle.numa_space.specs.History.{page_of}
 use Rattle.numa_space.specs.Refusals.{range_count_of}
 use Rattle.numa_space.specs.Standing.{SpaceState, StandsFor}

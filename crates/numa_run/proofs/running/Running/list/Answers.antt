@@ -1,5 +1,5 @@
 use Rattle.std.proofs.Common.{◌∙◌, ap, sym, subst}
-use Rattle.line_server.proofs.Adding.{said_same}
+use Rattle.numa_lines.proofs.Adding.{said_same}
 use Rattle.numa_space.specs.Standing.{SpaceState, StandsFor}
 use Rattle.numa_run.proofs.Listed.{listing-same}
 use Rattle.numa_run.specs.Ranges.{listing_of}

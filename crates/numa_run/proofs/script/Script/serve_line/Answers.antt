@@ -1,5 +1,5 @@
 use Rattle.std.proofs.Common.{ℕ, List}
-use Rattle.line_server.specs.Written.{Said}
+use Rattle.numa_lines.specs.Written.{Said}
 use Rattle.numa_run.proofs.LineLemmas.{told_first, told_later, asked_later, listed_later}
 use Rattle.numa_run.proofs.script.Script.serve_line.Goals as goal
 

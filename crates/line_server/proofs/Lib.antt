@@ -1,9 +1,0 @@
-pub mod Adding
-pub mod Answering
-pub mod Cutting
-pub mod Endings
-pub mod Fronts
-pub mod Progressing
-pub mod Saying
-pub mod Seeing
-pub mod Splitting

@@ -1,7 +1,0 @@
-use Rattle.line_server.proofs.Progressing.{progress_handed}
-use Rattle.line_server.proofs.engine.Engine.take.Goals as goal
-
-pub returns-clause-takes : goal.returns-clause-takes
-returns-clause-takes g c =
-    λ from front h.
-    progress_handed g.W.Write.contents g.S.Serve.answer_of g.S.Serve.after g.S.Serve.start _ from c.feed_all.new.output c.hand_over.new.self _ _ c.hand_over.ensures.says (c.feed_all.ensures from front h)

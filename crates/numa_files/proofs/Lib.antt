@@ -1,4 +1,0 @@
-pub mod Marking
-pub mod Marks
-pub mod Examples
-pub mod InTurn

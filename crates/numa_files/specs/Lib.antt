@@ -1,4 +1,0 @@
-pub mod Worked
-pub mod Echo
-pub mod Joined
-pub mod Counts

@@ -1,0 +1,15 @@
+pub mod Adding
+pub mod Answering
+pub mod Cuts
+pub mod Cutting
+pub mod Endings
+pub mod Examples
+pub mod Fronts
+pub mod InTurn
+pub mod Marking
+pub mod Marks
+pub mod Progressing
+pub mod Saying
+pub mod Seeing
+pub mod Splitting
+pub mod Stopping

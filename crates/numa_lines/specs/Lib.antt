@@ -1,0 +1,12 @@
+pub mod Counts
+pub mod Cuts
+pub mod Echo
+pub mod Joined
+pub mod Lines
+pub mod Output
+pub mod Progress
+pub mod Reading
+pub mod Runs
+pub mod Watching
+pub mod Worked
+pub mod Written

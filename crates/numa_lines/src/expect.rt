@@ -1,0 +1,412 @@
+//! Worked scripts, compared with what their lines are answered as they are read.
+ghost use Rattle.std.specs.Prelude.{◌≡◌, ℕ, ◌≤◌, Bool, List, length, if◌then◌else◌};
+ghost use Rattle.numa_lines.specs.Counts.{with_different, with_end, with_idle, with_rest};
+
+use crate::answer::LatestAnswer;
+use crate::counts::Counts;
+use crate::fault::RunFault;
+use crate::reading::TakeText;
+use crate::watched::Watched;
+use crate::worked::{HEAD, LineForm, read_form};
+use memchr::memchr;
+use std::alloc::{AllocError, Global};
+use std::io::Write;
+
+/// What is told of a text in which no answer is wanted.
+const NOTHING: &[u8] = b": nothing is compared: no answer stands behind ' => '\n";
+
+/// What answers script lines.
+pub trait Respond {
+    /// Whether an answer tells a fault or a refusal.
+    ghost is_fault: { List ℕ → Bool };
+
+    /// Begins a script.
+    fn begin(&mut self);
+
+    /// Puts the answer to a line into a text that is empty: whole lines with their line feeds.
+    fn respond(&mut self, line: &[u8], answer: &mut Vec<u8>) -> Result<(), AllocError>;
+
+    /// Whether such an answer tells a fault or a refusal.
+    fn tells_fault(&self, answer: &[u8]) -> bool
+        ensures { result ≡ is_fault answer.now };
+}
+
+/// What is known of the line that is read.
+#[derive(Clone, Copy)]
+enum Reading {
+    /// Not yet what it holds.
+    Head,
+    /// A script line without an answer.
+    Passed,
+    /// A wanted answer, as given so far.
+    Same,
+    /// A wanted answer that isn't the given one.
+    Different,
+}
+
+/// A line of a worked script, and the answer that it is compared with.
+#[derive(Drop)]
+struct Comparison<W> {
+    told: Watched<W>,
+    // Whether there was no memory for an answer, or for a line that is read.
+    lacks_memory: bool,
+    counts: Counts,
+    // The line that is read: its text, its place there from 1, and what is known.
+    name: String,
+    place: u64,
+    reading: Reading,
+    // The answer to the latest script line, whether it is wanted, and whether one in this text is.
+    answer: LatestAnswer,
+    is_wanted: bool,
+    is_worked: bool,
+}
+
+/// Worked scripts, a script of its own in each text, that are compared with their answers.
+#[derive(Drop)]
+pub struct Expect<A, W> {
+    answerer: A,
+    comparison: Comparison<W>,
+    // The first bytes of the line that is read.
+    head: Vec<u8>,
+}
+
+/// Begins to tell a difference: where it is, and what was wanted.
+fn tell_wanted<W: Write>(told: &mut Watched<W>, name: &str, place: u64, wanted: &[u8]) {
+    told.say(name.as_bytes());
+    told.say(b":");
+    told.say_number(place);
+    told.say(b": wanted ");
+    told.say(wanted);
+}
+
+/// Ends that: the line that was given, or that none was.
+fn tell_given<W: Write>(told: &mut Watched<W>, is_none: bool, line: &[u8]) {
+    if is_none {
+        return told.say(b", got nothing\n");
+    }
+    told.say(b", got ");
+    told.say(line);
+    told.say(b"\n");
+}
+
+impl<W: Write> Comparison<W> {
+    /// Begins to tell a difference in the line at hand: where, and what was wanted as far as it is
+    /// as given.
+    fn tell_wanted(&mut self) {
+        let taken = self.answer.taken();
+        tell_wanted(&mut self.told, self.name.as_str(), self.place, taken);
+    }
+
+    /// Ends that: what was given. Counts it.
+    fn tell_given(&mut self)
+        ensures { self.new.counts ≡ with_different self.old.counts }
+    {
+        self.counts.add_different();
+        tell_given(&mut self.told, self.answer.is_over(), self.answer.line());
+    }
+
+    /// Takes bytes of a wanted line.
+    fn want(&mut self, bytes: &[u8]) {
+        let Reading::Same = self.reading else {
+            return self.told.say(bytes);
+        };
+        if self.answer.take(bytes) {
+            return;
+        }
+        let count = self.answer.take_some(bytes);
+        self.tell_wanted();
+        self.reading = Reading::Different;
+        self.told.say(&bytes[count..]);
+    }
+
+    /// Compares the end of a wanted line.
+    fn end_wanted(&mut self) {
+        if let Reading::Same = self.reading {
+            if self.answer.end_line() {
+                self.counts.add_same();
+                return;
+            }
+            self.tell_wanted();
+        }
+        self.tell_given();
+        self.answer.go_on();
+    }
+
+    /// Tells of the line before the one at hand that this was wanted in place of what was given.
+    fn tell_rest(&mut self, wanted: &[u8])
+        ensures { self.new.counts ≡ with_different self.old.counts }
+    {
+        let last = self.place.saturating_sub(1);
+        tell_wanted(&mut self.told, self.name.as_str(), last, wanted);
+        self.tell_given();
+    }
+
+    /// Counts what was given beyond what was wanted, and tells it where something was, or where it
+    /// is a fault.
+    #[cold]
+    #[inline(never)]
+    fn count_rest<A: Respond>(&mut self, answerer: &A)
+        ensures { self.new.counts ≡ with_rest self.old.is_wanted
+            (A.is_fault self.old.answer.text.items) self.old.counts }
+    {
+        if self.is_wanted {
+            return self.tell_rest(b"no more");
+        }
+        if answerer.tells_fault(self.answer.text.as_slice()) {
+            return self.tell_rest(b"no fault");
+        }
+        self.counts.add_uncompared();
+    }
+
+    /// Ends the answer to the latest script line.
+    fn end_answer<A: Respond>(&mut self, answerer: &A)
+        ensures { self.new.counts ≡ with_end self.old.answer self.old.is_wanted
+            (A.is_fault self.old.answer.text.items) self.old.counts }
+    {
+        if !self.answer.is_over() {
+            self.count_rest(answerer);
+        }
+        self.answer.clear();
+        self.is_wanted = false;
+    }
+
+    /// Takes all of a wanted line, where that and a line feed are the whole answer. Whether they
+    /// are: most answers are one line, and as wanted.
+    fn take_whole(&mut self, wanted: &[u8]) -> bool {
+        let is_same = match self.answer.text.split_last() {
+            Some((end, line)) => *end == b'\n' && line == wanted,
+            None => false,
+        };
+        if is_same {
+            self.counts.add_same();
+            self.answer.clear();
+            self.reading = Reading::Passed;
+        }
+        is_same
+    }
+
+    /// Ends the text: tells where no answer was wanted in it.
+    fn end_text(&mut self)
+        ensures { self.new.counts
+            ≡ (if self.old.is_worked then self.old.counts else with_idle self.old.counts) }
+    {
+        if self.is_worked {
+            return;
+        }
+        self.counts.add_idle();
+        self.told.say(self.name.as_str().as_bytes());
+        self.told.say(NOTHING);
+    }
+
+    /// Has a script line answered.
+    fn ask<A: Respond>(&mut self, answerer: &mut A, line: &[u8]) {
+        self.end_answer(answerer);
+        if let Err(_) = answerer.respond(line, &mut self.answer.text) {
+            self.lacks_memory = true;
+        }
+    }
+
+    /// Whether more can be answered, and told; why not.
+    fn outcome(&self) -> Result<(), RunFault> {
+        if self.lacks_memory {
+            return Err(RunFault::Memory);
+        }
+        if self.told.failed() {
+            return Err(RunFault::Write);
+        }
+        Ok(())
+    }
+
+    /// Takes the first bytes of the line at hand, which show what it holds, or the whole line.
+    fn take_head<A: Respond>(&mut self, answerer: &mut A, head: &[u8], is_whole: bool) {
+        match read_form(head) {
+            LineForm::Script => {
+                self.reading = Reading::Passed;
+                self.ask(answerer, head);
+            }
+            LineForm::Answered(end) => {
+                self.ask(answerer, &head[..end]);
+                self.is_worked = true;
+                let wanted = &head[end + 4..];
+                if is_whole && self.take_whole(wanted) {
+                    return;
+                }
+                self.reading = Reading::Same;
+                self.is_wanted = true;
+                self.want(wanted);
+            }
+            LineForm::Answer => {
+                self.reading = Reading::Same;
+                self.is_wanted = true;
+                self.is_worked = true;
+                self.want(&head[3..]);
+            }
+        }
+    }
+}
+
+impl<A: Respond, W: Write> Expect<A, W> {
+    /// Before the first text; the differences are told to the writer.
+    pub fn new(alloc: Global, answerer: A, output: W) -> Expect<A, W> {
+        let mut told = Watched::new(output);
+        // Without that memory each text is written alone.
+        let _ = told.gather(alloc);
+        let comparison = Comparison {
+            told,
+            lacks_memory: false,
+            counts: Counts::new(),
+            name: String::new(alloc),
+            place: 1,
+            reading: Reading::Head,
+            answer: LatestAnswer::new(alloc),
+            is_wanted: false,
+            is_worked: false,
+        };
+        Expect {
+            answerer,
+            comparison,
+            head: Vec::new(alloc),
+        }
+    }
+
+    /// The counts so far.
+    pub fn counts(&self) -> Counts
+        ensures { result ≡ self.now.comparison.counts }
+    {
+        self.comparison.counts
+    }
+
+    /// Sees what the line at hand holds.
+    fn see(&mut self) {
+        self.comparison
+            .take_head(&mut self.answerer, self.head.as_slice(), false);
+        self.head.clear();
+    }
+
+    /// Ends the line at hand, and goes on to the next.
+    fn end_line(&mut self) {
+        if let Reading::Head = self.comparison.reading {
+            self.see();
+        }
+        let comparison = &mut self.comparison;
+        match comparison.reading {
+            Reading::Head | Reading::Passed => (),
+            Reading::Same | Reading::Different => comparison.end_wanted(),
+        }
+        comparison.reading = Reading::Head;
+        comparison.place = comparison.place.saturating_add(1);
+    }
+
+    /// Whether nothing of the line at hand was taken.
+    fn is_new(&self) -> bool {
+        match self.comparison.reading {
+            Reading::Head => self.head.is_empty(),
+            Reading::Passed | Reading::Same | Reading::Different => false,
+        }
+    }
+
+    /// Takes the rest of the line at hand. A line that lies whole in its piece, and shows there
+    /// what it holds, isn't copied.
+    fn take_rest(&mut self, rest: &[u8]) {
+        if rest.len() <= HEAD && self.is_new() {
+            self.comparison.take_head(&mut self.answerer, rest, true);
+        } else {
+            self.feed(rest);
+        }
+        self.end_line();
+    }
+
+    /// Takes the first bytes of the line at hand, up to those that show what it holds, and tells
+    /// how many these are.
+    fn take_first(&mut self, bytes: &[u8]) -> usize
+        ensures { result ≤ length bytes.now }
+    {
+        let count = HEAD.saturating_sub(self.head.len()).min(bytes.len());
+        if let Err(_) = self.head.extend_from_slice(&bytes[..count]) {
+            self.comparison.lacks_memory = true;
+        }
+        if self.head.len() >= HEAD {
+            self.see();
+        }
+        count
+    }
+
+    /// Takes the next bytes of the line at hand.
+    fn feed(&mut self, bytes: &[u8]) {
+        let mut rest = bytes;
+        if let Reading::Head = self.comparison.reading {
+            let count = self.take_first(bytes);
+            rest = &bytes[count..];
+        }
+        match self.comparison.reading {
+            Reading::Head | Reading::Passed => (),
+            Reading::Same | Reading::Different => self.comparison.want(rest),
+        }
+    }
+
+    /// Tells the counts, in a last line.
+    ///
+    /// # Errors
+    /// `Write` where this or an earlier write failed.
+    pub fn tell_counts(&mut self) -> Result<(), RunFault> {
+        let Counts {
+            same,
+            different,
+            uncompared,
+            ..
+        } = self.comparison.counts;
+        let told = &mut self.comparison.told;
+        told.say_number(same);
+        told.say(b" as wanted, ");
+        told.say_number(different);
+        told.say(b" not, ");
+        told.say_number(uncompared);
+        told.say(b" not compared\n");
+        self.comparison.told.hand_over()
+    }
+}
+
+impl<A: Respond, W: Write> TakeText<()> for Expect<A, W> {
+    fn begin(&mut self, name: &str) -> Result<(), RunFault> {
+        self.answerer.begin();
+        let comparison = &mut self.comparison;
+        comparison.name.clear();
+        if let Err(_) = comparison.name.push_str(name) {
+            return Err(RunFault::Memory);
+        }
+        comparison.place = 1;
+        comparison.is_worked = false;
+        Ok(())
+    }
+
+    fn take(&mut self, piece: &[u8], _output: &mut ()) -> Result<(), RunFault> {
+        let mut rest = piece;
+        while let Some(end) = memchr(b'\n', rest) {
+            self.take_rest(&rest[..end]);
+            if let Err(why) = self.comparison.outcome() {
+                return Err(why);
+            }
+            rest = &rest[end + 1..];
+        }
+        self.feed(rest);
+        self.comparison.outcome()
+    }
+
+    fn end(&mut self, _output: &mut ()) -> Result<(), RunFault> {
+        if !self.is_new() {
+            self.end_line();
+        }
+        let comparison = &mut self.comparison;
+        comparison.end_answer(&self.answerer);
+        comparison.end_text();
+        comparison.outcome()
+    }
+
+    // Whole lines: a difference that is begun waits for its end.
+    fn hand_over(&mut self, _output: &mut ()) -> Result<(), RunFault> {
+        if let Reading::Different = self.comparison.reading {
+            return Ok(());
+        }
+        self.comparison.told.hand_over()
+    }
+}

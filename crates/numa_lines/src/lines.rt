@@ -1,0 +1,156 @@
+//! The lines of texts, as their bytes come.
+ghost use Rattle.std.specs.Prelude.{◌≡◌, [], ◌∷◌, ◌++◌, ◌⊎◌};
+ghost use Rattle.std.specs.Prelude.{IfOk, IfErr, OnOk, IsErrAnd};
+ghost use Rattle.numa_lines.specs.Lines.{IsPiece};
+ghost use Rattle.numa_lines.specs.Cuts.{HasCut};
+ghost use Rattle.numa_lines.specs.Reading.{Takes};
+
+use crate::buffer::LineBuffer;
+use crate::fault::RunFault;
+use crate::reading::TakeText;
+use memchr::memchr;
+use std::alloc::{AllocError, Global};
+
+/// What takes the lines of texts. It answers into an output, `()` where it has one of its own.
+pub trait TakeLine<O> {
+    ghost use Rattle.std.specs.Prelude.{ℕ, List, Result, ⊤};
+    ghost use Rattle.numa_lines.specs.declared.fault.RunFault.{RunFault};
+
+    /// That a taker and its output, as they were first, have come to this state by these lines;
+    /// where it doesn't say, nothing is promised.
+    ghost has_taken: { Self → O → Self → O → List (List ℕ) → Type 0 } = { λ _ _ _ _ _. ⊤ };
+
+    /// The faults that taking a line may meet; where it doesn't say, any.
+    ghost fails: { RunFault → Type 0 } = { λ _. ⊤ };
+
+    /// What is known of the output once it was handed over, with this result; where it doesn't say,
+    /// nothing.
+    ghost handed: { Result (Unit {0}) RunFault → O → Type 0 } = { λ _ _. ⊤ };
+
+    /// Takes a line without its line feed: the name of its text, its place there from 1, and as
+    /// many of its bytes as show whether a script line is too long, 4,097.
+    ///
+    /// # Errors
+    /// Where it can't be taken.
+    fn take(&mut self, name: &str, place: u64, line: &[u8], output: &mut O) -> Result<(), RunFault>
+        ensures ok { OnOk result
+            (Takes has_taken self.old output.old self.new output.new (line.now ∷ [])) }
+        ensures err { IfErr result fails };
+
+    /// Hands over what was answered.
+    ///
+    /// # Errors
+    /// `Write` where this or an earlier write failed.
+    fn hand_over(&mut self, output: &mut O) -> Result<(), RunFault>
+        ensures takes { Takes has_taken self.old output.old self.new output.new [] }
+        ensures handed { handed result output.new };
+}
+
+/// Cuts texts into lines. The last one of a text may lack its line feed.
+#[derive(Drop)]
+pub struct Lines<T> {
+    /// What takes the lines.
+    pub taker: T,
+    name: String,
+    place: u64,
+    pub(crate) line: LineBuffer,
+}
+
+impl<T: Drop> Lines<T> {
+    /// Before the first text.
+    ///
+    /// # Errors
+    /// `AllocError`: out of memory.
+    pub fn new(alloc: Global, taker: T) -> Result<Lines<T>, AllocError>
+        ensures taker { IfOk result (λ lines. lines.taker ≡ taker) }
+        ensures line { IfOk result (λ lines. lines.line ≡ []) }
+    {
+        let line = LineBuffer::new(alloc)?;
+        Ok(Lines {
+            taker,
+            name: String::new(alloc),
+            place: 1,
+            line,
+        })
+    }
+}
+
+impl<T> Lines<T> {
+    /// Takes the last bytes of the open line, hands it on, and opens the next.
+    fn end_line<O>(&mut self, bytes: &[u8], output: &mut O) -> Result<(), RunFault>
+    where
+        T: TakeLine<O>,
+        requires piece { IsPiece bytes.now }
+        ensures ok { OnOk result (Takes (HasCut T.has_taken)
+            self.old output.old self.new output.new (bytes.now ++ 10 ∷ [])) }
+        ensures err { IfErr result T.fails }
+    {
+        self.line.hold(bytes);
+        let taken = self
+            .taker
+            .take(self.name.as_str(), self.place, self.line.bytes(), output);
+        self.line.clear();
+        self.place = self.place.saturating_add(1);
+        taken
+    }
+
+    /// Hands on the open line, which may be empty, and hands over what was answered.
+    ///
+    /// # Errors
+    /// Those of the taker.
+    pub(crate) fn finish<O>(&mut self, output: &mut O) -> Result<(), RunFault>
+    where
+        T: TakeLine<O>,
+        ensures { IsErrAnd result T.fails ⊎ (T.handed result output.new
+            × Takes (HasCut T.has_taken) self.old output.old self.new output.new (10 ∷ [])) }
+    {
+        let ended = self.end_line(&[], output);
+        let handed = self.taker.hand_over(output);
+        match ended {
+            Ok(()) => handed,
+            Err(why) => Err(why),
+        }
+    }
+}
+
+impl<O, T: TakeLine<O>> TakeText<O> for Lines<T> {
+    ghost use Rattle.numa_lines.specs.Cuts.{HasCut};
+
+    ghost has_taken = { HasCut T.has_taken };
+
+    ghost fails = { T.fails };
+
+    ghost handed = { T.handed };
+
+    fn begin(&mut self, name: &str) -> Result<(), RunFault> {
+        self.place = 1;
+        self.name.clear();
+        match self.name.push_str(name) {
+            Ok(()) => Ok(()),
+            Err(_) => Err(RunFault::Memory),
+        }
+    }
+
+    fn take(&mut self, piece: &[u8], output: &mut O) -> Result<(), RunFault> {
+        let mut rest = piece;
+        while let Some(end) = memchr(b'\n', rest) {
+            if let Err(why) = self.end_line(&rest[..end], output) {
+                return Err(why);
+            }
+            rest = &rest[end + 1..];
+        }
+        self.line.hold(rest);
+        Ok(())
+    }
+
+    fn end(&mut self, output: &mut O) -> Result<(), RunFault> {
+        if self.line.bytes().is_empty() {
+            return Ok(());
+        }
+        self.end_line(&[], output)
+    }
+
+    fn hand_over(&mut self, output: &mut O) -> Result<(), RunFault> {
+        self.taker.hand_over(output)
+    }
+}
