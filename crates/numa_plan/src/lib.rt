@@ -1,16 +1,16 @@
-//! A plan: what readers hold to place pages.
+//! Compiled plans, from which readers get the node list of any page.
 //!
-//! A [`Plan`] answers the list of nodes of any page, for any task and any faulting node, without
-//! the space that it was made of. It keeps runs of pages, each with the number of its rule or none,
-//! rules in numbered slots, each beside the policy that it is for, the number of a rule for some
-//! tasks, and one local rule. A [`Rule`] has rows of nodes, and a key that says which row serves.
+//! A [`Plan`] has the node list of any page, for any task and any faulting node, without the space
+//! from which it was made. It keeps runs of pages, each with the number of its rule or none, rules
+//! in numbered slots, each with its policy, the number of a rule for some tasks, and one local
+//! rule. A [`Rule`] has rows of nodes, and a key that says which row applies.
 //!
-//! [`Plan::choice`] lends the list of a page. [`Plan::fill`] and [`Plan::counts`] answer for a
-//! whole span, run by run: the first node of each page's list, and how many pages have each node
-//! there. None of the three takes memory.
+//! [`Plan::choice`] lends the list of a page. [`Plan::fill`] and [`Plan::counts`] handle a whole
+//! span, run by run: the first node of each page's list, and the number of pages for which each
+//! node is the first. None of the three allocates.
 //!
-//! What the data of a plan mean is told in `specs/Meaning.antt`, what a rule's rows are in
-//! `specs/Rows.antt`, and what the building calls make of the data in `specs/Building.antt`.
+//! `specs/Meaning.antt` defines the meaning of a plan's data, `specs/Rows.antt` a rule's rows, and
+//! `specs/Building.antt` the effects of the building calls.
 #![tactic(auto)]
 
 mod guess;

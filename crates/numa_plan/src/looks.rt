@@ -1,5 +1,5 @@
-//! A run in its place among the runs of a plan. Its first page is private here, and each call that
-//! reads it counts a comparison.
+//! A reference to a run of a plan. Its first page is private here, and each call that reads it
+//! counts a comparison.
 ghost use Rattle.std.specs.Prelude.{◌≡◌, ◌+◌, ◌<◌, ◌≤◌, ◌^◌, MatchOption, true, false};
 ghost use Rattle.numa_ranges.specs.Runs.{end_of};
 ghost use Rattle.numa_plan.specs.Counted.{one_comparison};
@@ -10,8 +10,8 @@ use crate::steps::Steps;
 use numa_ranges::Run;
 use std::marker::Model;
 
-/// A run in its place, of which one asks by calls alone. Whoever is handed one can't read its first
-/// page but by a call that counts.
+/// A reference to a run, with no public fields: its first page can only be read by a call that
+/// counts.
 #[derive(Drop)]
 pub(crate) struct RunInPlace<'a> {
     run: &'a Run<Option<u32>>,
@@ -27,7 +27,7 @@ impl<'a> Model for RunInPlace<'a> {
 }
 
 impl<'a> RunInPlace<'a> {
-    /// This run, which stands somewhere.
+    /// The reference to this run.
     #[inline(always)]
     pub(crate) fn of(run: &'a Run<Option<u32>>) -> RunInPlace<'a>
         ensures { result ≡ run.now }
@@ -45,7 +45,8 @@ impl<'a> RunInPlace<'a> {
         self.run.first
     }
 
-    /// How far a page lies behind the first page of the run; none where it lies before it.
+    /// The distance in pages from the first page of the run to a page; `None` if the page is before
+    /// it.
     #[inline(always)]
     pub(crate) fn far_behind(&self, page: u64, steps: &mut Steps) -> Option<u64>
         ensures counted { steps.new ≡ one_comparison steps.old }
@@ -60,7 +61,7 @@ impl<'a> RunInPlace<'a> {
         }
     }
 
-    /// The run, to be handed out whole, which counts as a comparison.
+    /// A copy of the run, which counts as a comparison.
     #[inline(always)]
     pub(crate) fn whole(&self, steps: &mut Steps) -> Run<Option<u32>>
         ensures counted { steps.new ≡ one_comparison steps.old }
@@ -75,7 +76,7 @@ impl<'a> RunInPlace<'a> {
         }
     }
 
-    /// What the run says of the page that lies so far behind its first page; none where the run is
+    /// What the run says of the page at this distance from its first page; `None` if the run is
     /// shorter.
     #[inline(always)]
     pub(crate) fn found(&self, far: u64) -> Option<Found>
@@ -94,7 +95,7 @@ impl<'a> RunInPlace<'a> {
         }
     }
 
-    /// Whether the run begins behind a page.
+    /// Whether the run begins after a page.
     #[inline]
     pub(crate) fn begins_behind(&self, page: u64, steps: &mut Steps) -> bool
         ensures counted { steps.new ≡ one_comparison steps.old }
@@ -104,7 +105,7 @@ impl<'a> RunInPlace<'a> {
         self.far_behind(page, steps).is_none()
     }
 
-    /// The place behind the run where it ends before a page; for another run the place from before.
+    /// The place after the run if it ends before a page, else the given place.
     #[inline]
     pub(crate) fn behind_ended(
         &self,

@@ -1,4 +1,4 @@
-//! Which slot a policy's rule stood in.
+//! The slots of policies' rules.
 ghost use Rattle.std.specs.Prelude.{◌≡◌, Some, IfSome};
 ghost use Rattle.std.specs.Bool.{OnTrue};
 ghost use Rattle.numa_plan.specs.Slots.{policy_in};
@@ -9,8 +9,8 @@ use numa_mode::Record;
 use std::alloc::Global;
 use std::marker::Model;
 
-/// The numbers of slots that policies had, as far as there was memory to keep them. Nothing follows
-/// from what it holds: a number is looked up in the slots before it is believed.
+/// The slot numbers of policies, as far as there was memory to keep them. A number is checked
+/// against the slots before it is used, so nothing depends on what it holds.
 #[derive(Drop)]
 pub(crate) struct Numbers {
     places: IndexMap<Record, u32>,
@@ -40,7 +40,7 @@ impl Numbers {
         }
     }
 
-    /// Keeps the number of a policy's slot, where there is memory for it.
+    /// Keeps the number of a policy's slot, if there is memory for it.
     pub(crate) fn enter(&mut self, policy: Record, number: u32) {
         let _ = self.places.insert(policy, number);
     }
@@ -52,7 +52,7 @@ impl Numbers {
         }
     }
 
-    /// Keeps the number of each slot that is taken.
+    /// Keeps the number of each taken slot.
     fn enter_all(&mut self, slots: &[Slot]) {
         for place in 0..slots.len() {
             let Ok(number) = u32::try_from(place) else {
@@ -64,8 +64,8 @@ impl Numbers {
         }
     }
 
-    /// The number of the slot that holds a policy's rule, where one is known. Where none at all is
-    /// known, all slots are looked at first.
+    /// The number of the slot that holds a policy's rule, if it is known. If the table is empty, it
+    /// is filled from all slots first.
     pub(crate) fn number_for(&mut self, slots: &[Slot], policy: &Record) -> Option<u32>
         ensures { IfSome result (λ number. policy_in slots.now number ≡ Some policy.now) }
     {

@@ -1,4 +1,4 @@
-//! A plan, and what readers ask of it.
+//! Plans, and the questions of readers.
 ghost use Rattle.std.specs.Prelude.{◌≡◌, ℕ, ◌+◌, ◌<◌, ◌≤◌, length, Some, None, IfOk, IfErr, OnOk};
 ghost use Rattle.std.specs.Prelude.{OnErr, IfSome, MatchOption, EachIndex, slice_index};
 ghost use Rattle.numa_plan.specs.Counted.{FindsQuickly};
@@ -27,14 +27,13 @@ use std::alloc::Global;
 use std::collections::BTreeMap;
 use std::marker::Model;
 
-/// The lists of nodes of a space's pages: runs of pages, each with the number of its rule or none,
-/// rules in numbered slots, each beside its policy, the number of a rule for some tasks, and a
-/// local rule.
+/// The node lists of a space's pages: runs of pages, each with the number of its rule or none,
+/// rules in numbered slots, each with its policy, the number of a rule for some tasks, and a local
+/// rule.
 ///
 /// The list of a page, for a task and a faulting node, is the row that the key of a rule picks by
-/// the node and the page's index: of the rule of the run that has the page; where the run has none,
-/// of the task's rule; where the task has none, of the local rule. A page that no run has has no
-/// list.
+/// the node and the page's index. The rule is that of the run that has the page, or else the
+/// task's, or else the local one. A page without a run has no list.
 #[derive(Drop)]
 pub struct Plan {
     alloc: Global,
@@ -68,7 +67,7 @@ impl Model for Plan {
         IsPlan a.nodes a.runs a.slots.items a.lowest_free a.tasks.entries a.local };
 }
 
-/// The same tasks once more.
+/// A copy of the tasks.
 fn tasks_copied(tasks: &BTreeMap<u32, u32>) -> Result<BTreeMap<u32, u32>, NoMemory>
     ensures { IfOk result (λ copy. copy.entries ≡ tasks.now.entries) }
 {
@@ -76,7 +75,7 @@ fn tasks_copied(tasks: &BTreeMap<u32, u32>) -> Result<BTreeMap<u32, u32>, NoMemo
     Ok(copy)
 }
 
-/// The same tasks and the same local rule once more.
+/// Copies of the tasks and the local rule.
 fn copied(
     alloc: Global,
     tasks: &BTreeMap<u32, u32>,
@@ -94,12 +93,11 @@ fn copied(
 }
 
 impl Plan {
-    /// The same plan once more, with its version, runs, rules and tasks. The two share the chunks
-    /// of their runs and the rules in slots, until one of them is edited.
+    /// Returns a copy. The two plans share the chunks of their runs and the rules in slots, until
+    /// one of them is edited.
     ///
     /// # Errors
-    /// `NoMemory` where there is none for the table of chunks, the slots, the tasks and the local
-    /// rule.
+    /// `NoMemory`: there is no memory for the copy's table of chunks, slots, tasks and local rule.
     pub fn copy(&self, alloc: Global) -> Result<Plan, NoMemory>
         ensures { IfOk result (λ copy. copy ≡ self.now) }
     {
@@ -127,7 +125,7 @@ impl Plan {
         })
     }
 
-    /// The version of the space that the plan was made of: how many commands the space had
+    /// The version of the space from which the plan was made: the number of commands that it had
     /// accepted.
     pub fn version(&self) -> u64
         ensures { result ≡ self.now.version }
@@ -135,7 +133,8 @@ impl Plan {
         self.version
     }
 
-    /// How many runs the plan has. They rise, no two share a page, and the last ends by page 2^35.
+    /// The number of runs. They are in ascending order and disjoint, and the last ends by page
+    /// 2^35.
     pub fn run_count(&self) -> usize
         ensures count { result ≡ length self.now.runs }
         ensures apart { AreApart 0 self.now.runs }
@@ -143,14 +142,14 @@ impl Plan {
         self.runs.len()
     }
 
-    /// The list of nodes of a page, for a task and a fault on the node `cpu`, lent by the plan:
-    /// from 1 to 256 nodes, in the order in which memory is looked for on them.
+    /// The node list of a page, for a task and a fault on node `cpu`: from 1 to 256 nodes, in the
+    /// order in which memory is looked for on them. The plan lends it.
     ///
-    /// The page is compared with the first pages of at most as many runs as the number of runs has
-    /// binary digits. `steps` counts these comparisons, for contracts alone.
+    /// The page is compared with the first pages of at most log2(runs + 1) runs, rounded up.
+    /// `steps` counts these comparisons, for contracts only.
     ///
     /// # Errors
-    /// `BadCpu` where `cpu` is none of the plan's nodes; else `Unmapped` where no run has the page.
+    /// `BadCpu`: the plan has no node `cpu`; else `Unmapped`: no run has the page.
     #[inline(always)]
     pub fn choice(
         &self,
@@ -174,13 +173,11 @@ impl Plan {
         Ok(self.rule_for(task, found.rule).row(cpu, found.index))
     }
 
-    /// Writes the first node of each page's list, for the pages of a span from `first` on, as many
-    /// as `out` has places.
+    /// Writes the first node of each page's list, for the `out.len()` pages from page `first` on.
     ///
     /// # Errors
-    /// `BadCpu` where `cpu` is none of the plan's nodes, also for a span of no pages; else
-    /// `Unmapped` where some page of the span has no run. The span is judged in full before the
-    /// first byte is written, so that a refusal leaves `out` as it was.
+    /// `BadCpu`: the plan has no node `cpu`, even if the span has no pages; else `Unmapped`: a page
+    /// of the span has no run. Then nothing has been written.
     pub fn fill(&self, task: u32, cpu: u32, first: u64, out: &mut [u8]) -> Result<(), PlaceRefusal>
         ensures ok { OnOk result ((cpu < self.now.nodes)
             × EachIndex out.new (λ k. planned_first self.now task (first + k) cpu
@@ -212,13 +209,13 @@ impl Plan {
         Ok(())
     }
 
-    /// How many pages of a span have each node as the first of their list, for `pages` pages from
-    /// `first` on. The time grows with the runs of the span and the cycles of their rules, and not
-    /// with its pages.
+    /// For each node, the number of the `pages` pages from page `first` on whose list begins with
+    /// it. The time depends on the runs of the span and the cycles of their rules, not on the
+    /// number of pages.
     ///
     /// # Errors
-    /// `BadCpu` where `cpu` is none of the plan's nodes, also for a span of no pages; else
-    /// `Unmapped` where some page of the span has no run.
+    /// `BadCpu`: the plan has no node `cpu`, even if the span has no pages; else `Unmapped`: a page
+    /// of the span has no run.
     pub fn counts(&self, task: u32, cpu: u32, first: u64, pages: u64) -> Result<Tally, PlaceRefusal>
         ensures ok { IfOk result (λ counts. (cpu < self.now.nodes)
             × IsMapped self.now.runs first pages
@@ -261,7 +258,7 @@ impl Plan {
         }
     }
 
-    /// The number of a run's rule, and of the task's where the run has none.
+    /// The number of a run's rule, or else of the task's.
     #[inline]
     fn number_for(&self, task: u32, number: Option<u32>) -> Option<u32>
         ensures { result ≡ number_for self.now.tasks task number }
@@ -272,7 +269,7 @@ impl Plan {
         }
     }
 
-    /// The rule that serves, which has its rows.
+    /// The rule that applies.
     #[inline]
     fn rule_for(&self, task: u32, number: Option<u32>) -> &Rule
         ensures is { result.now ≡ rule_for self.now task number }

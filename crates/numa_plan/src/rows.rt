@@ -1,4 +1,4 @@
-//! Rows of nodes, one behind another.
+//! Rows of nodes, concatenated.
 ghost use Rattle.std.specs.Prelude.{◌≡◌, ◌+◌, ◌*◌, ◌<◌, ◌≤◌, length};
 ghost use Rattle.std.specs.Prelude.{slice_index, slice_range, IfOk};
 ghost use Rattle.numa_plan.specs.Rules.{first_nodes};
@@ -7,7 +7,7 @@ use numa_lanes::Cycle;
 use numa_machine::NoMemory;
 use std::alloc::Global;
 
-/// The row of this number, of rows of `width` nodes.
+/// Row `number`, of rows of `width` nodes.
 pub(crate) fn row_at(rows: &[u8], width: u32, number: usize) -> &[u8]
     requires { number * width + width ≤ length rows.now }
     ensures { result.now ≡ slice_range rows.now (number * width) (number * width + width) }
@@ -16,7 +16,7 @@ pub(crate) fn row_at(rows: &[u8], width: u32, number: usize) -> &[u8]
     &rows[number * width..number * width + width]
 }
 
-/// The first node of the row of this number; 0 where there is no such row.
+/// The first node of row `number`; 0 if there is no such row.
 pub(crate) fn first_at(rows: &[u8], width: u32, number: u8) -> u8
     ensures { result ≡ slice_index rows.now (number * width) }
 {
@@ -25,7 +25,7 @@ pub(crate) fn first_at(rows: &[u8], width: u32, number: u8) -> u8
         .unwrap_or(0)
 }
 
-/// The first nodes of the rows that stand in a cycle.
+/// The first nodes of the rows of a cycle.
 fn first_list(alloc: Global, width: u32, rows: &[u8], cycle: &[u8]) -> Result<Vec<u8>, NoMemory>
     ensures { IfOk result (λ firsts. firsts.items ≡ first_nodes rows.now width cycle.now) }
 {
@@ -36,7 +36,7 @@ fn first_list(alloc: Global, width: u32, rows: &[u8], cycle: &[u8]) -> Result<Ve
     Ok(firsts)
 }
 
-/// The cycle of the first nodes of the rows that stand in a cycle.
+/// The cycle of the first nodes of the rows of a cycle.
 pub(crate) fn first_cycle(
     alloc: Global,
     width: u32,

@@ -1,4 +1,4 @@
-//! Rules: rows of nodes, and which of them serves a page.
+//! Rules: rows of nodes, and which of them applies to a page.
 ghost use Rattle.std.specs.Prelude.{◌≡◌, ℕ, ◌+◌, ◌*◌, ◌<◌, ◌^◌, ◌==◌, length};
 ghost use Rattle.std.specs.Prelude.{◌≤◌, slice_index, EachIndex, IfOk};
 ghost use Rattle.numa_ranges.specs.Counts.{count_pages};
@@ -13,7 +13,7 @@ use numa_machine::NoMemory;
 use std::alloc::Global;
 use std::marker::Model;
 
-/// Which row serves, and the rows, of `width` nodes each, one behind another.
+/// Which row applies, and the rows, of `width` nodes each, concatenated.
 #[derive(Drop)]
 enum Body {
     /// The row of the faulting node.
@@ -25,8 +25,8 @@ enum Body {
     Fixed {
         rows: Vec<u8>,
     },
-    /// The row whose number stands in the cycle at the page's index modulo the cycle's length.
-    /// `firsts` has the first node of the row at each of the cycle's places.
+    /// The row whose number is in the cycle at the page's index modulo the cycle's length. `firsts`
+    /// has the first node of the row at each place of the cycle.
     Turns {
         width: u32,
         rows: Vec<u8>,
@@ -35,7 +35,7 @@ enum Body {
     },
 }
 
-/// Rows of nodes, and a key that says which of them serves a page.
+/// Rows of nodes, and a key that says which of them applies to a page.
 #[derive(Drop)]
 pub struct Rule {
     body: Body,
@@ -54,8 +54,8 @@ impl Model for Rule {
 }
 
 impl Rule {
-    /// A rule with a row for each faulting node, from node 0 on: `rows` has them one behind
-    /// another, `width` nodes each.
+    /// A rule with a row for each faulting node, from node 0 on: `rows` is their concatenation,
+    /// `width` nodes each.
     pub fn faulting(width: u32, rows: Vec<u8>) -> Rule
         ensures { result ≡ record { key = Faulting; width = width; rows = rows.items } }
     {
@@ -73,11 +73,11 @@ impl Rule {
         }
     }
 
-    /// A rule whose rows serve in turns: a page of index i gets the row whose number is entry i
-    /// modulo the length of `cycle`. `rows` has the rows one behind another, `width` nodes each.
+    /// A rule whose rows apply in turns: a page with index i gets the row whose number is entry i
+    /// modulo the length of `cycle`. `rows` is the concatenation of the rows, `width` nodes each.
     ///
     /// # Errors
-    /// `NoMemory` where there is none for the first nodes of the rows, which are kept in the order
+    /// `NoMemory`: there is no memory for the first nodes of the rows, which are kept in the order
     /// of the cycle.
     pub fn turns(alloc: Global, width: u32, rows: Vec<u8>, cycle: Vec<u8>) -> Result<Rule, NoMemory>
         requires { 0 < length cycle.items }
@@ -95,7 +95,7 @@ impl Rule {
         })
     }
 
-    /// The same rule once more.
+    /// Returns a copy.
     pub(crate) fn copy(&self, alloc: Global) -> Result<Rule, NoMemory>
         ensures { IfOk result (λ copy. copy ≡ self.now) }
     {
@@ -121,7 +121,7 @@ impl Rule {
         }
     }
 
-    /// The row that serves a page of this index, for a fault on this node.
+    /// The row for a page with this index, for a fault on this node.
     pub(crate) fn row(&self, cpu: u32, index: u64) -> &[u8]
         requires { HasRow self.now (row_number self.now cpu index) }
         ensures is { result.now ≡ row_of self.now cpu index }
@@ -142,7 +142,7 @@ impl Rule {
         }
     }
 
-    /// Writes the first node of the row that serves each of the indexes from this one on.
+    /// Writes the first node of the row for each of the indexes from this one on.
     pub(crate) fn fill(&self, cpu: u32, index: u64, out: &mut [u8])
         requires rows { (k : ℕ) → HasRow self.now (row_number self.now cpu k) }
         requires index { index < 2 ^ 36 }
@@ -156,8 +156,8 @@ impl Rule {
         }
     }
 
-    /// Adds to each node's count the pages whose row begins with the node, for so many pages with
-    /// the indexes from this one on.
+    /// Adds to each node's count the pages whose row begins with the node, for `pages` pages with
+    /// the indexes from `index` on.
     pub(crate) fn count(&self, cpu: u32, index: u64, pages: u64, counts: &mut Tally)
         requires rows { (k : ℕ) → HasRow self.now (row_number self.now cpu k) }
         requires room { HasRoom counts.old (λ _. pages) }

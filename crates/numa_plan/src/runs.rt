@@ -1,5 +1,5 @@
-//! The runs of a plan, in rising order. They stand in chunks, which are private here: who asks is
-//! handed runs in their places, whose first pages are read by calls that count alone.
+//! The runs of a plan, in ascending order. Their chunks are private here: callers get references to
+//! runs, whose first pages are read only by calls that count.
 ghost use Rattle.std.specs.Prelude.{◌≡◌, ℕ, ◌+◌, ◌/◌, ◌<◌, ◌≤◌, ◌^◌, [], ◌∷◌, ◌++◌, length};
 ghost use Rattle.std.specs.Prelude.{slice_index_or, Option, slice_get, IfOk, OnOk, OnErr};
 ghost use Rattle.std.specs.List.{slice_range, splice};
@@ -17,8 +17,8 @@ use numa_rows::{Part, SharedRows};
 use std::alloc::{AllocError, Global};
 use std::marker::Model;
 
-/// What a run says of a page: its index, the number of its rule (none: the task's rule), and how
-/// many pages the run has from it on.
+/// What a run says of a page: its index, the number of its rule (`None`: the task's rule), and the
+/// number of pages of the run from it on.
 #[derive(Clone, Copy, Debug, PartialEq, Eq)]
 pub(crate) struct Found {
     pub(crate) index: u64,
@@ -26,7 +26,7 @@ pub(crate) struct Found {
     pub(crate) left: u64,
 }
 
-/// A span's window: its first place and the one behind its last, and a guess at its chunk.
+/// A span's window: its first place, the one after its last, and a guess at its chunk.
 #[derive(Clone, Copy, Debug)]
 pub(crate) struct Beside {
     pub(crate) from: usize,
@@ -34,8 +34,8 @@ pub(crate) struct Beside {
     pub(crate) near: usize,
 }
 
-/// Runs of pages, in rising order and apart, each with the number of its rule or none. They stand
-/// in chunks, which copies share.
+/// Disjoint runs of pages in ascending order, each with the number of its rule or none, in chunks
+/// that copies share.
 #[derive(Drop)]
 pub(crate) struct PlanRuns {
     items: SharedRows<Run<Option<u32>>>,
@@ -63,7 +63,7 @@ impl PlanRuns {
         }
     }
 
-    /// The same runs once more, in the same chunks.
+    /// Returns a copy, which shares the chunks.
     pub(crate) fn copy(&self) -> Result<PlanRuns, AllocError>
         ensures { IfOk result (λ copy. copy ≡ self.now) }
     {
@@ -71,7 +71,7 @@ impl PlanRuns {
         Ok(PlanRuns { items })
     }
 
-    /// How many runs there are, and in how many chunks they stand.
+    /// The number of runs and of chunks.
     #[inline(always)]
     pub(crate) fn sizes(&self) -> (usize, usize)
         ensures count { result.0 ≡ length self.now }
@@ -82,7 +82,7 @@ impl PlanRuns {
         (self.items.len(), self.items.chunk_count())
     }
 
-    /// How many runs there are.
+    /// The number of runs.
     #[inline(always)]
     pub(crate) fn len(&self) -> usize
         ensures count { result ≡ length self.now }
@@ -92,7 +92,7 @@ impl PlanRuns {
         self.sizes().0
     }
 
-    /// No part of the runs, where a search begins.
+    /// An empty part, where a search begins.
     #[inline(always)]
     pub(crate) fn no_part(&self) -> Part<'_, Run<Option<u32>>>
         ensures { IsChunkOf self.now result }
@@ -100,7 +100,8 @@ impl PlanRuns {
         self.items.no_part()
     }
 
-    /// The part where it has the run at a place, else the chunk that has it, sought from a guess on.
+    /// The part if it has the run at a place, else the chunk that has it. The search starts at a
+    /// guess.
     #[inline(always)]
     pub(crate) fn part_with<'a>(
         &'a self,
@@ -130,7 +131,7 @@ impl PlanRuns {
         RunInPlace::of(self.items.row_in(part, place))
     }
 
-    /// The run at a place, in a part of the runs or sought from it on.
+    /// The run at a place, in a part of the runs or found from it on.
     #[inline(always)]
     pub(crate) fn run_beside<'a>(
         &'a self,
@@ -146,7 +147,7 @@ impl PlanRuns {
         self.run_in(&part, place)
     }
 
-    /// The run at a place, sought from a chunk on, which is the run's own afterwards.
+    /// The run at a place. The search starts at `chunk`, which is the run's own afterwards.
     #[inline(always)]
     pub(crate) fn run_near(&self, place: usize, chunk: &mut usize) -> RunInPlace<'_>
         requires { place < length self.now }
@@ -168,7 +169,7 @@ impl PlanRuns {
         }
     }
 
-    /// The runs of a window, in a vector of their own.
+    /// The runs of a window, in a new vector.
     fn gathered(
         &self,
         alloc: Global,
@@ -189,7 +190,7 @@ impl PlanRuns {
         Ok(runs)
     }
 
-    /// Adds a run behind the others.
+    /// Appends a run.
     pub(crate) fn push(&mut self, run: Run<Option<u32>>, steps: &mut Steps) -> Result<(), NoMemory>
         requires { AreApart 0 (self.old ++ run ∷ []) }
         ensures ok { OnOk result ((self.new ≡ self.old ++ run ∷ [])
@@ -212,7 +213,7 @@ impl PlanRuns {
         Ok(())
     }
 
-    /// Puts runs in the place of those of a window, which it hands back; `looks` counts these.
+    /// Replaces the runs of a window, and returns them; `looks` counts these.
     pub(crate) fn splice(
         &mut self,
         alloc: Global,

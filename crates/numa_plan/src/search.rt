@@ -1,5 +1,5 @@
-//! Searches among the runs of a plan, and looks that spare one. Each counts its comparisons on the
-//! counter that it is given.
+//! Searches among the runs of a plan, and looks that can save one. Each counts its comparisons on
+//! the given counter.
 ghost use Rattle.std.specs.Prelude.{◌≡◌, ℕ, ◌+◌, ◌-◌, ◌/◌, ◌<◌, ◌≤◌, length, slice_index_or};
 ghost use Rattle.std.specs.Prelude.{MatchOption, Option, IfSome};
 ghost use Rattle.std.specs.Bool.{OnTrue, OnFalse};
@@ -17,15 +17,15 @@ use crate::steps::Steps;
 use numa_ranges::Run;
 use numa_rows::Part;
 
-/// How far a walk along the pages has come: the place of the next run, and the chunk of the last.
-/// Nothing depends on it but time.
+/// The state of a walk along the pages: the place of the next run, and the chunk of the last. Only
+/// speed depends on it.
 #[derive(Clone, Copy, Debug)]
 pub(crate) struct Seen {
     place: usize,
     chunk: usize,
 }
 
-/// The middle of the places where a search goes on: half of them at most stand on each side.
+/// The middle of the places where a search goes on: at most half of them are on each side.
 #[inline(always)]
 fn middle_of(low: usize, high: usize) -> usize
     requires { low < high }
@@ -37,7 +37,7 @@ fn middle_of(low: usize, high: usize) -> usize
     low + (high - low) / 2
 }
 
-/// A window that was looked for from a place on, where a run before it was seen or is none.
+/// The window found from a place on, if a run before it was seen or there is none.
 #[inline]
 fn seen_window(start: usize, from: usize, to: usize, near: usize) -> Option<Beside>
     ensures from { IfSome result (λ found. found.from ≡ from) }
@@ -51,8 +51,8 @@ fn seen_window(start: usize, from: usize, to: usize, near: usize) -> Option<Besi
 }
 
 impl PlanRuns {
-    /// The place behind the last run that begins at a page or before it, how far the page lies
-    /// behind the first page of that run, and the runs among which the search ended.
+    /// The place after the last run that begins at a page or before it, the page's distance from
+    /// the first page of that run, and the runs among which the search ended.
     #[inline]
     fn split(&self, page: u64, steps: &mut Steps) -> (usize, u64, Part<'_, Run<Option<u32>>>)
         ensures split { IsSplit self.now page result.0 result.1 }
@@ -87,8 +87,8 @@ impl PlanRuns {
         (low, far, part)
     }
 
-    /// What the run at a place, which is sought from a part of the runs on, says of the page that
-    /// lies so far behind its first page.
+    /// What the run at a place says of the page at a distance from its first page. The search for
+    /// the run starts at a part of the runs.
     #[inline]
     fn found_at<'a>(
         &'a self,
@@ -114,7 +114,7 @@ impl PlanRuns {
         self.find_first(page, &mut PlanRuns::seen(), steps)
     }
 
-    /// Where a walk along the pages begins.
+    /// The beginning of a walk along the pages.
     pub(crate) fn seen() -> Seen {
         Seen {
             place: usize::MAX,
@@ -122,7 +122,7 @@ impl PlanRuns {
         }
     }
 
-    /// Where a walk begins that finds the run of this page, if there is one, without a search.
+    /// The beginning of a walk that finds the run of this page, if there is one, without a search.
     pub(crate) fn walk_from(&self, page: u64, steps: &mut Steps) -> Seen {
         let at = self.split(page, steps);
         Seen {
@@ -131,8 +131,8 @@ impl PlanRuns {
         }
     }
 
-    /// What the runs say of a page, where `seen` tells how far a walk along the pages has come. It
-    /// looks at the next run first, and searches where that doesn't have the page.
+    /// What the runs say of a page on a walk with state `seen`. It looks at the next run first, and
+    /// searches if that doesn't have the page.
     #[inline(always)]
     pub(crate) fn find_next(&self, page: u64, seen: &mut Seen, steps: &mut Steps) -> Option<Found>
         ensures found { IsFound self.now page result }
@@ -147,7 +147,7 @@ impl PlanRuns {
         found
     }
 
-    /// What the next run says of a page; none where it doesn't have the page.
+    /// What the next run says of a page; `None` if it doesn't have the page.
     #[inline(always)]
     fn found_beside(&self, page: u64, seen: &mut Seen, steps: &mut Steps) -> Option<Found>
         ensures found { IfSome result (λ found. IsAt self.now page found) }
@@ -178,7 +178,7 @@ impl PlanRuns {
         self.found_at(at.0 - 1, at.1, at.2)
     }
 
-    /// How many runs begin at a page or before it.
+    /// The number of runs that begin at a page or before it.
     fn count_begun(&self, page: u64, steps: &mut Steps) -> usize
         ensures within { result ≤ length self.now }
         ensures begun { AllWithin (λ run. run.first ≤ page) self.now 0 result }
@@ -188,7 +188,7 @@ impl PlanRuns {
         self.split(page, steps).0
     }
 
-    /// How many runs end before a page.
+    /// The number of runs that end before a page.
     fn count_ended(&self, page: u64, steps: &mut Steps) -> usize
         ensures within { result ≤ length self.now }
         ensures ended { AllWithin (λ run. end_of run < page) self.now 0 result }
@@ -208,8 +208,8 @@ impl PlanRuns {
         }
     }
 
-    /// The places of the runs that end at `first` or behind it and begin at `end` or before it: the
-    /// first place, and the one behind the last.
+    /// The places of the runs that end at `first` or later and begin at `end` or earlier: the first
+    /// place, and the one after the last.
     pub(crate) fn window(&self, first: u64, end: u64, steps: &mut Steps) -> (usize, usize)
         ensures window { first ≤ end → IsWindow self.now first end result.0 result.1 }
         ensures quick { FindsTwice steps.old steps.new (length self.now) }
@@ -219,7 +219,7 @@ impl PlanRuns {
         (from, to)
     }
 
-    /// The same places, looked for beside a guess at the first of them before they are sought.
+    /// The same places, with a look near a guess at the first of them before a search.
     pub(crate) fn window_near(
         &self,
         first: u64,
@@ -243,8 +243,8 @@ impl PlanRuns {
         }
     }
 
-    /// The window of a span, looked for from a place on, which stands in a chunk or near it; none
-    /// where it begins before that place, or ends many runs behind it.
+    /// The window of a span, looked for from a place in or near a chunk; `None` if it begins before
+    /// that place, or ends many runs after it.
     fn window_from(
         &self,
         first: u64,
@@ -274,8 +274,8 @@ impl PlanRuns {
         seen_window(start, from, to, chunk)
     }
 
-    /// What the runs say of a page, which the run at a place, that stands in a chunk or near it, is
-    /// looked at for before it is sought.
+    /// What the runs say of a page, with a look at the run at a place, in or near a chunk, before a
+    /// search.
     pub(crate) fn find_near(
         &self,
         page: u64,

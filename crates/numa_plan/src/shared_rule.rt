@@ -15,7 +15,7 @@ struct RuleOfPolicy {
     rule: Rule,
 }
 
-/// A policy and its rule, which plans share, so that a copy of a plan takes no memory for them.
+/// A policy and its rule, which plans share, so that a copy of a plan needs no memory for them.
 #[derive(Drop)]
 pub struct SharedRule {
     shared: Arc<RuleOfPolicy>,
@@ -30,10 +30,10 @@ impl Model for SharedRule {
 }
 
 impl SharedRule {
-    /// The rule of a policy, to be shared.
+    /// A policy and its rule, to be shared.
     ///
     /// # Errors
-    /// `NoMemory` where there is none for the rule's place.
+    /// `NoMemory`: out of memory.
     pub fn new(alloc: Global, policy: Record, rule: Rule) -> Result<SharedRule, NoMemory>
         ensures { IfOk result (λ shared. shared ≡ record { policy = policy; rule = rule }) }
     {
@@ -41,7 +41,7 @@ impl SharedRule {
         Ok(SharedRule { shared })
     }
 
-    /// The policy and its rule once more, of which there is one still.
+    /// Another reference to the same policy and rule.
     pub(crate) fn share(&self) -> Result<SharedRule, AllocError>
         ensures { IfOk result (λ shared. shared ≡ self.now) }
     {

@@ -1,5 +1,5 @@
-//! Policies and their rules in numbered slots, which count the runs and tasks that use them. A free
-//! slot is used again.
+//! Policies and their rules in numbered slots, which count the runs and tasks that use them. Free
+//! slots are reused.
 ghost use Rattle.std.specs.Prelude.{◌≡◌, ℕ, ◌+◌, ◌-◌, ◌<◌, ◌≤◌, ◌^◌, length, All, count_by};
 ghost use Rattle.std.specs.Prelude.{Some, IsSome, is_some, IfOk, OnOk, OnErr, slice_set, take, not};
 ghost use Rattle.std.specs.Option.{ForSome};
@@ -21,11 +21,11 @@ use std::alloc::Global;
 pub(crate) enum Slot {
     /// There is no rule.
     Free,
-    /// A policy and its rule, and how many runs and tasks use it.
+    /// A policy and its rule, and the number of runs and tasks that use it.
     Taken { uses: u32, kept: SharedRule },
 }
 
-/// The same slot once more, with the same rule.
+/// A copy of the slot, which shares the rule.
 fn slot_copy(slot: &Slot) -> Result<Slot, NoMemory>
     ensures { IfOk result (λ copy. copy ≡ slot.now) }
 {
@@ -38,7 +38,7 @@ fn slot_copy(slot: &Slot) -> Result<Slot, NoMemory>
     }
 }
 
-/// The same slots once more, with the same rules.
+/// Copies of the slots, which share the rules.
 pub(crate) fn copies(alloc: Global, slots: &[Slot]) -> Result<Vec<Slot>, NoMemory>
     ensures { IfOk result (λ others. others.items ≡ slots.now) }
 {
@@ -49,7 +49,7 @@ pub(crate) fn copies(alloc: Global, slots: &[Slot]) -> Result<Vec<Slot>, NoMemor
     Ok(others)
 }
 
-/// The number of the lowest free slot, or of the one behind the last; below `from` none is free.
+/// The number of the lowest free slot, or of the one after the last; below `from` none is free.
 fn lowest_free(slots: &Vec<Slot>, from: usize) -> usize
     requires within { from ≤ length slots.now.items }
     requires taken { AreTaken slots.now.items from }
@@ -78,11 +78,11 @@ fn put_rule(slots: &mut Vec<Slot>, number: usize, kept: SharedRule) -> Result<()
     Ok(())
 }
 
-/// Puts a policy's rule, which nothing uses yet, into the lowest free slot, or behind the others
-/// where none is free, and answers the slot's number. Below `from` none is free.
+/// Puts a policy's rule, which nothing uses yet, into the lowest free slot or, if none is free, a
+/// new one, and returns the slot's number. Below `from` none is free.
 ///
 /// # Errors
-/// `NoMemory` where there is none, or where the slots are 2^32 already; they are as they were.
+/// `NoMemory`: out of memory, or there are already 2^32 slots. Then nothing has changed.
 pub(crate) fn put_lowest(
     alloc: Global,
     slots: &mut Vec<Slot>,
@@ -110,7 +110,7 @@ pub(crate) fn put_lowest(
     Ok(number)
 }
 
-/// Counts one more use of a rule.
+/// Adds one use of a rule.
 pub(crate) fn use_rule(slots: &mut Vec<Slot>, number: u32)
     requires there { IsSome (rule_in slots.old.items number) }
     requires few { uses_in slots.old.items number < 2 ^ 32 - 1 }
@@ -122,7 +122,7 @@ pub(crate) fn use_rule(slots: &mut Vec<Slot>, number: u32)
     }
 }
 
-/// Counts one use of a rule less.
+/// Removes one use of a rule.
 fn leave_rule(slots: &mut Vec<Slot>, number: u32)
     requires { 0 < uses_in slots.old.items number }
     ensures { slots.new.items ≡ with_use_less slots.old.items (Some number) }
@@ -133,7 +133,7 @@ fn leave_rule(slots: &mut Vec<Slot>, number: u32)
     }
 }
 
-/// Counts one more use of a rule, if one is named.
+/// Adds one use of a rule, if one is named.
 pub(crate) fn use_named(slots: &mut Vec<Slot>, named: Option<u32>)
     requires there { ForSome named (λ number. IsSome (rule_in slots.old.items number)) }
     requires few { ForSome named (λ number. uses_in slots.old.items number < 2 ^ 32 - 1) }
@@ -144,7 +144,7 @@ pub(crate) fn use_named(slots: &mut Vec<Slot>, named: Option<u32>)
     }
 }
 
-/// Counts one use of a rule less, if one is named.
+/// Removes one use of a rule, if one is named.
 pub(crate) fn leave_named(slots: &mut Vec<Slot>, named: Option<u32>)
     requires { ForSome named (λ number. 0 < uses_in slots.old.items number) }
     ensures { slots.new.items ≡ with_use_less slots.old.items named }
@@ -154,7 +154,7 @@ pub(crate) fn leave_named(slots: &mut Vec<Slot>, named: Option<u32>)
     }
 }
 
-/// Counts one more use of a rule for each run that names it.
+/// Adds one use of a rule for each run that names it.
 pub(crate) fn use_all(slots: &mut Vec<Slot>, runs: &[Run<Option<u32>>])
     requires there { All (λ run. ForSome run.value (λ number.
         IsSome (rule_in slots.old.items number))) runs.now }
@@ -166,7 +166,7 @@ pub(crate) fn use_all(slots: &mut Vec<Slot>, runs: &[Run<Option<u32>>])
     }
 }
 
-/// Counts one use of a rule less for each run that names it.
+/// Removes one use of a rule for each run that names it.
 pub(crate) fn leave_all(slots: &mut Vec<Slot>, runs: &[Run<Option<u32>>])
     requires { (number : ℕ) →
         count_by (λ run. is_number number run.value) runs.now ≤ uses_in slots.old.items number }
@@ -177,7 +177,7 @@ pub(crate) fn leave_all(slots: &mut Vec<Slot>, runs: &[Run<Option<u32>>])
     }
 }
 
-/// Writes a rule in the place of another, whose uses it keeps.
+/// Replaces a rule, and keeps its uses.
 pub(crate) fn write_other(slots: &mut Vec<Slot>, number: u32, other: SharedRule)
     requires { IsSome (rule_in slots.old.items number) }
     ensures { slots.new.items
@@ -212,7 +212,7 @@ pub(crate) fn policy_at(slots: &[Slot], number: u32) -> Option<Record>
     }
 }
 
-/// How many uses a slot counts.
+/// The number of uses of a slot.
 pub(crate) fn uses_at(slots: &[Slot], number: u32) -> u32
     ensures { result ≡ uses_in slots.now number }
 {
@@ -225,7 +225,7 @@ pub(crate) fn uses_at(slots: &[Slot], number: u32) -> u32
     }
 }
 
-/// How many slots are taken.
+/// The number of taken slots.
 pub(crate) fn taken_count(slots: &[Slot]) -> usize
     ensures { result ≡ count_by (λ slot. is_some (rule_of_slot slot)) slots.now }
 {
@@ -238,7 +238,7 @@ pub(crate) fn taken_count(slots: &[Slot]) -> usize
     count
 }
 
-/// How many slots there are up to the last that is taken.
+/// The number of slots up to the last taken one.
 fn taken_length(slots: &[Slot]) -> usize
     ensures within { result ≤ length slots.now }
     ensures kept { take result slots.now ≡ up_to_last_taken slots.now }
@@ -253,7 +253,7 @@ fn taken_length(slots: &[Slot]) -> usize
     0
 }
 
-/// Frees a slot, and takes out the free slots behind the last that is taken.
+/// Frees a slot, and removes the free slots after the last taken one.
 pub(crate) fn free_slot(slots: &mut Vec<Slot>, number: usize)
     requires { number < length slots.old.items }
     ensures { slots.new.items ≡ up_to_last_taken (slice_set slots.old.items number Free) }

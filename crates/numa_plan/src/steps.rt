@@ -1,12 +1,12 @@
-//! Steps that contracts alone count.
+//! Counting steps for contracts.
 ghost use Rattle.std.specs.Prelude.{◌≡◌};
 ghost use Rattle.numa_plan.specs.Counted.{no_steps, one_comparison, one_run, more_runs};
 ghost use Rattle.numa_plan.specs.Counted.{one_rule};
 
 use numa_ghost::Count;
 
-/// A counter of steps: comparisons of a page with the first page of a run, runs that were written,
-/// and rules that were written. It has no bytes, and nothing but a contract can read it.
+/// A counter of steps: comparisons of a page with the first page of a run, written runs, and
+/// written rules. It has no bytes, and only contracts can read it.
 #[derive(Drop)]
 pub struct Steps {
     comparisons: Count,
@@ -40,7 +40,7 @@ impl Steps {
         self.runs = self.runs.next();
     }
 
-    /// So many runs were written.
+    /// `runs` runs were written.
     pub(crate) fn runs_written(&mut self, runs: usize)
         ensures { self.new ≡ more_runs runs self.old }
     {

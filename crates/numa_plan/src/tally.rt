@@ -6,14 +6,14 @@ ghost use Rattle.numa_plan.specs.Tally.{Adds, HasRoom};
 
 use numa_lanes::{Cycle, tally};
 
-/// How many pages are on each node: the count of node k at place k.
+/// The number of pages on each node: the count of node k at place k.
 pub type Tally = [u64; 256];
 
-/// How many turns a cycle lends at once.
+/// The most turns that a cycle lends at once.
 const LENT: u64 = 64;
 
-/// Adds to each node's count the pages that are on it, where so many pages from an index on take
-/// the nodes of a cycle in turn.
+/// Adds to each node's count the pages that are on it, if `pages` pages from `index` on take the
+/// nodes of a cycle in turn.
 #[inline]
 pub(crate) fn add_turns(cycle: &Cycle, index: u64, pages: u64, counts: &mut Tally)
     requires { HasRoom counts.old (λ _. pages) }
@@ -26,8 +26,8 @@ pub(crate) fn add_turns(cycle: &Cycle, index: u64, pages: u64, counts: &mut Tall
     tally(cycle.turns(index, pages as usize), counts);
 }
 
-/// Adds to each node's count the pages that are on it, where so many pages from an index on take
-/// the nodes of a cycle in turn: whole rounds of it by multiplication, and the rest page by page.
+/// Adds to each node's count the pages that are on it, if `pages` pages from `index` on take the
+/// nodes of a cycle in turn: whole rounds by multiplication, and the rest page by page.
 #[inline(never)]
 fn add_rounds(nodes: &[u8], index: u64, pages: u64, counts: &mut Tally)
     requires some { 0 < length nodes.now }
@@ -41,8 +41,8 @@ fn add_rounds(nodes: &[u8], index: u64, pages: u64, counts: &mut Tally)
     add_rest(nodes, start, rest, counts);
 }
 
-/// Adds to each node's count the pages that are on it, where fewer pages than a round take the
-/// nodes of a cycle in turn, from this place of the cycle on.
+/// Adds to each node's count the pages that are on it, if fewer pages than a round take the nodes
+/// of a cycle in turn, from place `start` of the cycle on.
 fn add_rest(nodes: &[u8], start: usize, pages: usize, counts: &mut Tally)
     requires start { start < length nodes.now }
     requires pages { pages < length nodes.now }
@@ -59,7 +59,7 @@ fn add_rest(nodes: &[u8], start: usize, pages: usize, counts: &mut Tally)
     }
 }
 
-/// Adds so many pages for each of these nodes to the node's count.
+/// Adds `pages` pages to the count of each of these nodes.
 fn add_places(nodes: &[u8], pages: u64, counts: &mut Tally)
     requires { HasRoom counts.old (λ node. pages * node_count node nodes.now) }
     ensures { Adds counts.old counts.new (λ node. pages * node_count node nodes.now) }

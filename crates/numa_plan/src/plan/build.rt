@@ -1,4 +1,4 @@
-//! How a plan is built, by its compiler.
+//! Building plans, for the compiler.
 ghost use Rattle.std.specs.Prelude.{◌≡◌, ◌≢◌, ℕ, ◌+◌, ◌<◌, ◌≤◌, ◌^◌, ◌-◌, length, None};
 ghost use Rattle.std.specs.Prelude.{Some, IsSome, IfOk, OnOk, OnErr, [], ◌∷◌, ◌++◌};
 ghost use Rattle.std.specs.Option.{ForSome};
@@ -22,8 +22,8 @@ use std::alloc::Global;
 use std::collections::BTreeMap;
 
 impl Plan {
-    /// A plan for a machine of this many nodes, of version 0, without runs, rules in slots and
-    /// tasks. The local rule has a row for each of the nodes. Takes no memory.
+    /// A plan of version 0 for a machine with `nodes` nodes, without runs, rules in slots and
+    /// tasks. The local rule has a row for each node. It doesn't allocate.
     pub fn new(alloc: Global, nodes: u32, local: Rule) -> Plan
         requires { HasRows nodes local }
         ensures { result ≡ empty_plan nodes local }
@@ -42,13 +42,13 @@ impl Plan {
     }
 
     /// Writes the rule of a policy, with a row for each of the plan's nodes at each index, into the
-    /// lowest free slot, or behind the others where none is free. Answers the slot's number. No run
-    /// and no task uses the rule yet, so that no list changes; `drop_rule` of that number, before
-    /// anything else is done, leaves the plan as it was.
+    /// lowest free slot or, if none is free, a new one, and returns the slot's number. No run and
+    /// no task uses the rule yet, so no list changes; an immediate `drop_rule` of that number
+    /// restores the plan.
     ///
     /// # Errors
-    /// `NoMemory` where there is none for the rule's place or a slot more, or where the slots are
-    /// 2^32 already; the plan is as it was.
+    /// `NoMemory`: there is no memory for the rule or the slot, or there are already 2^32 slots.
+    /// Then the plan hasn't changed.
     pub fn add_rule(
         &mut self,
         policy: Record,
@@ -77,11 +77,11 @@ impl Plan {
         Ok(number)
     }
 
-    /// Adds a run behind the others. It begins where they end or later, has a page, ends below page
-    /// 2^35 and has indexes below 2^36, and its rule, if it names one, is there.
+    /// Appends a run. It begins where the others end or later, isn't empty, ends by page 2^35 and
+    /// has indexes below 2^36, and its rule, if it names one, exists.
     ///
     /// # Errors
-    /// `NoMemory` where there is none for a run more; the plan is as it was.
+    /// `NoMemory`: there is no memory for another run. Then the plan hasn't changed.
     pub fn push_run(&mut self, run: Run<Option<u32>>, steps: &mut Steps) -> Result<(), NoMemory>
         requires apart { AreApart 0 (self.old.runs ++ run ∷ []) }
         requires named { ForSome run.value (λ number. IsSome (rule_in self.old.slots number)) }
@@ -96,12 +96,12 @@ impl Plan {
         Ok(())
     }
 
-    /// Gives a task the rule of this number, which is there, in place of the one that it had; with
-    /// None the task has no rule of its own any more. Writes no run and no rule.
+    /// Sets the rule of a task, by its number; with `None` the task has no rule any more. It writes
+    /// no run and no rule.
     ///
     /// # Errors
-    /// `NoMemory` where there is none for a task more, or where the rule has 2^32 - 1 uses already;
-    /// never with None; the plan is as it was.
+    /// `NoMemory`: there is no memory for another task, or the rule already has 2^32 - 1 uses;
+    /// never with `None`. Then the plan hasn't changed.
     pub fn set_task(&mut self, task: u32, number: Option<u32>) -> Result<(), NoMemory>
         requires named { ForSome number (λ number. IsSome (rule_in self.old.slots number)) }
         ensures ok { OnOk result (self.new ≡ with_task self.old task number) }
@@ -124,7 +124,7 @@ impl Plan {
         }
     }
 
-    /// Gives a task a rule, in place of the one that it had.
+    /// Sets the rule of a task.
     fn give_rule(&mut self, task: u32, number: u32) -> Result<(), NoMemory>
         requires named { IsSome (rule_in self.old.slots number) }
         ensures ok { OnOk result (self.new ≡ with_task self.old task (Some number)) }
@@ -143,7 +143,7 @@ impl Plan {
         Ok(())
     }
 
-    /// Takes a task's rule away, if it has one.
+    /// Removes a task's rule, if it has one.
     fn take_rule(&mut self, task: u32)
         ensures ok { self.new ≡ with_task self.old task None }
         ensures given { number_of self.new.tasks task ≡ None }

@@ -1,4 +1,4 @@
-//! How a plan is edited in place.
+//! Editing plans in place.
 ghost use Rattle.std.specs.Prelude.{◌≡◌, ◌≢◌, ℕ, ◌+◌, ◌<◌, ◌≤◌, ◌^◌, length, All};
 ghost use Rattle.std.specs.Prelude.{IsSome, IfSome, Some, None, IfOk, OnOk, OnErr};
 ghost use Rattle.std.specs.Bool.{OnTrue};
@@ -23,7 +23,7 @@ use numa_machine::NoMemory;
 use numa_mode::Record;
 use numa_ranges::Run;
 
-/// Whether the uses of a rule by so many runs and tasks, and so many runs more, can be counted.
+/// Whether the uses of a rule by this many runs and tasks, and `more` runs, can be counted.
 fn can_count(runs: usize, tasks: usize, more: usize) -> bool
     ensures { OnTrue result (runs + tasks + more < 2 ^ 32) }
 {
@@ -32,13 +32,12 @@ fn can_count(runs: usize, tasks: usize, more: usize) -> bool
 }
 
 impl Plan {
-    /// Puts runs in the place of those from one place to another (the second is the place behind
-    /// the last of them), where the runs stay apart and each rule that is named is there. Counts
-    /// each run that it puts in.
+    /// Replaces the runs from place `from` to `to`, which is excluded. Runs stay disjoint, and each
+    /// rule that is named exists. `steps` counts each new run.
     ///
     /// # Errors
-    /// `NoMemory` where there is none for the runs, or where the plan's runs and tasks and these
-    /// runs are 2^32 or more; the plan is as it was.
+    /// `NoMemory`: there is no memory for the runs, or the plan's runs and tasks and these runs are
+    /// 2^32 or more. Then the plan hasn't changed.
     pub fn splice_runs(
         &mut self,
         from: usize,
@@ -61,8 +60,8 @@ impl Plan {
         Ok(())
     }
 
-    /// Does what [`Plan::splice_runs`] does, and hands back the runs that it takes out. `near` is a
-    /// guess at their chunk, as [`Plan::window_near`] gives one; nothing depends on it but time.
+    /// As [`Plan::splice_runs`], and returns the replaced runs. `near` is a guess at their chunk,
+    /// as from [`Plan::window_near`]; only speed depends on it.
     ///
     /// # Errors
     /// As for `splice_runs`.
@@ -96,9 +95,8 @@ impl Plan {
         Ok(gone)
     }
 
-    /// Writes a rule, with a row for each of the plan's nodes at each index, in the place of that
-    /// in a slot, which is for the same policy. Its runs and tasks use the new rule from now on.
-    /// Takes no memory.
+    /// Replaces the rule in a slot by one for the same policy, with a row for each of the plan's
+    /// nodes at each index. Its runs and tasks use the new rule from now on. It doesn't allocate.
     pub fn write_rule(&mut self, number: u32, shared: SharedRule, steps: &mut Steps)
         requires there { policy_in self.old.slots number ≡ Some shared.policy }
         requires rows { HasRows self.old.nodes shared.rule }
@@ -113,9 +111,8 @@ impl Plan {
         steps.rule_written();
     }
 
-    /// Takes out a rule that no run and no task uses. Its slot is free, or is taken out with the
-    /// free ones before it where none is taken behind it. No list changes. A rule that was added
-    /// last leaves the plan as it was before.
+    /// Removes a rule that no run and no task uses. Its slot becomes free; free slots at the end
+    /// are removed. No list changes. Dropping a rule that was added last restores the plan.
     pub fn drop_rule(&mut self, number: u32)
         requires there { IsSome (rule_in self.old.slots number) }
         requires unused { uses_in self.old.slots number ≡ 0 }
@@ -134,20 +131,20 @@ impl Plan {
         self.lowest_free = self.lowest_free.min(place);
     }
 
-    /// Takes room for so many rules more, so that it need not be taken one by one. The plan is as
-    /// it was.
+    /// Reserves memory for `rules` more rules, so that it isn't allocated one by one. The plan
+    /// doesn't change.
     ///
     /// # Errors
-    /// `NoMemory` where there is none.
+    /// `NoMemory`: out of memory.
     pub fn reserve(&mut self, rules: usize) -> Result<(), NoMemory>
         ensures same { self.new ≡ self.old }
     {
         self.slots.reserve(rules).ok().ok_or(NoMemory)
     }
 
-    /// The number of a slot that holds the rule of this policy, where one is known. Looks into a
-    /// private table, which a plan that was copied fills first; a rule that was added while there
-    /// was no memory for its entry isn't found. The plan is as it was.
+    /// The number of a slot that holds the rule of this policy, if it is known from a private
+    /// table, which a copied plan fills first. A rule that was added without memory for its entry
+    /// isn't found. The plan doesn't change.
     pub fn number_for_policy(&mut self, policy: &Record) -> Option<u32>
         ensures number { IfSome result (λ number.
             policy_in self.new.slots number ≡ Some policy.now) }

@@ -1,4 +1,4 @@
-//! What an editor of a plan reads in it.
+//! What an editor reads of a plan.
 ghost use Rattle.std.specs.Prelude.{◌≡◌, ◌≢◌, ◌↔◌, ℕ, ◌<◌, ◌≤◌, length, All, Some, slice_get};
 ghost use Rattle.std.specs.Prelude.{count_by, is_some};
 ghost use Rattle.std.specs.Option.{option_map};
@@ -24,47 +24,46 @@ impl Plan {
         policy_at(&self.slots, number)
     }
 
-    /// How many rules stand in slots.
+    /// The number of rules in slots.
     pub fn rule_count(&self) -> usize
         ensures { result ≡ count_by (λ slot. is_some (rule_of_slot slot)) self.now.slots }
     {
         taken_count(&self.slots)
     }
 
-    /// How many slots there are, free or taken: one more than the highest number of a rule.
+    /// The number of slots, free or taken: one more than the highest number of a rule.
     pub fn slot_count(&self) -> usize
         ensures { result ≡ length self.now.slots }
     {
         self.slots.len()
     }
 
-    /// How many runs and tasks use the rule in a slot; none use one whose number none of them
-    /// names.
+    /// The number of runs and tasks that use the rule in a slot.
     pub fn uses(&self, number: u32) -> u32
         ensures uses { result ≡ uses_in self.now.slots number }
         ensures named { (result ≡ 0) ↔ IsUnnamed self.now number }
     {
-        // Tells the proof that no task stands there twice.
+        // Tells the proof that no task is in it twice.
         let _ = self.tasks.len();
         uses_at(&self.slots, number)
     }
 
-    /// The number of a task's rule, where the task has one of its own.
+    /// The number of a task's rule, if it has one.
     pub fn task_number(&self, task: u32) -> Option<u32>
         ensures { result ≡ number_of self.now.tasks task }
     {
         self.tasks.get(&task).copied()
     }
 
-    /// The run at a place, in rising order.
+    /// The run at a place, in ascending order.
     pub fn run_at(&self, place: usize) -> Option<Run<Option<u32>>>
         ensures { result ≡ slice_get self.now.runs place }
     {
         run_at(&self.runs, place)
     }
 
-    /// The number of the rule of the run that has a page; none where no run has it. The page is
-    /// compared as by [`Plan::choice`].
+    /// The number of the rule of the run that has a page; the outer `None` if no run has it. The
+    /// page is compared as by [`Plan::choice`].
     pub fn number_at(&self, page: u64, steps: &mut Steps) -> Option<Option<u32>>
         ensures number { result ≡ option_map (λ at. at.1) (page_at self.now.runs page) }
         ensures quick { FindsQuickly steps.old steps.new (length self.now.runs) }
@@ -75,12 +74,11 @@ impl Plan {
         }
     }
 
-    /// The places of the runs that have a page of those from `first` on, up to the one before
-    /// `end`, or stand right beside them: from the first place on, up to the one before the second.
-    /// The runs before end before `first`, those behind begin behind `end`, and those in between
-    /// do neither. `first` is `end` or before it; else the places mean nothing.
+    /// The places of the runs that have a page from `first` to `end`, which is excluded, or are
+    /// adjacent to them: the first place, and the one after the last. Earlier runs end before
+    /// `first`, later ones begin after `end`. If `first` is above `end` the places mean nothing.
     ///
-    /// Two searches find them; `steps` counts their comparisons, for contracts alone.
+    /// Two searches find them; `steps` counts their comparisons, for contracts only.
     pub fn window(&self, first: u64, end: u64, steps: &mut Steps) -> (usize, usize)
         ensures window { first ≤ end → IsWindow self.now.runs first end result.0 result.1 }
         ensures quick { FindsTwice steps.old steps.new (length self.now.runs) }
@@ -89,8 +87,7 @@ impl Plan {
     }
 
     /// The window of a span, as [`Plan::window`] finds it, and a guess at the chunk of its runs. It
-    /// is looked for beside a guess at its place before it is sought: nothing depends on the guess
-    /// but time, which a good one makes short.
+    /// looks near a guess at its place before it searches: only speed depends on the guess.
     pub fn window_near(&self, first: u64, end: u64, guess: usize) -> (usize, usize, usize)
         ensures { first ≤ end → IsWindow self.now.runs first end result.0 result.1 }
     {

@@ -21,12 +21,24 @@ use numa_space::PlaceRefusal;
 use std::alloc::Global;
 
 impl Plan {
-    /// The fallback list of a page, for a task and a fault on the node `cpu`, lent by the plan: 1 to
-    /// 256 nodes, in the order in which memory is looked for on them. It is the list of
+    /// The fallback list of a page, for a task and a fault on node `cpu`: from 1 to 256 nodes, in
+    /// the order in which memory is looked for on them. The plan lends it. It is the list of
     /// [`Plan::choice`], without the counter of comparisons.
     ///
     /// # Errors
-    /// `BadCpu`: `cpu` is none of the plan's nodes. `Unmapped`: no run has the page.
+    /// `BadCpu`: the plan has no node `cpu`; else `Unmapped`: no run has the page.
+    ///
+    /// # Examples
+    /// Prints the first node of each page for task 1 on node 0:
+    ///
+    /// ```
+    /// for page in 0x10..0x14u64 {
+    ///     match plan.fallback_list(1, page, 0) {
+    ///         Ok(nodes) => println!(rt; "page {page}: node {}", nodes[0])?,
+    ///         Err(_) => println!(rt; "page {page}: not mapped")?,
+    ///     }
+    /// }
+    /// ```
     #[inline(always)]
     pub fn fallback_list(&self, task: u32, page: u64, cpu: u32) -> Result<&[u8], PlaceRefusal>
         ensures ok { IfOk result (λ row. (cpu < self.now.nodes)
