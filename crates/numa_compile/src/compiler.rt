@@ -1,4 +1,4 @@
-//! Compiling.
+//! Compiling spaces to plans.
 ghost use Rattle.std.specs.Prelude.{◌≡◌, ℕ, ◌+◌, ◌-◌, ◌^◌, ◌<◌, ◌≤◌, IfOk, OnOk, List, [], length};
 ghost use Rattle.std.specs.Prelude.{slice_get, All, IsSome, Some, None, ◌∷◌, ◌++◌};
 ghost use Rattle.std.specs.Option.{ForSome};
@@ -27,7 +27,7 @@ use numa_ranges::Run;
 use numa_space::{Command, Limits, Space};
 use std::alloc::Global;
 
-/// Looks at what holds of every space and its machine.
+/// Tells the proof the facts of every space and its machine.
 pub(crate) fn survey(space: &Space)
     ensures ready { IsReady space.now }
     ensures rising { AreApart 0 space.now.ranges }
@@ -35,8 +35,8 @@ pub(crate) fn survey(space: &Space)
     ensures ranges { length space.now.ranges ≤ 65536 }
     ensures tasks { length space.now.tasks ≤ 1024 }
 {
-    // Tells the proof that the space and its machine are sound, how its ranges stand, and how many
-    // ranges and tasks there can be.
+    // Tells the proof that the space and its machine are sound, that its ranges are maximal, and
+    // the limits of ranges and tasks.
     let machine = space.machine();
     let _ = machine.nodes();
     let _ = machine.memory().weight();
@@ -46,10 +46,10 @@ pub(crate) fn survey(space: &Space)
     let _ = space.task_count();
 }
 
-/// How many runs wait before they are put into the plan.
+/// The number of runs that wait before they are added to the plan.
 const BLOCK: usize = 256;
 
-/// Puts the runs that wait behind the plan's. None waits any more.
+/// Appends the waiting runs to the plan's. None waits any more.
 fn put_waiting(
     plan: &mut Plan,
     waiting: &mut Vec<Run<Option<u32>>>,
@@ -69,7 +69,7 @@ fn put_waiting(
     Ok(())
 }
 
-/// Adds a run behind those that wait, and puts them into the plan where they are enough.
+/// Adds a run to those that wait, and appends them to the plan once they are enough.
 fn add_run(
     plan: &mut Plan,
     waiting: &mut Vec<Run<Option<u32>>>,
@@ -92,8 +92,8 @@ fn add_run(
     put_waiting(plan, waiting, steps)
 }
 
-/// Adds a run for each range of the space, in order, and answers the policies that have a rule
-/// then, each at the place that is the number of its rule.
+/// Adds a run for each range of the space, in order, and returns the policies that then have a
+/// rule, each at the place that is the number of its rule.
 fn add_runs(
     alloc: Global,
     space: &Space,
@@ -139,7 +139,7 @@ fn add_runs(
     Ok(records)
 }
 
-/// The task at a place where there is one, and its policy.
+/// The task at a place, which exists, and its policy.
 fn task_there(space: &Space, place: usize) -> (u32, Record)
     requires { place < length space.now.tasks }
     ensures task { slice_get space.now.tasks place ≡ Some result }
@@ -179,10 +179,10 @@ fn set_tasks(
     Ok(())
 }
 
-/// Copies a space into a plan that has its local rule alone.
+/// Copies a space into a plan that has only its local rule.
 ///
 /// # Errors
-/// `NoMemory` where there is none for the runs, the rules and the tasks.
+/// `NoMemory`: there is no memory for the runs, the rules or the tasks.
 fn copy_space(
     alloc: Global,
     space: &Space,
@@ -202,17 +202,16 @@ fn copy_space(
         return Err(NoMemory);
     };
     plan.set_version(space.version());
-    // Tells the proof that no record is there twice.
+    // Tells the proof that no record is in it twice.
     let _ = records.len();
     drop(records);
     Ok(())
 }
 
-/// The plan of a space, as [`compile`] makes it. `steps` counts the runs and the rules that are
-/// written.
+/// The plan of a space, as by [`compile`]. `steps` counts the written runs and rules.
 ///
 /// # Errors
-/// `NoMemory` where there is none for the plan.
+/// `NoMemory`: there is no memory for the plan.
 pub(crate) fn compile_counted(
     alloc: Global,
     space: &Space,
@@ -232,13 +231,13 @@ pub(crate) fn compile_counted(
     Ok(plan)
 }
 
-/// The plan of a space: one run for each of its ranges, and one rule for each policy that is live,
-/// which all ranges and tasks with equal records share; a policy that isn't live has none, so that
-/// the next scope counts ("NUMA Memory Policy", scopes). Its version is the number of commands that
-/// the space has accepted.
+/// The plan of a space: one run for each of its ranges, and one rule for each live policy, which
+/// all ranges and tasks with equal records share. A policy that isn't live has no rule, so that the
+/// next scope applies ("NUMA Memory Policy", scopes). The plan's version is the number of commands
+/// that the space has accepted.
 ///
 /// # Errors
-/// `NoMemory` where there is none for the plan.
+/// `NoMemory`: there is no memory for the plan.
 pub fn compile(alloc: Global, space: &Space) -> Result<Plan, NoMemory>
     ensures stands { (history : List Command) → StandsFor space.now history
         → IfOk result (λ plan. PlanStandsFor space.now.machine plan history) }
@@ -252,11 +251,26 @@ pub fn compile(alloc: Global, space: &Space) -> Result<Plan, NoMemory>
     compile_counted(alloc, space, &mut Steps::new())
 }
 
-/// The plan of a new space of the machine, after these commands, the first first; those that are
-/// refused are passed over.
+/// The plan of a new space of the machine after these commands, in order; refused ones are skipped.
 ///
 /// # Errors
-/// `NoMemory` where there is none for a command or for the plan.
+/// `NoMemory`: there is no memory for a command or for the plan.
+///
+/// # Examples
+/// Four pages at 0x10000, which task 1 interleaves:
+///
+/// ```
+/// let (start, length, offset) = (0x10000, 0x4000, 0x10);
+/// let commands = [
+///     Command::Map {
+///         start,
+///         length,
+///         offset,
+///     },
+///     Command::SetTask { task: 1, spec },
+/// ];
+/// compile_commands(alloc, machine, limits, &commands).ok()
+/// ```
 pub fn compile_commands(
     alloc: Global,
     machine: Machine,

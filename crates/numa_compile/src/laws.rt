@@ -1,4 +1,4 @@
-//! What a plan answers, by the history that it stands for.
+//! A law on the answers of a plan, by the history for which it stands.
 ghost use Rattle.std.specs.Prelude.{◌≡◌, ◌≢◌, ℕ, ◌^◌, ◌<◌, ◌↔◌, true, Some, List, slice_index};
 ghost use Rattle.numa_machine.specs.Machine.{Hardware};
 ghost use Rattle.numa_plan.specs.Meaning.{PlanData, planned_list, planned_first, planned_count};
@@ -13,14 +13,13 @@ ghost use Rattle.numa_space.specs.Standing.{IsAccepted, IsNodeList, place_refusa
 ghost use Rattle.numa_compile.specs.Standing.{PlanStandsFor};
 ghost use Rattle.numa_compile.specs.Spans.{first_node, meant_count, SpanIsRefused};
 
-/// A plan that stands for a history answers by it. The words are those of the clauses of `choice`,
-/// `fill` and `counts`: a list that the plan has is the node list of a mapped page; a question
-/// about a page is refused exactly where the history refuses it, and for the same cause; the first
-/// node that the plan has is the first of the node list; a node is counted once for each mapped
-/// page of the span whose node list begins with it; and a span is refused exactly where the history
-/// refuses it, a faulting node that the machine lacks before a page that isn't mapped. Each list
-/// that a plan of accepted commands lends, for a machine of which some nodes have memory, has a
-/// node, each once, and only allowed ones.
+/// A plan that stands for a history answers by it, in the terms of the clauses of `choice`, `fill`
+/// and `counts`: each list of the plan is the node list of a mapped page; a question about a page
+/// is refused exactly if the history refuses it, and for the same cause; the first node by the plan
+/// is the first of the node list; a node is counted once for each mapped page of the span whose
+/// node list begins with it; and a span is refused exactly if the history refuses it, for a missing
+/// faulting node before an unmapped page. On a machine with memory, each list of a plan of accepted
+/// commands isn't empty, has no node twice, and has only allowed nodes.
 pub fn every_plan()
     ensures choice { (machine : Hardware) (plan : PlanData) (history : List Command)
         (task page cpu : ℕ) (nodes : List ℕ)

@@ -1,4 +1,4 @@
-//! From a space to a plan.
+//! Compiling a space to a plan, and keeping a space together with its plan.
 #![tactic(auto)]
 
 mod compiler;

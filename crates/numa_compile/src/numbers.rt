@@ -18,10 +18,10 @@ use numa_plan::{Plan, Steps};
 use numa_space::{RangeRecord, Space};
 use std::alloc::Global;
 
-/// Adds the rule of a live policy to a plan, and answers its number.
+/// Adds the rule of a live policy to a plan, and returns its number.
 ///
 /// # Errors
-/// `NoMemory` where there is none for the rule; the plan is as it was.
+/// `NoMemory`: there is no memory for the rule. Then the plan hasn't changed.
 pub(crate) fn add_rule_of(
     alloc: Global,
     space: &Space,
@@ -60,8 +60,8 @@ fn place_of(records: &mut IndexSet<Record>, policy: Record) -> Result<(u32, bool
     Ok((number, is_new))
 }
 
-/// The number of the rule of a live policy: its place among the records. The rule is written where
-/// the record is new.
+/// The number of the rule of a live policy: its place among the records. The rule is written if the
+/// record is new.
 fn number_of(
     alloc: Global,
     space: &Space,
@@ -89,14 +89,14 @@ fn number_of(
     Ok(number)
 }
 
-/// Whether a policy has a rule of its own: it is live.
+/// Whether a policy has a rule: it is live.
 pub(crate) fn has_rule(policy: &Record) -> bool
     ensures { result ≡ is_live policy.now }
 {
     policy.is_live()
 }
 
-/// The number of a policy's rule, and none for a policy that isn't live or isn't there.
+/// The number of a policy's rule; `None` for no policy, or one that isn't live.
 pub(crate) fn number_for(
     alloc: Global,
     space: &Space,
@@ -135,8 +135,8 @@ fn note(known: &mut Vec<Option<Option<u32>>>, value: u32, number: Option<u32>)
     known[value as usize] = Some(number);
 }
 
-/// The number of the rule of the policy under a number of the space's records, and none for one
-/// that isn't live or isn't there. What was found once under a number is known from then on.
+/// The number of the rule of a policy by its number among the space's records; `None` for no
+/// policy, or one that isn't live. A result is remembered by that number.
 pub(crate) fn number_for_range(
     alloc: Global,
     space: &Space,

@@ -1,4 +1,4 @@
-//! A space with the plan that is kept beside it.
+//! A space that keeps its plan.
 ghost use Rattle.std.specs.Prelude.{◌≡◌, ℕ, ◌<◌, None, IfOk};
 ghost use Rattle.std.specs.Prelude.{IfSome, List, [], Some, true};
 ghost use Rattle.std.specs.Option.{ForSome};
@@ -18,11 +18,11 @@ use std::alloc::Global;
 use std::marker::Model;
 use std::mem;
 
-/// A space, and its plan once it was asked for. From then on each accepted command edits the plan
-/// in place, so that asking for it again costs nothing. Contracts see the space alone.
+/// A space, and its plan after the first request for it. From then on each accepted command edits
+/// the plan in place, so that later requests cost nothing. Contracts see only the space.
 ///
-/// Two commands' plans are put off until they are asked for: one for whose edit there was no
-/// memory, and a change of the allowed nodes, which makes every list anew.
+/// After two kinds of commands the plan is dropped until the next request: one for whose edit there
+/// was no memory, and a change of the allowed nodes, which changes every list.
 #[derive(Drop)]
 pub struct PlannedSpace {
     space: Space,
@@ -44,7 +44,7 @@ impl Model for PlannedSpace {
 /// A copy of a plan, if there is one.
 ///
 /// # Errors
-/// `NoMemory` where there is none for it.
+/// `NoMemory`: out of memory.
 fn copy_of(alloc: Global, plan: &Option<Plan>) -> Result<Option<Plan>, NoMemory>
     ensures { IfOk result (λ copy. copy ≡ plan.now) }
 {
@@ -54,8 +54,8 @@ fn copy_of(alloc: Global, plan: &Option<Plan>) -> Result<Option<Plan>, NoMemory>
     }
 }
 
-/// Edits a plan as the command says that its space accepted last, and answers whether there was the
-/// memory for it.
+/// Edits a plan for the command that its space accepted last, and returns whether there was memory
+/// for it.
 fn edited(alloc: Global, plan: &mut Plan, space: &Space, command: &Command) -> bool
     requires behind { IsBehind space.now command.now plan.old }
     ensures follows { result ≡ true → Follows space.now plan.new }
@@ -63,7 +63,7 @@ fn edited(alloc: Global, plan: &mut Plan, space: &Space, command: &Command) -> b
     recompile(alloc, plan, space, command, &mut Steps::new()).is_ok()
 }
 
-/// Keeps a plan that follows its space, and puts another off.
+/// Keeps a plan that follows its space, and drops another.
 fn keep_if(plan: &mut Option<Plan>, space: &Space, follows: bool)
     requires { follows ≡ true → ForSome plan.old (Follows space.now) }
     ensures { ForSome plan.new (Follows space.now) }
@@ -73,7 +73,7 @@ fn keep_if(plan: &mut Option<Plan>, space: &Space, follows: bool)
     }
 }
 
-/// Edits a plan, if there is one, as the command says that its space accepted last; or puts it off.
+/// Edits a plan, if there is one, for the command that its space accepted last, or drops it.
 fn follow(alloc: Global, plan: &mut Option<Plan>, space: &Space, command: &Command)
     requires { ForSome plan.old (IsBehind space.now command.now) }
     ensures { ForSome plan.new (Follows space.now) }
@@ -89,10 +89,10 @@ fn follow(alloc: Global, plan: &mut Option<Plan>, space: &Space, command: &Comma
     keep_if(plan, space, follows);
 }
 
-/// Makes the plan of a space where there is none yet.
+/// Makes the plan of a space, if there is none.
 ///
 /// # Errors
-/// `NoMemory` where there is none for the plan.
+/// `NoMemory`: there is no memory for the plan.
 fn prepare(alloc: Global, plan: &mut Option<Plan>, space: &Space) -> Result<(), NoMemory>
     requires { ForSome plan.old (Follows space.now) }
     ensures { ForSome plan.new (Follows space.now) }
@@ -107,7 +107,7 @@ fn prepare(alloc: Global, plan: &mut Option<Plan>, space: &Space) -> Result<(), 
 /// A copy of the plan that is there.
 ///
 /// # Errors
-/// `NoMemory` where there is none for it, or no plan.
+/// `NoMemory`: out of memory, or there is no plan.
 fn copy_there(alloc: Global, plan: &Option<Plan>) -> Result<Plan, NoMemory>
     ensures { IfOk result (λ copy. plan.now ≡ Some copy) }
 {
@@ -117,10 +117,10 @@ fn copy_there(alloc: Global, plan: &Option<Plan>) -> Result<Plan, NoMemory>
     }
 }
 
-/// A copy of the plan of a space, which is made first where there is none yet.
+/// A copy of the plan of a space, which is made first if there is none.
 ///
 /// # Errors
-/// `NoMemory` where there is none for the plan or for its copy.
+/// `NoMemory`: there is no memory for the plan or its copy.
 fn made_copy(alloc: Global, plan: &mut Option<Plan>, space: &Space) -> Result<Plan, NoMemory>
     requires { ForSome plan.old (Follows space.now) }
     ensures plan { ForSome plan.new (Follows space.now) }
@@ -130,8 +130,8 @@ fn made_copy(alloc: Global, plan: &mut Option<Plan>, space: &Space) -> Result<Pl
     copy_there(alloc, plan)
 }
 
-/// The plan of a space. A function of its own, so that a question about a space with a plan takes
-/// no stack for it.
+/// The plan of a space. It is a separate function, so that a question about a space with a plan
+/// uses no stack for it.
 #[inline(never)]
 fn compile_anew(alloc: Global, space: &Space) -> Result<Plan, NoMemory>
     ensures { IfOk result (λ plan. Follows space.now plan) }
@@ -140,7 +140,7 @@ fn compile_anew(alloc: Global, space: &Space) -> Result<Plan, NoMemory>
 }
 
 impl PlannedSpace {
-    /// A space of this machine in which nothing was accepted. It has no plan yet.
+    /// A space of this machine in which nothing is accepted, without a plan.
     pub fn new(alloc: Global, machine: Machine, limits: Limits) -> PlannedSpace
         ensures stands { StandsFor result [] }
         ensures machine { result.machine ≡ machine }
@@ -152,11 +152,10 @@ impl PlannedSpace {
         }
     }
 
-    /// The same space once more, with its plan if it has one. Of the plan the two share what
-    /// `Plan::copy` says.
+    /// Returns a copy, with a copy of the plan if there is one (`Space::copy`, `Plan::copy`).
     ///
     /// # Errors
-    /// `NoMemory` where there is none for `Space::copy` or `Plan::copy`.
+    /// `NoMemory`: as `Space::copy` and `Plan::copy`.
     pub fn copy(&self, alloc: Global) -> Result<PlannedSpace, NoMemory>
         ensures { IfOk result (λ copy. copy ≡ self.now) }
     {
@@ -175,11 +174,11 @@ impl PlannedSpace {
         &self.space
     }
 
-    /// Carries out a command, or refuses it, as `Space::apply` does. Lack of memory for the plan
-    /// refuses nothing: the plan is put off.
+    /// Carries out a command, or refuses it, as `Space::apply`. Lack of memory for the plan refuses
+    /// nothing: then the plan is dropped.
     ///
     /// # Errors
-    /// The refusal of `Space::apply`, the first cause that applies; nothing has changed then.
+    /// As `Space::apply`: the first cause that applies. Then nothing has changed.
     pub fn apply(&mut self, alloc: Global, command: &Command) -> Result<(), Refusal>
         ensures { IsApplied self.old command.now result self.new }
     {
@@ -190,19 +189,19 @@ impl PlannedSpace {
         Ok(())
     }
 
-    /// Makes the plan of the space where there is none yet.
+    /// Makes the plan of the space, if there is none.
     ///
     /// # Errors
-    /// `NoMemory` where there is none for the plan.
+    /// `NoMemory`: there is no memory for the plan.
     pub fn prepare(&mut self, alloc: Global) -> Result<(), NoMemory>
         ensures { self.new ≡ self.old }
     {
         prepare(alloc, &mut self.plan, &self.space)
     }
 
-    /// The plan of the space, as [`compile`] makes it: from the first `prepare` or `plan_copy` that
-    /// had memory on, until it is put off. Its version is the number of commands that the space has
-    /// accepted.
+    /// The plan of the space, as by [`compile`]; `None` before the first successful `prepare` or
+    /// `plan_copy`, and after it was dropped. Its version is the number of commands that the space
+    /// has accepted.
     pub fn plan(&self) -> Option<&Plan>
         ensures stands { (history : List Command) → StandsFor self.now history
             → IfSome result (λ plan. PlanStandsFor self.now.machine plan.now history) }
@@ -218,10 +217,10 @@ impl PlannedSpace {
         }
     }
 
-    /// A copy of the plan of the space, for another to keep: commands leave it as it is.
+    /// A copy of the plan of the space, which later commands don't change.
     ///
     /// # Errors
-    /// `NoMemory` where there is none for the plan, or for `Plan::copy`.
+    /// `NoMemory`: there is no memory for the plan or its copy.
     pub fn plan_copy(&mut self, alloc: Global) -> Result<Plan, NoMemory>
         ensures same { self.new ≡ self.old }
         ensures stands { (history : List Command) → StandsFor self.old history

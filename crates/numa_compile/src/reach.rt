@@ -1,11 +1,11 @@
-//! Which nodes a row has.
+//! The nodes of a row.
 use numa_mask::NodeMask;
 
-/// Which nodes a row has, the nearest first.
+/// The nodes of a row, the nearest first.
 #[derive(Clone, Copy)]
 pub(crate) enum Reach {
-    /// The nodes of the set alone.
+    /// Only the nodes of the set.
     Only(NodeMask),
-    /// The nodes of the set, and behind them the other allowed nodes.
+    /// The nodes of the set, and after them the other allowed nodes.
     First(NodeMask),
 }

@@ -1,5 +1,4 @@
-//! Recompiling: a plan is edited in place after each command that a space has accepted, so that it
-//! follows the space again.
+//! Recompiling: editing a plan in place after each command that its space has accepted.
 ghost use Rattle.std.specs.Prelude.{◌≡◌, ℕ, ◌<◌, OnOk, OnErr, List};
 ghost use Rattle.std.specs.Option.{ForSome};
 ghost use Rattle.numa_ranges.specs.Runs.{AreApart, AreMaximal};
@@ -38,13 +37,12 @@ use numa_plan::{Plan, Steps};
 use numa_space::{Command, Space};
 use std::alloc::Global;
 
-/// Edits a plan as its space's last command says. Where pages were mapped or unmapped, no range
-/// that begins in the span has a policy; mbind(2) has set one for all of them, and a home node
-/// leaves each its own.
+/// Edits a plan for its space's last command. After map or unmap no range that begins in the span
+/// has a policy; mbind(2) has set one for all of them; after a home node each has its own.
 ///
 /// # Errors
-/// `NoMemory` where there is none for what the command wants; the plan is as it was. Never for a
-/// span without pages, of a command that maps nothing.
+/// `NoMemory`: there is no memory for the edit. Then the plan hasn't changed. Never for an empty
+/// span of a command that maps nothing.
 fn edit(
     alloc: Global,
     plan: &mut Plan,
@@ -92,18 +90,17 @@ fn edit(
     }
 }
 
-/// Edits a plan in place, so that it follows its space once more, which has accepted a command
-/// since the plan followed it last. It writes as few runs and rules as the command wants, and
-/// leaves all else as it was.
+/// Edits a plan in place, so that it follows its space again after one more accepted command. It
+/// writes only the runs and rules that the command affects.
 ///
-/// A command of a span writes a run at most for each run that it meets, and for two beside it;
-/// mbind(2) one rule at most, a home one for each of these runs. A task's policy takes one rule, a
-/// weight the rules of weighted interleave. A change of the allowed nodes makes the plan anew.
-/// `steps` counts what is written, for contracts alone; no count falls.
+/// A command of a span writes at most one run for each run that it meets and two more; mbind(2) at
+/// most one rule, a home one for each of these runs. A task's policy takes one rule, a weight the
+/// rules of weighted interleave. A change of the allowed nodes compiles the plan again. `steps`
+/// counts the written runs and rules, for contracts only; no count decreases.
 ///
 /// # Errors
-/// `NoMemory` where there is none for what is written, or where the plan's runs and tasks, or its
-/// slots, would be 2^32 or more; the plan is as it was.
+/// `NoMemory`: out of memory, or the plan's runs and tasks, or its slots, would be 2^32 or more.
+/// Then the plan hasn't changed.
 pub fn recompile(
     alloc: Global,
     plan: &mut Plan,

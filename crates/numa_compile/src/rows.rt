@@ -1,4 +1,4 @@
-//! Rows of nodes, one behind another.
+//! Rows of nodes, concatenated.
 ghost use Rattle.std.specs.Prelude.{◌≡◌, ◌<◌, ◌++◌, OnOk, IfOk, All};
 ghost use Rattle.std.specs.List.{range_with_len};
 ghost use Rattle.numa_mask.specs.NodeSet.{members};

@@ -21,7 +21,7 @@ use numa_plan::Rule;
 use numa_space::Space;
 use std::alloc::Global;
 
-/// How many nodes each row has.
+/// The number of nodes of each row.
 fn width(space: &Space, reach: &Reach) -> u32
     ensures { result ≡ width_in (setting_in space.now) reach.now }
 {
@@ -57,7 +57,7 @@ fn fixed_rule(alloc: Global, space: &Space, reach: Reach, from: u32) -> Result<R
     Ok(Rule::fixed(row))
 }
 
-/// A rule by which the home node, if there is one, stands in for the faulting node.
+/// A rule in which the home node, if there is one, replaces the faulting node.
 fn rule_by_home(
     alloc: Global,
     space: &Space,

@@ -9,7 +9,7 @@ use numa_machine::{NoMemory, Weights};
 use numa_mask::NodeMask;
 use std::alloc::Global;
 
-/// One turn for each of so many places, from place 0 on.
+/// One turn for each of `count` places, from place 0 on.
 pub(crate) fn equal_turns(alloc: Global, count: u32) -> Result<Vec<u8>, NoMemory>
     requires { count ≤ 256 }
     ensures { IfOk result (λ cycle. cycle.items ≡ range_with_len 0 count) }
@@ -21,7 +21,7 @@ pub(crate) fn equal_turns(alloc: Global, count: u32) -> Result<Vec<u8>, NoMemory
     Ok(cycle)
 }
 
-/// Appends so many turns of a place.
+/// Appends `turns` turns of a place.
 fn push_turns(cycle: &mut Vec<u8>, place: u8, turns: u32) -> Result<(), NoMemory>
     ensures { OnOk result (cycle.new.items ≡ cycle.old.items ++ replicate turns place) }
 {
@@ -31,8 +31,8 @@ fn push_turns(cycle: &mut Vec<u8>, place: u8, turns: u32) -> Result<(), NoMemory
     Ok(())
 }
 
-/// As many turns for each member of a set as its weight, by the member's place in the set, from the
-/// lowest member on; each has one at least.
+/// For each member of a set, in ascending order, as many turns as its weight, by the member's place
+/// in the set; each has at least one.
 pub(crate) fn weighted_turns(
     alloc: Global,
     weights: &Weights,

@@ -1,4 +1,4 @@
-//! A rule for a policy: one that is there, or one more.
+//! The rule of a policy: an existing one, or a new one.
 ghost use Rattle.std.specs.Prelude.{◌≡◌, IfOk, OnOk, OnErr};
 ghost use Rattle.std.specs.Option.{ForSome};
 ghost use Rattle.numa_space.specs.Policies.{where_live};
@@ -15,11 +15,11 @@ use numa_plan::{Plan, Steps};
 use numa_space::Space;
 use std::alloc::Global;
 
-/// The number of the rule of a live policy, and the number of the rule that was added for it, where
-/// the plan had none. Both are missing for a policy that isn't live or isn't there.
+/// The number of the rule of a live policy, and the number of the rule that was added for it, if
+/// the plan had none. Both are `None` for no policy, or one that isn't live.
 ///
 /// # Errors
-/// `NoMemory` where there is none for the rule; the plan is as it was.
+/// `NoMemory`: there is no memory for the rule. Then the plan hasn't changed.
 pub(crate) fn number_or_add(
     alloc: Global,
     space: &Space,

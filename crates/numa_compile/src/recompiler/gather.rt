@@ -1,4 +1,4 @@
-//! The runs for the ranges that a command of a span has changed.
+//! Gathering the runs for the ranges that a command of a span changed.
 ghost use Rattle.std.specs.Prelude.{◌≡◌, ◌≤◌, false, true, OnOk, [], ◌∷◌, ◌++◌, length};
 ghost use Rattle.std.specs.List.{slice_range};
 ghost use Rattle.numa_ranges.specs.Windows.{begins_in};
@@ -14,8 +14,8 @@ use numa_plan::Plan;
 use numa_ranges::Run;
 use numa_space::{RangeRecord, Space};
 
-/// The number of a range that begins outside the window's span: that of the run that has its first
-/// page, which is the first or the last of the window.
+/// The rule number of a range that begins outside the window's span: that of the run that has its
+/// first page, which is the first or the last of the window.
 pub(crate) fn number_before(plan: &Plan, window: &Window, range: &Run<RangeRecord>) -> Option<u32>
     requires numbered { IsNumbered plan.now range.now }
     ensures { IsNumber (policy_in plan.now.slots) (where_live range.now.value) result }
@@ -31,7 +31,7 @@ pub(crate) fn number_before(plan: &Plan, window: &Window, range: &Run<RangeRecor
     number
 }
 
-/// The number of a range of the window: the given one where it begins in the window's span.
+/// The rule number of a range of the window: the given one if it begins in the window's span.
 fn number_in(
     plan: &Plan,
     window: &Window,
@@ -72,11 +72,11 @@ pub(crate) fn push_run(
     Ok(())
 }
 
-/// Appends a run for each range of the window, with the given number for those that begin in its
-/// span, and the number that they had for the others.
+/// Appends a run for each range of the window, with the given rule number for those that begin in
+/// its span, and their previous number for the others.
 ///
 /// # Errors
-/// `NoMemory` where there is none for the runs.
+/// `NoMemory`: there is no memory for the runs.
 pub(crate) fn gather_runs(
     plan: &Plan,
     space: &Space,

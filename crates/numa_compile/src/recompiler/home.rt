@@ -27,7 +27,7 @@ use numa_ranges::Run;
 use numa_space::{RangeRecord, Space};
 use std::alloc::Global;
 
-/// Takes the rules out again that were added, the newest first: the plan is as it was before.
+/// Removes the rules that were added, the newest first, which restores the plan.
 fn take_all_back(plan: &mut Plan, added: &mut Vec<Option<u32>>)
     requires { (space : SpaceState) × ((before : PlanData)
         × WereAdded space before added.old.items plan.old) }
@@ -39,8 +39,8 @@ fn take_all_back(plan: &mut Plan, added: &mut Vec<Option<u32>>)
     }
 }
 
-/// The number of a range of the window: that which it had, where it begins outside the span, else
-/// that of its policy's rule, which is added where there is none. Notes what was added.
+/// The rule number of a range of the window: its previous one if it begins outside the span, else
+/// that of its policy's rule, which is added if there is none. Notes what was added.
 fn number_of_home(
     alloc: Global,
     plan: &mut Plan,
@@ -75,11 +75,11 @@ fn number_of_home(
     Ok(number)
 }
 
-/// Appends a run for each range of the window, and notes which rules were added for them, one at
-/// most for each that begins in its span.
+/// Appends a run for each range of the window, and notes the rules that were added, at most one for
+/// each that begins in its span.
 ///
 /// # Errors
-/// `NoMemory` where there is none for a rule or for the runs.
+/// `NoMemory`: there is no memory for a rule or for the runs.
 fn gather_homes(
     alloc: Global,
     plan: &mut Plan,
@@ -107,11 +107,11 @@ fn gather_homes(
     Ok(())
 }
 
-/// Writes the runs of the window anew, and the rules that they want. Notes which were added.
+/// Rewrites the runs of the window, and adds the rules that they need. Notes which were added.
 ///
 /// # Errors
-/// `NoMemory` where there is none for a rule or for the runs; but for the rules that were added,
-/// the plan is as it was.
+/// `NoMemory`: there is no memory for a rule or for the runs. Then the plan hasn't changed but for
+/// the added rules.
 fn write_homes(
     alloc: Global,
     plan: &mut Plan,
@@ -134,11 +134,11 @@ fn write_homes(
     put_runs(plan, space, window, &runs, steps)
 }
 
-/// Gives each range that begins in the window's span the rule of its policy. Writes the window's
-/// runs anew, and one rule at most for each of these ranges.
+/// Gives each range that begins in the window's span the rule of its policy. Rewrites the window's
+/// runs, and writes at most one rule for each of these ranges.
 ///
 /// # Errors
-/// `NoMemory` where there is none for a rule or for the runs; the plan is as it was.
+/// `NoMemory`: there is no memory for a rule or for the runs. Then the plan hasn't changed.
 pub(crate) fn rewrite_homes(
     alloc: Global,
     plan: &mut Plan,

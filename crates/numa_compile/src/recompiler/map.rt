@@ -21,7 +21,8 @@ fn ends_by(range: &Run<RangeRecord>, page: u64) -> bool
     range.first <= page && range.pages <= page - range.first
 }
 
-/// Whether the window's first range ends where the span begins, so that it wasn't joined to it.
+/// Whether the window's first range ends where the span begins, so that it wasn't joined to the
+/// span.
 fn begins_beside(space: &Space, window: &Window) -> bool
     requires within { window.now.to_now ≤ length space.now.ranges }
     ensures beside { OnTrue result (BeginsBeside space.now window.now) }
@@ -33,8 +34,8 @@ fn begins_beside(space: &Space, window: &Window) -> bool
     ends_by(&range_there(space, window.from), window.first)
 }
 
-/// The window of a span that is mapped, without a first range that wasn't joined to it. It has two
-/// ranges at most.
+/// The window of a span that is mapped, without a first range that wasn't joined to it. It has at
+/// most two ranges.
 pub(crate) fn mapped_window(plan: &Plan, space: &Space, start: u64, bytes: u64) -> Window
     requires behind { (offset : ℕ) × IsBehind space.now (Command.Map start bytes offset) plan.now }
     ensures open { IsOpen space.now plan.now result }

@@ -1,4 +1,4 @@
-//! Recompiling for a span with a policy of its own.
+//! Recompiling for a span with an own policy.
 ghost use Rattle.std.specs.Prelude.{◌≡◌, ◌-◌, ◌≤◌, length, OnOk, OnErr};
 ghost use Rattle.std.specs.Option.{ForSome};
 ghost use Rattle.numa_space.specs.Standing.{IsInForce};
@@ -18,7 +18,7 @@ use numa_plan::{Plan, Steps};
 use numa_space::Space;
 use std::alloc::Global;
 
-/// The policy of the first range of the window that begins in its span; none where no range does.
+/// The policy of the first range of the window that begins in its span; `None` if no range does.
 pub(crate) fn policy_inside(space: &Space, window: &Window) -> Option<Record>
     requires ready { IsReady space.now }
     requires within { window.now.to_now ≤ length space.now.ranges }
@@ -35,10 +35,10 @@ pub(crate) fn policy_inside(space: &Space, window: &Window) -> Option<Record>
 }
 
 /// Gives the ranges that begin in the window's span the rule of this policy, which each of them
-/// has. Writes the window's runs anew, and one rule at most.
+/// has. Rewrites the window's runs, and writes at most one rule.
 ///
 /// # Errors
-/// `NoMemory` where there is none for the rule or for the runs; the plan is as it was.
+/// `NoMemory`: there is no memory for the rule or for the runs. Then the plan hasn't changed.
 pub(crate) fn rewrite_bound(
     alloc: Global,
     plan: &mut Plan,

@@ -10,18 +10,18 @@ use numa_space::Space;
 use std::alloc::Global;
 use std::mem::replace;
 
-/// Puts a plan in the place of another.
+/// Replaces a plan.
 fn put_plan(plan: &mut Plan, fresh: Plan)
     ensures { plan.new ≡ fresh }
 {
     drop(replace(plan, fresh));
 }
 
-/// Compiles the plan anew, since every policy's nodes may have changed, every row, and which ranges
-/// stand as one. Takes the time of [`crate::compile`].
+/// Compiles the plan again, since every policy's nodes, every row, and the ranges themselves may
+/// have changed. Takes the time of [`crate::compile`].
 ///
 /// # Errors
-/// `NoMemory` where there is none for a second plan beside the first; the plan is as it was.
+/// `NoMemory`: there is no memory for a second plan. Then the plan hasn't changed.
 pub(crate) fn recompile_mems(
     alloc: Global,
     plan: &mut Plan,

@@ -1,4 +1,4 @@
-//! Runs that are put into a plan, and the rules that go with those before.
+//! Replacing runs of a plan, and dropping the rules of the old ones.
 ghost use Rattle.std.specs.Prelude.{◌≡◌, ◌-◌, OnOk, OnErr};
 ghost use Rattle.std.specs.List.{slice_range};
 ghost use Rattle.numa_plan.specs.Slots.{policy_in};
@@ -30,7 +30,7 @@ fn drop_all(plan: &mut Plan, runs: &[Run<Option<u32>>])
 /// space, and drops the rules that nothing uses any more. Writes no rule.
 ///
 /// # Errors
-/// `NoMemory` where there is none for the runs; the plan is as it was.
+/// `NoMemory`: there is no memory for the runs. Then the plan hasn't changed.
 pub(crate) fn put_runs(
     plan: &mut Plan,
     space: &Space,

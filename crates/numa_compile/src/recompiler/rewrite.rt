@@ -1,4 +1,4 @@
-//! A window whose runs are written anew.
+//! Rewriting the runs of a window.
 ghost use Rattle.std.specs.Prelude.{◌≡◌, ◌-◌, OnOk, OnErr};
 ghost use Rattle.numa_compile.specs.Follows.{Follows};
 ghost use Rattle.numa_compile.specs.Recompiling.{WritesBoth};
@@ -14,11 +14,11 @@ use numa_plan::{Plan, Steps};
 use numa_space::Space;
 use std::alloc::Global;
 
-/// Writes the runs of the window anew, with the given number for the ranges that begin in its span.
-/// Writes no rule.
+/// Rewrites the runs of the window, with the given rule number for the ranges that begin in its
+/// span. Writes no rule.
 ///
 /// # Errors
-/// `NoMemory` where there is none for the runs; the plan is as it was.
+/// `NoMemory`: there is no memory for the runs. Then the plan hasn't changed.
 pub(crate) fn rewrite_window(
     alloc: Global,
     plan: &mut Plan,

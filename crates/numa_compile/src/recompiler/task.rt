@@ -12,10 +12,10 @@ use numa_plan::{Plan, Steps};
 use numa_space::Space;
 use std::alloc::Global;
 
-/// Gives a task, of which a command changed the policy, the rule of its new one. Writes no run, and one rule at most.
+/// Gives a task the rule of its new policy. Writes no run, and at most one rule.
 ///
 /// # Errors
-/// `NoMemory` where there is none for the rule or for the task; the plan is as it was.
+/// `NoMemory`: there is no memory for the rule or for the task. Then the plan hasn't changed.
 pub(crate) fn recompile_task(
     alloc: Global,
     plan: &mut Plan,

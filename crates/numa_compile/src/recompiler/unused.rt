@@ -1,4 +1,4 @@
-//! Rules that go.
+//! Dropping rules.
 ghost use Rattle.std.specs.Prelude.{◌≡◌};
 ghost use Rattle.numa_space.specs.Standing.{SpaceState};
 ghost use Rattle.numa_plan.specs.Meaning.{PlanData};
@@ -6,7 +6,7 @@ ghost use Rattle.numa_compile.specs.Recompiling.{KeepsNamed, WasAdded};
 
 use numa_plan::Plan;
 
-/// Takes the rule out again that was added last, if one was: the plan is as it was before.
+/// Removes the rule that was added last, if one was, which restores the plan.
 pub(crate) fn take_back(plan: &mut Plan, added: Option<u32>)
     requires { (space : SpaceState) × ((before : PlanData)
         × WasAdded space before added plan.old) }
@@ -18,8 +18,7 @@ pub(crate) fn take_back(plan: &mut Plan, added: Option<u32>)
     }
 }
 
-/// Drops the rule of this number, if one is given and there, where no run and no task uses it any
-/// more.
+/// Drops the rule with this number, if there is one and no run and no task uses it any more.
 pub(crate) fn drop_unused(plan: &mut Plan, number: Option<u32>)
     ensures rest { plan.new ≡ record plan.old { slots = plan.new.slots } }
     ensures slots { KeepsNamed plan.old plan.new }

@@ -28,11 +28,10 @@ fn depends_on_weights(policy: &Record) -> bool
     policy.spec().mode() == Mode::WeightedInterleave
 }
 
-/// The new rule of the policy in a slot: one of weighted interleave is made anew, and each other
-/// serves on.
+/// The new rule of the policy in a slot, if it is weighted interleave; others stay.
 ///
 /// # Errors
-/// `NoMemory` where there is none for the rule.
+/// `NoMemory`: there is no memory for the rule.
 fn renewed(
     alloc: Global,
     space: &Space,
@@ -57,7 +56,7 @@ fn renewed(
 /// The new rules, a place for each slot.
 ///
 /// # Errors
-/// `NoMemory` where there is none for the rules, or where the slots are more than 2^32.
+/// `NoMemory`: there is no memory for the rules, or there are more than 2^32 slots.
 fn all_renewed(
     alloc: Global,
     space: &Space,
@@ -97,11 +96,11 @@ fn write_renewed(plan: &mut Plan, number: u32, rule: Option<SharedRule>, steps: 
     }
 }
 
-/// Writes the rules of weighted interleave anew. All new rules are made before the first is
-/// written. No run and no task changes, and no rule of another mode.
+/// Rewrites the rules of weighted interleave. All new rules are made before the first is written.
+/// No run, task, or rule of another mode changes.
 ///
 /// # Errors
-/// `NoMemory` where there is none for the new rules; the plan is as it was.
+/// `NoMemory`: there is no memory for the new rules. Then the plan hasn't changed.
 pub(crate) fn recompile_weight(
     alloc: Global,
     plan: &mut Plan,

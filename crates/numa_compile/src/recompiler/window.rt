@@ -1,4 +1,4 @@
-//! Where the runs stand that a command of a span leaves to be written anew.
+//! Finding the runs that have to be rewritten after a command of a span.
 ghost use Rattle.std.specs.Prelude.{◌≡◌, ◌+◌, ◌-◌, ◌<◌, ◌≤◌, length, get_or, Option};
 ghost use Rattle.std.specs.Prelude.{IfSome, OnSome, IfNone};
 ghost use Rattle.numa_mode.specs.Policy.{PolicyRecord};
@@ -15,9 +15,9 @@ use numa_plan::Plan;
 use numa_ranges::Run;
 use numa_space::{PAGE_BYTES, RangeRecord, Space};
 
-/// A span from its first page to the page behind its last, and the runs that meet it or stand
-/// beside it: from a place to the place behind the last of them, and where that last place has come
-/// to stand among the ranges of the space. `near` is a guess at their chunk in the plan.
+/// A span from its first page to the page after its last, and the runs that meet it or are adjacent
+/// to it: from a place to the place after the last of them, and the place to which that last place
+/// has moved among the ranges of the space. `near` is a guess at their chunk in the plan.
 #[derive(Clone, Copy)]
 pub(crate) struct Window {
     pub first: u64,
@@ -28,7 +28,7 @@ pub(crate) struct Window {
     pub near: usize,
 }
 
-/// The page behind the last of a span.
+/// The page after the last of a span.
 fn end_of(start: u64, bytes: u64) -> u64
     ensures { result ≡ page_of start + page_count bytes }
 {
@@ -36,7 +36,7 @@ fn end_of(start: u64, bytes: u64) -> u64
     start / PAGE_BYTES + pages
 }
 
-/// Finds the window of a span of bytes, beside the place of the space's last edit if it is there.
+/// Finds the window of a span of bytes, near the place of the space's last edit if it is there.
 pub(crate) fn find_window(plan: &Plan, space: &Space, start: u64, bytes: u64) -> Window
     ensures first { result.first ≡ page_of start }
     ensures end { result.end ≡ page_of start + page_count bytes }
@@ -58,9 +58,9 @@ pub(crate) fn find_window(plan: &Plan, space: &Space, start: u64, bytes: u64) ->
     }
 }
 
-/// The window of a command that maps nothing. It has at most two ranges more than runs met the
-/// span, and at most as many that begin in the span. There is none for a span without pages: then
-/// the plan takes the space's version, and follows it.
+/// The window of a command that maps nothing. It has at most two more ranges than runs that met the
+/// span, and at most as many that begin in the span. `None` for an empty span: then the plan takes
+/// the space's version, and follows it.
 pub(crate) fn open_window(plan: &mut Plan, space: &Space, start: u64, bytes: u64) -> Option<Window>
     requires behind { IsBehindSpan space.now plan.old start bytes }
     ensures first { IfSome result (λ window. window.first ≡ page_of start) }
@@ -83,7 +83,7 @@ pub(crate) fn open_window(plan: &mut Plan, space: &Space, start: u64, bytes: u64
     Some(window)
 }
 
-/// The range at a place where there is one.
+/// The range at a place; there is one.
 pub(crate) fn range_there(space: &Space, place: usize) -> Run<RangeRecord>
     requires { place < length space.now.ranges }
     ensures there { (d : Run (Option PolicyRecord)) → get_or space.now.ranges place d ≡ result }
