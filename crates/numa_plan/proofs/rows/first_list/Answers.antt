@@ -9,10 +9,13 @@ push_reserved-requires c = omega (arith, c.loop-number.invariant.size, c.loop-nu
 
 pub loop-number-preserved : goal.loop-number-preserved
 loop-number-preserved c = record {
-  same = first-more c.args.rows.now c.args.width c.args.cycle.now c.loop-number.firsts.items c.push_reserved.new.self.items c.first_at.result c.loop-number.number-index (omega arith) c.first_at.ensures c.loop-number.invariant.same c.push_reserved.ensures.items;
+  same = first-more c.args.rows.now c.args.width c.args.cycle.now c.loop-number.firsts.items
+      c.push_reserved.new.self.items c.first_at.result c.loop-number.number-index (omega arith)
+      c.first_at.ensures c.loop-number.invariant.same c.push_reserved.ensures.items;
   size = c.push_reserved.ensures.len ∙ ap (λ n. n + 1) c.loop-number.invariant.size;
   room = omega (arith, c.push_reserved.ensures.capacity, c.loop-number.invariant.room);
 }
 
 pub returns : goal.returns
-returns c = c.loop-number.invariant.same ∙ ap (first_nodes c.args.rows.now c.args.width) (take_all c.loop-number.number-index c.args.cycle.now (omega arith))
+returns c = c.loop-number.invariant.same ∙ ap (first_nodes c.args.rows.now c.args.width)
+    (take_all c.loop-number.number-index c.args.cycle.now (omega arith))

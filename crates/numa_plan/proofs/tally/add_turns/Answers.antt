@@ -7,5 +7,6 @@ pub returns : goal.returns
 returns c node small =
     let lent : List ℕ = c.turns.result.now in
     c.tally.ensures node small
-    ∙ ap (λ (n : ℕ). get_or c.args.counts.now node 0 + n) (sym (count-span c.args.cycle.now node lent c.args.index c.turns.ensures.nodes)
+    ∙ ap (λ (n : ℕ). get_or c.args.counts.now node 0 + n)
+    (sym (count-span c.args.cycle.now node lent c.args.index c.turns.ensures.nodes)
     ∙ ap (λ (n : ℕ). turns_on c.args.cycle.now c.args.index n node) c.turns.ensures.size)

@@ -7,7 +7,8 @@ pub returns-then-todo-found-clause-all : goal.returns-then-todo-found-clause-all
 returns-then-todo-found-clause-all c page low high =
     elim (cases_lt page c.loop-todo.page) [
       | inl before ↦ c.loop-todo.invariant.seen page low before
-      | inr here ↦ is_mapped c.args.self.now c.loop-todo.page c.in-Some.found page c.in-Some.ensures.found here (omega (arith, c.loop-todo.invariant.place))
+      | inr here ↦ is_mapped c.args.self.now c.loop-todo.page c.in-Some.found page
+          c.in-Some.ensures.found here (omega (arith, c.loop-todo.invariant.place))
     ]
 
 pub loop-todo-preserved : goal.loop-todo-preserved
@@ -16,6 +17,7 @@ loop-todo-preserved c = record {
   low = omega (arith, c.loop-todo.invariant.low);
   seen = λ page low high. elim (cases_lt page c.loop-todo.page) [
     | inl before ↦ c.loop-todo.invariant.seen page low before
-    | inr here ↦ is_mapped c.args.self.now c.loop-todo.page c.in-Some.found page c.in-Some.ensures.found here high
+    | inr here ↦ is_mapped c.args.self.now c.loop-todo.page c.in-Some.found page
+        c.in-Some.ensures.found here high
   ];
 }

@@ -4,5 +4,6 @@ use Rattle.numa_plan.proofs.runs.PlanRuns.found_at.Goals as goal
 
 pub found-requires : goal.found-requires
 found-requires c =
-    let bounds = run-bounds c.args.self.now c.args.place c.run_beside.result c.requires.apart c.requires.place (c.run_beside.ensures c.run_beside.result) in
+    let bounds = run-bounds c.args.self.now c.args.place c.run_beside.result c.requires.apart
+    c.requires.place (c.run_beside.ensures c.run_beside.result) in
     omega (arith, bounds.1)

@@ -7,7 +7,8 @@ loop-place-preserved c =
     let run = c.whole.result in
     c.in_ok-push.ensures.items
     ∙ (ap (λ l. l ++ run ∷ []) c.loop-place.invariant
-    ∙ sym (gathered-next c.args.self.now c.args.window.from c.loop-place.place run (omega arith) (omega (arith, c.requires.within)) (c.whole.ensures.run ∙ c.run_near.ensures run)))
+    ∙ sym (gathered-next c.args.self.now c.args.window.from c.loop-place.place run (omega arith)
+    (omega (arith, c.requires.within)) (c.whole.ensures.run ∙ c.run_near.ensures run)))
 
 pub overflow_sub-to : goal.overflow_sub-to
 overflow_sub-to c = c.requires.rises
