@@ -21,7 +21,13 @@ rises-both old next new one two = record {
 }
 
 pub rises-rules : (old new : Counted) (few : ℕ) → WritesRules few old new → Rises old new
-rises-rules old new few writes = record { compares = writes.compares; runs = omega (arith, writes.runs); rules = writes.rules_rise }
+rises-rules old new few writes =
+    record {
+      compares = writes.compares;
+      runs = omega (arith, writes.runs);
+      rules =
+          writes.rules_rise;
+    }
 
 pub rises-runs : (old new : Counted) (runs : ℕ) → new ≡ more_runs runs old → Rises old new
 rises-runs old new runs written = record {

@@ -1,5 +1,6 @@
 -- How the rules of a plan are made: rows of nodes, and the cycles in which they take turns.
-use Rattle.std.specs.Prelude.{◌≡◌, ◌≢◌, ℕ, ◌+◌, ◌^◌, ◌<◌, ◌≤◌, ◌&&◌, not, Option, List, [], ◌∷◌, ◌++◌}
+use Rattle.std.specs.Prelude.{◌≡◌, ◌≢◌, ℕ, ◌+◌, ◌^◌, ◌<◌, ◌≤◌, ◌&&◌, not, Option, List, [], ◌∷◌}
+use Rattle.std.specs.Prelude.{◌++◌}
 use Rattle.std.specs.Prelude.{filter, flat_map, replicate, All}
 use Rattle.numa_mask.specs.NodeSet.{has, members, weight_of}
 use Rattle.numa_machine.specs.Machine.{fallback_order}

@@ -7,7 +7,8 @@ use Rattle.numa_compile.proofs.compiler.copy_space.Goals as goal
 
 pub add_runs-requires-clause-under_way : goal.add_runs-requires-clause-under_way
 add_runs-requires-clause-under_way c =
-    under-empty c.args.space.now c.args.plan.now c.args.space.now.machine.nodes c.args.plan.now.local [] c.requires.empty refl c.requires.local refl
+    under-empty c.args.space.now c.args.plan.now c.args.space.now.machine.nodes
+    c.args.plan.now.local [] c.requires.empty refl c.requires.local refl
 
 pub add_runs-requires-clause-runs : goal.add_runs-requires-clause-runs
 add_runs-requires-clause-runs c = ap (λ (p : PlanData). p.runs) c.requires.empty
@@ -17,18 +18,28 @@ add_runs-requires-clause-tasks c = ap (λ (p : PlanData). p.tasks) c.requires.em
 
 pub set_tasks-requires-clause-few : goal.set_tasks-requires-clause-few
 set_tasks-requires-clause-few c =
-    omega (arith, copies-length (slice_get c.in_ok-records.records.keys) c.args.space.now.ranges c.add_runs.new.plan.runs c.in_ok-records.ensures.copies, c.survey.ensures.ranges, c.survey.ensures.tasks)
+    omega (
+      arith,
+      copies-length (slice_get c.in_ok-records.records.keys) c.args.space.now.ranges
+          c.add_runs.new.plan.runs c.in_ok-records.ensures.copies,
+      c.survey.ensures.ranges,
+      c.survey.ensures.tasks,
+    )
 
 pub set_tasks-requires-clause-room : goal.set_tasks-requires-clause-room
 set_tasks-requires-clause-room c =
     omega (arith, c.in_ok-records.ensures.room, c.survey.ensures.ranges, c.survey.ensures.tasks)
 
 pub returns-clause-follows : goal.returns-clause-follows
-returns-clause-follows c = follows-done c.args.space.now c.set_tasks.new.plan c.set_version.new.self c.set_tasks.new.records.keys c.version.result c.version.ensures.version c.set_version.ensures c.in-Ok.ensures.under_way c.in-Ok.ensures.copies c.in-Ok.ensures.tasks
+returns-clause-follows c = follows-done c.args.space.now c.set_tasks.new.plan c.set_version.new.self
+    c.set_tasks.new.records.keys c.version.result c.version.ensures.version c.set_version.ensures
+    c.in-Ok.ensures.under_way c.in-Ok.ensures.copies c.in-Ok.ensures.tasks
 
 pub returns-clause-rules : goal.returns-clause-rules
 returns-clause-rules c =
-    shares-done c.args.space.now c.set_tasks.new.plan c.set_version.new.self c.set_tasks.new.records.keys c.version.result c.version.ensures.version c.set_version.ensures c.in-Ok.ensures.under_way c.in-Ok.ensures.copies c.in-Ok.ensures.tasks
+    shares-done c.args.space.now c.set_tasks.new.plan c.set_version.new.self
+    c.set_tasks.new.records.keys c.version.result c.version.ensures.version
+    c.set_version.ensures c.in-Ok.ensures.under_way c.in-Ok.ensures.copies c.in-Ok.ensures.tasks
     (unique-pairs c.set_tasks.new.records.keys c.len.ensures.unique)
 
 pub set_tasks-requires-clause-ready : goal.set_tasks-requires-clause-ready

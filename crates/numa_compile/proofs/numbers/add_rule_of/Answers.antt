@@ -11,14 +11,24 @@ returns-clause-added c =
         lowest = c.in_ok-number.ensures.ok.0;
         ends = c.in_ok-number.ensures.ends.2;
         kept = kept;
-        serving = record { live = c.requires.live; in_force = c.requires.in_force; gives = λ cpu index lt. (c.in_ok-rule.ensures cpu index lt).1 };
+        serving = record {
+          live = c.requires.live;
+          in_force = c.requires.in_force;
+          gives =
+              λ cpu index lt. (c.in_ok-rule.ensures cpu index lt).1;
+        };
         grown = c.in_ok-number.ensures.ok.1;
       },
       refl,
     )
 
 pub add_rule-requires : goal.add_rule-requires
-add_rule-requires c = record { rows = λ cpu index lt. (c.in_ok-rule.ensures cpu index (subst (λ (n : ℕ). cpu < n) c.requires.nodes lt)).0 }
+add_rule-requires c =
+    record {
+      rows = λ cpu index lt.
+          (c.in_ok-rule.ensures cpu index (subst (λ (n : ℕ). cpu < n) c.requires.nodes lt)).0;
+    }
 
 pub returns-clause-here : goal.returns-clause-here
-returns-clause-here c = policy-of (kept_in c.add_rule.new.self.slots c.in_ok-number.number) (Some (record { policy = c.args.policy; rule = c.in_ok-rule.rule })) c.in_ok-number.ensures.here
+returns-clause-here c = policy-of (kept_in c.add_rule.new.self.slots c.in_ok-number.number)
+    (Some (record { policy = c.args.policy; rule = c.in_ok-rule.rule })) c.in_ok-number.ensures.here

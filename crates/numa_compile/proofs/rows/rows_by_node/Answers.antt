@@ -7,5 +7,7 @@ use Rattle.numa_compile.proofs.rows.rows_by_node.Goals as goal
 pub loop-from-preserved : goal.loop-from-preserved
 loop-from-preserved c =
     c.in_ok-push_row.ensures
-    ∙ ap (λ (xs : List ℕ). xs ++ row_from (setting_in c.args.space.now) c.args.reach.now c.loop-from.from) c.loop-from.invariant
-    ∙ sym (flat_map-range_more (row_from (setting_in c.args.space.now) c.args.reach.now) c.loop-from.from)
+    ∙ ap (λ (xs : List ℕ). xs ++ row_from (setting_in c.args.space.now) c.args.reach.now
+    c.loop-from.from) c.loop-from.invariant
+    ∙ sym (flat_map-range_more (row_from (setting_in c.args.space.now) c.args.reach.now)
+    c.loop-from.from)

@@ -5,4 +5,5 @@ use Rattle.numa_compile.specs.Rules.{rows_from}
 use Rattle.numa_compile.proofs.rows.rows_by_node.Given as goal
 
 abbrev pub invariant-loop-from : goal.invariant-loop-from
-invariant-loop-from l = l.rows.items ≡ rows_from (setting_in l.space) l.reach (range_with_len 0 l.from)
+invariant-loop-from l = l.rows.items ≡ rows_from (setting_in l.space) l.reach
+    (range_with_len 0 l.from)

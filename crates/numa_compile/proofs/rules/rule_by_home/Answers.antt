@@ -20,4 +20,5 @@ pub fixed_rule-requires-clause-allowed : goal.fixed_rule-requires-clause-allowed
 fixed_rule-requires-clause-allowed c = c.requires.allowed
 
 pub fixed_rule-requires-clause-from : goal.fixed_rule-requires-clause-from
-fixed_rule-requires-clause-from c = omega (arith, c.requires.home c.in-Some.home c.in-Some.is, c.from.ensures)
+fixed_rule-requires-clause-from c =
+    omega (arith, c.requires.home c.in-Some.home c.in-Some.is, c.from.ensures)

@@ -2,11 +2,14 @@ use Rattle.std.proofs.Common.{ℕ, ◌<◌, Option, unwrap_or, refl, sym, subst}
 use Rattle.std.proofs.lemmas.Result.{IfOk-weaker}
 use Rattle.std.specs.Option.{ForSome}
 use Rattle.numa_machine.specs.Machine.{fallback_order}
-use Rattle.numa_mode.specs.declared.modes.Mode.TheVariants.{Default, Local, Preferred, Bind, PreferredMany, Interleave, WeightedInterleave}
+use Rattle.numa_mode.specs.declared.modes.Mode.TheVariants.{Default, Local, Preferred, Bind}
+use Rattle.numa_mode.specs.declared.modes.Mode.TheVariants.{PreferredMany, Interleave}
+use Rattle.numa_mode.specs.declared.modes.Mode.TheVariants.{WeightedInterleave}
 use Rattle.numa_space.specs.Lists.{within}
 use Rattle.numa_space.specs.Standing.{setting_in}
 use Rattle.numa_compile.specs.Rules.{GivesRows}
-use Rattle.numa_compile.proofs.AllowedLemmas.{all-allowed, filled-by, policy-allowed, policy-memory, bind-follows, interleave-follows, weighted-follows}
+use Rattle.numa_compile.proofs.AllowedLemmas.{all-allowed, filled-by, policy-allowed, policy-memory}
+use Rattle.numa_compile.proofs.AllowedLemmas.{bind-follows, interleave-follows, weighted-follows}
 use Rattle.numa_compile.proofs.RuleSteps.{gives-policy}
 use Rattle.numa_compile.proofs.rules.rule_of.Goals as goal
 
@@ -14,95 +17,147 @@ pub rule_by_home-requires-clause-some : goal.rule_by_home-requires-clause-some
 rule_by_home-requires-clause-some c = c.allowed.ensures.some
 
 pub rule_by_home-requires-clause-allowed : goal.rule_by_home-requires-clause-allowed
-rule_by_home-requires-clause-allowed c = all-allowed c.allowed.result c.args.space.now.allowed c.allowed.ensures.allowed
+rule_by_home-requires-clause-allowed c = all-allowed c.allowed.result c.args.space.now.allowed
+    c.allowed.ensures.allowed
 
 pub rule_by_home-requires-clause-home : goal.rule_by_home-requires-clause-home
-rule_by_home-requires-clause-home c = subst (λ (h : Option ℕ). ForSome h (λ node. node < c.args.space.now.machine.nodes)) (sym c.home.ensures.home) c.requires.in_force.home
+rule_by_home-requires-clause-home c =
+    subst (λ (h : Option ℕ). ForSome h (λ node. node < c.args.space.now.machine.nodes))
+    (sym c.home.ensures.home) c.requires.in_force.home
 
 pub rule_by_home-requires-in-Local-clause-some : goal.rule_by_home-requires-in-Local-clause-some
 rule_by_home-requires-in-Local-clause-some c = c.allowed.ensures.some
 
-pub rule_by_home-requires-in-Local-clause-allowed : goal.rule_by_home-requires-in-Local-clause-allowed
-rule_by_home-requires-in-Local-clause-allowed c = all-allowed c.allowed.result c.args.space.now.allowed c.allowed.ensures.allowed
+pub rule_by_home-requires-in-Local-clause-allowed :
+    goal.rule_by_home-requires-in-Local-clause-allowed
+rule_by_home-requires-in-Local-clause-allowed c =
+    all-allowed c.allowed.result c.args.space.now.allowed c.allowed.ensures.allowed
 
 pub rule_by_home-requires-in-Local-clause-home : goal.rule_by_home-requires-in-Local-clause-home
-rule_by_home-requires-in-Local-clause-home c = subst (λ (h : Option ℕ). ForSome h (λ node. node < c.args.space.now.machine.nodes)) (sym c.home-in-Local.ensures.home) c.requires.in_force.home
+rule_by_home-requires-in-Local-clause-home c =
+    subst (λ (h : Option ℕ). ForSome h (λ node. node < c.args.space.now.machine.nodes))
+    (sym c.home-in-Local.ensures.home) c.requires.in_force.home
 
 pub rule_by_home-requires-in-Bind-clause-some : goal.rule_by_home-requires-in-Bind-clause-some
-rule_by_home-requires-in-Bind-clause-some c = filled-by c.args.policy.now c.spec.result c.mode.result Bind c.effective-set.result c.requires.live c.spec.ensures.spec c.mode.ensures c.in-Bind.is refl c.effective-set.ensures.effective
+rule_by_home-requires-in-Bind-clause-some c = filled-by c.args.policy.now c.spec.result
+    c.mode.result Bind c.effective-set.result c.requires.live c.spec.ensures.spec c.mode.ensures
+    c.in-Bind.is refl c.effective-set.ensures.effective
 
 pub rule_by_home-requires-in-Bind-clause-allowed : goal.rule_by_home-requires-in-Bind-clause-allowed
-rule_by_home-requires-in-Bind-clause-allowed c = policy-allowed c.args.space.now.machine.rules c.args.policy.now c.spec.result c.mode.result Bind c.effective-set.result c.args.space.now.allowed c.requires.in_force.inside c.spec.ensures.spec c.mode.ensures c.in-Bind.is (bind-follows c.args.space.now.machine.rules) c.effective-set.ensures.effective
+rule_by_home-requires-in-Bind-clause-allowed c = policy-allowed c.args.space.now.machine.rules
+    c.args.policy.now c.spec.result c.mode.result Bind c.effective-set.result
+    c.args.space.now.allowed c.requires.in_force.inside c.spec.ensures.spec c.mode.ensures
+    c.in-Bind.is (bind-follows c.args.space.now.machine.rules) c.effective-set.ensures.effective
 
 pub rule_by_home-requires-in-Bind-clause-home : goal.rule_by_home-requires-in-Bind-clause-home
-rule_by_home-requires-in-Bind-clause-home c = subst (λ (h : Option ℕ). ForSome h (λ node. node < c.args.space.now.machine.nodes)) (sym c.home-in-Bind.ensures.home) c.requires.in_force.home
+rule_by_home-requires-in-Bind-clause-home c =
+    subst (λ (h : Option ℕ). ForSome h (λ node. node < c.args.space.now.machine.nodes))
+    (sym c.home-in-Bind.ensures.home) c.requires.in_force.home
 
 pub many_rule-requires-clause-home : goal.many_rule-requires-clause-home
-many_rule-requires-clause-home c = subst (λ (h : Option ℕ). ForSome h (λ node. node < c.args.space.now.machine.nodes)) (sym c.home-in-PreferredMany.ensures.home) c.requires.in_force.home
+many_rule-requires-clause-home c =
+    subst (λ (h : Option ℕ). ForSome h (λ node. node < c.args.space.now.machine.nodes))
+    (sym c.home-in-PreferredMany.ensures.home) c.requires.in_force.home
 
 pub preferred_rule-requires-clause-some : goal.preferred_rule-requires-clause-some
-preferred_rule-requires-clause-some c = filled-by c.args.policy.now c.spec.result c.mode.result Preferred c.effective-set.result c.requires.live c.spec.ensures.spec c.mode.ensures c.in-Preferred.is refl c.effective-set.ensures.effective
+preferred_rule-requires-clause-some c = filled-by c.args.policy.now c.spec.result c.mode.result
+    Preferred c.effective-set.result c.requires.live c.spec.ensures.spec c.mode.ensures
+    c.in-Preferred.is refl c.effective-set.ensures.effective
 
 pub preferred_rule-requires-clause-memory : goal.preferred_rule-requires-clause-memory
-preferred_rule-requires-clause-memory c = policy-memory c.args.policy.now c.effective-set.result c.args.space.now.machine.memory c.requires.in_force.memory c.effective-set.ensures.effective
+preferred_rule-requires-clause-memory c = policy-memory c.args.policy.now c.effective-set.result
+    c.args.space.now.machine.memory c.requires.in_force.memory c.effective-set.ensures.effective
 
 pub interleave_rule-requires-clause-some : goal.interleave_rule-requires-clause-some
-interleave_rule-requires-clause-some c = filled-by c.args.policy.now c.spec.result c.mode.result Interleave c.effective-set.result c.requires.live c.spec.ensures.spec c.mode.ensures c.in-Interleave.is refl c.effective-set.ensures.effective
+interleave_rule-requires-clause-some c = filled-by c.args.policy.now c.spec.result c.mode.result
+    Interleave c.effective-set.result c.requires.live c.spec.ensures.spec c.mode.ensures
+    c.in-Interleave.is refl c.effective-set.ensures.effective
 
 pub interleave_rule-requires-clause-allowed : goal.interleave_rule-requires-clause-allowed
-interleave_rule-requires-clause-allowed c = policy-allowed c.args.space.now.machine.rules c.args.policy.now c.spec.result c.mode.result Interleave c.effective-set.result c.args.space.now.allowed c.requires.in_force.inside c.spec.ensures.spec c.mode.ensures c.in-Interleave.is (interleave-follows c.args.space.now.machine.rules) c.effective-set.ensures.effective
+interleave_rule-requires-clause-allowed c = policy-allowed c.args.space.now.machine.rules
+    c.args.policy.now c.spec.result c.mode.result Interleave c.effective-set.result
+    c.args.space.now.allowed c.requires.in_force.inside c.spec.ensures.spec c.mode.ensures
+    c.in-Interleave.is (interleave-follows c.args.space.now.machine.rules)
+    c.effective-set.ensures.effective
 
 pub weighted_rule-requires-clause-some : goal.weighted_rule-requires-clause-some
-weighted_rule-requires-clause-some c = filled-by c.args.policy.now c.spec.result c.mode.result WeightedInterleave c.effective-set.result c.requires.live c.spec.ensures.spec c.mode.ensures c.in-WeightedInterleave.is refl c.effective-set.ensures.effective
+weighted_rule-requires-clause-some c = filled-by c.args.policy.now c.spec.result c.mode.result
+    WeightedInterleave c.effective-set.result c.requires.live c.spec.ensures.spec c.mode.ensures
+    c.in-WeightedInterleave.is refl c.effective-set.ensures.effective
 
 pub weighted_rule-requires-clause-allowed : goal.weighted_rule-requires-clause-allowed
-weighted_rule-requires-clause-allowed c = policy-allowed c.args.space.now.machine.rules c.args.policy.now c.spec.result c.mode.result WeightedInterleave c.effective-set.result c.args.space.now.allowed c.requires.in_force.inside c.spec.ensures.spec c.mode.ensures c.in-WeightedInterleave.is (weighted-follows c.args.space.now.machine.rules) c.effective-set.ensures.effective
+weighted_rule-requires-clause-allowed c = policy-allowed c.args.space.now.machine.rules
+    c.args.policy.now c.spec.result c.mode.result WeightedInterleave c.effective-set.result
+    c.args.space.now.allowed c.requires.in_force.inside c.spec.ensures.spec c.mode.ensures
+    c.in-WeightedInterleave.is (weighted-follows c.args.space.now.machine.rules)
+    c.effective-set.ensures.effective
 
 pub returns-in-Default : goal.returns-in-Default
 returns-in-Default c =
     IfOk-weaker c.rule_by_home.result _ _
     (λ rule gives.
-    gives-policy (setting_in c.args.space.now) rule c.args.policy.now c.spec.result c.mode.result Default c.effective-set.result c.home.result c.spec.ensures.spec c.mode.ensures c.in-Default.is c.effective-set.ensures.effective c.home.ensures.home
-    (subst (λ (n : ℕ). GivesRows c.args.space.now.machine.nodes rule (λ cpu index. within n (fallback_order c.args.space.now.machine (unwrap_or c.home.result cpu)))) c.allowed.ensures.allowed gives)) c.rule_by_home.ensures
+    gives-policy (setting_in c.args.space.now) rule c.args.policy.now c.spec.result c.mode.result
+    Default c.effective-set.result c.home.result c.spec.ensures.spec c.mode.ensures
+    c.in-Default.is c.effective-set.ensures.effective c.home.ensures.home
+    (subst (λ (n : ℕ). GivesRows c.args.space.now.machine.nodes rule
+    (λ cpu index.
+    within n (fallback_order c.args.space.now.machine (unwrap_or c.home.result cpu))))
+    c.allowed.ensures.allowed gives)) c.rule_by_home.ensures
 
 pub returns-in-Local : goal.returns-in-Local
 returns-in-Local c =
     IfOk-weaker c.rule_by_home-in-Local.result _ _
     (λ rule gives.
-    gives-policy (setting_in c.args.space.now) rule c.args.policy.now c.spec.result c.mode.result Local c.effective-set.result c.home-in-Local.result c.spec.ensures.spec c.mode.ensures c.in-Local.is c.effective-set.ensures.effective c.home-in-Local.ensures.home
-    (subst (λ (n : ℕ). GivesRows c.args.space.now.machine.nodes rule (λ cpu index. within n (fallback_order c.args.space.now.machine (unwrap_or c.home-in-Local.result cpu)))) c.allowed.ensures.allowed gives)) c.rule_by_home-in-Local.ensures
+    gives-policy (setting_in c.args.space.now) rule c.args.policy.now c.spec.result c.mode.result
+    Local c.effective-set.result c.home-in-Local.result c.spec.ensures.spec c.mode.ensures
+    c.in-Local.is c.effective-set.ensures.effective c.home-in-Local.ensures.home
+    (subst (λ (n : ℕ). GivesRows c.args.space.now.machine.nodes rule
+    (λ cpu index.
+    within n (fallback_order c.args.space.now.machine (unwrap_or c.home-in-Local.result cpu))))
+    c.allowed.ensures.allowed gives)) c.rule_by_home-in-Local.ensures
 
 pub returns-in-Bind : goal.returns-in-Bind
 returns-in-Bind c =
     IfOk-weaker c.rule_by_home-in-Bind.result _ _
     (λ rule gives.
-    gives-policy (setting_in c.args.space.now) rule c.args.policy.now c.spec.result c.mode.result Bind c.effective-set.result c.home-in-Bind.result c.spec.ensures.spec c.mode.ensures c.in-Bind.is c.effective-set.ensures.effective c.home-in-Bind.ensures.home
+    gives-policy (setting_in c.args.space.now) rule c.args.policy.now c.spec.result c.mode.result
+    Bind c.effective-set.result c.home-in-Bind.result c.spec.ensures.spec c.mode.ensures
+    c.in-Bind.is c.effective-set.ensures.effective c.home-in-Bind.ensures.home
     gives) c.rule_by_home-in-Bind.ensures
 
 pub returns-in-PreferredMany : goal.returns-in-PreferredMany
 returns-in-PreferredMany c =
     IfOk-weaker c.many_rule.result _ _
     (λ rule gives.
-    gives-policy (setting_in c.args.space.now) rule c.args.policy.now c.spec.result c.mode.result PreferredMany c.effective-set.result c.home-in-PreferredMany.result c.spec.ensures.spec c.mode.ensures c.in-PreferredMany.is c.effective-set.ensures.effective c.home-in-PreferredMany.ensures.home
+    gives-policy (setting_in c.args.space.now) rule c.args.policy.now c.spec.result c.mode.result
+    PreferredMany c.effective-set.result c.home-in-PreferredMany.result c.spec.ensures.spec
+    c.mode.ensures c.in-PreferredMany.is c.effective-set.ensures.effective
+    c.home-in-PreferredMany.ensures.home
     gives) c.many_rule.ensures
 
 pub returns-in-Preferred : goal.returns-in-Preferred
 returns-in-Preferred c =
     IfOk-weaker c.preferred_rule.result _ _
     (λ rule gives.
-    gives-policy (setting_in c.args.space.now) rule c.args.policy.now c.spec.result c.mode.result Preferred c.effective-set.result c.args.policy.now.home c.spec.ensures.spec c.mode.ensures c.in-Preferred.is c.effective-set.ensures.effective refl
+    gives-policy (setting_in c.args.space.now) rule c.args.policy.now c.spec.result c.mode.result
+    Preferred c.effective-set.result c.args.policy.now.home c.spec.ensures.spec c.mode.ensures
+    c.in-Preferred.is c.effective-set.ensures.effective refl
     gives) c.preferred_rule.ensures
 
 pub returns-in-Interleave : goal.returns-in-Interleave
 returns-in-Interleave c =
     IfOk-weaker c.interleave_rule.result _ _
     (λ rule gives.
-    gives-policy (setting_in c.args.space.now) rule c.args.policy.now c.spec.result c.mode.result Interleave c.effective-set.result c.args.policy.now.home c.spec.ensures.spec c.mode.ensures c.in-Interleave.is c.effective-set.ensures.effective refl
+    gives-policy (setting_in c.args.space.now) rule c.args.policy.now c.spec.result c.mode.result
+    Interleave c.effective-set.result c.args.policy.now.home c.spec.ensures.spec c.mode.ensures
+    c.in-Interleave.is c.effective-set.ensures.effective refl
     gives) c.interleave_rule.ensures
 
 pub returns-in-WeightedInterleave : goal.returns-in-WeightedInterleave
 returns-in-WeightedInterleave c =
     IfOk-weaker c.weighted_rule.result _ _
     (λ rule gives.
-    gives-policy (setting_in c.args.space.now) rule c.args.policy.now c.spec.result c.mode.result WeightedInterleave c.effective-set.result c.args.policy.now.home c.spec.ensures.spec c.mode.ensures c.in-WeightedInterleave.is c.effective-set.ensures.effective refl
+    gives-policy (setting_in c.args.space.now) rule c.args.policy.now c.spec.result c.mode.result
+    WeightedInterleave c.effective-set.result c.args.policy.now.home c.spec.ensures.spec
+    c.mode.ensures c.in-WeightedInterleave.is c.effective-set.ensures.effective refl
     gives) c.weighted_rule.ensures

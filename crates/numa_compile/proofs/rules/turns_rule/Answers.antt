@@ -11,12 +11,29 @@ use Rattle.numa_compile.proofs.RuleSteps.{gives-is}
 use Rattle.numa_compile.proofs.rules.turns_rule.Goals as goal
 
 pub rows_by_member-requires : goal.rows_by_member-requires
-rows_by_member-requires c = members-low c.args.space.now c.args.set.now c.requires.ready c.requires.allowed
+rows_by_member-requires c = members-low c.args.space.now c.args.set.now c.requires.ready
+    c.requires.allowed
 
 pub returns : goal.returns
 returns c =
-    let rows : List ℕ = rows_from (setting_in c.args.space.now) (Only c.args.space.now.allowed) (members c.args.set.now) in
-    let other : RuleData = record { key = InTurns c.args.cycle.items; width = c.weight.result; rows = rows } in
-    let is : c.in_ok-rule.rule ≡ other = c.in_ok-rule.ensures ∙ (λ i. record { key = InTurns c.args.cycle.items; width = c.weight.result; rows = c.in_ok-rows.ensures i }) in
-    gives-is c.args.space.now.machine.nodes c.in_ok-rule.rule other (λ cpu index. near (setting_in c.args.space.now) (slice_index (members c.args.set.now) (slice_index c.args.cycle.items (index % length c.args.cycle.items)))) is
-    (turns-gives c.args.space.now c.args.set.now c.weight.result c.args.cycle.items c.requires.ready c.requires.some c.requires.allowed c.requires.cycle c.requires.places (c.weight.ensures.weight ∙ ap weight_of c.allowed.ensures.allowed))
+    let rows : List ℕ = rows_from (setting_in c.args.space.now) (Only c.args.space.now.allowed)
+    (members c.args.set.now) in
+    let other : RuleData = record {
+      key = InTurns c.args.cycle.items;
+      width = c.weight.result;
+      rows = rows;
+    } in
+    let is : c.in_ok-rule.rule ≡ other = c.in_ok-rule.ensures
+    ∙ (λ i. record {
+      key = InTurns c.args.cycle.items;
+      width = c.weight.result;
+      rows =
+          c.in_ok-rows.ensures i;
+    }) in
+    gives-is c.args.space.now.machine.nodes c.in_ok-rule.rule other
+    (λ cpu index. near (setting_in c.args.space.now)
+    (slice_index (members c.args.set.now)
+    (slice_index c.args.cycle.items (index % length c.args.cycle.items)))) is
+    (turns-gives c.args.space.now c.args.set.now c.weight.result c.args.cycle.items c.requires.ready
+    c.requires.some c.requires.allowed c.requires.cycle c.requires.places
+    (c.weight.ensures.weight ∙ ap weight_of c.allowed.ensures.allowed))

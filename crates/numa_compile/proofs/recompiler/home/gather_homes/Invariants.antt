@@ -9,7 +9,9 @@ use Rattle.numa_compile.proofs.recompiler.home.gather_homes.Given as goal
 
 abbrev pub invariant-loop-k : goal.invariant-loop-k
 invariant-loop-k l = record {
-  copies : AreCopies (policy_in l.plan.slots) (slice_range l.space.ranges l.window.from l.k) l.runs.items;
+  copies : AreCopies (policy_in l.plan.slots) (slice_range l.space.ranges l.window.from l.k)
+      l.runs.items;
   added : WereAdded l.space l.initial.plan l.added.items l.plan;
-  writes : WritesRules (starts_in l.window.first l.window.end (take l.k l.space.ranges)) l.initial.steps l.steps;
+  writes : WritesRules (starts_in l.window.first l.window.end (take l.k l.space.ranges))
+      l.initial.steps l.steps;
 }

@@ -7,34 +7,71 @@ use Rattle.numa_compile.proofs.recompiler.map.mapped_window.Goals as goal
 pub returns-then-begins_beside-clause-open : goal.returns-then-begins_beside-clause-open
 returns-then-begins_beside-clause-open c =
     let found = c.find_window-window in
-    (map-rest c.args.space.now c.args.plan.now found.result c.args.start c.args.bytes c.requires.behind.0 c.requires.behind.1 c.survey.ensures.rising c.survey.ensures.maximal found.ensures.first found.ensures.end found.ensures.place found.ensures.window
-    c.if-begins_beside.ensures.beside (record { first = found.result.first; end = found.result.end; from = found.result.from + 1; to = found.result.to; to_now = found.result.to_now; near = found.result.near }) refl refl refl refl refl).0
+    (map-rest c.args.space.now c.args.plan.now found.result c.args.start c.args.bytes
+    c.requires.behind.0 c.requires.behind.1 c.survey.ensures.rising c.survey.ensures.maximal
+    found.ensures.first found.ensures.end found.ensures.place found.ensures.window
+    c.if-begins_beside.ensures.beside (record {
+      first = found.result.first;
+      end = found.result.end;
+      from = found.result.from + 1;
+      to = found.result.to;
+      to_now = found.result.to_now;
+      near =
+          found.result.near;
+    }) refl refl refl refl refl).0
 
 pub returns-then-begins_beside-clause-inside : goal.returns-then-begins_beside-clause-inside
 returns-then-begins_beside-clause-inside c =
     let found = c.find_window-window in
-    map-inside c.args.space.now c.args.plan.now found.result c.args.start c.args.bytes found.ensures.first found.ensures.end (omega (arith, found.ensures.place)) c.survey.ensures.rising c.survey.ensures.maximal c.requires.behind.0 c.requires.behind.1
-    (record { first = found.result.first; end = found.result.end; from = found.result.from + 1; to = found.result.to; to_now = found.result.to_now; near = found.result.near }) refl refl refl
+    map-inside c.args.space.now c.args.plan.now found.result c.args.start c.args.bytes
+    found.ensures.first found.ensures.end (omega (arith, found.ensures.place))
+    c.survey.ensures.rising c.survey.ensures.maximal c.requires.behind.0 c.requires.behind.1
+    (record {
+      first = found.result.first;
+      end = found.result.end;
+      from = found.result.from + 1;
+      to =
+          found.result.to;
+      to_now = found.result.to_now;
+      near = found.result.near;
+    }) refl refl refl
 
 pub returns-then-begins_beside-clause-few : goal.returns-then-begins_beside-clause-few
 returns-then-begins_beside-clause-few c =
     let found = c.find_window-window in
-    (map-rest c.args.space.now c.args.plan.now found.result c.args.start c.args.bytes c.requires.behind.0 c.requires.behind.1 c.survey.ensures.rising c.survey.ensures.maximal found.ensures.first found.ensures.end found.ensures.place found.ensures.window
-    c.if-begins_beside.ensures.beside (record { first = found.result.first; end = found.result.end; from = found.result.from + 1; to = found.result.to; to_now = found.result.to_now; near = found.result.near }) refl refl refl refl refl).1
+    (map-rest c.args.space.now c.args.plan.now found.result c.args.start c.args.bytes
+    c.requires.behind.0 c.requires.behind.1 c.survey.ensures.rising c.survey.ensures.maximal
+    found.ensures.first found.ensures.end found.ensures.place found.ensures.window
+    c.if-begins_beside.ensures.beside (record {
+      first = found.result.first;
+      end = found.result.end;
+      from = found.result.from + 1;
+      to = found.result.to;
+      to_now = found.result.to_now;
+      near =
+          found.result.near;
+    }) refl refl refl refl refl).1
 
 pub returns-clause-open : goal.returns-clause-open
 returns-clause-open c =
     let found = c.find_window-window in
-    open-found c.args.space.now c.args.plan.now found.result (Map c.args.start c.args.bytes c.requires.behind.0) c.requires.behind.1 tt c.survey.ensures.rising c.survey.ensures.maximal found.ensures.first found.ensures.end found.ensures.place found.ensures.window
+    open-found c.args.space.now c.args.plan.now found.result
+    (Map c.args.start c.args.bytes c.requires.behind.0) c.requires.behind.1 tt
+    c.survey.ensures.rising c.survey.ensures.maximal found.ensures.first found.ensures.end
+    found.ensures.place found.ensures.window
 
 pub returns-clause-inside : goal.returns-clause-inside
 returns-clause-inside c =
     let found = c.find_window-window in
-    map-inside c.args.space.now c.args.plan.now found.result c.args.start c.args.bytes found.ensures.first found.ensures.end (omega (arith, found.ensures.place)) c.survey.ensures.rising c.survey.ensures.maximal c.requires.behind.0 c.requires.behind.1
+    map-inside c.args.space.now c.args.plan.now found.result c.args.start c.args.bytes
+    found.ensures.first found.ensures.end (omega (arith, found.ensures.place))
+    c.survey.ensures.rising c.survey.ensures.maximal c.requires.behind.0 c.requires.behind.1
     found.result refl refl refl
 
 pub returns-clause-few : goal.returns-clause-few
 returns-clause-few c =
     let found = c.find_window-window in
-    map-window c.args.space.now c.args.plan.now found.result c.args.start c.args.bytes c.requires.behind.0 c.requires.behind.1 c.survey.ensures.rising c.survey.ensures.maximal found.ensures.first found.ensures.end found.ensures.place found.ensures.window
+    map-window c.args.space.now c.args.plan.now found.result c.args.start c.args.bytes
+    c.requires.behind.0 c.requires.behind.1 c.survey.ensures.rising c.survey.ensures.maximal
+    found.ensures.first found.ensures.end found.ensures.place found.ensures.window
     c.if-begins_beside.ensures.inside

@@ -15,9 +15,15 @@ rule_of-requires-clause-live c = (c.requires.standing c.in-Some.policy c.in-Some
 pub returns : goal.returns
 returns c =
     let standing = c.requires.standing c.in-Some.policy c.in-Some.is in
-    subst (λ (kept : Kept). IsRenewed c.args.space.now c.args.policy (Some kept)) (sym c.in_ok-shared.ensures) (
+    subst (λ (kept : Kept). IsRenewed c.args.space.now c.args.policy (Some kept))
+    (sym c.in_ok-shared.ensures) (
       c.in-Some.is,
       sym c.depends_on_weights.ensures ∙ c.if-not-depends_on_weights.false,
-      record { live = standing.0; in_force = standing.1; gives = λ cpu index lt. (c.in_ok-rule.ensures cpu index lt).1 },
+      record {
+        live = standing.0;
+        in_force = standing.1;
+        gives = λ cpu index lt.
+            (c.in_ok-rule.ensures cpu index lt).1;
+      },
       λ cpu index lt. (c.in_ok-rule.ensures cpu index lt).0,
     )
