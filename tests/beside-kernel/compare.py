@@ -17,7 +17,7 @@ ROWS = {
     "prefer": "prefer and many when the allowed nodes change",
     "static": "=static without an allowed node",
     "nodes first": "mbind with nodes that aren't allowed, over a hole",
-    "length 0": "mbind of length 0 with bad nodes",
+    "length 0": "mbind of length 0 whose mode, flag and nodes don't go together",
     "default": "mbind of DEFAULT over a hole",
     "weight": "weight N 0",
     "no policy": "home where no page of the span has a policy",
@@ -25,14 +25,13 @@ ROWS = {
     "unmap": "unmap of length 0",
     "last page": "map of the last page below 2^47",
     "no memory": "mems without a node that has memory",
-    "word": "mbind of length 0 with a faulty policy",
 }
 
 # rows behind which the two have another space, so that no line is compared
 APART = {"default", "no memory"}
 
 # the rows that are left under each set of rules
-LEFT = {"document": set(ROWS), "linux": {"home", "word"}}
+LEFT = {"document": set(ROWS), "linux": {"home"}}
 
 LAST_PAGE = 2**47 - 4096
 
@@ -121,8 +120,8 @@ def cause(line, mine, seen, before, left):
     """The row of the table that a difference falls under, where it is left, or None."""
     words = line.split()
     if words[0] == "mbind":
-        if int(words[2], 16) == 0 and seen == "ok":
-            return "word" if mine.startswith("bad policy") else "length 0"
+        if int(words[2], 16) == 0 and seen == "ok" and mine.startswith("bad policy"):
+            return "length 0"
         if mine == "refused Hole EFAULT" and words[3].startswith("default") and seen == "ok":
             return "default"
         if mine == "refused Hole EFAULT" and seen == "EINVAL":

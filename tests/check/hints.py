@@ -6,9 +6,9 @@ import copy
 import re
 
 import model
-from commands import COMMANDS, accept
+from commands import COMMANDS, accept, span_cause
 from space import PAGE, ranges
-from words import BadWords, Fault, line_of
+from words import BadWords, Fault, is_found_late, line_of
 
 PARTED = re.compile(r"a kernel (keeps|puts) .* of (?:task (\d+)|the range at (0x[0-9a-f]+)) on"
                     r" (no node|nodes? [0-9,-]+) here, where the documents give it"
@@ -58,9 +58,22 @@ def both(space, line):
     return *accept(space.copy(), name, arguments), *accept(twin, name, arguments)
 
 
+def is_overlooked(space, line):
+    """Whether the line has a fault by the documents that a kernel doesn't come to."""
+    try:
+        name, arguments = line_of(line)
+    except BadWords:
+        return False
+    if space is None or space.machine.is_linux or not is_found_late(name, arguments):
+        return False
+    return span_cause(*arguments[:2]) is None
+
+
 def wanted(space, line):
     """What a hint about the line must say, or None where there must be none: words, and for a policy
     whose nodes differ (its owner, its nodes by a kernel and by the documents) the possible ones."""
+    if is_overlooked(space, line):
+        return ("", {})
     found = both(space, line)
     if found is None:
         return None

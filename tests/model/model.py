@@ -17,7 +17,7 @@ import sys
 from commands import COMMANDS, accept
 from space import (Space, firsts, has_hole, index_at, is_live, machine_of, page_of, ranges,
                    resolved)
-from words import BadWords, Fault, is_silent, line_of, lines_of
+from words import BadWords, Fault, is_found_late, is_silent, line_of, lines_of
 from workers import STEPS, Crew, list_of_page, place_cause, publish
 
 NAMES = {"many": "prefer (many)", "weighted": "weighted interleave"}
@@ -187,10 +187,15 @@ def answer(state, line):
         return "bad words"
     if (state.space is None) != (name in OPENING):
         return "bad state"
-    for argument in arguments:
-        if isinstance(argument, Fault):
-            return argument.text
+    faults = [argument for argument in arguments if isinstance(argument, Fault)]
+    if faults and not is_passed_over(state.space, name, arguments):
+        return faults[0].text
     return served(state, name, arguments)
+
+
+def is_passed_over(space, name, arguments):
+    """Whether a kernel returns before it finds the fault: mbind does so where there is no page."""
+    return space is not None and space.machine.is_linux and is_found_late(name, arguments)
 
 
 def served(state, name, arguments):

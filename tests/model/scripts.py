@@ -101,6 +101,8 @@ class Script(Words):
 
     def mbind(self):
         start, length = self.bytes(*self.span())
+        if self.likely(0.06):
+            return self.say("mbind", start, 0, self.bad_policy())
         self.say("mbind", start, length, self.policy())
         if self.likely(0.25):
             self.say("home", start, length, self.node())

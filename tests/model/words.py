@@ -1,6 +1,6 @@
 """The words of a script: what a line says, before it is judged by the machine. One function a rule.
 
-Written from docs/SCRIPT.md alone. Not proved."""
+Written from docs/SCRIPT.md alone; what a kernel finds late, from its mm/mempolicy.c. Not proved."""
 
 import re
 from collections import namedtuple
@@ -143,6 +143,18 @@ def policy_fault(mode, static, relative, mask):
     if mode in ("bind", "many", "interleave", "weighted") and not mask:
         return Fault("bad policy NodesMissing")
     return None
+
+
+# what mpol_new of a kernel's mm/mempolicy.c judges, behind sanitize_mpol_flags and get_nodes
+BY_MPOL_NEW = {"bad policy NodesForbidden", "bad policy FlagsForbidden", "bad policy NodesMissing"}
+
+
+def is_found_late(name, arguments):
+    """An `mbind` of length 0 whose policy has a fault that mpol_new finds: do_mbind of a kernel
+    returns before it calls it."""
+    if name != "mbind" or arguments[1] != 0 or not isinstance(arguments[2], Fault):
+        return False
+    return arguments[2].text in BY_MPOL_NEW
 
 
 def asked_for(mode, flag, mask):

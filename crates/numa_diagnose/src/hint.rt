@@ -5,7 +5,7 @@ ghost use Rattle.numa_script.specs.Lines.{line_of};
 ghost use Rattle.numa_run.specs.Scripts.{ScriptReplies};
 ghost use Rattle.numa_diagnose.specs.Hints.{hint_for, turned};
 
-use numa_rules::{Otherwise, other_rules, otherwise_of};
+use numa_rules::{Otherwise, other_rules, otherwise_of, otherwise_of_empty_bind};
 use numa_run::Script;
 use numa_script::line::parse;
 use numa_script::{Line, Reply};
@@ -14,12 +14,13 @@ use std::alloc::Global;
 
 /// What a running kernel would do otherwise with a line, without its line feed, where a space that
 /// goes by the documents' rules is as its script so far has left it. Something only where the line
-/// says a command.
+/// says a command, or is one by the kernel's rules.
 pub fn hint_of(space: &Space, line: &[u8]) -> Option<Otherwise>
     ensures { result ≡ hint_for space.now (line_of line.now) }
 {
     match parse(line) {
         Line::Command(Ok(command)) => otherwise_of(space, &command),
+        Line::EmptyBind { start, .. } => otherwise_of_empty_bind(space, start),
         _ => None,
     }
 }

@@ -62,6 +62,7 @@ fn otherwise_words(otherwise: &Otherwise) -> &'static str {
         Otherwise::AllowsAllMemory => {
             "takes nodes without memory, and allows all that have some"
         }
+        Otherwise::OverlooksPolicy => "takes an mbind of 0 bytes before it judges the policy",
         Otherwise::LeavesNodes(_) => "",
     }
 }

@@ -23,6 +23,7 @@ use Rattle.numa_rules.specs.declared.otherwise.Otherwise.TheVariants.{KeepsLastP
 use Rattle.numa_rules.specs.declared.otherwise.Otherwise.TheVariants.{JudgesNodesFirst, PassesHoles}
 use Rattle.numa_rules.specs.declared.otherwise.Otherwise.TheVariants.{WantsPolicy, PutsBackWeight}
 use Rattle.numa_rules.specs.declared.otherwise.Otherwise.TheVariants.{AllowsAllMemory, LeavesNodes}
+use Rattle.numa_rules.specs.declared.otherwise.Otherwise.TheVariants.{OverlooksPolicy}
 use Rattle.numa_rules.specs.declared.parted.Owner.{Owner}
 use Rattle.numa_rules.specs.declared.parted.Owner.TheVariants.{Range, Task}
 use Rattle.numa_rules.specs.declared.parted.Parted.{Parted}
@@ -136,3 +137,10 @@ with_command space (command.SetMems mask) = with_mems space mask
 abbrev pub otherwise_of : SpaceState → Command → Option Otherwise
 otherwise_of space command =
     if is_linux space.machine.rules then None else with_command space command
+
+-- an mbind of length 0 whose mode, flag and nodes don't go together, which by the documents is a
+-- fault and no command: the kernel returns before it judges them, but not before the address
+abbrev pub otherwise_of_empty_bind : SpaceState → ℕ → Option Otherwise
+otherwise_of_empty_bind space start =
+    if is_linux space.machine.rules then None
+    else if is_some (bad_span start 0) then None else Some OverlooksPolicy

@@ -10,6 +10,6 @@ mod page;
 mod parted;
 mod span;
 
-pub use otherwise::{Otherwise, otherwise_of};
+pub use otherwise::{Otherwise, otherwise_of, otherwise_of_empty_bind};
 pub use page::{ByOther, by_other_rules, other_rules};
 pub use parted::{Owner, Parted};

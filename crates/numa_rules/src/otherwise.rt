@@ -6,7 +6,8 @@ ghost use Rattle.numa_mask.specs.NodeSet.{members};
 ghost use Rattle.numa_mode.specs.Policy.{is_default};
 ghost use Rattle.numa_space.specs.Refusals.{has_no_node};
 ghost use Rattle.numa_rules.specs.Otherwise.{with_bind, with_home, with_map, with_mems, with_unmap};
-ghost use Rattle.numa_rules.specs.Otherwise.{otherwise_of, with_weight, with_command};
+ghost use Rattle.numa_rules.specs.Otherwise.{otherwise_of, otherwise_of_empty_bind, with_weight};
+ghost use Rattle.numa_rules.specs.Otherwise.{with_command};
 
 use crate::parted::{Parted, parted_in};
 use crate::span::{PageTest, has_hole, has_page, span_of};
@@ -32,6 +33,9 @@ pub enum Otherwise {
     PutsBackWeight,
     /// It accepts allowed nodes of which none has memory, and allows all nodes with memory.
     AllowsAllMemory,
+    /// It accepts an mbind of length 0 before it checks whether mode, flag and nodes go together. By
+    /// the documents that is no command, so [`otherwise_of`] doesn't answer this.
+    OverlooksPolicy,
     /// A change of the allowed nodes leaves a policy with other nodes: this one, and perhaps more.
     LeavesNodes(Parted),
 }
@@ -180,4 +184,18 @@ pub fn otherwise_of(space: &Space, command: &Command) -> Option<Otherwise>
         return None;
     }
     with_command(space, command)
+}
+
+/// What a running kernel would do otherwise with an mbind of length 0, from an address on, whose
+/// mode, flag and nodes don't go together; None by the kernel's rules.
+pub fn otherwise_of_empty_bind(space: &Space, start: u64) -> Option<Otherwise>
+    ensures { result ≡ otherwise_of_empty_bind space.now start }
+{
+    if space.machine().rules().is_linux() {
+        return None;
+    }
+    let Some(_) = span_of(start, 0) else {
+        return None;
+    };
+    Some(Otherwise::OverlooksPolicy)
 }

@@ -3,12 +3,15 @@ use Rattle.std.specs.Prelude.{◌≡◌, ◌↔◌, ℕ, if◌then◌else◌, Is
 use Rattle.std.proofs.Common.{sym, ◌∙◌, ap, subst}
 use Rattle.numa_mask.specs.declared.list.ListFault.{ListFault}
 use Rattle.numa_machine.specs.Machine.{Hardware}
+use Rattle.numa_machine.specs.Rules.{is_linux}
 use Rattle.numa_machine.specs.Faults.{hardware_fault}
 use Rattle.numa_machine.specs.declared.fault.MachineFault.{MachineFault}
 use Rattle.numa_machine.specs.declared.fault.MachineFault.TheVariants as machine_fault
 use Rattle.numa_machine.specs.declared.rules.Rules.{Rules}
 use Rattle.numa_core.specs.World.{Setup, opening}
 use Rattle.numa_core.specs.Standing.{LeadsTo, setup_of}
+use Rattle.numa_script.specs.Lines.{empty_bind}
+use Rattle.numa_script.specs.declared.policy.WordError.{WordError}
 use Rattle.numa_script.specs.declared.policy.WordError.TheVariants as word_fault
 use Rattle.numa_script.specs.declared.line.MachineLine.{MachineLine}
 use Rattle.numa_script.specs.declared.line.Question.{Question}
@@ -20,11 +23,12 @@ use Rattle.numa_run.specs.Judged.{LacksMemory, IsStarved}
 use Rattle.numa_run.specs.Machines.{limits_fit, nodes_with_cpus, hardware_of, has_bad_nodes, first_fault}
 use Rattle.numa_run.specs.Questions.{question_text}
 use Rattle.numa_run.specs.Ranges.{listing_of}
-use Rattle.numa_run.specs.Replies.{Answer, Replied, Shown, bytes_of, reply_in, Served, with_text, with_reply, cpus_outcome, machine_unless, machine_outcome, served_first, served_later, with_outcome, served_by, outcome_of}
+use Rattle.numa_run.specs.Replies.{Answer, Replied, Shown, bytes_of, reply_in, Served, with_text, with_reply, cpus_outcome, machine_unless, machine_outcome, served_first, served_later, command_outcome, with_outcome, served_by, outcome_of}
 use Rattle.numa_run.specs.Standing.{RunsAs, Stands, Replies, Takes, Does}
 use Rattle.numa_run.specs.States.{setup_with}
 use Rattle.numa_script.specs.Texts.{text_of}
-use Rattle.numa_run.specs.Work.{Outcome}
+use Rattle.numa_run.specs.Work.{Outcome, event_outcome}
+use Rattle.numa_space.specs.declared.event.Event.TheVariants.{Accept}
 use Rattle.numa_run.specs.declared.running.Running.{Running}
 use Rattle.numa_run.specs.declared.settings.Settings.{Settings}
 use Rattle.numa_run.specs.declared.running.Taken.TheVariants as taken
@@ -146,26 +150,54 @@ later_is running said refused state stands = ap (λ m. served_by m refused state
 setup_is : (running : Running) (state : State) → RunsAs running state → setup_with (setup_of running.core).machine state.bounds ≡ setup_of running.core
 setup_is running state stands = λ i. record { machine = (setup_of running.core).machine; bounds = stands.core.bounds i; workers = sym stands.core.workers i }
 
--- a line that changes nothing
+-- a line that changes nothing on this machine
+pub same_here : (running : Running) (said : Line) (answer : Reply)
+    → ((state : State) → served_later false (setup_of running.core).machine state said ≡ with_reply answer state)
+    → Takes running said (taken.Reply answer) running
+same_here running said answer right =
+    λ state stands.
+    let is : outcome_of false state said ≡ with_reply answer state = later_is running said false state stands ∙ right state in
+    (false, sym (ap (λ r. reply_in r.answer) is), subst (λ (r : Served). RunsAs running r.state) (sym is) stands)
+
+-- and on any
 pub later_same : (running : Running) (said : Line) (answer : Reply)
     → ((machine : Hardware) (state : State) → served_later false machine state said ≡ with_reply answer state)
     → Takes running said (taken.Reply answer) running
-later_same running said answer right =
+later_same running said answer right = same_here running said answer (right (setup_of running.core).machine)
+
+-- what does something on this machine
+pub done_here : (old new : Running) (said : Line) (answer : Reply) (outcome : Bool → Setup → State → Outcome)
+    → Does old answer new (λ refused state. outcome refused (setup_of old.core) state)
+    → ((refused : Bool) (state : State) → served_later refused (setup_of old.core).machine state said ≡ with_outcome state (outcome refused (setup_with (setup_of old.core).machine state.bounds) state))
+    → Takes old said (taken.Reply answer) new
+done_here old new said answer outcome does right =
     λ state stands.
-    let is : outcome_of false state said ≡ with_reply answer state = later_is running said false state stands ∙ right (setup_of running.core).machine state in
-    (false, sym (ap (λ r. reply_in r.answer) is), subst (λ (r : Served). RunsAs running r.state) (sym is) stands)
+    let d = does state stands in
+    let is : outcome_of d.0 state said ≡ with_outcome state (outcome d.0 (setup_of old.core) state) =
+    later_is old said d.0 state stands ∙ right d.0 state ∙ ap (λ s. with_outcome state (outcome d.0 s state)) (setup_is old state stands) in
+    (d.0, ap Some d.1 ∙ sym (ap (λ r. reply_in r.answer) is), subst (λ (r : Served). RunsAs new r.state) (sym is) d.2)
 
 -- a command, or a line of workers
 pub later_done : (old new : Running) (said : Line) (answer : Reply) (outcome : Bool → Setup → State → Outcome)
     → Does old answer new (λ refused state. outcome refused (setup_of old.core) state)
     → ((refused : Bool) (machine : Hardware) (state : State) → served_later refused machine state said ≡ with_outcome state (outcome refused (setup_with machine state.bounds) state))
     → Takes old said (taken.Reply answer) new
-later_done old new said answer outcome does right =
-    λ state stands.
-    let d = does state stands in
-    let is : outcome_of d.0 state said ≡ with_outcome state (outcome d.0 (setup_of old.core) state) =
-    later_is old said d.0 state stands ∙ right d.0 (setup_of old.core).machine state ∙ ap (λ s. with_outcome state (outcome d.0 s state)) (setup_is old state stands) in
-    (d.0, ap Some d.1 ∙ sym (ap (λ r. reply_in r.answer) is), subst (λ (r : Served). RunsAs new r.state) (sym is) d.2)
+later_done old new said answer outcome does right = done_here old new said answer outcome does (λ refused state. right refused (setup_of old.core).machine state)
+
+-- an mbind of length 0 whose mode, flag and nodes don't go together: the kernel's rules make it a command
+pub bound_nothing : (old new : Running) (start : ℕ) (fault : WordError) (answer : Reply) → is_linux (setup_of old.core).machine.rules ≡ true
+    → Does old answer new (λ refused state. event_outcome refused (setup_of old.core) state.world state.resident (Accept (empty_bind start)))
+    → Takes old (line.EmptyBind start fault) (taken.Reply answer) new
+bound_nothing old new start fault answer kernels does =
+    done_here old new (line.EmptyBind start fault) answer (λ refused s state. event_outcome refused s state.world state.resident (Accept (empty_bind start))) does
+    (λ refused state. ap (λ (b : Bool). command_outcome refused (setup_of old.core).machine state (if b then Ok (empty_bind start) else Err fault)) kernels)
+
+-- and the documents' a fault
+pub bound_by_documents : (running : Running) (start : ℕ) (fault : WordError) → is_linux (setup_of running.core).machine.rules ≡ false
+    → Takes running (line.EmptyBind start fault) (taken.Reply (reply.BadWord fault)) running
+bound_by_documents running start fault documents =
+    same_here running (line.EmptyBind start fault) (reply.BadWord fault)
+    (λ state. ap (λ (b : Bool). command_outcome false (setup_of running.core).machine state (if b then Ok (empty_bind start) else Err fault)) documents)
 
 -- ---- answers as bytes
 

@@ -101,6 +101,7 @@ asked_fault refused state (line.Rules rules) = None
 asked_fault refused state (line.Cpus said) = None
 asked_fault refused state (line.Machine said) = None
 asked_fault refused state (line.Command said) = None
+asked_fault refused state (line.EmptyBind start fault) = None
 asked_fault refused state (line.Maps task) = None
 asked_fault refused state (line.Work said) = None
 

@@ -3,10 +3,13 @@
 use Rattle.std.specs.Prelude.{ℕ, Bool, Option, Some, None, List, [], if◌then◌else◌, Result, Ok, Err}
 use Rattle.numa_mask.specs.declared.list.ListFault.{ListFault}
 use Rattle.numa_machine.specs.Machine.{Hardware}
+use Rattle.numa_machine.specs.Rules.{is_linux}
+use Rattle.numa_machine.specs.declared.rules.Rules.{Rules}
 use Rattle.numa_machine.specs.declared.fault.MachineFault.{MachineFault}
 use Rattle.numa_space.specs.declared.command.Command.{Command}
 use Rattle.numa_core.specs.World.{opening}
 use Rattle.numa_space.specs.declared.event.Event.TheVariants.{Accept}
+use Rattle.numa_script.specs.Lines.{empty_bind}
 use Rattle.numa_script.specs.declared.policy.WordError.{WordError}
 use Rattle.numa_script.specs.declared.policy.WordError.TheVariants as word_fault
 use Rattle.numa_script.specs.declared.line.MachineLine.{MachineLine}
@@ -96,6 +99,7 @@ served_first refused state (line.Rules rules) =
 served_first refused state (line.Cpus said) = cpus_outcome said state
 served_first refused state (line.Machine said) = machine_outcome refused said said.memory state
 served_first refused state (line.Command said) = with_reply reply.BadState state
+served_first refused state (line.EmptyBind start fault) = with_reply reply.BadState state
 served_first refused state (line.Question said) = with_reply reply.BadState state
 served_first refused state (line.Maps task) = with_reply reply.BadState state
 served_first refused state (line.Work said) = with_reply reply.BadState state
@@ -114,6 +118,11 @@ command_outcome refused machine state (Ok command) =
     with_outcome state (event_outcome refused (setup_with machine state.bounds) state.world
     state.resident (Accept command))
 
+-- an mbind of length 0 whose mode, flag and nodes don't go together is a fault by the documents. A
+-- kernel returns before it judges them
+abbrev pub bind_nothing : Rules → ℕ → WordError → Result Command WordError
+bind_nothing rules start fault = if is_linux rules then Ok (empty_bind start) else Err fault
+
 abbrev pub served_later : Bool → Hardware → State → Line → Served
 served_later refused machine state line.Silent = with_reply reply.Silent state
 served_later refused machine state line.Malformed = with_reply reply.BadWords state
@@ -123,6 +132,8 @@ served_later refused machine state (line.Rules rules) = with_reply reply.BadStat
 served_later refused machine state (line.Cpus said) = with_reply reply.BadState state
 served_later refused machine state (line.Machine said) = with_reply reply.BadState state
 served_later refused machine state (line.Command said) = command_outcome refused machine state said
+served_later refused machine state (line.EmptyBind start fault) =
+    command_outcome refused machine state (bind_nothing machine.rules start fault)
 served_later refused machine state (line.Question said) =
     with_text (question_text refused machine state.world.history said) state
 served_later refused machine state (line.Maps task) =

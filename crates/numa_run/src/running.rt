@@ -17,8 +17,9 @@ use numa_core::Core;
 use numa_lines::Watched;
 use numa_machine::Frame;
 use numa_maps::{RecordRefusal, Resident, write_maps};
+use numa_script::line::empty_bind;
 use numa_script::tell::{say_ranges, say_starved};
-use numa_script::{Line, Question, Reply, Win, Work};
+use numa_script::{Line, Question, Reply, Win, WordError, Work};
 use numa_space::{CoreRefusal, CoreReply, Event, PlaceRefusal, Placement, Request};
 use std::alloc::Global;
 use std::io::Write;
@@ -195,6 +196,17 @@ impl Running {
         let _ = write_maps(space, task, &self.resident, output);
     }
 
+    /// Does what an `mbind` of length 0 says whose mode, flag and nodes don't go together.
+    fn bind_nothing(&mut self, start: u64, fault: WordError) -> Reply
+        ensures { Takes self.old (Line.EmptyBind start fault) (Taken.Reply result) self.new }
+    {
+        if self.core.space().machine().rules().is_linux() {
+            let answer = self.core.step(Event::Accept(empty_bind(start)));
+            return Reply::to_event(&answer);
+        }
+        Reply::BadWord(fault)
+    }
+
     /// Does what a line says. The answer of a question and of a line `maps` is left to be said.
     pub fn take(&mut self, line: &Line<'_>) -> Taken
         ensures { Takes self.old line.now result self.new }
@@ -213,6 +225,7 @@ impl Running {
                 }
                 Err(fault) => Taken::Reply(Reply::BadWord(*fault)),
             },
+            Line::EmptyBind { start, fault } => Taken::Reply(self.bind_nothing(*start, *fault)),
             Line::Work(work) => Taken::Reply(self.work(*work)),
             Line::Question(question) => Taken::Question(*question),
             Line::Maps(task) => Taken::Maps(*task),

@@ -205,6 +205,7 @@ impl Script {
             Line::Cpus(said) => self.equip(said),
             Line::Machine(said) => self.describe(alloc, said),
             Line::Command(_) => Reply::BadState,
+            Line::EmptyBind { .. } => Reply::BadState,
             Line::Question(_) => Reply::BadState,
             Line::Maps(_) => Reply::BadState,
             Line::Work(_) => Reply::BadState,

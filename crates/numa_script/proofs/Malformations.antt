@@ -1,7 +1,7 @@
 -- A line has a cause of its fault exactly where it is malformed.
-use Rattle.std.specs.Prelude.{suc, ◌≡◌, ℕ, ◌+◌, ◌==◌, ◌<◌, ◌/◌, ◌||◌, Bool, true, false, List, []}
-use Rattle.std.specs.Prelude.{◌∷◌, length, position, nat_lt, is_some, is_none, unwrap_or, cond}
-use Rattle.std.specs.Prelude.{Option, Some, None, Result, Ok, Err, option_and_then, refl}
+use Rattle.std.specs.Prelude.{suc, ◌≡◌, ℕ, ◌+◌, ◌==◌, ◌<◌, ◌/◌, ◌||◌, ◌&&◌, Bool, true, false, List}
+use Rattle.std.specs.Prelude.{[], ◌∷◌, length, position, nat_lt, is_some, is_none, unwrap_or, cond}
+use Rattle.std.specs.Prelude.{Option, Some, None, Result, Ok, Err, option_and_then, refl, if◌then◌else◌}
 use Rattle.std.specs.List.{list_any}
 use Rattle.std.specs.Option.{option_map}
 use Rattle.std.proofs.Common.{sym, ◌∙◌, ap, arith}
@@ -19,11 +19,11 @@ use Rattle.numa_script.specs.Lines.{keyword_of, line_after, limits_line, rules_l
 use Rattle.numa_script.specs.Lines.{machine_line, map_line, unmap_line, mbind_line, home_line}
 use Rattle.numa_script.specs.Lines.{task_line, inherit_line, weight_line, mems_line, place_line}
 use Rattle.numa_script.specs.Lines.{span_line, counts_line, ranges_line, maps_line, words_line}
-use Rattle.numa_script.specs.Lines.{with_policy, with_nodes, is_silent, has_empty_word, line_of}
+use Rattle.numa_script.specs.Lines.{with_policy, bind_line, with_nodes, is_silent, has_empty_word, line_of}
 use Rattle.numa_script.specs.Machines.{frames_of, distances_of, rules_of, has_kernel_orders}
 use Rattle.numa_script.specs.Numbers.{below, few_of, number_of, small_of, page_of, node_of, frame_number_of}
 use Rattle.numa_script.specs.Parts.{words_of}
-use Rattle.numa_script.specs.Policies.{policy_of}
+use Rattle.numa_script.specs.Policies.{policy_of, waits_for_pages}
 use Rattle.numa_script.specs.Present.{with_two, with_three, with_four}
 use Rattle.numa_script.specs.Workers.{publish_work, begin_work, look_work, try_work, give_work, touch_work, release_work}
 use Rattle.numa_script.specs.declared.keyword.Keyword.{Keyword}
@@ -163,6 +163,14 @@ policy_said : (f : Specification → Command) (r : Result Specification WordErro
 policy_said f (Ok spec) = refl
 policy_said f (Err fault) = refl
 
+bind_said : (start bytes : ℕ) (r : Result Specification WordError) → is_malformed (bind_line start bytes r) ≡ false
+bind_said start bytes (Ok spec) = refl
+bind_said start bytes (Err wrong) = either (bytes == 0 && waits_for_pages wrong)
+  where
+    either : (b : Bool) → is_malformed (if b then line.EmptyBind start wrong else line.Command (Err wrong)) ≡ false
+    either true = refl
+    either false = refl
+
 nodes_said : (f : ℕ → Command) (r : Result ℕ ListFault) → is_malformed (with_nodes f r) ≡ false
 nodes_said f (Ok mask) = refl
 nodes_said f (Err fault) = refl
@@ -276,7 +284,7 @@ says_mbind c (a ∷ []) = too_few keyword.Mbind c (a ∷ []) (omega arith)
 says_mbind c (a ∷ b ∷ []) = too_few keyword.Mbind c (a ∷ b ∷ []) (omega arith)
 says_mbind c (a ∷ b ∷ d ∷ []) =
     enough keyword.Mbind c (a ∷ b ∷ d ∷ []) refl
-    ∙ two (λ x y. with_policy (command.Mbind x y) (policy_of d)) _ _ (number_of a) (number_of b) (λ x y. policy_said (command.Mbind x y) (policy_of d))
+    ∙ two (λ x y. bind_line x y (policy_of d)) _ _ (number_of a) (number_of b) (λ x y. bind_said x y (policy_of d))
     (any_number a) (any_number b)
 says_mbind c (a ∷ b ∷ d ∷ e ∷ words) = too_many keyword.Mbind c (a ∷ b ∷ d ∷ e ∷ words) (omega arith)
 

@@ -191,6 +191,7 @@ is_malformed (line.Rules rules) = false
 is_malformed (line.Cpus said) = false
 is_malformed (line.Machine said) = false
 is_malformed (line.Command said) = false
+is_malformed (line.EmptyBind start fault) = false
 is_malformed (line.Question said) = false
 is_malformed (line.Maps task) = false
 is_malformed (line.Work said) = false

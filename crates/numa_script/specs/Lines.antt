@@ -1,5 +1,5 @@
 -- What a line of a script says.
-use Rattle.std.specs.Prelude.{ℕ, ◌==◌, Bool, true, List, [], ◌∷◌, length, codes, nat_lt}
+use Rattle.std.specs.Prelude.{ℕ, ◌==◌, ◌&&◌, Bool, true, List, [], ◌∷◌, length, codes, nat_lt}
 use Rattle.std.specs.Prelude.{if◌then◌else◌, Option, Some, None, Result, Ok, Err, unwrap_or}
 use Rattle.std.specs.Prelude.{option_and_then}
 use Rattle.std.specs.List.{list_any}
@@ -8,6 +8,8 @@ use Rattle.std.specs.Str.{bytes_eq}
 use Rattle.numa_mask.specs.Lists.{list_of}
 use Rattle.numa_mask.specs.declared.list.ListFault.{ListFault}
 use Rattle.numa_mode.specs.Policy.{Specification}
+use Rattle.numa_mode.specs.declared.modes.Mode.TheVariants as mode
+use Rattle.numa_mode.specs.declared.modes.NodeFlag.TheVariants as flag
 use Rattle.numa_space.specs.declared.command.Command.{Command}
 use Rattle.numa_space.specs.declared.command.Command.TheVariants as command
 use Rattle.numa_script.specs.Parts.{words_of}
@@ -15,7 +17,7 @@ use Rattle.numa_script.specs.Present.{with_two, with_three, two_of, three_of}
 use Rattle.numa_script.specs.Present.{four_of, two_words, three_words, four_words}
 use Rattle.numa_script.specs.Numbers.{number_of, small_of, few_of}
 use Rattle.numa_script.specs.Machines.{frames_of, distances_of, rules_of, has_kernel_orders}
-use Rattle.numa_script.specs.Policies.{policy_of}
+use Rattle.numa_script.specs.Policies.{policy_of, waits_for_pages}
 use Rattle.numa_script.specs.Workers.{publish_work, begin_work, look_work, try_work, give_work}
 use Rattle.numa_script.specs.Workers.{touch_work, release_work}
 use Rattle.numa_script.specs.declared.policy.WordError.{WordError}
@@ -129,10 +131,23 @@ abbrev pub unmap_line : List (List ℕ) → Option Line
 unmap_line words =
     option_map (λ v. line.Command (Ok (command.Unmap v.0 v.1))) (two_of number_of number_of words)
 
+-- the command that a kernel takes an mbind of length 0 for, whatever its policy
+abbrev pub empty_bind : ℕ → Command
+empty_bind start =
+    command.Mbind start 0 (record { mode = mode.Default; flag = flag.Plain; mask = 0 })
+
+-- an mbind of so many bytes: a fault that a kernel finds only where there are pages is told apart
+-- where there are none
+abbrev pub bind_line : ℕ → ℕ → Result Specification WordError → Line
+bind_line start bytes (Ok spec) = line.Command (Ok (command.Mbind start bytes spec))
+bind_line start bytes (Err wrong) =
+    if bytes == 0 && waits_for_pages wrong then line.EmptyBind start wrong
+    else line.Command (Err wrong)
+
 -- mbind START LENGTH POLICY
 abbrev pub mbind_line : List (List ℕ) → Option Line
 mbind_line words =
-    option_and_then (λ v. with_two (λ s l. with_policy (command.Mbind s l) (policy_of v.2))
+    option_and_then (λ v. with_two (λ s l. bind_line s l (policy_of v.2))
     (number_of v.0) (number_of v.1)) (three_words words)
 
 -- home START LENGTH NODE

@@ -11,6 +11,9 @@ use Rattle.numa_mode.specs.declared.modes.Mode.{Mode}
 use Rattle.numa_mode.specs.declared.modes.Mode.TheVariants as mode
 use Rattle.numa_mode.specs.declared.specification.SpecError.{SpecError}
 use Rattle.numa_mode.specs.declared.specification.SpecError.TheVariants.{UnknownMode}
+use Rattle.numa_mode.specs.declared.specification.SpecError.TheVariants.{NodesForbidden}
+use Rattle.numa_mode.specs.declared.specification.SpecError.TheVariants.{FlagsForbidden}
+use Rattle.numa_mode.specs.declared.specification.SpecError.TheVariants.{NodesMissing}
 use Rattle.numa_mask.specs.Parts.{parts_of}
 use Rattle.numa_script.specs.Tables.{meaning_of}
 use Rattle.numa_script.specs.declared.policy.PolicyForm.{PolicyForm}
@@ -82,3 +85,12 @@ policy_cut word (Some colon) =
 -- the policy of a word, which is cut at its first colon
 unfoldable pub policy_of : List ℕ → Result Specification WordError
 policy_of word = policy_cut word (position (λ b. b == 58) word)
+
+-- mode, flag and nodes don't go together. A kernel judges the mode's number, both flags at once and
+-- the numbers of the nodes as it reads them, but this only where there are pages to give the policy
+-- to
+abbrev pub waits_for_pages : WordError → Bool
+waits_for_pages (fault.Policy NodesForbidden) = true
+waits_for_pages (fault.Policy FlagsForbidden) = true
+waits_for_pages (fault.Policy NodesMissing) = true
+waits_for_pages _ = false

@@ -1,22 +1,24 @@
 //! Parsing a line of a script.
-ghost use Rattle.std.specs.Prelude.{◌≡◌, ◌==◌, ◌+◌, ◌≤◌, ◌<◌, ℕ, List, length, Option, Ok};
+ghost use Rattle.std.specs.Prelude.{◌≡◌, ◌==◌, ◌+◌, ◌≤◌, ◌<◌, ℕ, List, length, Option, Ok, Err};
 ghost use Rattle.std.specs.Option.{option_map};
 ghost use Rattle.numa_script.specs.Lines.{limits_line, machine_line, mbind_line, task_line};
 ghost use Rattle.numa_script.specs.Lines.{mems_line, place_line, span_line, counts_line};
 ghost use Rattle.numa_script.specs.Lines.{ranges_line, maps_line, line_after, words_line};
-ghost use Rattle.numa_script.specs.Lines.{rules_line, cpus_line};
+ghost use Rattle.numa_script.specs.Lines.{rules_line, cpus_line, bind_line, empty_bind};
 ghost use Rattle.numa_script.specs.Lines.{is_silent, has_empty_word, line_of};
 
 use crate::keyword::{Keyword, read_keyword};
 use crate::machine::{Distances, Frames, has_kernel_orders};
 use crate::number::{few_pages, number, small};
 use crate::parts::words;
-use crate::policy::{WordError, read_policy};
+use crate::policy::{WordError, read_policy, waits_for_pages};
 use crate::reading::{four, four_words, three, three_words, two, two_words};
 use crate::rules::read_rules;
 use crate::work::{Work, begin, give, look, publish, release, touch, try_frame};
+use bitflags::Flags;
 use numa_machine::Rules;
 use numa_mask::{ListFault, NodeMask, Parts, read_list};
+use numa_mode::{Mode, PolicyFlags, PolicySpec};
 use numa_space::Command;
 use numa_space::Command::{Inherit, Map, SetHome, SetWeight, Unmap};
 
@@ -92,6 +94,13 @@ pub enum Line<'a> {
     Machine(MachineLine<'a>),
     /// A command, or what is wrong with its list or policy, which matters once a machine is ready.
     Command(Result<Command, WordError>),
+    /// An `mbind` of length 0, from `start` on, whose mode, flag and nodes don't go together. A
+    /// kernel returns before it judges them: by its rules the line says [`empty_bind`], and by the
+    /// documents the fault. Either counts once a machine is ready.
+    EmptyBind {
+        start: u64,
+        fault: WordError,
+    },
     /// A question.
     Question(Question),
     /// A listing of the ranges, with the policies that serve the task and the placed pages.
@@ -150,6 +159,30 @@ fn machine<'a>(words: Parts<'a>) -> Option<Line<'a>>
     }))
 }
 
+/// The command that a kernel takes an `mbind` of length 0 for, whatever its policy.
+pub fn empty_bind(start: u64) -> Command
+    ensures { result ≡ empty_bind start }
+{
+    let Ok(spec) = PolicySpec::new(Mode::Default, PolicyFlags::empty(), NodeMask::empty()) else {
+        unreachable!()
+    };
+    Command::Mbind {
+        start,
+        length: 0,
+        spec,
+    }
+}
+
+/// What an `mbind` says whose policy is faulty.
+fn faulty_bind<'a>(start: u64, length: u64, fault: WordError) -> Line<'a>
+    ensures { result ≡ bind_line start length (Err fault) }
+{
+    if length == 0 && waits_for_pages(fault) {
+        return Line::EmptyBind { start, fault };
+    }
+    Line::Command(Err(fault))
+}
+
 /// `mbind START LENGTH POLICY`
 fn mbind(words: Parts) -> Option<Line>
     ensures { result ≡ mbind_line words.entry }
@@ -163,7 +196,7 @@ fn mbind(words: Parts) -> Option<Line>
             length,
             spec,
         }))),
-        Err(fault) => Some(Line::Command(Err(fault))),
+        Err(fault) => Some(faulty_bind(start, length, fault)),
     }
 }
 

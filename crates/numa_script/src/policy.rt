@@ -2,7 +2,7 @@
 ghost use Rattle.std.specs.Prelude.{◌≡◌, ◌==◌, ℕ, true, Ok};
 ghost use Rattle.numa_mode.specs.Flags.{has_static, has_relative};
 ghost use Rattle.numa_script.specs.Policies.{mode_of, form_with, form_of, form_of_two};
-ghost use Rattle.numa_script.specs.Policies.{form_of_three, policy_from, policy_of};
+ghost use Rattle.numa_script.specs.Policies.{form_of_three, policy_from, policy_of, waits_for_pages};
 
 use crate::table::meaning;
 use bitflags::Flags;
@@ -149,5 +149,22 @@ pub fn read_policy(word: &[u8]) -> Result<PolicySpec, WordError>
     match first_place(word, b':') {
         None => policy(read_form(word), Ok(NodeMask::empty())),
         Some(colon) => policy(read_form(&word[..colon]), read_list(&word[colon + 1..])),
+    }
+}
+
+/// Whether a kernel finds the fault of a policy only where there are pages to give the policy to:
+/// mode, flag and nodes don't go together. Each of them by itself it judges before.
+pub(crate) fn waits_for_pages(fault: WordError) -> bool
+    ensures { result ≡ waits_for_pages fault }
+{
+    match fault {
+        WordError::List(_) => false,
+        WordError::Policy(fault) => match fault {
+            SpecError::NodesForbidden => true,
+            SpecError::FlagsForbidden => true,
+            SpecError::NodesMissing => true,
+            SpecError::UnknownMode => false,
+            SpecError::BothFlags => false,
+        },
     }
 }

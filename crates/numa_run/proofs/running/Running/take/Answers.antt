@@ -42,6 +42,9 @@ returns-in-Err c =
     rw (c.in-Command.is, c.in-Err.is)
     (later_same c.args.self.now (line.Command (Err c.in-Err.fault)) (reply.BadWord c.in-Err.fault) (λ machine state. refl))
 
+pub returns-in-EmptyBind : goal.returns-in-EmptyBind
+returns-in-EmptyBind c = rw c.in-EmptyBind.is c.bind_nothing.ensures
+
 pub returns-in-Work : goal.returns-in-Work
 returns-in-Work c =
     rw c.in-Work.is

@@ -12,6 +12,9 @@ returns-in-Malformed c = rw (c.in-Malformed.is, c.requires) (first_same c.args.s
 pub returns-in-Command : goal.returns-in-Command
 returns-in-Command c = rw (c.in-Command.is, c.requires) (first_same c.args.self.now.settings _ reply.BadState false (λ state. refl))
 
+pub returns-in-EmptyBind : goal.returns-in-EmptyBind
+returns-in-EmptyBind c = rw (c.in-EmptyBind.is, c.requires) (first_same c.args.self.now.settings _ reply.BadState false (λ state. refl))
+
 pub returns-in-Question : goal.returns-in-Question
 returns-in-Question c = rw (c.in-Question.is, c.requires) (first_same c.args.self.now.settings _ reply.BadState false (λ state. refl))
 
