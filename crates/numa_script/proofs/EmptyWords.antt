@@ -10,13 +10,13 @@ use Rattle.std.proofs.lemmas.Bool.Decides.{nat_tests}
 use Rattle.numa_script.specs.Parts.{words_of}
 use Rattle.numa_script.specs.Lines.{has_empty_word}
 
-abbrev any_empty : List (List ℕ) → Bool
+abbrev pub any_empty : List (List ℕ) → Bool
 any_empty words = list_any (λ word. length word == 0) words
 
 word_begun : (b : ℕ) (word : List ℕ) → (length (b ∷ word) == 0) ≡ false
 word_begun b word = grind (arith, nat_tests)
 
-any_behind : (b : ℕ) (word : List ℕ) (words : List (List ℕ)) → any_empty ((b ∷ word) ∷ words)
+pub any_behind : (b : ℕ) (word : List ℕ) (words : List (List ℕ)) → any_empty ((b ∷ word) ∷ words)
     ≡ any_empty words
 any_behind b word words = ap (λ t. t || any_empty words) (word_begun b word)
 

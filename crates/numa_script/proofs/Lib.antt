@@ -2,6 +2,7 @@ pub mod Columns
 pub mod Counts
 pub mod Digits
 pub mod Eaches
+pub mod EmptyNumbers
 pub mod EmptyWords
 pub mod Malformations
 pub mod Misfits

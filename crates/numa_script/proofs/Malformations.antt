@@ -40,7 +40,7 @@ use Rattle.numa_script.proofs.Columns.{width_of_words}
 use Rattle.numa_script.proofs.Misfits.{small, span_pages, node_number, frame_number, any_number, page, readable}
 
 -- what a line without a cause says is malformed
-abbrev said : Option Line → Bool
+abbrev pub said : Option Line → Bool
 said o = is_malformed (unwrap_or o line.Malformed)
 
 -- ---- words that are there only together
@@ -189,7 +189,7 @@ too_many k c words many =
     rw (no, is) refl
 
 -- some word isn't of its form
-abbrev any_misfit : List Parameter → List (List ℕ) → Bool
+abbrev pub any_misfit : List Parameter → List (List ℕ) → Bool
 any_misfit [] words = false
 any_misfit (p ∷ ps) [] = false
 any_misfit (p ∷ ps) (word ∷ words) = is_some (misfit_of (form_of p) word) || any_misfit ps words
@@ -199,7 +199,7 @@ some_misfit : (k : Keyword) (p : Parameter) (c : ℕ) (m : Option Misfit) (later
 some_misfit k p c None later = refl
 some_misfit k p c (Some m) later = refl
 
-some_first : (k : Keyword) (ps : List Parameter) (c : ℕ) (words : List (List ℕ)) → is_some (first_misfit k ps c words) ≡ any_misfit ps words
+pub some_first : (k : Keyword) (ps : List Parameter) (c : ℕ) (words : List (List ℕ)) → is_some (first_misfit k ps c words) ≡ any_misfit ps words
 some_first k [] c words = refl
 some_first k (p ∷ ps) c [] = refl
 some_first k (p ∷ ps) c (word ∷ words) =
@@ -445,7 +445,7 @@ says_release c (a ∷ b ∷ []) =
 says_release c (a ∷ b ∷ d ∷ words) = too_many keyword.Release c (a ∷ b ∷ d ∷ words) (omega arith)
 
 -- a line of a keyword
-says : (k : Keyword) (c : ℕ) (words : List (List ℕ)) → is_some (fault_behind k c words) ≡ said (line_after k words)
+pub says : (k : Keyword) (c : ℕ) (words : List (List ℕ)) → is_some (fault_behind k c words) ≡ said (line_after k words)
 says keyword.Limits c words = says_limits c words
 says keyword.Rules c words = says_rules c words
 says keyword.Cpus c words = says_cpus c words

@@ -1,5 +1,5 @@
 -- What a line of a script says.
-use Rattle.std.specs.Prelude.{ℕ, ◌==◌, ◌&&◌, Bool, true, List, [], ◌∷◌, length, codes, nat_lt}
+use Rattle.std.specs.Prelude.{ℕ, ◌==◌, ◌&&◌, Bool, true, false, List, [], ◌∷◌, length, codes, nat_lt}
 use Rattle.std.specs.Prelude.{if◌then◌else◌, Option, Some, None, Result, Ok, Err, unwrap_or}
 use Rattle.std.specs.Prelude.{option_and_then}
 use Rattle.std.specs.List.{list_any}
@@ -232,6 +232,21 @@ line_after keyword.Touch words = option_map line.Work (touch_work words)
 line_after keyword.Release words = option_map line.Work (release_work words)
 
 -- ---- lines
+
+-- behind such a keyword something else than a number may stand, which could be an empty word
+abbrev pub takes_texts : Keyword → Bool
+takes_texts keyword.Rules = true
+takes_texts keyword.Cpus = true
+takes_texts keyword.Machine = true
+takes_texts keyword.Mbind = true
+takes_texts keyword.Task = true
+takes_texts keyword.Mems = true
+takes_texts _ = false
+
+-- what a line begins with, and the words behind it
+abbrev pub begun : List (List ℕ) → Option (Keyword × List (List ℕ))
+begun [] = None
+begun (first ∷ words) = option_map (λ k. (k, words)) (keyword_of first)
 
 -- the line that the words write, where they write one
 abbrev pub words_line : List (List ℕ) → Option Line

@@ -1,11 +1,13 @@
 //! Parsing a line of a script.
 ghost use Rattle.std.specs.Prelude.{◌≡◌, ◌==◌, ◌+◌, ◌≤◌, ◌<◌, ℕ, List, length, Option, Ok, Err};
+ghost use Rattle.std.specs.Prelude.{◌&&◌, if◌then◌else◌, unwrap_or};
 ghost use Rattle.std.specs.Option.{option_map};
 ghost use Rattle.numa_script.specs.Lines.{limits_line, machine_line, mbind_line, task_line};
 ghost use Rattle.numa_script.specs.Lines.{mems_line, place_line, span_line, counts_line};
 ghost use Rattle.numa_script.specs.Lines.{ranges_line, maps_line, line_after, words_line};
 ghost use Rattle.numa_script.specs.Lines.{rules_line, cpus_line, bind_line, empty_bind};
-ghost use Rattle.numa_script.specs.Lines.{is_silent, has_empty_word, line_of};
+ghost use Rattle.numa_script.specs.Lines.{is_silent, has_empty_word, line_of, takes_texts, begun};
+ghost use Rattle.numa_script.specs.Parts.{words_of};
 
 use crate::keyword::{Keyword, read_keyword};
 use crate::machine::{Distances, Frames, has_kernel_orders};
@@ -30,12 +32,12 @@ pub const LIMIT: usize = 4096;
 pub struct MachineLine<'a> {
     /// The number of nodes.
     pub nodes: u32,
+    /// Whether fallback orders are those that a kernel builds; else they are by distance alone.
+    pub kernel_orders: bool,
     /// The nodes with memory, or what is wrong with their list.
     pub memory: Result<NodeMask, ListFault>,
     /// The frames of the nodes.
     pub frames: Frames<'a>,
-    /// Whether fallback orders are those that a kernel builds; else they are by distance alone.
-    pub kernel_orders: bool,
     /// The distances between them.
     pub distances: Distances<'a>,
 }
@@ -152,9 +154,9 @@ fn machine<'a>(words: Parts<'a>) -> Option<Line<'a>>
     let (nodes, memory, frames, distances) = four_words(words)?;
     Some(Line::Machine(MachineLine {
         nodes: small(nodes)?,
+        kernel_orders: has_kernel_orders(distances),
         memory: read_list(memory),
         frames: Frames::read(frames)?,
-        kernel_orders: has_kernel_orders(distances),
         distances: Distances::read(distances)?,
     }))
 }
@@ -331,14 +333,6 @@ fn line_after(keyword: Keyword, words: Parts) -> Option<Line>
     }
 }
 
-/// The line that consists of these words.
-fn of_words(mut words: Parts) -> Option<Line>
-    ensures { result ≡ words_line words.entry }
-{
-    let first = words.next()?;
-    line_after(read_keyword(first)?, words)
-}
-
 /// Whether a word of the line is empty: there are two spaces in a row, or one at an end.
 #[tactic(auto, using(crate::proofs::EmptyWords::empty_words))]
 fn has_empty_word(line: &[u8]) -> bool
@@ -356,6 +350,48 @@ fn has_empty_word(line: &[u8]) -> bool
     start == line.len()
 }
 
+/// What a line begins with, and the words behind it.
+fn begun(line: &[u8]) -> Option<(Keyword, Parts<'_>)>
+    ensures { result ≡ begun (words_of line.now) }
+{
+    let mut words = words(line);
+    let first = words.next()?;
+    let keyword = read_keyword(first)?;
+    Some((keyword, words))
+}
+
+/// Whether something else than a number may stand behind a keyword.
+fn takes_texts(keyword: Keyword) -> bool
+    ensures { result ≡ takes_texts keyword }
+{
+    match keyword {
+        Keyword::Rules | Keyword::Cpus | Keyword::Machine => true,
+        Keyword::Mbind | Keyword::Task | Keyword::Mems => true,
+        _ => false,
+    }
+}
+
+/// Whether the line has an empty word that could pass for something else than a number.
+fn has_empty_text(keyword: Keyword, line: &[u8]) -> bool
+    ensures { result ≡ (takes_texts keyword && has_empty_word line.now) }
+{
+    takes_texts(keyword) && has_empty_word(line)
+}
+
+/// The line that the words of a line write, of which none may be empty.
+fn of_words(line: &[u8]) -> Option<Line<'_>>
+    ensures { unwrap_or result Line.Malformed ≡ (if has_empty_word line.now then Line.Malformed
+        else unwrap_or (words_line (words_of line.now)) Line.Malformed) }
+{
+    let Some(begun) = begun(line) else {
+        return None;
+    };
+    if has_empty_text(begun.0, line) {
+        return None;
+    }
+    line_after(begun.0, begun.1)
+}
+
 /// Parses a line, which comes without its line feed.
 #[tactic(auto, unfolding(crate::specs::Lines::line_of))]
 pub fn parse(line: &[u8]) -> Line<'_>
@@ -367,8 +403,5 @@ pub fn parse(line: &[u8]) -> Line<'_>
     if line.len() > LIMIT {
         return Line::Malformed;
     }
-    if has_empty_word(line) {
-        return Line::Malformed;
-    }
-    of_words(words(line)).unwrap_or(Line::Malformed)
+    of_words(line).unwrap_or(Line::Malformed)
 }
