@@ -1,10 +1,12 @@
 """The words of numaplan-emulate and numaplan-record, and what a run comes to. Not proved."""
 
 import argparse
+import fcntl
 import os
 import shutil
 import sys
 import tempfile
+import time
 
 from .emulator import Emulator
 from .host import host_lines
@@ -18,6 +20,7 @@ from .words import OWN_FAULT, Unfit, read_lines, tell
 
 ELSEWHERE = 3  # the status where pages lie elsewhere than is wanted
 ROOM = "numaplan-emulate-"  # and the number of the process: a folder of files that are made up
+A_MINUTE = 60  # seconds
 TWO_NODES = [(1, "machine 2 0-1 0 flat")]
 
 ABOUT_EMULATE = """Runs a program as if on a NUMA machine: its calls about memory policies are answered by
@@ -105,12 +108,35 @@ def open_log(path):
         raise Unfit(f"{path}: {fault.strerror}") from fault
 
 
+def make_room():
+    """A folder for what is made up, locked as long as this process lives."""
+    room = tempfile.mkdtemp(prefix=f"{ROOM}{os.getpid()}-")
+    os.chmod(room, 0o755)
+    fcntl.flock(os.open(room, os.O_RDONLY), fcntl.LOCK_SH)
+    return room
+
+
 def sweep_rooms():
     """Removes the folders of runs that were killed."""
     for name in os.listdir(tempfile.gettempdir()):
-        number = name.removeprefix(ROOM).partition("-")[0]
-        if name.startswith(ROOM) and number.isdigit() and not os.path.exists(f"/proc/{number}"):
-            shutil.rmtree(os.path.join(tempfile.gettempdir(), name), ignore_errors=True)
+        path = os.path.join(tempfile.gettempdir(), name)
+        if name.startswith(ROOM) and is_left(path):
+            shutil.rmtree(path, ignore_errors=True)
+
+
+def is_left(room):
+    """Whether nobody has locked it, a minute after it was made. (/proc could be that of other processes.)"""
+    try:
+        folder = os.open(room, os.O_RDONLY)
+    except OSError:
+        return False
+    try:
+        fcntl.flock(folder, fcntl.LOCK_EX | fcntl.LOCK_NB)
+        return time.time() - os.stat(room).st_mtime > A_MINUTE
+    except OSError:
+        return False
+    finally:
+        os.close(folder)
 
 
 def main(is_real=False):
@@ -121,8 +147,7 @@ def main(is_real=False):
             raise Unfit("this runs on Linux on x86-64 alone")
         words = read_words(is_real)
         sweep_rooms()
-        room = tempfile.mkdtemp(prefix=f"{ROOM}{os.getpid()}-")
-        os.chmod(room, 0o755)
+        room = make_room()
         status = run(words, room, is_real)
     except Unfit as fault:
         tell(fault)
