@@ -231,6 +231,33 @@ static void only_read(void) {
     MUST(node_of(all) == 1 && node_of(all + 4096) == 1);
 }
 
+/* Memory that processes share is where the first that touches it puts it, and moves for all. */
+static void shared(void) {
+    int file = memfd_create("shared", 0), node = 0;
+    char *at;
+    pid_t child;
+    MUST(file >= 0 && ftruncate(file, 8192) == 0);
+    if ((child = fork()) == 0) {
+        at = mmap(NULL, 8192, PROT_READ | PROT_WRITE, MAP_SHARED, file, 0);
+        MUST(at != MAP_FAILED && bind_to(at, 8192, 2) == 0);
+        at[0] = 1;
+        MUST(node_of(at) == 1 && munmap(at, 8192) == 0);
+        exit(3);
+    }
+    MUST(status_of(child) == 3 << 8);
+    at = mmap(NULL, 8192, PROT_READ | PROT_WRITE, MAP_SHARED, file, 0);
+    MUST(at != MAP_FAILED && bind_to(at, 8192, 1) == 0 && at[0] == 1);
+    at[4096] = 1;
+    MUST(node_of(at) == 1 && node_of(at + 4096) == 0);
+    MUST(syscall(SYS_move_pages, 0L, 1L, &at, &node, &node, 2L) == 0 && node == 0);
+    if ((child = fork()) == 0) {
+        char *again = mmap(NULL, 8192, PROT_READ, MAP_SHARED, file, 0);
+        MUST(again != MAP_FAILED && again != at && again[0] + at[4096] == 2);
+        exit(node_of(again) * 10 + node_of(at + 4096));
+    }
+    MUST(status_of(child) == 0);
+}
+
 static int shares_memory(void *at) {
     *(char *)at = 1;
     return 5;
@@ -268,7 +295,7 @@ int main(int count, char **words) {
     } rows[] = {{"after-exec", after_exec}, {"vfork", by_vfork}, {"exec-from-thread", exec_from_thread},
                 {"signals", signals}, {"threads", threads}, {"children", children}, {"killed", killed},
                 {"areas", areas}, {"apart", apart}, {"closed", closed}, {"moved", moved}, {"read", only_read},
-                {"processes", processes}, {"rights", rights}};
+                {"processes", processes}, {"rights", rights}, {"shared", shared}};
     self = words[0];
     for (size_t k = 0; k < sizeof rows / sizeof rows[0]; k++)
         if (count == 2 && !strcmp(rows[k].name, words[1])) {

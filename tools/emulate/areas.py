@@ -11,18 +11,19 @@ from collections import namedtuple
 
 from .tracing import PAGE, TOP
 
-LINE = re.compile(r"([0-9a-f]+)-([0-9a-f]+) (....) ([0-9a-f]+) \S+ (\d+) *(.*)")
+LINE = re.compile(r"([0-9a-f]+)-([0-9a-f]+) (....) ([0-9a-f]+) (\S+) (\d+) *(.*)")
 IN_MEMORY = re.compile(r"/dev/zero \(deleted\)|\[anon_shmem:|/SYSV[0-9a-f]{8}|/memfd:|/dev/shm/")
 KERNELS_OWN = ("[vvar]", "[vvar_vclock]", "[vdso]", "[vsyscall]")
 MOST_INDEX = 1 << 35
 MOST_CLOSED = 1 << 30  # bytes: larger areas without access are mostly addresses that a program keeps for later
 
 # From start to end; index is that of the first page, by which the kernel interleaves. Pages of a file's
-# cache aren't placed by a policy: `has_cache`. `is_closed` is without access, and large.
-Area = namedtuple("Area", "start end index has_cache is_closed name")
+# cache aren't placed by a policy: `has_cache`. `is_closed` is without access, and large. `shared` names the object
+# in memory that processes share there; None where there is none.
+Area = namedtuple("Area", "start end index has_cache is_closed shared name")
 
 
-def area_of(start, end, is_shared, is_closed, offset, inode, name):
+def area_of(start, end, is_shared, is_closed, offset, device, inode, name):
     """An area as a kernel tells it; None where it is the kernel's own."""
     if end > TOP or name in KERNELS_OWN:
         return None
@@ -32,7 +33,8 @@ def area_of(start, end, is_shared, is_closed, offset, inode, name):
     if is_shared and is_in_memory and index + inode < MOST_INDEX:
         index += inode
     is_closed = is_closed and end - start > MOST_CLOSED
-    return Area(start, end, index, is_file and not (is_shared and is_in_memory), is_closed, name)
+    shared = (device, inode) if is_shared and is_in_memory else None
+    return Area(start, end, index, is_file and not shared, is_closed, shared, name)
 
 
 class ByReading:
@@ -55,7 +57,7 @@ class ByReading:
     def area_of_line(line):
         found = LINE.match(line)
         return found and area_of(int(found[1], 16), int(found[2], 16), found[3][3] == "s",
-                                 found[3].startswith("---"), int(found[4], 16), int(found[5]), found[6])
+                                 found[3].startswith("---"), int(found[4], 16), found[5], int(found[6]), found[7])
 
     def close(self):
         """(Nothing is open.)"""
@@ -84,7 +86,8 @@ class ByQuestions:
                 break
             start, name_size = told[4], told[11]
             name = os.fsdecode(name_room[:name_size - 1]) if name_size else ""
-            area = area_of(told[3], told[4], bool(told[5] & SHARED), not told[5] & ACCESS, told[7], told[8], name)
+            area = area_of(told[3], told[4], bool(told[5] & SHARED), not told[5] & ACCESS, told[7], told[9:11],
+                           told[8], name)
             if area:
                 found.append(area)
         return found

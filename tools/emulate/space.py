@@ -6,7 +6,7 @@ import errno
 import numaplan
 
 from .areas import Areas, joined, open_spans, shown_name, with_names
-from .common import leave, leave_all, share, written
+from .common import have, leave, leave_all, share, written
 from .placed import Placed
 from .policies import is_interleaved
 from .spans import Spans
@@ -18,6 +18,7 @@ LINES = {
     "map": "map 0x{:x} 0x{:x} 0x{:x}", "unmap": "unmap 0x{:x} 0x{:x}", "mbind": "mbind 0x{:x} 0x{:x} {}",
     "set_task": "task {} {}", "inherit": "inherit {} {}", "set_home": "home 0x{:x} 0x{:x} {}",
 }
+NOT_NEW = -1  # in the place of a node: another process has had the page before
 
 
 class Space:
@@ -173,19 +174,30 @@ class Space:
         start, end = first * PAGE, (first + count) * PAGE
         for area in self.look_at(areas, start, end):
             begin, after = max(start, area.start) // PAGE, min(end, area.end) // PAGE
-            self.place(task, word, cpu, begin, after - begin)
+            self.place(task, word, cpu, begin, after - begin, area)
 
-    def place(self, task, word, cpu, first, count):
-        """Places the pages of a run that aren't placed yet."""
+    def place(self, task, word, cpu, first, count, area):
+        """Places the pages of a run that aren't placed yet. Those of an object that another process has had
+        before are where that one put them."""
         for low, high in self.placed.runs.gaps(first, first + count):
             nodes = bytearray(high - low)
             self.lists().fill(task, cpu, low, nodes)
+            new = self.find_object(area, low, nodes) if area.shared else nodes
             self.placed.add(low, nodes)
-            for node in set(nodes):
-                self.machine.hits[node][0] += nodes.count(node)
-                self.machine.hits[node][2] += nodes.count(node) if node == cpu else 0
+            for node in set(new) - {NOT_NEW}:
+                self.machine.hits[node][0] += new.count(node)
+                self.machine.hits[node][2] += new.count(node) if node == cpu else 0
             if self.takes_turns or is_interleaved(word):
-                self.count_turns(word, low, nodes)
+                self.count_turns(word, low, new)
+
+    def find_object(self, area, first, nodes):
+        """Puts the nodes of an object's pages in; gives those of the new ones."""
+        index, new = area.index + first - area.start // PAGE, []
+        for place, node in enumerate(nodes):
+            key = area.shared, index + place
+            nodes[place], is_new = have(self, first + place, self.machine.frames, key, node)
+            new.append(node if is_new else NOT_NEW)
+        return new
 
     def count_turns(self, word, first, nodes):
         """Counts those of the pages that are interleaved."""
@@ -193,7 +205,7 @@ class Space:
         for start, end, _, policy in self.ranges(begin, begin + len(nodes) * PAGE):
             if is_interleaved(policy or word):
                 some = nodes[(start - begin) // PAGE:(end - begin) // PAGE]
-                for node in set(some):
+                for node in set(some) - {NOT_NEW}:
                     self.machine.hits[node][1] += some.count(node)
 
     def shared_of(self, task, pages):
@@ -208,6 +220,9 @@ class Space:
     def take(self, start, end):
         """Takes the pages out: by page its node and its frame, to be put elsewhere."""
         pages = {page: (self.placed[page], self.common.pop(page, None)) for page in self.placed_between(start, end)}
+        for page, (_, frame) in pages.items():
+            if frame is not None:
+                del frame.holders[self, page]
         self.placed.drop(start // PAGE, -(-end // PAGE))
         return pages
 
@@ -215,7 +230,7 @@ class Space:
         self.placed.add(page, [node])
         if frame is not None:
             self.common[page] = frame
-            frame.holders[self] = page
+            frame.holders[self, page] = True
 
     def copy(self, task):
         """The address space of a child of the task."""
