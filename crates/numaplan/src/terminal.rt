@@ -24,6 +24,7 @@ unmap START LENGTH             unmaps pages
 mbind START LENGTH POLICY      gives pages a policy, as in mbind 0x10000 0x1000 bind:1
 home START LENGTH NODE         gives the policies of pages a home node
 task TASK POLICY               gives a task a policy, as in task 1 interleave:0-1
+inherit TASK FROM              gives a task the policy that another has
 weight NODE WEIGHT             a node's turns in weighted interleaving, 1 to 255
 mems LIST                      the nodes that are allowed, as in mems 0-1
 place TASK ADDR CPU            asks on which nodes memory for a page is looked for
