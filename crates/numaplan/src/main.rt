@@ -10,6 +10,7 @@ ghost use Rattle.numa_command_line.specs.Jobs.{CanBeDone};
 
 mod answering;
 mod endings;
+mod lacking;
 mod terminal;
 mod words;
 

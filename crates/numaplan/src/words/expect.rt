@@ -1,6 +1,7 @@
 //! Compares worked scripts with the answers to their lines.
 use crate::answering::Answering;
 use crate::endings::stop_quietly;
+use crate::lacking::{Lack, Noting};
 use numa_lines::{Expect, RunFault, read_all};
 use numa_sources::Outlet;
 use numa_words::Scripts;
@@ -14,7 +15,7 @@ const DIFFERENT: u8 = 3;
 /// Reads worked scripts, writes the counts, and returns whether all answers are as expected.
 fn compare_by<S: Read + Drop, W: Write>(
     texts: Vec<(String, S)>,
-    expect: &mut Expect<Answering, W>,
+    expect: &mut Expect<Noting<'_>, W>,
 ) -> Result<bool, RunFault> {
     read_all(texts, expect, &mut ())?;
     expect.tell_counts()?;
@@ -28,8 +29,10 @@ where
     S: Read + Drop,
 {
     let Scripts { texts, rules } = scripts;
-    let answering = Answering::new(rt.alloc(), rules);
-    let mut expect = Expect::new(rt.alloc(), answering, outlet.writer(io::writer(rt)));
+    let lack = Lack::new();
+    let answering = lack.noted_by(Answering::new(rt.alloc(), rules));
+    let output = lack.heeded_by(outlet.writer(io::writer(rt)));
+    let mut expect = Expect::new(rt.alloc(), answering, output);
     let is_same = compare_by(texts, &mut expect);
     drop(expect);
     is_same
