@@ -5,21 +5,29 @@ use Rattle.std.proofs.lemmas.List.{append-nil}
 use Rattle.numa_lines.specs.Output.{answers, state_after}
 use Rattle.numa_lines.specs.Progress.{among}
 
-module _ {State : Type 0} (answer_of : Bool → State → List ℕ → List ℕ) (after : Bool → State → List ℕ → State) where
-  pub answers_more : (flags : List Bool) (flag : Bool) (state : State) (lines : List (List ℕ)) (line : List ℕ) → length flags ≡ length lines →
+module _ {State : Type 0} (answer_of : Bool → State → List ℕ → List ℕ) (after : Bool → State
+    → List ℕ → State) where
+  pub answers_more : (flags : List Bool) (flag : Bool) (state : State) (lines : List (List ℕ))
+      (line : List ℕ) → length flags ≡ length lines →
       answers answer_of after (among (flags ++ flag ∷ [])) state (lines ++ line ∷ [])
-      ≡ answers answer_of after (among flags) state lines ++ answer_of flag (state_after answer_of after (among flags) state lines) line
+      ≡ answers answer_of after (among flags) state lines
+      ++ answer_of flag (state_after answer_of after (among flags) state lines) line
   unfolding answers state_after
   answers_more [] flag state [] line h = append-nil _
   answers_more (f ∷ fs) flag state [] line h = cc
   answers_more [] flag state (l ∷ ls) line h = cc
   answers_more (f ∷ fs) flag state (l ∷ ls) line h =
-      ap (λ r. answer_of f state l ++ r) (answers_more fs flag (after f state l) ls line (omega (arith, h))) ∙ sym (append_assoc (answer_of f state l) _ _)
+      ap (λ r. answer_of f state l ++ r)
+      (answers_more fs flag (after f state l) ls line (omega (arith, h)))
+      ∙ sym (append_assoc (answer_of f state l) _ _)
 
-  pub state_more : (flags : List Bool) (flag : Bool) (state : State) (lines : List (List ℕ)) (line : List ℕ) → length flags ≡ length lines →
-      state_after answer_of after (among (flags ++ flag ∷ [])) state (lines ++ line ∷ []) ≡ after flag (state_after answer_of after (among flags) state lines) line
+  pub state_more : (flags : List Bool) (flag : Bool) (state : State) (lines : List (List ℕ))
+      (line : List ℕ) → length flags ≡ length lines →
+      state_after answer_of after (among (flags ++ flag ∷ [])) state (lines ++ line ∷ [])
+      ≡ after flag (state_after answer_of after (among flags) state lines) line
   unfolding state_after
   state_more [] flag state [] line h = refl
   state_more (f ∷ fs) flag state [] line h = cc
   state_more [] flag state (l ∷ ls) line h = cc
-  state_more (f ∷ fs) flag state (l ∷ ls) line h = state_more fs flag (after f state l) ls line (omega (arith, h))
+  state_more (f ∷ fs) flag state (l ∷ ls) line h = state_more fs flag (after f state l) ls line
+      (omega (arith, h))

@@ -83,7 +83,8 @@ pub handed_over : {T O : Type 0} (has_taken : T → O → T → O → List (List
     (bytes : List ℕ) → Takes (HasCut has_taken) old output mid mid_output bytes
     → Takes has_taken mid.taker mid_output new.taker new_output [] → new.line ≡ mid.line
     → Takes (HasCut has_taken) old output new new_output bytes
-handed_over has_taken old output mid mid_output new new_output bytes cuts hands same first begun front h =
+handed_over has_taken old output mid mid_output new new_output bytes cuts hands same first begun
+    front h =
     let so_far = cuts first begun front h in (
       subst (has_taken first.taker begun new.taker new_output) (append-nil _)
           (hands first.taker begun _ so_far.0),

@@ -1,5 +1,6 @@
 -- What was written where a run ends.
-use Rattle.std.specs.Prelude.{if◌then◌else◌, ◌≡◌, ℕ, ◌++◌, Bool, true, false, Option, List, [], ◌∷◌, map, refl}
+use Rattle.std.specs.Prelude.{if◌then◌else◌, ◌≡◌, ℕ, ◌++◌, Bool, true, false, Option, List, [], ◌∷◌}
+use Rattle.std.specs.Prelude.{map, refl}
 use Prim.Native.Nat.{suc}
 use Rattle.std.proofs.Common.{sym, ◌∙◌, ap, subst}
 use Rattle.std.proofs.lemmas.List.{append-nil}
@@ -13,11 +14,14 @@ use Rattle.numa_lines.specs.declared.watched.Watched.{Watched}
 use Rattle.numa_lines.proofs.Saying.{says_held}
 use Rattle.numa_lines.proofs.Splitting.{ended_all}
 
-says_all : (start now : Option (List ℕ)) (failed : Bool) (held said : List ℕ) → failed ≡ false → held ≡ [] → IsSaid start now failed held said → Appends start now said
+says_all : (start now : Option (List ℕ)) (failed : Bool) (held said : List ℕ) → failed ≡ false
+    → held ≡ [] → IsSaid start now failed held said → Appends start now said
 says_all start now true held said e none h = cc
-says_all start now false held said e none (sent, h, is) = subst (Appends start now) (sym (is ∙ ap (λ l. sent ++ l) none ∙ append-nil sent)) h
+says_all start now false held said e none (sent, h, is) =
+    subst (Appends start now) (sym (is ∙ ap (λ l. sent ++ l) none ∙ append-nil sent)) h
 
-says_front : (start now : Option (List ℕ)) (failed : Bool) (held said : List ℕ) → failed ≡ true → IsSaid start now failed held said → AppendsFront start now said
+says_front : (start now : Option (List ℕ)) (failed : Bool) (held said : List ℕ) → failed ≡ true
+    → IsSaid start now failed held said → AppendsFront start now said
 says_front start now true held said e h = h
 says_front start now false held said e h = cc
 
@@ -38,18 +42,28 @@ module _ {W : Type 0} (contents : W → Option (List ℕ)) where
     kept = kept ∙ (λ i. if failed i then [] else held i);
   }
 
-  since : (old from last : Watched W) (text : List ℕ) → HasBegun old from → Said contents from last text → Says contents (contents old.inner) last (unsent old ++ text)
+  since : (old from last : Watched W) (text : List ℕ) → HasBegun old from
+      → Said contents from last text → Says contents (contents old.inner) last (unsent old ++ text)
   since old from last text begun said =
       let first : Says contents (contents from.inner) from (held_in from) =
-      subst (λ f. IsSaid (contents from.inner) (contents from.inner) f (held_in from) (held_in from)) (sym begun.well) (says_held (contents from.inner) (held_in from)) in
+      subst (λ f. IsSaid (contents from.inner) (contents from.inner) f (held_in from)
+      (held_in from)) (sym begun.well) (says_held (contents from.inner) (held_in from)) in
       subst (λ h. Says contents (contents old.inner) last (h ++ text)) begun.kept
-      (subst (λ s. Says contents s last (held_in from ++ text)) begun.same (said (contents from.inner) (held_in from) first))
+      (subst (λ s. Says contents s last (held_in from ++ text)) begun.same
+      (said (contents from.inner) (held_in from) first))
 
-  pub wrote_all : (old from last : Watched W) (text : List ℕ) → HasBegun old from → has_failed last ≡ false → held_in last ≡ [] → Said contents from last text → Wrote contents old last text
-  wrote_all old from last text begun well none said = says_all (contents old.inner) (contents last.inner) (has_failed last) (held_in last) (unsent old ++ text) well none (since old from last text begun said)
+  pub wrote_all : (old from last : Watched W) (text : List ℕ) → HasBegun old from
+      → has_failed last ≡ false → held_in last ≡ [] → Said contents from last text
+      → Wrote contents old last text
+  wrote_all old from last text begun well none said =
+      says_all (contents old.inner) (contents last.inner) (has_failed last) (held_in last)
+      (unsent old ++ text) well none (since old from last text begun said)
 
-  pub wrote_front : (old from last : Watched W) (text : List ℕ) → HasBegun old from → has_failed last ≡ true → Said contents from last text → WroteFront contents old last text
-  wrote_front old from last text begun broken said = says_front (contents old.inner) (contents last.inner) (has_failed last) (held_in last) (unsent old ++ text) broken (since old from last text begun said)
+  pub wrote_front : (old from last : Watched W) (text : List ℕ) → HasBegun old from
+      → has_failed last ≡ true → Said contents from last text → WroteFront contents old last text
+  wrote_front old from last text begun broken said =
+      says_front (contents old.inner) (contents last.inner) (has_failed last) (held_in last)
+      (unsent old ++ text) broken (since old from last text begun said)
 
 module _ {State : Type 0} (answer_of : Bool → State → List ℕ → List ℕ)
     (after : Bool → State → List ℕ → State) (enough : SeesEnough answer_of after) where
@@ -92,5 +106,8 @@ module _ {State W : Type 0} (contents : W → Option (List ℕ))
       → (refused : ℕ → Bool)
       × Said contents from now (output_of answer_of after start refused script)
   answered_to_end from now script so_far =
-      let far = answered_so_far from now (script ++ 10 ∷ []) so_far in
-      (far.0, subst (Said contents from now) (ap (answers answer_of after far.0 start) (ended_all script)) far.1)
+      let far = answered_so_far from now (script ++ 10 ∷ []) so_far in (
+        far.0,
+        subst (Said contents from now)
+            (ap (answers answer_of after far.0 start) (ended_all script)) far.1,
+      )

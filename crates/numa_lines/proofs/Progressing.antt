@@ -48,7 +48,8 @@ module _ {State W : Type 0} (contents : W → Option (List ℕ))
             ∙ sym (length-append lines (line ∷ []));
         says = subst (Said contents from then)
             (sym (answers_more answer_of after so_far.flags flag start lines line so_far.count))
-            (said_both contents from now then told (answer_of flag state line) so_far.says served.2);
+            (said_both contents from now then told (answer_of flag state line) so_far.says
+            served.2);
         reached = subst later
             (sym (state_more answer_of after so_far.flags flag start lines line so_far.count))
             served.1;

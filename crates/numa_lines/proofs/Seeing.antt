@@ -10,7 +10,8 @@ take_short n line h = grind (arith, length-take-le n line)
 
 take_full : (n : ℕ) (line : List ℕ) → n ≤ length (take n line) → n ≤ length line
 take_full n line h =
-    let all : length line ≤ n → length (take n line) ≡ length line = λ le. ap length (take_all n line le) in
+    let all : length line ≤ n → length (take n line) ≡ length line =
+    λ le. ap length (take_all n line le) in
     grind (arith, all)
 
 -- as much of a piece as there is room for
@@ -20,17 +21,22 @@ take_room n more =
     let whole : take (length more) more ≡ more = take_all (length more) more (omega arith) in
     grind (arith, all, whole)
 
-short_more : (n : ℕ) (items line more : List ℕ) → length items < n → items ≡ take n line → items ++ take (min (length more) (n - length items)) more ≡ take n (line ++ more)
+short_more : (n : ℕ) (items line more : List ℕ) → length items < n → items ≡ take n line
+    → items ++ take (min (length more) (n - length items)) more ≡ take n (line ++ more)
 short_more n items line more h e =
     let few : length line < n = take_short n line (omega (arith, h, ap length e)) in
     let same : items ≡ line = e ∙ take_all n line (omega (arith, few)) in
-    ap (λ l. items ++ l) (take_room (n - length items) more) ∙ sym (take-append-add items more (n - length items))
+    ap (λ l. items ++ l) (take_room (n - length items) more)
+    ∙ sym (take-append-add items more (n - length items))
     ∙ ap (λ k. take k (items ++ more)) (omega (arith, h)) ∙ ap (λ l. take n (l ++ more)) same
 
-pub seen_more : (items line more : List ℕ) → length items < 4097 → items ≡ given_part line → items ++ take (min (length more) (4097 - length items)) more ≡ given_part (line ++ more)
+pub seen_more : (items line more : List ℕ) → length items < 4097 → items ≡ given_part line
+    → items ++ take (min (length more) (4097 - length items)) more ≡ given_part (line ++ more)
 unfolding given_part
 seen_more items line more h e = short_more 4097 items line more h e
 
-pub seen_full : (items line more : List ℕ) → 4097 ≤ length items → items ≡ given_part line → items ≡ given_part (line ++ more)
+pub seen_full : (items line more : List ℕ) → 4097 ≤ length items → items ≡ given_part line
+    → items ≡ given_part (line ++ more)
 unfolding given_part
-seen_full items line more h e = e ∙ sym (take-append-le 4097 line more (take_full 4097 line (omega (arith, h, ap length e))))
+seen_full items line more h e =
+    e ∙ sym (take-append-le 4097 line more (take_full 4097 line (omega (arith, h, ap length e))))

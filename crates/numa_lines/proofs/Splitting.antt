@@ -15,9 +15,12 @@ onto_cons x (p ∷ ps) = is_cons _ _
 
 lines_cons : (bs : List ℕ) → IsCons (lines_of bs)
 lines_cons [] = is_cons _ _
-lines_cons (x ∷ xs) = elim (x == 10) as (λ t. IsCons (cond t ([] ∷ lines_of xs) (onto_first x (lines_of xs)))) [ true ↦ is_cons _ _ | false ↦ onto_cons x (lines_of xs) ]
+lines_cons (x ∷ xs) =
+    elim (x == 10) as (λ t. IsCons (cond t ([] ∷ lines_of xs) (onto_first x (lines_of xs))))
+    [ true ↦ is_cons _ _ | false ↦ onto_cons x (lines_of xs) ]
 
-onto_more : (x : ℕ) (ls : List (List ℕ)) → IsCons ls → onto_first x (ls ++ [] ∷ []) ≡ onto_first x ls ++ [] ∷ []
+onto_more : (x : ℕ) (ls : List (List ℕ)) → IsCons ls → onto_first x (ls ++ [] ∷ [])
+    ≡ onto_first x ls ++ [] ∷ []
 onto_more x [] h = elim h [ ]
 onto_more x (p ∷ ps) h = refl
 
@@ -25,25 +28,35 @@ onto_more x (p ∷ ps) h = refl
 lines_feed : (bs : List ℕ) → lines_of (bs ++ 10 ∷ []) ≡ lines_of bs ++ [] ∷ []
 lines_feed [] = refl
 lines_feed (x ∷ xs) =
-    elim (x == 10) as (λ t. cond t ([] ∷ lines_of (xs ++ 10 ∷ [])) (onto_first x (lines_of (xs ++ 10 ∷ []))) ≡ cond t ([] ∷ lines_of xs) (onto_first x (lines_of xs)) ++ [] ∷ []) [
+    elim (x == 10) as
+    (λ t. cond t ([] ∷ lines_of (xs ++ 10 ∷ [])) (onto_first x (lines_of (xs ++ 10 ∷ [])))
+    ≡ cond t ([] ∷ lines_of xs) (onto_first x (lines_of xs)) ++ [] ∷ []) [
       | true ↦ ap (λ l. [] ∷ l) (lines_feed xs)
       | false ↦ ap (onto_first x) (lines_feed xs) ∙ onto_more x (lines_of xs) (lines_cons xs)
     ]
 
-onto_hold : (x b : ℕ) (ls : List (List ℕ)) → onto_first x (all_but_last ls ++ (last_of ls ++ b ∷ []) ∷ []) ≡ all_but_last (onto_first x ls) ++ (last_of (onto_first x ls) ++ b ∷ []) ∷ []
+onto_hold : (x b : ℕ) (ls : List (List ℕ))
+    → onto_first x (all_but_last ls ++ (last_of ls ++ b ∷ []) ∷ []) ≡ all_but_last (onto_first x ls)
+    ++ (last_of (onto_first x ls) ++ b ∷ []) ∷ []
 onto_hold x b [] = refl
 onto_hold x b (p ∷ []) = refl
 onto_hold x b (p ∷ q ∷ qs) = refl
 
-below_hold : (b : ℕ) (ls : List (List ℕ)) → IsCons ls → [] ∷ (all_but_last ls ++ (last_of ls ++ b ∷ []) ∷ []) ≡ all_but_last ([] ∷ ls) ++ (last_of ([] ∷ ls) ++ b ∷ []) ∷ []
+below_hold : (b : ℕ) (ls : List (List ℕ)) → IsCons ls
+    → [] ∷ (all_but_last ls ++ (last_of ls ++ b ∷ []) ∷ []) ≡ all_but_last ([] ∷ ls)
+    ++ (last_of ([] ∷ ls) ++ b ∷ []) ∷ []
 below_hold b [] h = elim h [ ]
 below_hold b (p ∷ ps) h = refl
 
 -- any other byte goes to the last line
-lines_hold : (bs : List ℕ) (b : ℕ) → (b == 10) ≡ false → lines_of (bs ++ b ∷ []) ≡ all_but_last (lines_of bs) ++ (last_of (lines_of bs) ++ b ∷ []) ∷ []
+lines_hold : (bs : List ℕ) (b : ℕ) → (b == 10) ≡ false
+    → lines_of (bs ++ b ∷ []) ≡ all_but_last (lines_of bs) ++ (last_of (lines_of bs) ++ b ∷ []) ∷ []
 lines_hold [] b h = rw h refl
 lines_hold (x ∷ xs) b h =
-    elim (x == 10) as (λ t. cond t ([] ∷ lines_of (xs ++ b ∷ [])) (onto_first x (lines_of (xs ++ b ∷ []))) ≡ all_but_last (cond t ([] ∷ lines_of xs) (onto_first x (lines_of xs))) ++ (last_of (cond t ([] ∷ lines_of xs) (onto_first x (lines_of xs))) ++ b ∷ []) ∷ []) [
+    elim (x == 10) as
+    (λ t. cond t ([] ∷ lines_of (xs ++ b ∷ [])) (onto_first x (lines_of (xs ++ b ∷ [])))
+    ≡ all_but_last (cond t ([] ∷ lines_of xs) (onto_first x (lines_of xs)))
+    ++ (last_of (cond t ([] ∷ lines_of xs) (onto_first x (lines_of xs))) ++ b ∷ []) ∷ []) [
       | true ↦ ap (λ l. [] ∷ l) (lines_hold xs b h) ∙ below_hold b (lines_of xs) (lines_cons xs)
       | false ↦ ap (onto_first x) (lines_hold xs b h) ∙ onto_hold x b (lines_of xs)
     ]
@@ -75,11 +88,13 @@ pub open_feed : (bs : List ℕ) → open_line (bs ++ 10 ∷ []) ≡ []
 unfolding open_line
 open_feed bs = ap last_of (lines_feed bs) ∙ last_of_push (lines_of bs) []
 
-pub ended_hold : (bs : List ℕ) (b : ℕ) → (b == 10) ≡ false → ended_lines (bs ++ b ∷ []) ≡ ended_lines bs
+pub ended_hold : (bs : List ℕ) (b : ℕ) → (b == 10) ≡ false → ended_lines (bs ++ b ∷ [])
+    ≡ ended_lines bs
 unfolding ended_lines
 ended_hold bs b h = ap all_but_last (lines_hold bs b h) ∙ front_of_push _ _
 
-pub open_hold : (bs : List ℕ) (b : ℕ) → (b == 10) ≡ false → open_line (bs ++ b ∷ []) ≡ open_line bs ++ b ∷ []
+pub open_hold : (bs : List ℕ) (b : ℕ) → (b == 10) ≡ false → open_line (bs ++ b ∷ []) ≡ open_line bs
+    ++ b ∷ []
 unfolding open_line
 open_hold bs b h = ap last_of (lines_hold bs b h) ∙ last_of_push (all_but_last (lines_of bs)) _
 
@@ -89,13 +104,18 @@ piece_tail b piece h = λ k lt. h (suc k) (omega (arith, lt))
 pub ended_piece : (bs piece : List ℕ) → IsPiece piece → ended_lines (bs ++ piece) ≡ ended_lines bs
 ended_piece bs [] h = ap ended_lines (append-nil bs)
 ended_piece bs (b ∷ piece) h =
-    ap ended_lines (sym (append_assoc bs (b ∷ []) piece)) ∙ ended_piece (bs ++ b ∷ []) piece (piece_tail b piece h) ∙ ended_hold bs b (h 0 (omega arith))
+    ap ended_lines (sym (append_assoc bs (b ∷ []) piece))
+    ∙ ended_piece (bs ++ b ∷ []) piece (piece_tail b piece h)
+    ∙ ended_hold bs b (h 0 (omega arith))
 
-pub open_piece : (bs piece : List ℕ) → IsPiece piece → open_line (bs ++ piece) ≡ open_line bs ++ piece
+pub open_piece : (bs piece : List ℕ) → IsPiece piece → open_line (bs ++ piece) ≡ open_line bs
+    ++ piece
 open_piece bs [] h = ap open_line (append-nil bs) ∙ sym (append-nil (open_line bs))
 open_piece bs (b ∷ piece) h =
-    ap open_line (sym (append_assoc bs (b ∷ []) piece)) ∙ open_piece (bs ++ b ∷ []) piece (piece_tail b piece h)
-    ∙ ap (λ l. l ++ piece) (open_hold bs b (h 0 (omega arith))) ∙ append_assoc (open_line bs) (b ∷ []) piece
+    ap open_line (sym (append_assoc bs (b ∷ []) piece))
+    ∙ open_piece (bs ++ b ∷ []) piece (piece_tail b piece h)
+    ∙ ap (λ l. l ++ piece) (open_hold bs b (h 0 (omega arith)))
+    ∙ append_assoc (open_line bs) (b ∷ []) piece
 
 pub ended_nil : ended_lines [] ≡ []
 unfolding ended_lines

@@ -1,5 +1,6 @@
 -- What a running machine does with commands and the lines of workers.
-use Rattle.std.proofs.Common.{◌≡◌, ℕ, Bool, true, false, Some, None, Result, Ok, Err, is_some, refl, sym, ap, subst, ◌∙◌}
+use Rattle.std.proofs.Common.{◌≡◌, ℕ, Bool, true, false, Some, None, Result, Ok, Err, is_some, refl}
+use Rattle.std.proofs.Common.{sym, ap, subst, ◌∙◌}
 use Rattle.std.specs.Prelude.{is_ok, is_err, if◌then◌else◌}
 use Rattle.numa_core.specs.World.{World, newest_published}
 use Rattle.numa_core.specs.Steps.{world_after, IsAnswer}
@@ -17,7 +18,8 @@ use Rattle.numa_space.specs.declared.event.CoreRefusal.TheVariants.{NoMemory}
 use Rattle.numa_maps.specs.Residents.{Kept, placed_at, with_placement, without_page}
 use Rattle.numa_run.specs.States.{State}
 use Rattle.numa_run.specs.Standing.{IsCoreIn, RunsAs, Does, state_with}
-use Rattle.numa_run.specs.Work.{won_by, event_answer, event_world, event_outcome, not_kept, kept_outcome, touch_by, touch_outcome, release_by, release_outcome}
+use Rattle.numa_run.specs.Work.{won_by, event_answer, event_world, event_outcome, not_kept}
+use Rattle.numa_run.specs.Work.{kept_outcome, touch_by, touch_outcome, release_by, release_outcome}
 use Rattle.numa_script.specs.Replies.{reply_to, win_of}
 use Rattle.numa_run.specs.declared.running.Running.{Running}
 use Rattle.numa_script.specs.declared.reply.Reply.{Reply}
@@ -28,16 +30,28 @@ use Rattle.numa_run.proofs.Histories.{answer-told, give-told}
 abbrev pub Steps : CoreState → Event → Result CoreReply CoreRefusal → CoreState → Type 0
 Steps old event answer new =
     (world : World) → CoreStandsFor old world
-    → IsAnswer (setup_of old) world (newest_published world) event answer × CoreStandsFor new (world_after (setup_of old) world (newest_published world) event answer)
+    → IsAnswer (setup_of old) world (newest_published world) event answer
+    × CoreStandsFor new (world_after (setup_of old) world (newest_published world) event answer)
 
 abbrev pub Touches : CoreState → ℕ → Request → Result CoreReply CoreRefusal → CoreState → Type 0
 Touches old w request answer new =
     (world : World) → CoreStandsFor old world
-    → (answer ≡ (result_of_touch (setup_of old) world w request).answer) × CoreStandsFor new (result_of_touch (setup_of old) world w request).world
+    → (answer ≡ (result_of_touch (setup_of old) world w request).answer)
+    × CoreStandsFor new (result_of_touch (setup_of old) world w request).world
 
 -- a running machine with another core and placed pages
-pub moved : (old new : Running) (state : State) (world : World) (kept : Kept) → RunsAs old state → setup_of new.core ≡ setup_of old.core → CoreStandsFor new.core world → new.resident ≡ kept
-    → RunsAs new (record { bounds = state.bounds; rules = state.rules; cpus = state.cpus; machine = state.machine; world = world; resident = kept })
+pub moved : (old new : Running) (state : State) (world : World) (kept : Kept) → RunsAs old state
+    → setup_of new.core ≡ setup_of old.core → CoreStandsFor new.core world → new.resident ≡ kept
+    → RunsAs new
+    (record {
+      bounds = state.bounds;
+      rules = state.rules;
+      cpus = state.cpus;
+      machine =
+          state.machine;
+      world = world;
+      resident = kept;
+    })
 moved old new state world kept stands same reached resident = record {
   core = record {
     bounds = stands.core.bounds ∙ sym (ap (λ s. s.bounds) same);
@@ -49,7 +63,8 @@ moved old new state world kept stands same reached resident = record {
 }
 
 -- the same core and placed pages stand for the same state
-pub same-core : (old new : Running) (state : State) → new.core ≡ old.core → new.resident ≡ old.resident → RunsAs old state → RunsAs new state
+pub same-core : (old new : Running) (state : State) → new.core ≡ old.core
+    → new.resident ≡ old.resident → RunsAs old state → RunsAs new state
 same-core old new state core resident stands = record {
   core = subst (λ (c : CoreState). IsCoreIn c state) (sym core) stands.core;
   resident = resident ∙ stands.resident;
@@ -57,80 +72,151 @@ same-core old new state core resident stands = record {
 
 -- ---- one event
 
-pub does-event : (old new : Running) (event : Event) (answer : Result CoreReply CoreRefusal) → Steps old.core event answer new.core → setup_of new.core ≡ setup_of old.core → new.resident ≡ old.resident
-    → Does old (reply_to answer) new (λ refused state. event_outcome refused (setup_of old.core) state.world state.resident event)
+pub does-event : (old new : Running) (event : Event) (answer : Result CoreReply CoreRefusal)
+    → Steps old.core event answer new.core → setup_of new.core ≡ setup_of old.core
+    → new.resident ≡ old.resident
+    → Does old (reply_to answer) new
+    (λ refused state. event_outcome refused (setup_of old.core) state.world state.resident event)
 does-event old new event answer steps same resident =
     λ state stands.
     let s = setup_of old.core in
     let step = steps state.world stands.core.world in
     let right = answer-told s state.world event answer step.0 in
     let after : World = world_after s state.world (newest_published state.world) event answer in
-    let there : after ≡ event_world right.0 s state.world event = ap (world_after s state.world (newest_published state.world) event) right.1 in (
+    let there : after ≡ event_world right.0 s state.world event =
+    ap (world_after s state.world (newest_published state.world) event) right.1 in (
       right.0,
       ap reply_to right.1,
-      subst (λ (w : World). RunsAs new (record { bounds = state.bounds; rules = state.rules; cpus = state.cpus; machine = state.machine; world = w; resident = state.resident })) there
-          (moved old new state after state.resident stands same step.1 (resident ∙ stands.resident)),
+      subst (λ (w : World).
+          RunsAs new
+          (record {
+            bounds = state.bounds;
+            rules = state.rules;
+            cpus = state.cpus;
+            machine =
+                state.machine;
+            world = w;
+            resident = state.resident;
+          })) there
+          (moved old new state after state.resident stands same step.1
+          (resident ∙ stands.resident)),
     )
 
 -- ---- a Give that a line needs
 
-given : (old new : Running) (refused : Bool) (w : ℕ) (frame : Frame) (answer : Result CoreReply CoreRefusal) (kept : Kept) → Steps old.core (Give w frame) answer new.core → setup_of new.core ≡ setup_of old.core
+given : (old new : Running) (refused : Bool) (w : ℕ) (frame : Frame)
+    (answer : Result CoreReply CoreRefusal) (kept : Kept)
+    → Steps old.core (Give w frame) answer new.core → setup_of new.core ≡ setup_of old.core
     → new.resident ≡ kept → (state : State) → RunsAs old state
-    → RunsAs new (record { bounds = state.bounds; rules = state.rules; cpus = state.cpus; machine = state.machine; world = event_world refused (setup_of old.core) state.world (Give w frame); resident = kept })
+    → RunsAs new
+    (record {
+      bounds = state.bounds;
+      rules = state.rules;
+      cpus = state.cpus;
+      machine =
+          state.machine;
+      world = event_world refused (setup_of old.core) state.world (Give w frame);
+      resident = kept;
+    })
 given old new refused w frame answer kept steps same resident state stands =
     let s = setup_of old.core in
     let step = steps state.world stands.core.world in
-    let after : World = world_after s state.world (newest_published state.world) (Give w frame) answer in
+    let after : World = world_after s state.world (newest_published state.world) (Give w frame)
+    answer in
     let there : after ≡ event_world refused s state.world (Give w frame) =
-    ap (world_after s state.world (newest_published state.world) (Give w frame)) (give-told refused s state.world w frame answer step.0) in
-    subst (λ (world : World). RunsAs new (record { bounds = state.bounds; rules = state.rules; cpus = state.cpus; machine = state.machine; world = world; resident = kept })) there
+    ap (world_after s state.world (newest_published state.world) (Give w frame))
+    (give-told refused s state.world w frame answer step.0) in
+    subst (λ (world : World).
+    RunsAs new
+    (record {
+      bounds = state.bounds;
+      rules = state.rules;
+      cpus = state.cpus;
+      machine =
+          state.machine;
+      world = world;
+      resident = kept;
+    })) there
     (moved old new state after kept stands same step.1 resident)
 
 -- ---- a placement that was won
 
-pub keeps : (old new : Running) (w : ℕ) (placement : Placement) → new.core ≡ old.core → placed_at old.resident placement.page ≡ None → new.resident ≡ with_placement old.resident placement
-    → Does old (reply.Won (win_of placement)) new (λ refused state. kept_outcome refused (setup_of old.core) state.world state.resident w placement)
+pub keeps : (old new : Running) (w : ℕ) (placement : Placement) → new.core ≡ old.core
+    → placed_at old.resident placement.page ≡ None
+    → new.resident ≡ with_placement old.resident placement
+    → Does old (reply.Won (win_of placement)) new
+    (λ refused state. kept_outcome refused (setup_of old.core) state.world state.resident w
+    placement)
 keeps old new w placement core free resident =
     λ state stands.
-    let none : placed_at state.resident placement.page ≡ None = subst (λ (kept : Kept). placed_at kept placement.page ≡ None) stands.resident free in
-    let out : kept_outcome false (setup_of old.core) state.world state.resident w placement ≡ record { reply = reply.Won (win_of placement); world = state.world; resident = with_placement state.resident placement } = rw none refl in (
+    let none : placed_at state.resident placement.page ≡ None =
+    subst (λ (kept : Kept). placed_at kept placement.page ≡ None) stands.resident free in
+    let out : kept_outcome false (setup_of old.core) state.world state.resident w placement
+    ≡ record {
+      reply = reply.Won (win_of placement);
+      world = state.world;
+      resident =
+          with_placement state.resident placement;
+    } = rw none refl in (
       false,
       sym (ap (λ o. o.reply) out),
       subst (λ o. RunsAs new (state_with state o)) (sym out)
-          (moved old new state state.world (with_placement state.resident placement) stands (ap setup_of core) (subst (λ c. CoreStandsFor c state.world) (sym core) stands.core.world)
+          (moved old new state state.world (with_placement state.resident placement) stands
+          (ap setup_of core)
+          (subst (λ c. CoreStandsFor c state.world) (sym core) stands.core.world)
           (resident ∙ ap (λ kept. with_placement kept placement) stands.resident)),
     )
 
 -- the page has a placement already
-pub gives-taken : (old new : Running) (w : ℕ) (placement : Placement) (answer : Result CoreReply CoreRefusal) → Steps old.core (Give w placement.frame) answer new.core → setup_of new.core ≡ setup_of old.core
+pub gives-taken : (old new : Running) (w : ℕ) (placement : Placement)
+    (answer : Result CoreReply CoreRefusal) → Steps old.core (Give w placement.frame) answer
+    new.core → setup_of new.core ≡ setup_of old.core
     → new.resident ≡ old.resident → is_some (placed_at old.resident placement.page) ≡ true
-    → Does old (reply.Back placement.frame) new (λ refused state. kept_outcome refused (setup_of old.core) state.world state.resident w placement)
+    → Does old (reply.Back placement.frame) new
+    (λ refused state. kept_outcome refused (setup_of old.core) state.world state.resident w
+    placement)
 gives-taken old new w placement answer steps same resident taken =
     λ state stands.
-    let some : is_some (placed_at state.resident placement.page) ≡ true = subst (λ (kept : Kept). is_some (placed_at kept placement.page) ≡ true) stands.resident taken in
-    let out : kept_outcome false (setup_of old.core) state.world state.resident w placement ≡ not_kept false (setup_of old.core) state.world state.resident w placement (reply.Back placement.frame) = rw some refl in (
+    let some : is_some (placed_at state.resident placement.page) ≡ true =
+    subst (λ (kept : Kept). is_some (placed_at kept placement.page) ≡ true) stands.resident
+    taken in
+    let out : kept_outcome false (setup_of old.core) state.world state.resident w placement
+    ≡ not_kept false (setup_of old.core) state.world state.resident w placement
+    (reply.Back placement.frame) = rw some refl in (
       false,
       sym (ap (λ o. o.reply) out),
-      subst (λ o. RunsAs new (state_with state o)) (sym out) (given old new false w placement.frame answer state.resident steps same (resident ∙ stands.resident) state stands),
+      subst (λ o. RunsAs new (state_with state o)) (sym out)
+          (given old new false w placement.frame answer state.resident steps same
+          (resident ∙ stands.resident) state stands),
     )
 
 -- there is no memory for it
-pub gives-starved : (old new : Running) (w : ℕ) (placement : Placement) (answer : Result CoreReply CoreRefusal) → Steps old.core (Give w placement.frame) answer new.core → setup_of new.core ≡ setup_of old.core
+pub gives-starved : (old new : Running) (w : ℕ) (placement : Placement)
+    (answer : Result CoreReply CoreRefusal) → Steps old.core (Give w placement.frame) answer
+    new.core → setup_of new.core ≡ setup_of old.core
     → new.resident ≡ old.resident → placed_at old.resident placement.page ≡ None
-    → Does old (reply.Refused NoMemory) new (λ refused state. kept_outcome refused (setup_of old.core) state.world state.resident w placement)
+    → Does old (reply.Refused NoMemory) new
+    (λ refused state. kept_outcome refused (setup_of old.core) state.world state.resident w
+    placement)
 gives-starved old new w placement answer steps same resident free =
     λ state stands.
-    let none : placed_at state.resident placement.page ≡ None = subst (λ (kept : Kept). placed_at kept placement.page ≡ None) stands.resident free in
-    let out : kept_outcome true (setup_of old.core) state.world state.resident w placement ≡ not_kept true (setup_of old.core) state.world state.resident w placement (reply.Refused NoMemory) = rw none refl in (
+    let none : placed_at state.resident placement.page ≡ None =
+    subst (λ (kept : Kept). placed_at kept placement.page ≡ None) stands.resident free in
+    let out : kept_outcome true (setup_of old.core) state.world state.resident w placement
+    ≡ not_kept true (setup_of old.core) state.world state.resident w placement
+    (reply.Refused NoMemory) = rw none refl in (
       true,
       sym (ap (λ o. o.reply) out),
-      subst (λ o. RunsAs new (state_with state o)) (sym out) (given old new true w placement.frame answer state.resident steps same (resident ∙ stands.resident) state stands),
+      subst (λ o. RunsAs new (state_with state o)) (sym out)
+          (given old new true w placement.frame answer state.resident steps same
+          (resident ∙ stands.resident) state stands),
     )
 
 -- ---- touch
 
 -- an answer that wins no frame
-pub none_won : (answer : CoreReply) → ((placement : Placement) → answer ≡ done.Won placement → ⊥) → won_by (Ok answer) ≡ None
+pub none_won : (answer : CoreReply) → ((placement : Placement) → answer ≡ done.Won placement → ⊥)
+    → won_by (Ok answer) ≡ None
 none_won (done.Won placement) none = absurd (none placement refl)
 none_won (done.Accepted version) none = refl
 none_won (done.Published version) none = refl
@@ -139,40 +225,77 @@ none_won (done.Exhausted version) none = refl
 none_won done.Given none = refl
 
 -- the machine after the core's touch
-touched-there : (old mid : Running) (w : ℕ) (request : Request) (answer : Result CoreReply CoreRefusal) → Touches old.core w request answer mid.core → setup_of mid.core ≡ setup_of old.core → mid.resident ≡ old.resident
-    → (state : State) → RunsAs old state → RunsAs mid (record { bounds = state.bounds; rules = state.rules; cpus = state.cpus; machine = state.machine; world = (result_of_touch (setup_of old.core) state.world w request).world; resident = state.resident })
+touched-there : (old mid : Running) (w : ℕ) (request : Request)
+    (answer : Result CoreReply CoreRefusal) → Touches old.core w request answer mid.core
+    → setup_of mid.core ≡ setup_of old.core → mid.resident ≡ old.resident
+    → (state : State) → RunsAs old state
+    → RunsAs mid
+    (record {
+      bounds = state.bounds;
+      rules = state.rules;
+      cpus = state.cpus;
+      machine =
+          state.machine;
+      world = (result_of_touch (setup_of old.core) state.world w request).world;
+      resident = state.resident;
+    })
 touched-there old mid w request answer touches same resident state stands =
     let s = setup_of old.core in
     let touch = touches state.world stands.core.world in
-    moved old mid state (result_of_touch s state.world w request).world state.resident stands same touch.1 (resident ∙ stands.resident)
+    moved old mid state (result_of_touch s state.world w request).world state.resident stands same
+    touch.1 (resident ∙ stands.resident)
 
-pub touches-nothing : (old new : Running) (w : ℕ) (request : Request) (answer : Result CoreReply CoreRefusal) → Touches old.core w request answer new.core → setup_of new.core ≡ setup_of old.core
-    → new.resident ≡ old.resident → won_by answer ≡ None → Does old (reply_to answer) new (λ refused state. touch_outcome refused (setup_of old.core) state.world state.resident w request)
+pub touches-nothing : (old new : Running) (w : ℕ) (request : Request)
+    (answer : Result CoreReply CoreRefusal) → Touches old.core w request answer new.core
+    → setup_of new.core ≡ setup_of old.core
+    → new.resident ≡ old.resident → won_by answer ≡ None
+    → Does old (reply_to answer) new
+    (λ refused state. touch_outcome refused (setup_of old.core) state.world state.resident w
+    request)
 touches-nothing old new w request answer touches same resident lost =
     λ state stands.
     let s = setup_of old.core in
     let t = result_of_touch s state.world w request in
     let touch = touches state.world stands.core.world in
     let none : won_by t.answer ≡ None = ap won_by (sym touch.0) ∙ lost in
-    let out : touch_by false s None t.answer t.world state.resident w ≡ touch_outcome false s state.world state.resident w request = ap (λ o. touch_by false s o t.answer t.world state.resident w) (sym none) in (
+    let out : touch_by false s None t.answer t.world state.resident w ≡ touch_outcome false s
+    state.world state.resident w request =
+    ap (λ o. touch_by false s o t.answer t.world state.resident w) (sym none) in (
       false,
       ap reply_to touch.0 ∙ ap (λ o. o.reply) out,
-      subst (λ o. RunsAs new (state_with state o)) out (touched-there old new w request answer touches same resident state stands),
+      subst (λ o. RunsAs new (state_with state o)) out
+          (touched-there old new w request answer touches same resident state stands),
     )
 
-pub touches-won : (old mid new : Running) (w : ℕ) (request : Request) (answer : Result CoreReply CoreRefusal) (placement : Placement) (said : Reply) → Touches old.core w request answer mid.core → setup_of mid.core ≡ setup_of old.core
+pub touches-won : (old mid new : Running) (w : ℕ) (request : Request)
+    (answer : Result CoreReply CoreRefusal) (placement : Placement) (said : Reply)
+    → Touches old.core w request answer mid.core → setup_of mid.core ≡ setup_of old.core
     → mid.resident ≡ old.resident → won_by answer ≡ Some placement
-    → Does mid said new (λ refused state. kept_outcome refused (setup_of mid.core) state.world state.resident w placement)
-    → Does old said new (λ refused state. touch_outcome refused (setup_of old.core) state.world state.resident w request)
+    → Does mid said new (λ refused state. kept_outcome refused (setup_of mid.core) state.world
+    state.resident w placement)
+    → Does old said new (λ refused state. touch_outcome refused (setup_of old.core) state.world
+    state.resident w request)
 touches-won old mid new w request answer placement said touches same resident won keep =
     λ state stands.
     let s = setup_of old.core in
     let t = result_of_touch s state.world w request in
     let touch = touches state.world stands.core.world in
     let some : won_by t.answer ≡ Some placement = ap won_by (sym touch.0) ∙ won in
-    let kept = keep (record { bounds = state.bounds; rules = state.rules; cpus = state.cpus; machine = state.machine; world = t.world; resident = state.resident }) (touched-there old mid w request answer touches same resident state stands) in
-    let out : kept_outcome kept.0 (setup_of mid.core) t.world state.resident w placement ≡ touch_outcome kept.0 s state.world state.resident w request =
-    ap (λ r. kept_outcome kept.0 r t.world state.resident w placement) same ∙ ap (λ o. touch_by kept.0 s o t.answer t.world state.resident w) (sym some) in (
+    let kept =
+    keep (record {
+      bounds = state.bounds;
+      rules = state.rules;
+      cpus = state.cpus;
+      machine =
+          state.machine;
+      world = t.world;
+      resident = state.resident;
+    })
+    (touched-there old mid w request answer touches same resident state stands) in
+    let out : kept_outcome kept.0 (setup_of mid.core) t.world state.resident w placement
+    ≡ touch_outcome kept.0 s state.world state.resident w request =
+    ap (λ r. kept_outcome kept.0 r t.world state.resident w placement) same
+    ∙ ap (λ o. touch_by kept.0 s o t.answer t.world state.resident w) (sym some) in (
       kept.0,
       kept.1 ∙ ap (λ o. o.reply) out,
       subst (λ o. RunsAs new (state_with state o)) out kept.2,
@@ -180,30 +303,42 @@ touches-won old mid new w request answer placement said touches same resident wo
 
 -- ---- release
 
-pub releases : (old new : Running) (w page : ℕ) (placement : Placement) (answer : Result CoreReply CoreRefusal) → Steps old.core (Give w placement.frame) answer new.core → setup_of new.core ≡ setup_of old.core
-    → placed_at old.resident page ≡ Some placement → new.resident ≡ (if is_ok answer then without_page old.resident page else old.resident)
-    → Does old (reply_to answer) new (λ refused state. release_outcome refused (setup_of old.core) state.world state.resident w page)
+pub releases : (old new : Running) (w page : ℕ) (placement : Placement)
+    (answer : Result CoreReply CoreRefusal) → Steps old.core (Give w placement.frame) answer
+    new.core → setup_of new.core ≡ setup_of old.core
+    → placed_at old.resident page ≡ Some placement
+    → new.resident ≡ (if is_ok answer then without_page old.resident page else old.resident)
+    → Does old (reply_to answer) new
+    (λ refused state. release_outcome refused (setup_of old.core) state.world state.resident w page)
 releases old new w page placement answer steps same there resident =
     λ state stands.
     let s = setup_of old.core in
-    let some : placed_at state.resident page ≡ Some placement = subst (λ (kept : Kept). placed_at kept page ≡ Some placement) stands.resident there in
+    let some : placed_at state.resident page ≡ Some placement =
+    subst (λ (kept : Kept). placed_at kept page ≡ Some placement) stands.resident there in
     let step = steps state.world stands.core.world in
-    let right : answer ≡ event_answer false s state.world (Give w placement.frame) = give-told false s state.world w placement.frame answer step.0 in
-    let kept : Kept = if is_ok (event_answer false s state.world (Give w placement.frame)) then without_page state.resident page else state.resident in
+    let right : answer ≡ event_answer false s state.world (Give w placement.frame) =
+    give-told false s state.world w placement.frame answer step.0 in
+    let kept : Kept = if is_ok (event_answer false s state.world (Give w placement.frame))
+    then without_page state.resident page else state.resident in
     let is : new.resident ≡ kept =
-    resident ∙ (λ i. if is_ok (right i) then without_page (stands.resident i) page else stands.resident i) in
-    let out : release_by false s (Some placement) state.world state.resident w page ≡ release_outcome false s state.world state.resident w page =
+    resident ∙ (λ i. if is_ok (right i) then without_page (stands.resident i) page
+    else stands.resident i) in
+    let out : release_by false s (Some placement) state.world state.resident w page
+    ≡ release_outcome false s state.world state.resident w page =
     ap (λ o. release_by false s o state.world state.resident w page) (sym some) in (
       false,
       ap reply_to right ∙ ap (λ o. o.reply) out,
-      subst (λ o. RunsAs new (state_with state o)) out (given old new false w placement.frame answer kept steps same is state stands),
+      subst (λ o. RunsAs new (state_with state o)) out
+          (given old new false w placement.frame answer kept steps same is state stands),
     )
 
 -- the page keeps its placement where the Give is refused, and only there
-pub kept-where_refused : (answer : Result CoreReply CoreRefusal) (gone kept : Kept) → is_err answer ≡ true → kept ≡ (if is_ok answer then gone else kept)
+pub kept-where_refused : (answer : Result CoreReply CoreRefusal) (gone kept : Kept)
+    → is_err answer ≡ true → kept ≡ (if is_ok answer then gone else kept)
 kept-where_refused (Ok done) gone kept e = cc
 kept-where_refused (Err cause) gone kept e = refl
 
-pub gone-where_given : (answer : Result CoreReply CoreRefusal) (gone kept : Kept) → is_err answer ≡ false → gone ≡ (if is_ok answer then gone else kept)
+pub gone-where_given : (answer : Result CoreReply CoreRefusal) (gone kept : Kept)
+    → is_err answer ≡ false → gone ≡ (if is_ok answer then gone else kept)
 gone-where_given (Ok done) gone kept e = refl
 gone-where_given (Err cause) gone kept e = cc

@@ -7,7 +7,8 @@ use Rattle.numa_machine.specs.declared.rules.Rules.TheVariants.{Document, Linux}
 use Rattle.numa_mask.specs.Lists.{item_of, ends_of, digit_of, numeral_of as node_numeral_of}
 use Rattle.numa_mask.specs.NodeSet.{members}
 use Rattle.numa_machine.specs.Machine.{Hardware, fallback_order}
-use Rattle.numa_machine.specs.Faults.{machine_fault, has_bad_memory, has_bad_distance, has_bad_frames}
+use Rattle.numa_machine.specs.Faults.{machine_fault, has_bad_memory, has_bad_distance}
+use Rattle.numa_machine.specs.Faults.{has_bad_frames}
 use Rattle.numa_mode.specs.declared.modes.Mode.TheVariants.{Bind}
 use Rattle.numa_mode.specs.declared.modes.NodeFlag.TheVariants.{Plain}
 use Rattle.numa_ranges.specs.Counts.{count_pages}
@@ -28,11 +29,13 @@ use Rattle.numa_script.specs.Texts.{text_of}
 
 -- ---- before a machine is ready
 
-question-before_a_machine : answer_of false start (line_of (codes "place 1 0 0")) ≡ codes "bad state\n"
+question-before_a_machine : answer_of false start (line_of (codes "place 1 0 0"))
+    ≡ codes "bad state\n"
 unfolding line_of keyword_of number_of numeral_of in_64_bits outcome_of text_of
 question-before_a_machine = refl
 
-two-words_for_a_map : answer_of false start (line_of (codes "map 0x10000 0x1000")) ≡ codes "bad words\n"
+two-words_for_a_map : answer_of false start (line_of (codes "map 0x10000 0x1000"))
+    ≡ codes "bad words\n"
 unfolding line_of keyword_of number_of numeral_of in_64_bits outcome_of text_of
 two-words_for_a_map = refl
 
@@ -40,20 +43,28 @@ too-many_ranges : answer_of false start (line_of (codes "limits 65537 1 1")) ≡
 unfolding line_of keyword_of number_of numeral_of in_64_bits outcome_of text_of
 too-many_ranges = refl
 
-list-before_the_machine : answer_of false start (line_of (codes "machine 0 3-1 1 flat")) ≡ codes "bad list BackRange\n"
-unfolding line_of keyword_of number_of numeral_of in_64_bits distances_of item_of ends_of node_numeral_of digit_of outcome_of text_of
+list-before_the_machine : answer_of false start (line_of (codes "machine 0 3-1 1 flat"))
+    ≡ codes "bad list BackRange\n"
+unfolding line_of keyword_of number_of numeral_of in_64_bits distances_of item_of ends_of
+    node_numeral_of digit_of outcome_of text_of
 list-before_the_machine = refl
 
-no-nodes : answer_of true start (line_of (codes "machine 0 0 1 flat")) ≡ codes "bad machine NodeCount\n"
-unfolding line_of keyword_of number_of numeral_of in_64_bits distances_of members item_of ends_of node_numeral_of digit_of outcome_of text_of
+no-nodes : answer_of true start (line_of (codes "machine 0 0 1 flat"))
+    ≡ codes "bad machine NodeCount\n"
+unfolding line_of keyword_of number_of numeral_of in_64_bits distances_of members item_of ends_of
+    node_numeral_of digit_of outcome_of text_of
 no-nodes = refl
 
 two-nodes : answer_of false start (line_of (codes "machine 2 0-1 8 flat")) ≡ codes "ready\n"
-unfolding line_of keyword_of number_of numeral_of in_64_bits distances_of machine_fault has_bad_memory has_bad_distance has_bad_frames members item_of ends_of node_numeral_of digit_of outcome_of text_of
+unfolding line_of keyword_of number_of numeral_of in_64_bits distances_of machine_fault
+    has_bad_memory has_bad_distance has_bad_frames members item_of ends_of node_numeral_of digit_of
+    outcome_of text_of
 two-nodes = refl
 
-two-nodes_without_memory : answer_of true start (line_of (codes "machine 2 0-1 8 flat")) ≡ codes "bad machine NoMemory\n"
-unfolding line_of keyword_of number_of numeral_of in_64_bits distances_of members item_of ends_of node_numeral_of digit_of outcome_of text_of
+two-nodes_without_memory : answer_of true start (line_of (codes "machine 2 0-1 8 flat"))
+    ≡ codes "bad machine NoMemory\n"
+unfolding line_of keyword_of number_of numeral_of in_64_bits distances_of members item_of ends_of
+    node_numeral_of digit_of outcome_of text_of
 two-nodes_without_memory = refl
 
 rules-of_the_kernel : (after false start (line_of (codes "rules linux"))).rules ≡ Linux
@@ -69,11 +80,14 @@ unfolding line_of keyword_of item_of ends_of node_numeral_of digit_of outcome_of
 cpus-are_taken = refl
 
 -- the last line counts
-cpus-of_two_lines : (after false (after false start (line_of (codes "cpus 0"))) (line_of (codes "cpus 0-1"))).cpus ≡ Some 3
+cpus-of_two_lines :
+    (after false (after false start (line_of (codes "cpus 0"))) (line_of (codes "cpus 0-1"))).cpus
+    ≡ Some 3
 unfolding line_of keyword_of item_of ends_of node_numeral_of digit_of outcome_of
 cpus-of_two_lines = refl
 
-cpus-of_a_bad_list : answer_of false start (line_of (codes "cpus 1-0")) ≡ codes "bad list BackRange\n"
+cpus-of_a_bad_list : answer_of false start (line_of (codes "cpus 1-0"))
+    ≡ codes "bad list BackRange\n"
 unfolding line_of keyword_of item_of ends_of node_numeral_of digit_of outcome_of text_of
 cpus-of_a_bad_list = refl
 
@@ -81,23 +95,46 @@ cpus-of_a_bad_list = refl
 with_cpus_elsewhere : State
 with_cpus_elsewhere = after false start (line_of (codes "cpus 2"))
 
-cpus-elsewhere : answer_of true with_cpus_elsewhere (line_of (codes "machine 2 0-1 8 flat")) ≡ codes "bad machine NodeCount\n"
-unfolding with_cpus_elsewhere line_of keyword_of number_of numeral_of in_64_bits distances_of members item_of ends_of node_numeral_of digit_of outcome_of text_of
+cpus-elsewhere : answer_of true with_cpus_elsewhere (line_of (codes "machine 2 0-1 8 flat"))
+    ≡ codes "bad machine NodeCount\n"
+unfolding with_cpus_elsewhere line_of keyword_of number_of numeral_of in_64_bits distances_of
+    members item_of ends_of node_numeral_of digit_of outcome_of text_of
 cpus-elsewhere = refl
 
 -- the orders of a kernel, where node 0 alone has CPUs
 with_cpus : State
 with_cpus = after false start (line_of (codes "cpus 0"))
 
-cpus-of_a_kernels_machine : (after false with_cpus (line_of (codes "machine 2 0-1 8 kernel:flat"))).machine
-    ≡ Some (record { nodes = 2; memory = 3; distances = 10 ∷ 20 ∷ 20 ∷ 10 ∷ []; frames = 8 ∷ 8 ∷ []; rules = Document; fallback = Kernel 1 })
-unfolding with_cpus line_of keyword_of number_of numeral_of in_64_bits distances_of machine_fault has_bad_memory has_bad_distance has_bad_frames members item_of ends_of node_numeral_of digit_of outcome_of
+cpus-of_a_kernels_machine :
+    (after false with_cpus (line_of (codes "machine 2 0-1 8 kernel:flat"))).machine
+    ≡ Some
+    (record {
+      nodes = 2;
+      memory = 3;
+      distances = 10 ∷ 20 ∷ 20 ∷ 10 ∷ [];
+      frames = 8 ∷ 8 ∷ [];
+      rules = Document;
+      fallback = Kernel 1;
+    })
+unfolding with_cpus line_of keyword_of number_of numeral_of in_64_bits distances_of machine_fault
+    has_bad_memory has_bad_distance has_bad_frames members item_of ends_of node_numeral_of digit_of
+    outcome_of
 cpus-of_a_kernels_machine = refl
 
 -- all nodes have CPUs where no line names any
 kernels_machine : (after false start (line_of (codes "machine 2 0-1 8 kernel:flat"))).machine
-    ≡ Some (record { nodes = 2; memory = 3; distances = 10 ∷ 20 ∷ 20 ∷ 10 ∷ []; frames = 8 ∷ 8 ∷ []; rules = Document; fallback = Kernel 3 })
-unfolding line_of keyword_of number_of numeral_of in_64_bits distances_of machine_fault has_bad_memory has_bad_distance has_bad_frames members item_of ends_of node_numeral_of digit_of outcome_of
+    ≡ Some
+    (record {
+      nodes = 2;
+      memory = 3;
+      distances = 10 ∷ 20 ∷ 20 ∷ 10 ∷ [];
+      frames = 8 ∷ 8 ∷ [];
+      rules = Document;
+      fallback = Kernel 3;
+    })
+unfolding line_of keyword_of number_of numeral_of in_64_bits distances_of machine_fault
+    has_bad_memory has_bad_distance has_bad_frames members item_of ends_of node_numeral_of digit_of
+    outcome_of
 kernels_machine = refl
 
 start-by_the_kernels_rules : (start_by Linux).rules ≡ Linux
@@ -106,28 +143,55 @@ start-by_the_kernels_rules = refl
 -- ---- with a machine of two nodes, two mapped pages, and a policy of the first
 
 abbrev pub two_nodes : Hardware
-two_nodes = record { nodes = 2; memory = 3; distances = 10 ∷ 20 ∷ 20 ∷ 10 ∷ []; frames = 8 ∷ 8 ∷ []; rules = Document; fallback = Nearest }
+two_nodes = record {
+  nodes = 2;
+  memory = 3;
+  distances = 10 ∷ 20 ∷ 20 ∷ 10 ∷ [];
+  frames = 8 ∷ 8 ∷ [];
+  rules = Document;
+  fallback = Nearest;
+}
 
 -- the commands so far, none of them published
 world : World
-world = record { history = Mbind 0x10000 0x1000 (record { mode = Bind; flag = Plain; mask = 2 }) ∷ Map 0x10000 0x2000 0 ∷ []; published = opening.published; worker = opening.worker; owner = opening.owner }
+world = record {
+  history = Mbind 0x10000 0x1000 (record { mode = Bind; flag = Plain; mask = 2 })
+      ∷ Map 0x10000 0x2000 0 ∷ [];
+  published = opening.published;
+  worker = opening.worker;
+  owner =
+      opening.owner;
+}
 
 bound : State
-bound = record { bounds = usual_bounds; rules = Document; cpus = None; machine = Some two_nodes; world = world; resident = [] }
+bound = record {
+  bounds = usual_bounds;
+  rules = Document;
+  cpus = None;
+  machine = Some two_nodes;
+  world = world;
+  resident = [];
+}
 
 bound-page : answer_of false bound (line_of (codes "place 1 0x10fff 0")) ≡ codes "v2: 1\n"
-unfolding line_of keyword_of number_of numeral_of in_64_bits members fallback_order digits bound world outcome_of text_of
+unfolding line_of keyword_of number_of numeral_of in_64_bits members fallback_order digits bound
+    world outcome_of text_of
 bound-page = refl
 
-page-without_policy : answer_of false bound (line_of (codes "place 1 0x11000 0")) ≡ codes "v2: 0 1\n"
-unfolding line_of keyword_of number_of numeral_of in_64_bits members fallback_order digits bound world outcome_of text_of
+page-without_policy : answer_of false bound (line_of (codes "place 1 0x11000 0"))
+    ≡ codes "v2: 0 1\n"
+unfolding line_of keyword_of number_of numeral_of in_64_bits members fallback_order digits bound
+    world outcome_of text_of
 page-without_policy = refl
 
-page-that_is_not_mapped : answer_of false bound (line_of (codes "place 1 0x12000 0")) ≡ codes "refused Unmapped\n"
-unfolding line_of keyword_of number_of numeral_of in_64_bits members fallback_order digits bound world outcome_of text_of
+page-that_is_not_mapped : answer_of false bound (line_of (codes "place 1 0x12000 0"))
+    ≡ codes "refused Unmapped\n"
+unfolding line_of keyword_of number_of numeral_of in_64_bits members fallback_order digits bound
+    world outcome_of text_of
 page-that_is_not_mapped = refl
 
-weight-too_large : answer_of true bound (line_of (codes "weight 0 256")) ≡ codes "refused BadWeight EINVAL\n"
+weight-too_large : answer_of true bound (line_of (codes "weight 0 256"))
+    ≡ codes "refused BadWeight EINVAL\n"
 unfolding line_of keyword_of number_of numeral_of in_64_bits bound world outcome_of text_of
 weight-too_large = refl
 
@@ -135,69 +199,111 @@ weight-wants_no_memory : answer_of true bound (line_of (codes "weight 0 255")) �
 unfolding line_of keyword_of number_of numeral_of in_64_bits digits bound world outcome_of text_of
 weight-wants_no_memory = refl
 
-task-without_memory : answer_of true bound (line_of (codes "task 1 local")) ≡ codes "refused NoMemory ENOMEM\n"
-unfolding line_of keyword_of number_of numeral_of in_64_bits policy_of mode_of form_of_two form_of_three item_of ends_of node_numeral_of digit_of bound world outcome_of text_of
+task-without_memory : answer_of true bound (line_of (codes "task 1 local"))
+    ≡ codes "refused NoMemory ENOMEM\n"
+unfolding line_of keyword_of number_of numeral_of in_64_bits policy_of mode_of form_of_two
+    form_of_three item_of ends_of node_numeral_of digit_of bound world outcome_of text_of
 task-without_memory = refl
 
 default-wants_no_memory : answer_of true bound (line_of (codes "task 1 default")) ≡ codes "ok 3\n"
-unfolding line_of keyword_of number_of numeral_of in_64_bits policy_of mode_of form_of_two form_of_three item_of ends_of node_numeral_of digit_of digits bound world outcome_of text_of
+unfolding line_of keyword_of number_of numeral_of in_64_bits policy_of mode_of form_of_two
+    form_of_three item_of ends_of node_numeral_of digit_of digits bound world outcome_of text_of
 default-wants_no_memory = refl
 
 weight-accepted : answer_of false bound (line_of (codes "weight 0 255")) ≡ codes "ok 3\n"
 unfolding line_of keyword_of number_of numeral_of in_64_bits digits bound world outcome_of text_of
 weight-accepted = refl
 
-policy-with_a_faulty_list : answer_of false bound (line_of (codes "task 1 bind=static=relative:x")) ≡ codes "bad list BadDigit\n"
-unfolding line_of keyword_of number_of numeral_of in_64_bits policy_of mode_of form_of_two form_of_three item_of ends_of node_numeral_of digit_of bound world outcome_of text_of
+policy-with_a_faulty_list : answer_of false bound (line_of (codes "task 1 bind=static=relative:x"))
+    ≡ codes "bad list BadDigit\n"
+unfolding line_of keyword_of number_of numeral_of in_64_bits policy_of mode_of form_of_two
+    form_of_three item_of ends_of node_numeral_of digit_of bound world outcome_of text_of
 policy-with_a_faulty_list = refl
 
-machine-after_a_machine : answer_of false bound (line_of (codes "machine 0 3-1 1 flat")) ≡ codes "bad state\n"
-unfolding line_of keyword_of number_of numeral_of in_64_bits distances_of bound world outcome_of text_of
+machine-after_a_machine : answer_of false bound (line_of (codes "machine 0 3-1 1 flat"))
+    ≡ codes "bad state\n"
+unfolding line_of keyword_of number_of numeral_of in_64_bits distances_of bound world outcome_of
+    text_of
 machine-after_a_machine = refl
 
 -- ---- spans
 
 span-of_two_pages : answer_of false bound (line_of (codes "span 1 0x10000 2 0")) ≡ codes "v2: 1 0\n"
-unfolding line_of keyword_of number_of numeral_of in_64_bits members fallback_order digits list_at result_of_touch outcome_of text_of bound world count_pages any_page counts_text
+unfolding line_of keyword_of number_of numeral_of in_64_bits members fallback_order digits list_at
+    result_of_touch outcome_of text_of bound world count_pages any_page counts_text
 span-of_two_pages = refl
 
 span-of_no_pages : answer_of false bound (line_of (codes "span 1 0x20000 0 0")) ≡ codes "v2:\n"
-unfolding line_of keyword_of number_of numeral_of in_64_bits members fallback_order digits list_at result_of_touch outcome_of text_of bound world count_pages any_page counts_text
+unfolding line_of keyword_of number_of numeral_of in_64_bits members fallback_order digits list_at
+    result_of_touch outcome_of text_of bound world count_pages any_page counts_text
 span-of_no_pages = refl
 
-span-past_the_mapped_pages : answer_of false bound (line_of (codes "span 1 0x10000 3 0")) ≡ codes "refused Unmapped\n"
-unfolding line_of keyword_of number_of numeral_of in_64_bits members fallback_order digits list_at result_of_touch outcome_of text_of bound world count_pages any_page counts_text
+span-past_the_mapped_pages : answer_of false bound (line_of (codes "span 1 0x10000 3 0"))
+    ≡ codes "refused Unmapped\n"
+unfolding line_of keyword_of number_of numeral_of in_64_bits members fallback_order digits list_at
+    result_of_touch outcome_of text_of bound world count_pages any_page counts_text
 span-past_the_mapped_pages = refl
 
-span-of_no_node : answer_of false bound (line_of (codes "span 1 0x10000 3 2")) ≡ codes "refused BadCpu\n"
-unfolding line_of keyword_of number_of numeral_of in_64_bits members fallback_order digits list_at result_of_touch outcome_of text_of bound world count_pages any_page counts_text
+span-of_no_node : answer_of false bound (line_of (codes "span 1 0x10000 3 2"))
+    ≡ codes "refused BadCpu\n"
+unfolding line_of keyword_of number_of numeral_of in_64_bits members fallback_order digits list_at
+    result_of_touch outcome_of text_of bound world count_pages any_page counts_text
 span-of_no_node = refl
 
-span-without_memory : answer_of true bound (line_of (codes "span 1 0x10000 3 2")) ≡ codes "refused NoMemory\n"
-unfolding line_of keyword_of number_of numeral_of in_64_bits members fallback_order digits list_at result_of_touch outcome_of text_of bound world count_pages any_page counts_text
+span-without_memory : answer_of true bound (line_of (codes "span 1 0x10000 3 2"))
+    ≡ codes "refused NoMemory\n"
+unfolding line_of keyword_of number_of numeral_of in_64_bits members fallback_order digits list_at
+    result_of_touch outcome_of text_of bound world count_pages any_page counts_text
 span-without_memory = refl
 
-counts-of_two_pages : answer_of false bound (line_of (codes "counts 1 0x10000 2 0")) ≡ codes "v2: N0=1 N1=1\n"
-unfolding line_of keyword_of number_of numeral_of in_64_bits members fallback_order digits list_at result_of_touch outcome_of text_of bound world count_pages any_page counts_text
+counts-of_two_pages : answer_of false bound (line_of (codes "counts 1 0x10000 2 0"))
+    ≡ codes "v2: N0=1 N1=1\n"
+unfolding line_of keyword_of number_of numeral_of in_64_bits members fallback_order digits list_at
+    result_of_touch outcome_of text_of bound world count_pages any_page counts_text
 counts-of_two_pages = refl
 
-counts-of_one_page : answer_of false bound (line_of (codes "counts 1 0x10000 1 0")) ≡ codes "v2: N1=1\n"
-unfolding line_of keyword_of number_of numeral_of in_64_bits members fallback_order digits list_at result_of_touch outcome_of text_of bound world count_pages any_page counts_text
+counts-of_one_page : answer_of false bound (line_of (codes "counts 1 0x10000 1 0"))
+    ≡ codes "v2: N1=1\n"
+unfolding line_of keyword_of number_of numeral_of in_64_bits members fallback_order digits list_at
+    result_of_touch outcome_of text_of bound world count_pages any_page counts_text
 counts-of_one_page = refl
 
-counts-past_the_mapped_pages : answer_of false bound (line_of (codes "counts 1 0x11000 2 1")) ≡ codes "refused Unmapped\n"
-unfolding line_of keyword_of number_of numeral_of in_64_bits members fallback_order digits list_at result_of_touch outcome_of text_of bound world count_pages any_page counts_text
+counts-past_the_mapped_pages : answer_of false bound (line_of (codes "counts 1 0x11000 2 1"))
+    ≡ codes "refused Unmapped\n"
+unfolding line_of keyword_of number_of numeral_of in_64_bits members fallback_order digits list_at
+    result_of_touch outcome_of text_of bound world count_pages any_page counts_text
 counts-past_the_mapped_pages = refl
 
 -- ---- workers
 
 -- with both commands published
 published : State
-published = record { bounds = usual_bounds; rules = Document; cpus = None; machine = Some two_nodes; world = record { history = world.history; published = 2 ∷ 0 ∷ []; worker = world.worker; owner = world.owner }; resident = [] }
+published = record {
+  bounds = usual_bounds;
+  rules = Document;
+  cpus = None;
+  machine = Some two_nodes;
+  world = record {
+    history = world.history;
+    published = 2 ∷ 0 ∷ [];
+    worker = world.worker;
+    owner =
+        world.owner;
+  };
+  resident = [];
+}
 
 -- the first frame of node 1 is worker 0's, and kept for page 16
 placed : Placement
-placed = record { version = 2; task = 1; page = 16; node = 1; frame = record { node = 1; number = 0 }; rank = 0 }
+placed =
+    record {
+      version = 2;
+      task = 1;
+      page = 16;
+      node = 1;
+      frame = record { node = 1; number = 0 };
+      rank = 0;
+    }
 
 resident : State
 resident = record {
@@ -205,86 +311,129 @@ resident = record {
   rules = Document;
   cpus = None;
   machine = Some two_nodes;
-  world = record { history = world.history; published = 2 ∷ 0 ∷ []; worker = world.worker; owner = λ n k. if (n == 1) && (k == 0) then Some 0 else None };
+  world = record {
+    history = world.history;
+    published = 2 ∷ 0 ∷ [];
+    worker = world.worker;
+    owner =
+        λ n k. if (n == 1) && (k == 0) then Some 0 else None;
+  };
   resident = (16, placed) ∷ [];
 }
 
 publish-both : answer_of false bound (line_of (codes "publish")) ≡ codes "published 2\n"
-unfolding line_of keyword_of number_of numeral_of in_64_bits members fallback_order digits list_at result_of_touch outcome_of text_of bound world
+unfolding line_of keyword_of number_of numeral_of in_64_bits members fallback_order digits list_at
+    result_of_touch outcome_of text_of bound world
 publish-both = refl
 
-publish-without_memory : answer_of true bound (line_of (codes "publish")) ≡ codes "refused NoMemory\n"
-unfolding line_of keyword_of number_of numeral_of in_64_bits members fallback_order digits list_at result_of_touch outcome_of text_of bound world
+publish-without_memory : answer_of true bound (line_of (codes "publish"))
+    ≡ codes "refused NoMemory\n"
+unfolding line_of keyword_of number_of numeral_of in_64_bits members fallback_order digits list_at
+    result_of_touch outcome_of text_of bound world
 publish-without_memory = refl
 
-begin-before_a_publication : answer_of false bound (line_of (codes "begin 0 1 0x10000 0")) ≡ codes "refused Unmapped\n"
-unfolding line_of keyword_of number_of numeral_of in_64_bits members fallback_order digits list_at result_of_touch outcome_of text_of bound world
+begin-before_a_publication : answer_of false bound (line_of (codes "begin 0 1 0x10000 0"))
+    ≡ codes "refused Unmapped\n"
+unfolding line_of keyword_of number_of numeral_of in_64_bits members fallback_order digits list_at
+    result_of_touch outcome_of text_of bound world
 begin-before_a_publication = refl
 
 begin-a_hunt : answer_of false published (line_of (codes "begin 0 1 0x10000 0")) ≡ codes "still\n"
-unfolding line_of keyword_of number_of numeral_of in_64_bits members fallback_order digits list_at result_of_touch outcome_of text_of published world
+unfolding line_of keyword_of number_of numeral_of in_64_bits members fallback_order digits list_at
+    result_of_touch outcome_of text_of published world
 begin-a_hunt = refl
 
-begin-of_a_worker_too_many : answer_of false published (line_of (codes "begin 4 1 0x10000 0")) ≡ codes "refused NoSuchWorker\n"
-unfolding line_of keyword_of number_of numeral_of in_64_bits members fallback_order digits list_at result_of_touch outcome_of text_of published world
+begin-of_a_worker_too_many : answer_of false published (line_of (codes "begin 4 1 0x10000 0"))
+    ≡ codes "refused NoSuchWorker\n"
+unfolding line_of keyword_of number_of numeral_of in_64_bits members fallback_order digits list_at
+    result_of_touch outcome_of text_of published world
 begin-of_a_worker_too_many = refl
 
-try-of_an_idle_worker : answer_of false published (line_of (codes "try 0 1 0")) ≡ codes "refused Idle\n"
-unfolding line_of keyword_of number_of numeral_of in_64_bits members fallback_order digits list_at result_of_touch outcome_of text_of published world
+try-of_an_idle_worker : answer_of false published (line_of (codes "try 0 1 0"))
+    ≡ codes "refused Idle\n"
+unfolding line_of keyword_of number_of numeral_of in_64_bits members fallback_order digits list_at
+    result_of_touch outcome_of text_of published world
 try-of_an_idle_worker = refl
 
-touch-wins : answer_of false published (line_of (codes "touch 0 1 0x10fff 0")) ≡ codes "won v2 node 1 frame 0 rank 0\n"
-unfolding line_of keyword_of number_of numeral_of in_64_bits members fallback_order digits list_at result_of_touch outcome_of text_of published world
+touch-wins : answer_of false published (line_of (codes "touch 0 1 0x10fff 0"))
+    ≡ codes "won v2 node 1 frame 0 rank 0\n"
+unfolding line_of keyword_of number_of numeral_of in_64_bits members fallback_order digits list_at
+    result_of_touch outcome_of text_of published world
 touch-wins = refl
 
-touch-without_memory : answer_of true published (line_of (codes "touch 0 1 0x10fff 0")) ≡ codes "refused NoMemory\n"
-unfolding line_of keyword_of number_of numeral_of in_64_bits members fallback_order digits list_at result_of_touch outcome_of text_of published world
+touch-without_memory : answer_of true published (line_of (codes "touch 0 1 0x10fff 0"))
+    ≡ codes "refused NoMemory\n"
+unfolding line_of keyword_of number_of numeral_of in_64_bits members fallback_order digits list_at
+    result_of_touch outcome_of text_of published world
 touch-without_memory = refl
 
-touch-passes_an_owned_frame : answer_of false resident (line_of (codes "touch 1 1 0x11000 1")) ≡ codes "won v2 node 1 frame 1 rank 0\n"
-unfolding line_of keyword_of number_of numeral_of in_64_bits members fallback_order digits list_at result_of_touch outcome_of text_of resident world placed
+touch-passes_an_owned_frame : answer_of false resident (line_of (codes "touch 1 1 0x11000 1"))
+    ≡ codes "won v2 node 1 frame 1 rank 0\n"
+unfolding line_of keyword_of number_of numeral_of in_64_bits members fallback_order digits list_at
+    result_of_touch outcome_of text_of resident world placed
 touch-passes_an_owned_frame = refl
 
-touch-of_a_placed_page : answer_of false resident (line_of (codes "touch 1 1 0x10000 0")) ≡ codes "back node 1 frame 1\n"
-unfolding line_of keyword_of number_of numeral_of in_64_bits members fallback_order digits list_at result_of_touch outcome_of text_of resident world placed
+touch-of_a_placed_page : answer_of false resident (line_of (codes "touch 1 1 0x10000 0"))
+    ≡ codes "back node 1 frame 1\n"
+unfolding line_of keyword_of number_of numeral_of in_64_bits members fallback_order digits list_at
+    result_of_touch outcome_of text_of resident world placed
 touch-of_a_placed_page = refl
 
-release-of_no_placement : answer_of false resident (line_of (codes "release 0 0x11000")) ≡ codes "refused NotOwned\n"
-unfolding line_of keyword_of number_of numeral_of in_64_bits members fallback_order digits list_at result_of_touch outcome_of text_of resident world placed
+release-of_no_placement : answer_of false resident (line_of (codes "release 0 0x11000"))
+    ≡ codes "refused NotOwned\n"
+unfolding line_of keyword_of number_of numeral_of in_64_bits members fallback_order digits list_at
+    result_of_touch outcome_of text_of resident world placed
 release-of_no_placement = refl
 
-release-by_another : answer_of false resident (line_of (codes "release 1 0x10000")) ≡ codes "refused NotOwned\n"
-unfolding line_of keyword_of number_of numeral_of in_64_bits members fallback_order digits list_at result_of_touch outcome_of text_of resident world placed
+release-by_another : answer_of false resident (line_of (codes "release 1 0x10000"))
+    ≡ codes "refused NotOwned\n"
+unfolding line_of keyword_of number_of numeral_of in_64_bits members fallback_order digits list_at
+    result_of_touch outcome_of text_of resident world placed
 release-by_another = refl
 
-release-by_its_owner : answer_of false resident (line_of (codes "release 0 0x10fff")) ≡ codes "given\n"
-unfolding line_of keyword_of number_of numeral_of in_64_bits members fallback_order digits list_at result_of_touch outcome_of text_of resident world placed
+release-by_its_owner : answer_of false resident (line_of (codes "release 0 0x10fff"))
+    ≡ codes "given\n"
+unfolding line_of keyword_of number_of numeral_of in_64_bits members fallback_order digits list_at
+    result_of_touch outcome_of text_of resident world placed
 release-by_its_owner = refl
 
-touch-is_kept : (after false published (line_of (codes "touch 0 1 0x10fff 0"))).resident ≡ (16, placed) ∷ []
-unfolding line_of keyword_of number_of numeral_of in_64_bits members fallback_order digits list_at result_of_touch outcome_of text_of published world placed
+touch-is_kept : (after false published (line_of (codes "touch 0 1 0x10fff 0"))).resident
+    ≡ (16, placed) ∷ []
+unfolding line_of keyword_of number_of numeral_of in_64_bits members fallback_order digits list_at
+    result_of_touch outcome_of text_of published world placed
 touch-is_kept = refl
 
-touch-that_went_back : (after false resident (line_of (codes "touch 1 1 0x10000 0"))).resident ≡ (16, placed) ∷ []
-unfolding line_of keyword_of number_of numeral_of in_64_bits members fallback_order digits list_at result_of_touch outcome_of text_of resident world placed
+touch-that_went_back : (after false resident (line_of (codes "touch 1 1 0x10000 0"))).resident
+    ≡ (16, placed) ∷ []
+unfolding line_of keyword_of number_of numeral_of in_64_bits members fallback_order digits list_at
+    result_of_touch outcome_of text_of resident world placed
 touch-that_went_back = refl
 
-touch-that_went_back_is_free : (after false resident (line_of (codes "touch 1 1 0x10000 0"))).world.owner 1 1 ≡ None
-unfolding line_of keyword_of number_of numeral_of in_64_bits members fallback_order digits list_at result_of_touch outcome_of text_of resident world placed
+touch-that_went_back_is_free :
+    (after false resident (line_of (codes "touch 1 1 0x10000 0"))).world.owner 1 1 ≡ None
+unfolding line_of keyword_of number_of numeral_of in_64_bits members fallback_order digits list_at
+    result_of_touch outcome_of text_of resident world placed
 touch-that_went_back_is_free = refl
 
-release-takes_the_record_away : (after false resident (line_of (codes "release 0 0x10fff"))).resident ≡ []
-unfolding line_of keyword_of number_of numeral_of in_64_bits members fallback_order digits list_at result_of_touch outcome_of text_of resident world placed
+release-takes_the_record_away :
+    (after false resident (line_of (codes "release 0 0x10fff"))).resident ≡ []
+unfolding line_of keyword_of number_of numeral_of in_64_bits members fallback_order digits list_at
+    result_of_touch outcome_of text_of resident world placed
 release-takes_the_record_away = refl
 
-release-that_is_refused_does_not : (after false resident (line_of (codes "release 1 0x10000"))).resident ≡ (16, placed) ∷ []
-unfolding line_of keyword_of number_of numeral_of in_64_bits members fallback_order digits list_at result_of_touch outcome_of text_of resident world placed
+release-that_is_refused_does_not :
+    (after false resident (line_of (codes "release 1 0x10000"))).resident ≡ (16, placed) ∷ []
+unfolding line_of keyword_of number_of numeral_of in_64_bits members fallback_order digits list_at
+    result_of_touch outcome_of text_of resident world placed
 release-that_is_refused_does_not = refl
 
-release-frees_the_frame : (after false resident (line_of (codes "release 0 0x10000"))).world.owner 1 0 ≡ None
-unfolding line_of keyword_of number_of numeral_of in_64_bits members fallback_order digits list_at result_of_touch outcome_of text_of resident world placed
+release-frees_the_frame : (after false resident (line_of (codes "release 0 0x10000"))).world.owner 1
+    0 ≡ None
+unfolding line_of keyword_of number_of numeral_of in_64_bits members fallback_order digits list_at
+    result_of_touch outcome_of text_of resident world placed
 release-frees_the_frame = refl
 
 try-is_not_kept : (after false resident (line_of (codes "try 0 1 1"))).resident ≡ (16, placed) ∷ []
-unfolding line_of keyword_of number_of numeral_of in_64_bits members fallback_order digits list_at result_of_touch outcome_of text_of resident world placed
+unfolding line_of keyword_of number_of numeral_of in_64_bits members fallback_order digits list_at
+    result_of_touch outcome_of text_of resident world placed
 try-is_not_kept = refl

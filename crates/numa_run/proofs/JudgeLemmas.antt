@@ -1,5 +1,6 @@
 -- What judging a line of each kind comes to.
-use Rattle.std.proofs.Common.{◌≡◌, ℕ, Bool, true, false, Option, Some, None, List, length, refl, sym, ap, subst, inl, inr, ◌∙◌}
+use Rattle.std.proofs.Common.{◌≡◌, ℕ, Bool, true, false, Option, Some, None, List, length, refl}
+use Rattle.std.proofs.Common.{sym, ap, subst, inl, inr, ◌∙◌}
 use Rattle.std.specs.Prelude.{◌↔◌, IsSomeAnd, IsTrue, if◌then◌else◌}
 use Rattle.std.specs.Option.{option_map}
 use Rattle.numa_machine.specs.Machine.{Hardware}
@@ -13,7 +14,9 @@ use Rattle.numa_script.specs.declared.line.Line.TheVariants as line
 use Rattle.numa_script.specs.declared.line.Question.{Question}
 use Rattle.numa_script.specs.declared.line.Question.TheVariants as question
 use Rattle.numa_run.specs.Answers.{State, reply_of, after}
-use Rattle.numa_run.specs.Judged.{is_fault, fault_in, fault_or, fault_of, asked_by, asked_fault, cause_at, question_cause, question_refusal, LacksMemory, IsStarved}
+use Rattle.numa_run.specs.Judged.{is_fault, fault_in, fault_or, fault_of, asked_by, asked_fault}
+use Rattle.numa_run.specs.Judged.{cause_at, question_cause, question_refusal, LacksMemory}
+use Rattle.numa_run.specs.Judged.{IsStarved}
 use Rattle.numa_run.specs.Questions.{question_text}
 use Rattle.numa_run.specs.Ranges.{listing_of}
 use Rattle.numa_run.specs.Replies.{Served, reply_in, with_text, outcome_of, served_by, served_later}
@@ -27,66 +30,95 @@ use Rattle.numa_script.specs.declared.reply.Reply.TheVariants as reply
 abbrev pub Judges : Running → Line → Option Reply → Running → Type 0
 Judges old said fault new =
     (state : State) → RunsAs old state
-    → (refused : Bool) × (fault ≡ fault_of refused state said) × RunsAs new (after refused state said)
+    → (refused : Bool) × (fault ≡ fault_of refused state said)
+    × RunsAs new (after refused state said)
 
 -- a reply is told where it is a fault
 pub told-judged : (told : Reply) (refused : Bool) (state : State) (said : Line) →
     Some told ≡ reply_of refused state said → fault_in told ≡ fault_of refused state said
 told-judged told refused state said is = ap (λ o. fault_or o (asked_fault refused state said)) is
 
-pub replied-judged : (old new : Running) (said : Line) (told : Reply) → Takes old said (taken.Reply told) new → Judges old said (fault_in told) new
+pub replied-judged : (old new : Running) (said : Line) (told : Reply)
+    → Takes old said (taken.Reply told) new → Judges old said (fault_in told) new
 replied-judged old new said told takes =
     λ state stands.
     let t = takes state stands in
     (t.0, told-judged told t.0 state said t.1, t.2)
 
-served-is : (running : Running) (said : Line) (refused : Bool) (state : State) → RunsAs running state →
+served-is : (running : Running) (said : Line) (refused : Bool) (state : State)
+    → RunsAs running state →
     outcome_of refused state said ≡ served_later refused (setup_of running.core).machine state said
 unfolding outcome_of
-served-is running said refused state stands = ap (λ m. served_by m refused state said) stands.core.machine
+served-is running said refused state stands = ap (λ m. served_by m refused state said)
+    stands.core.machine
 
 -- a question is answered the fault or the refusal that its cause gives
-asked-fault : (running : Running) (asked : Question) (refused : Bool) (state : State) → RunsAs running state
-    → option_map reply.Refused (question_cause refused (setup_of running.core).machine state.world.history asked) ≡ fault_of refused state (line.Question asked)
+asked-fault : (running : Running) (asked : Question) (refused : Bool) (state : State)
+    → RunsAs running state
+    → option_map reply.Refused
+    (question_cause refused (setup_of running.core).machine state.world.history asked)
+    ≡ fault_of refused state (line.Question asked)
 asked-fault running asked refused state stands =
     let machine = (setup_of running.core).machine in
-    let is : outcome_of refused state (line.Question asked) ≡ with_text (question_text refused machine state.world.history asked) state = served-is running (line.Question asked) refused state stands in
-    let none : None ≡ reply_of refused state (line.Question asked) = sym (ap (λ r. reply_in r.answer) is) in
-    let asks : option_map reply.Refused (question_cause refused machine state.world.history asked) ≡ asked_fault refused state (line.Question asked) =
+    let is : outcome_of refused state (line.Question asked)
+    ≡ with_text (question_text refused machine state.world.history asked) state =
+    served-is running (line.Question asked) refused state stands in
+    let none : None ≡ reply_of refused state (line.Question asked) =
+    sym (ap (λ r. reply_in r.answer) is) in
+    let asks : option_map reply.Refused (question_cause refused machine state.world.history asked)
+    ≡ asked_fault refused state (line.Question asked) =
     sym (ap (λ m. asked_by m refused state.world.history asked) stands.core.machine) in
     asks ∙ ap (λ o. fault_or o (asked_fault refused state (line.Question asked))) none
 
 -- a question, by what refuses it
-pub asked-judged : (old mid new : Running) (said : Line) (asked : Question) (cause : Option CoreRefusal) → said ≡ line.Question asked → mid ≡ old
+pub asked-judged : (old mid new : Running) (said : Line) (asked : Question)
+    (cause : Option CoreRefusal) → said ≡ line.Question asked → mid ≡ old
     → ((state : State) → RunsAs mid state → (refused : Bool) × RunsAs new state
     × (cause ≡ question_cause refused (setup_of mid.core).machine state.world.history asked))
     → Judges old said (option_map reply.Refused cause) new
 asked-judged old mid new said asked cause is same h =
     subst (λ (l : Line). Judges old l (option_map reply.Refused cause) new) (sym is)
-    (subst (λ (r : Running). Judges r (line.Question asked) (option_map reply.Refused cause) new) same
+    (subst (λ (r : Running). Judges r (line.Question asked) (option_map reply.Refused cause) new)
+    same
     (λ state stands.
     let a = h state stands in
     let machine = (setup_of mid.core).machine in
-    let is : outcome_of a.0 state (line.Question asked) ≡ with_text (question_text a.0 machine state.world.history asked) state = served-is mid (line.Question asked) a.0 state stands in
-    (a.0, ap (option_map reply.Refused) a.2 ∙ asked-fault mid asked a.0 state stands, subst (λ (r : Served). RunsAs new r.state) (sym is) a.1)))
+    let is : outcome_of a.0 state (line.Question asked)
+    ≡ with_text (question_text a.0 machine state.world.history asked) state =
+    served-is mid (line.Question asked) a.0 state stands in (
+      a.0,
+      ap (option_map reply.Refused) a.2 ∙ asked-fault mid asked a.0 state stands,
+      subst (λ (r : Served). RunsAs new r.state) (sym is) a.1,
+    )))
 
 -- maps
-listed-fault : (running : Running) (task : ℕ) (state : State) → RunsAs running state → None ≡ fault_of false state (line.Maps task)
+listed-fault : (running : Running) (task : ℕ) (state : State) → RunsAs running state
+    → None ≡ fault_of false state (line.Maps task)
 listed-fault running task state stands =
-    let is : outcome_of false state (line.Maps task) ≡ with_text (listing_of (setup_of running.core).machine state.world.history task state.resident) state = served-is running (line.Maps task) false state stands in
+    let is : outcome_of false state (line.Maps task)
+    ≡ with_text (listing_of (setup_of running.core).machine state.world.history task
+    state.resident) state = served-is running (line.Maps task) false state stands in
     ap (λ o. fault_or o None) (sym (ap (λ r. reply_in r.answer) is))
 
-pub listed-judged : (old new : Running) (said : Line) (task : ℕ) → said ≡ line.Maps task → new ≡ old → Judges old said None new
+pub listed-judged : (old new : Running) (said : Line) (task : ℕ) → said ≡ line.Maps task → new ≡ old
+    → Judges old said None new
 listed-judged old new said task is same =
     subst (λ (l : Line). Judges old l None new) (sym is)
     (subst (λ (r : Running). Judges r (line.Maps task) None new) same
     (λ state stands.
-    let is : outcome_of false state (line.Maps task) ≡ with_text (listing_of (setup_of new.core).machine state.world.history task state.resident) state = served-is new (line.Maps task) false state stands in
-    (false, listed-fault new task state stands, subst (λ (r : Served). RunsAs new r.state) (sym is) stands)))
+    let is : outcome_of false state (line.Maps task)
+    ≡ with_text (listing_of (setup_of new.core).machine state.world.history task state.resident)
+    state = served-is new (line.Maps task) false state stands in (
+      false,
+      listed-fault new task state stands,
+      subst (λ (r : Served). RunsAs new r.state) (sym is)
+          stands,
+    )))
 
 -- with memory, a question is refused by what refuses it
 pub plain-cause : (machine : Hardware) (history : List Command) (asked : Question) →
-    question_cause false machine history asked ≡ option_map (cause_at (length history)) (question_refusal machine history asked)
+    question_cause false machine history asked ≡ option_map (cause_at (length history))
+    (question_refusal machine history asked)
 plain-cause machine history (question.Place task address cpu) = refl
 plain-cause machine history (question.Span task address pages cpu) = refl
 plain-cause machine history (question.Counts task address pages cpu) = refl
@@ -100,18 +132,25 @@ starved-fault told (inl e) = ap is_fault e
 starved-fault told (inr (inl e)) = ap is_fault e
 starved-fault told (inr (inr e)) = ap is_fault e
 
-starved-in : (told : Reply) (b : Bool) → IsSomeAnd (if b then Some told else None) LacksMemory → LacksMemory told
+starved-in : (told : Reply) (b : Bool) → IsSomeAnd (if b then Some told else None) LacksMemory
+    → LacksMemory told
 starved-in told true s = s
 starved-in told false s = absurd s
 
-pub told-starved : (told : Reply) (lacks : Bool) (refused : Bool) (state : State) (said : Line) → Some told ≡ reply_of refused state said → (IsTrue lacks ↔ LacksMemory told)
+pub told-starved : (told : Reply) (lacks : Bool) (refused : Bool) (state : State) (said : Line)
+    → Some told ≡ reply_of refused state said → (IsTrue lacks ↔ LacksMemory told)
     → IsTrue lacks ↔ IsStarved refused state said
 told-starved told lacks refused state said is h =
-    subst (λ (o : Option Reply). IsTrue lacks ↔ IsSomeAnd o LacksMemory) (told-judged told refused state said is)
-    (λ e. subst (λ (b : Bool). IsSomeAnd (if b then Some told else None) LacksMemory) (sym (starved-fault told (h.0 e))) (h.0 e), λ s. h.1 (starved-in told (is_fault told) s))
+    subst (λ (o : Option Reply). IsTrue lacks ↔ IsSomeAnd o LacksMemory)
+    (told-judged told refused state said is) (
+      λ e. subst (λ (b : Bool). IsSomeAnd (if b then Some told else None) LacksMemory)
+          (sym (starved-fault told (h.0 e))) (h.0 e),
+      λ s. h.1 (starved-in told (is_fault told) s),
+    )
 
 -- a page that isn't mapped, or a node that isn't there, is no lack
-unstarved : (version : ℕ) (cause : Option PlaceRefusal) → IsSomeAnd (option_map reply.Refused (option_map (cause_at version) cause)) LacksMemory → ⊥
+unstarved : (version : ℕ) (cause : Option PlaceRefusal)
+    → IsSomeAnd (option_map reply.Refused (option_map (cause_at version) cause)) LacksMemory → ⊥
 unstarved version None s = s
 unstarved version (Some place.BadCpu) (inl e) = cc
 unstarved version (Some place.BadCpu) (inr (inl e)) = cc
@@ -120,25 +159,47 @@ unstarved version (Some place.Unmapped) (inl e) = cc
 unstarved version (Some place.Unmapped) (inr (inl e)) = cc
 unstarved version (Some place.Unmapped) (inr (inr e)) = cc
 
-cause-starved : (lacks : Bool) (machine : Hardware) (history : List Command) (asked : Question) → (asked ≡ question.Ranges → lacks ≡ false)
-    → IsTrue lacks ↔ IsSomeAnd (option_map reply.Refused (question_cause lacks machine history asked)) LacksMemory
-cause-starved true machine history (question.Place task address cpu) ranges = (λ e. inr (inr refl), λ s. refl)
-cause-starved true machine history (question.Span task address pages cpu) ranges = (λ e. inr (inr refl), λ s. refl)
-cause-starved true machine history (question.Counts task address pages cpu) ranges = (λ e. inr (inr refl), λ s. refl)
-cause-starved false machine history (question.Place task address cpu) ranges =
-    (λ e. cc, λ s. absurd (unstarved (length history) (question_refusal machine history (question.Place task address cpu)) s))
-cause-starved false machine history (question.Span task address pages cpu) ranges =
-    (λ e. cc, λ s. absurd (unstarved (length history) (question_refusal machine history (question.Span task address pages cpu)) s))
-cause-starved false machine history (question.Counts task address pages cpu) ranges =
-    (λ e. cc, λ s. absurd (unstarved (length history) (question_refusal machine history (question.Counts task address pages cpu)) s))
-cause-starved lacks machine history question.Ranges ranges = (λ e. let no = ranges refl in cc, λ s. absurd s)
+cause-starved : (lacks : Bool) (machine : Hardware) (history : List Command) (asked : Question)
+    → (asked ≡ question.Ranges → lacks ≡ false)
+    → IsTrue lacks
+    ↔ IsSomeAnd (option_map reply.Refused (question_cause lacks machine history asked)) LacksMemory
+cause-starved true machine history (question.Place task address cpu) ranges =
+    (λ e. inr (inr refl), λ s. refl)
+cause-starved true machine history (question.Span task address pages cpu) ranges =
+    (λ e. inr (inr refl), λ s. refl)
+cause-starved true machine history (question.Counts task address pages cpu) ranges =
+    (λ e. inr (inr refl), λ s. refl)
+cause-starved false machine history (question.Place task address cpu) ranges = (
+  λ e. cc,
+  λ s.
+      absurd (unstarved (length history)
+      (question_refusal machine history (question.Place task address cpu)) s),
+)
+cause-starved false machine history (question.Span task address pages cpu) ranges = (
+  λ e. cc,
+  λ s.
+      absurd (unstarved (length history)
+      (question_refusal machine history (question.Span task address pages cpu)) s),
+)
+cause-starved false machine history (question.Counts task address pages cpu) ranges = (
+  λ e. cc,
+  λ s.
+      absurd (unstarved (length history)
+      (question_refusal machine history (question.Counts task address pages cpu)) s),
+)
+cause-starved lacks machine history question.Ranges ranges =
+    (λ e. let no = ranges refl in cc, λ s. absurd s)
 
-pub asked-starved : (running : Running) (asked : Question) (lacks : Bool) (state : State) → RunsAs running state → (asked ≡ question.Ranges → lacks ≡ false)
+pub asked-starved : (running : Running) (asked : Question) (lacks : Bool) (state : State)
+    → RunsAs running state → (asked ≡ question.Ranges → lacks ≡ false)
     → IsTrue lacks ↔ IsStarved lacks state (line.Question asked)
 asked-starved running asked lacks state stands ranges =
-    subst (λ (o : Option Reply). IsTrue lacks ↔ IsSomeAnd o LacksMemory) (asked-fault running asked lacks state stands)
+    subst (λ (o : Option Reply). IsTrue lacks ↔ IsSomeAnd o LacksMemory)
+    (asked-fault running asked lacks state stands)
     (cause-starved lacks (setup_of running.core).machine state.world.history asked ranges)
 
-pub listed-starved : (running : Running) (task : ℕ) (state : State) → RunsAs running state → IsTrue false ↔ IsStarved false state (line.Maps task)
+pub listed-starved : (running : Running) (task : ℕ) (state : State) → RunsAs running state
+    → IsTrue false ↔ IsStarved false state (line.Maps task)
 listed-starved running task state stands =
-    subst (λ (o : Option Reply). IsTrue false ↔ IsSomeAnd o LacksMemory) (listed-fault running task state stands) (λ e. cc, λ s. absurd s)
+    subst (λ (o : Option Reply). IsTrue false ↔ IsSomeAnd o LacksMemory)
+    (listed-fault running task state stands) (λ e. cc, λ s. absurd s)

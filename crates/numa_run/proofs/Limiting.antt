@@ -10,7 +10,8 @@ fit ranges tasks r t =
     let few_tasks : nat_le tasks 1024 ≡ true = grind (arith, nat_tests) in
     rw (few_ranges, few_tasks) refl
 
-pub exceed : (ranges tasks : ℕ) → ((ranges ≤ 65536) × (tasks ≤ 1024) → false ≡ true) → limits_fit ranges tasks ≡ false
+pub exceed : (ranges tasks : ℕ) → ((ranges ≤ 65536) × (tasks ≤ 1024) → false ≡ true)
+    → limits_fit ranges tasks ≡ false
 exceed ranges tasks not_both = by_tests (nat_le ranges 65536) (nat_le tasks 1024) refl refl
   where
     by_tests : (a b : Bool) → nat_le ranges 65536 ≡ a → nat_le tasks 1024 ≡ b → (a && b) ≡ false

@@ -1,5 +1,6 @@
 -- What serving a line of each kind comes to.
-use Rattle.std.specs.Prelude.{◌≡◌, ◌↔◌, ℕ, if◌then◌else◌, IsTrue, Bool, true, false, Option, Some, None, List, [], refl, Result, Ok, Err}
+use Rattle.std.specs.Prelude.{◌≡◌, ◌↔◌, ℕ, if◌then◌else◌, IsTrue, Bool, true, false, Option, Some}
+use Rattle.std.specs.Prelude.{None, List, [], refl, Result, Ok, Err}
 use Rattle.std.proofs.Common.{sym, ◌∙◌, ap, subst}
 use Rattle.numa_mask.specs.declared.list.ListFault.{ListFault}
 use Rattle.numa_machine.specs.Machine.{Hardware}
@@ -20,10 +21,14 @@ use Rattle.numa_script.specs.declared.line.Line.{Line}
 use Rattle.numa_script.specs.declared.line.Line.TheVariants as line
 use Rattle.numa_run.specs.Answers.{State, answer_of, reply_of, after}
 use Rattle.numa_run.specs.Judged.{LacksMemory, IsStarved}
-use Rattle.numa_run.specs.Machines.{limits_fit, nodes_with_cpus, hardware_of, has_bad_nodes, first_fault}
+use Rattle.numa_run.specs.Machines.{limits_fit, nodes_with_cpus, hardware_of, has_bad_nodes}
+use Rattle.numa_run.specs.Machines.{first_fault}
 use Rattle.numa_run.specs.Questions.{question_text}
 use Rattle.numa_run.specs.Ranges.{listing_of}
-use Rattle.numa_run.specs.Replies.{Answer, Replied, Shown, bytes_of, reply_in, Served, with_text, with_reply, cpus_outcome, machine_unless, machine_outcome, served_first, served_later, command_outcome, with_outcome, served_by, outcome_of}
+use Rattle.numa_run.specs.Replies.{Answer, Replied, Shown, bytes_of, reply_in, Served, with_text}
+use Rattle.numa_run.specs.Replies.{with_reply, cpus_outcome, machine_unless, machine_outcome}
+use Rattle.numa_run.specs.Replies.{served_first, served_later, command_outcome, with_outcome}
+use Rattle.numa_run.specs.Replies.{served_by, outcome_of}
 use Rattle.numa_run.specs.Standing.{RunsAs, Stands, Replies, Takes, Does}
 use Rattle.numa_run.specs.States.{setup_with}
 use Rattle.numa_script.specs.Texts.{text_of}
@@ -38,77 +43,178 @@ use Rattle.numa_run.proofs.JudgeLemmas.{told-starved, asked-starved, listed-star
 
 -- ---- before a machine is ready
 
-first_is : (settings : Settings) (said : Line) (refused : Bool) (state : State) → Stands settings None state → outcome_of refused state said ≡ served_first refused state said
+first_is : (settings : Settings) (said : Line) (refused : Bool) (state : State)
+    → Stands settings None state → outcome_of refused state said ≡ served_first refused state said
 unfolding outcome_of
 first_is settings said refused state stands = ap (λ m. served_by m refused state said) stands.3
 
 -- a line that changes nothing
-pub first_same : (settings : Settings) (said : Line) (answer : Reply) (refused : Bool) → ((state : State) → served_first refused state said ≡ with_reply answer state) → Replies settings None said (Some answer) settings None
+pub first_same : (settings : Settings) (said : Line) (answer : Reply) (refused : Bool)
+    → ((state : State) → served_first refused state said ≡ with_reply answer state)
+    → Replies settings None said (Some answer) settings None
 first_same settings said answer refused right =
     λ state stands.
-    let is : outcome_of refused state said ≡ with_reply answer state = first_is settings said refused state stands ∙ right state in
-    (refused, sym (ap (λ r. reply_in r.answer) is), subst (λ (r : Served). Stands settings None r.state) (sym is) stands)
+    let is : outcome_of refused state said ≡ with_reply answer state =
+    first_is settings said refused state stands ∙ right state in (
+      refused,
+      sym (ap (λ r. reply_in r.answer) is),
+      subst (λ (r : Served). Stands settings None r.state) (sym is) stands,
+    )
 
 -- limits that are taken
-pub first_limits : (settings : Settings) (ranges tasks commands : ℕ) → limits_fit ranges tasks ≡ true →
-    Replies settings None (line.Limits ranges tasks commands) (Some reply.LimitsOk) (record { limits = record { max_ranges = ranges; max_tasks = tasks; max_commands = commands }; rules = settings.rules; cpus = settings.cpus }) None
+pub first_limits : (settings : Settings) (ranges tasks commands : ℕ)
+    → limits_fit ranges tasks ≡ true →
+    Replies settings None (line.Limits ranges tasks commands) (Some reply.LimitsOk)
+    (record {
+      limits =
+          record { max_ranges = ranges; max_tasks = tasks; max_commands = commands };
+      rules =
+          settings.rules;
+      cpus = settings.cpus;
+    }) None
 first_limits settings ranges tasks commands fits =
     λ state stands.
-    let taken : State = record { bounds = record { max_ranges = ranges; max_tasks = tasks; max_commands = commands }; rules = state.rules; cpus = state.cpus; machine = state.machine; world = state.world; resident = state.resident } in
-    let is : outcome_of false state (line.Limits ranges tasks commands) ≡ with_reply reply.LimitsOk taken =
-    first_is settings (line.Limits ranges tasks commands) false state stands ∙ ap (λ b. if b then with_reply reply.LimitsOk taken else with_reply reply.BadLimits state) fits in
-    let after_it : Settings = record { limits = record { max_ranges = ranges; max_tasks = tasks; max_commands = commands }; rules = settings.rules; cpus = settings.cpus } in
-    (false, sym (ap (λ r. reply_in r.answer) is), subst (λ (r : Served). Stands after_it None r.state) (sym is) (refl, stands.1, stands.2, stands.3))
+    let taken : State =
+    record {
+      bounds =
+          record { max_ranges = ranges; max_tasks = tasks; max_commands = commands };
+      rules =
+          state.rules;
+      cpus = state.cpus;
+      machine = state.machine;
+      world = state.world;
+      resident =
+          state.resident;
+    } in
+    let is : outcome_of false state (line.Limits ranges tasks commands) ≡ with_reply reply.LimitsOk
+    taken =
+    first_is settings (line.Limits ranges tasks commands) false state stands
+    ∙ ap (λ b. if b then with_reply reply.LimitsOk taken else with_reply reply.BadLimits state)
+    fits in
+    let after_it : Settings =
+    record {
+      limits =
+          record { max_ranges = ranges; max_tasks = tasks; max_commands = commands };
+      rules =
+          settings.rules;
+      cpus = settings.cpus;
+    } in (
+      false,
+      sym (ap (λ r. reply_in r.answer) is),
+      subst (λ (r : Served). Stands after_it None r.state) (sym is)
+          (refl, stands.1, stands.2, stands.3),
+    )
 
 -- rules that are taken
 pub first_rules : (settings : Settings) (rules : Rules) →
-    Replies settings None (line.Rules rules) (Some reply.RulesOk) (record { limits = settings.limits; rules = rules; cpus = settings.cpus }) None
+    Replies settings None (line.Rules rules) (Some reply.RulesOk)
+    (record { limits = settings.limits; rules = rules; cpus = settings.cpus }) None
 first_rules settings rules =
     λ state stands.
-    let taken : State = record { bounds = state.bounds; rules = rules; cpus = state.cpus; machine = state.machine; world = state.world; resident = state.resident } in
-    let is : outcome_of false state (line.Rules rules) ≡ with_reply reply.RulesOk taken = first_is settings (line.Rules rules) false state stands in
-    let after_it : Settings = record { limits = settings.limits; rules = rules; cpus = settings.cpus } in
-    (false, sym (ap (λ r. reply_in r.answer) is), subst (λ (r : Served). Stands after_it None r.state) (sym is) (stands.0, refl, stands.2, stands.3))
+    let taken : State = record {
+      bounds = state.bounds;
+      rules = rules;
+      cpus = state.cpus;
+      machine =
+          state.machine;
+      world = state.world;
+      resident = state.resident;
+    } in
+    let is : outcome_of false state (line.Rules rules) ≡ with_reply reply.RulesOk taken =
+    first_is settings (line.Rules rules) false state stands in
+    let after_it : Settings =
+    record { limits = settings.limits; rules = rules; cpus = settings.cpus } in (
+      false,
+      sym (ap (λ r. reply_in r.answer) is),
+      subst (λ (r : Served). Stands after_it None r.state) (sym is)
+          (stands.0, refl, stands.2, stands.3),
+    )
 
-pub first_no_limits : (settings : Settings) (ranges tasks commands : ℕ) → limits_fit ranges tasks ≡ false → Replies settings None (line.Limits ranges tasks commands) (Some reply.BadLimits) settings None
-first_no_limits settings ranges tasks commands none = first_same settings (line.Limits ranges tasks commands) reply.BadLimits false (λ state. rw none refl)
+pub first_no_limits : (settings : Settings) (ranges tasks commands : ℕ)
+    → limits_fit ranges tasks ≡ false → Replies settings None (line.Limits ranges tasks commands)
+    (Some reply.BadLimits) settings None
+first_no_limits settings ranges tasks commands none =
+    first_same settings (line.Limits ranges tasks commands) reply.BadLimits false
+    (λ state. rw none refl)
 
 -- nodes with CPUs that are taken
 pub first_cpus : (settings : Settings) (said : Result ℕ ListFault) (cpus : ℕ) → said ≡ Ok cpus →
-    Replies settings None (line.Cpus said) (Some reply.CpusOk) (record { limits = settings.limits; rules = settings.rules; cpus = Some cpus }) None
+    Replies settings None (line.Cpus said) (Some reply.CpusOk)
+    (record { limits = settings.limits; rules = settings.rules; cpus = Some cpus }) None
 first_cpus settings said cpus named =
     λ state stands.
-    let taken : State = record { bounds = state.bounds; rules = state.rules; cpus = Some cpus; machine = state.machine; world = state.world; resident = state.resident } in
-    let is : outcome_of false state (line.Cpus said) ≡ with_reply reply.CpusOk taken = first_is settings (line.Cpus said) false state stands ∙ ap (λ m. cpus_outcome m state) named in
-    let after_it : Settings = record { limits = settings.limits; rules = settings.rules; cpus = Some cpus } in
-    (false, sym (ap (λ r. reply_in r.answer) is), subst (λ (r : Served). Stands after_it None r.state) (sym is) (stands.0, stands.1, refl, stands.3))
+    let taken : State = record {
+      bounds = state.bounds;
+      rules = state.rules;
+      cpus = Some cpus;
+      machine = state.machine;
+      world = state.world;
+      resident = state.resident;
+    } in
+    let is : outcome_of false state (line.Cpus said) ≡ with_reply reply.CpusOk taken =
+    first_is settings (line.Cpus said) false state stands
+    ∙ ap (λ m. cpus_outcome m state) named in
+    let after_it : Settings = record {
+      limits = settings.limits;
+      rules = settings.rules;
+      cpus =
+          Some cpus;
+    } in (
+      false,
+      sym (ap (λ r. reply_in r.answer) is),
+      subst (λ (r : Served). Stands after_it None r.state) (sym is)
+          (stands.0, stands.1, refl, stands.3),
+    )
 
-pub first_no_cpus : (settings : Settings) (said : Result ℕ ListFault) (fault : ListFault) → said ≡ Err fault → Replies settings None (line.Cpus said) (Some (reply.BadWord (word_fault.List fault))) settings None
-first_no_cpus settings said fault named = first_same settings (line.Cpus said) (reply.BadWord (word_fault.List fault)) false (λ state. ap (λ m. cpus_outcome m state) named)
+pub first_no_cpus : (settings : Settings) (said : Result ℕ ListFault) (fault : ListFault)
+    → said ≡ Err fault
+    → Replies settings None (line.Cpus said) (Some (reply.BadWord (word_fault.List fault))) settings
+    None
+first_no_cpus settings said fault named =
+    first_same settings (line.Cpus said) (reply.BadWord (word_fault.List fault)) false
+    (λ state. ap (λ m. cpus_outcome m state) named)
 
 -- the machine that a line describes, by what was chosen before it, and its first fault
 abbrev pub described : MachineLine → ℕ → Rules → Option ℕ → Hardware
 described said memory rules cpus = hardware_of said memory rules (nodes_with_cpus said.nodes cpus)
 
 abbrev pub described_fault : Bool → MachineLine → ℕ → Rules → Option ℕ → Option MachineFault
-described_fault refused said memory rules cpus = first_fault refused (nodes_with_cpus said.nodes cpus) (described said memory rules cpus)
+described_fault refused said memory rules cpus =
+    first_fault refused (nodes_with_cpus said.nodes cpus) (described said memory rules cpus)
 
 -- the state and the script have chosen the same
-same_fault : (settings : Settings) (state : State) (refused : Bool) (said : MachineLine) (memory : ℕ) → Stands settings None state →
-    described_fault refused said memory state.rules state.cpus ≡ described_fault refused said memory settings.rules settings.cpus
-same_fault settings state refused said memory stands = λ i. described_fault refused said memory (stands.1 i) (stands.2 i)
+same_fault : (settings : Settings) (state : State) (refused : Bool) (said : MachineLine)
+    (memory : ℕ) → Stands settings None state →
+    described_fault refused said memory state.rules state.cpus ≡ described_fault refused said memory
+    settings.rules settings.cpus
+same_fault settings state refused said memory stands = λ i. described_fault refused said memory
+    (stands.1 i) (stands.2 i)
 
 -- a machine that is ready
-pub first_ready : (settings : Settings) (said : MachineLine) (memory : ℕ) (running : Running) → said.memory ≡ Ok memory → described_fault false said memory settings.rules settings.cpus ≡ None
-    → setup_of running.core ≡ setup_with (described said memory settings.rules settings.cpus) settings.limits → LeadsTo [] running.core → running.resident ≡ []
+pub first_ready : (settings : Settings) (said : MachineLine) (memory : ℕ) (running : Running)
+    → said.memory ≡ Ok memory → described_fault false said memory settings.rules settings.cpus
+    ≡ None
+    → setup_of running.core ≡ setup_with (described said memory settings.rules settings.cpus)
+    settings.limits → LeadsTo [] running.core → running.resident ≡ []
     → Replies settings None (line.Machine said) (Some reply.Ready) settings (Some running)
 first_ready settings said memory running named sound setup leads resident =
     λ state stands.
     let hardware : Hardware = described said memory state.rules state.cpus in
-    let ready : State = record { bounds = state.bounds; rules = state.rules; cpus = state.cpus; machine = Some hardware; world = opening; resident = [] } in
+    let ready : State = record {
+      bounds = state.bounds;
+      rules = state.rules;
+      cpus = state.cpus;
+      machine = Some hardware;
+      world = opening;
+      resident = [];
+    } in
     let is : outcome_of false state (line.Machine said) ≡ with_reply reply.Ready ready =
-    first_is settings (line.Machine said) false state stands ∙ ap (λ m. machine_outcome false said m state) named ∙ ap (λ f. machine_unless f hardware state) (same_fault settings state false said memory stands ∙ sound) in
-    let same : hardware ≡ described said memory settings.rules settings.cpus = λ i. described said memory (stands.1 i) (stands.2 i) in
+    first_is settings (line.Machine said) false state stands
+    ∙ ap (λ m. machine_outcome false said m state) named
+    ∙ ap (λ f. machine_unless f hardware state)
+    (same_fault settings state false said memory stands ∙ sound) in
+    let same : hardware ≡ described said memory settings.rules settings.cpus =
+    λ i. described said memory (stands.1 i) (stands.2 i) in
     let reached : RunsAs running ready = record {
       core = record {
         bounds = stands.0 ∙ sym (ap (λ s. s.bounds) setup);
@@ -117,154 +223,263 @@ first_ready settings said memory running named sound setup leads resident =
         world = leads.stands;
       };
       resident = resident;
-    } in
-    (false, sym (ap (λ r. reply_in r.answer) is), subst (λ (r : Served). RunsAs running r.state) (sym is) reached)
+    } in (
+      false,
+      sym (ap (λ r. reply_in r.answer) is),
+      subst (λ (r : Served). RunsAs running r.state)
+          (sym is) reached,
+    )
 
 -- a machine that is refused
-pub first_bad : (settings : Settings) (said : MachineLine) (memory : ℕ) (refused : Bool) (fault : MachineFault) → said.memory ≡ Ok memory → described_fault refused said memory settings.rules settings.cpus ≡ Some fault
+pub first_bad : (settings : Settings) (said : MachineLine) (memory : ℕ) (refused : Bool)
+    (fault : MachineFault) → said.memory ≡ Ok memory
+    → described_fault refused said memory settings.rules settings.cpus ≡ Some fault
     → Replies settings None (line.Machine said) (Some (reply.BadMachine fault)) settings None
 first_bad settings said memory refused fault named why =
     λ state stands.
     let hardware : Hardware = described said memory state.rules state.cpus in
-    let is : outcome_of refused state (line.Machine said) ≡ with_reply (reply.BadMachine fault) state =
-    first_is settings (line.Machine said) refused state stands ∙ ap (λ m. machine_outcome refused said m state) named ∙ ap (λ f. machine_unless f hardware state) (same_fault settings state refused said memory stands ∙ why) in
-    (refused, sym (ap (λ r. reply_in r.answer) is), subst (λ (r : Served). Stands settings None r.state) (sym is) stands)
+    let is : outcome_of refused state (line.Machine said) ≡ with_reply (reply.BadMachine fault)
+    state =
+    first_is settings (line.Machine said) refused state stands
+    ∙ ap (λ m. machine_outcome refused said m state) named
+    ∙ ap (λ f. machine_unless f hardware state)
+    (same_fault settings state refused said memory stands ∙ why) in (
+      refused,
+      sym (ap (λ r. reply_in r.answer) is),
+      subst (λ (r : Served). Stands settings None r.state) (sym is) stands,
+    )
 
-pub first_bad_list : (settings : Settings) (said : MachineLine) (fault : ListFault) → said.memory ≡ Err fault → Replies settings None (line.Machine said) (Some (reply.BadWord (word_fault.List fault))) settings None
-first_bad_list settings said fault named = first_same settings (line.Machine said) (reply.BadWord (word_fault.List fault)) false (λ state. ap (λ m. machine_outcome false said m state) named)
+pub first_bad_list : (settings : Settings) (said : MachineLine) (fault : ListFault)
+    → said.memory ≡ Err fault
+    → Replies settings None (line.Machine said) (Some (reply.BadWord (word_fault.List fault)))
+    settings None
+first_bad_list settings said fault named = first_same settings (line.Machine said)
+    (reply.BadWord (word_fault.List fault)) false
+    (λ state. ap (λ m. machine_outcome false said m state) named)
 
 -- where a machine has no fault, its core may find no memory
-pub core-starved : (cpus : ℕ) (hardware : Hardware) → first_fault false cpus hardware ≡ None → first_fault true cpus hardware ≡ Some machine_fault.NoMemory
+pub core-starved : (cpus : ℕ) (hardware : Hardware) → first_fault false cpus hardware ≡ None
+    → first_fault true cpus hardware ≡ Some machine_fault.NoMemory
 core-starved cpus hardware sound = by_nodes (has_bad_nodes hardware.nodes cpus) sound
   where
-    by_nodes : (b : Bool) → (if b then Some machine_fault.NodeCount else hardware_fault hardware) ≡ None → (if b then Some machine_fault.NodeCount else Some machine_fault.NoMemory) ≡ Some machine_fault.NoMemory
+    by_nodes : (b : Bool) → (if b then Some machine_fault.NodeCount else hardware_fault hardware)
+        ≡ None → (if b then Some machine_fault.NodeCount else Some machine_fault.NoMemory)
+        ≡ Some machine_fault.NoMemory
     by_nodes true is = cc
     by_nodes false is = refl
 
 -- ---- with a machine
 
-later_is : (running : Running) (said : Line) (refused : Bool) (state : State) → RunsAs running state → outcome_of refused state said ≡ served_later refused (setup_of running.core).machine state said
+later_is : (running : Running) (said : Line) (refused : Bool) (state : State) → RunsAs running state
+    → outcome_of refused state said ≡ served_later refused (setup_of running.core).machine state
+    said
 unfolding outcome_of
-later_is running said refused state stands = ap (λ m. served_by m refused state said) stands.core.machine
+later_is running said refused state stands = ap (λ m. served_by m refused state said)
+    stands.core.machine
 
-setup_is : (running : Running) (state : State) → RunsAs running state → setup_with (setup_of running.core).machine state.bounds ≡ setup_of running.core
-setup_is running state stands = λ i. record { machine = (setup_of running.core).machine; bounds = stands.core.bounds i; workers = sym stands.core.workers i }
+setup_is : (running : Running) (state : State) → RunsAs running state
+    → setup_with (setup_of running.core).machine state.bounds ≡ setup_of running.core
+setup_is running state stands = λ i. record {
+  machine = (setup_of running.core).machine;
+  bounds =
+      stands.core.bounds i;
+  workers = sym stands.core.workers i;
+}
 
 -- a line that changes nothing on this machine
 pub same_here : (running : Running) (said : Line) (answer : Reply)
-    → ((state : State) → served_later false (setup_of running.core).machine state said ≡ with_reply answer state)
+    → ((state : State) → served_later false (setup_of running.core).machine state said
+    ≡ with_reply answer state)
     → Takes running said (taken.Reply answer) running
 same_here running said answer right =
     λ state stands.
-    let is : outcome_of false state said ≡ with_reply answer state = later_is running said false state stands ∙ right state in
-    (false, sym (ap (λ r. reply_in r.answer) is), subst (λ (r : Served). RunsAs running r.state) (sym is) stands)
+    let is : outcome_of false state said ≡ with_reply answer state =
+    later_is running said false state stands ∙ right state in (
+      false,
+      sym (ap (λ r. reply_in r.answer) is),
+      subst (λ (r : Served). RunsAs running r.state)
+          (sym is) stands,
+    )
 
 -- and on any
 pub later_same : (running : Running) (said : Line) (answer : Reply)
-    → ((machine : Hardware) (state : State) → served_later false machine state said ≡ with_reply answer state)
+    → ((machine : Hardware) (state : State) → served_later false machine state said
+    ≡ with_reply answer state)
     → Takes running said (taken.Reply answer) running
-later_same running said answer right = same_here running said answer (right (setup_of running.core).machine)
+later_same running said answer right =
+    same_here running said answer (right (setup_of running.core).machine)
 
 -- what does something on this machine
-pub done_here : (old new : Running) (said : Line) (answer : Reply) (outcome : Bool → Setup → State → Outcome)
+pub done_here : (old new : Running) (said : Line) (answer : Reply) (outcome : Bool → Setup → State
+    → Outcome)
     → Does old answer new (λ refused state. outcome refused (setup_of old.core) state)
-    → ((refused : Bool) (state : State) → served_later refused (setup_of old.core).machine state said ≡ with_outcome state (outcome refused (setup_with (setup_of old.core).machine state.bounds) state))
+    → ((refused : Bool) (state : State) → served_later refused (setup_of old.core).machine state
+    said ≡ with_outcome state (outcome refused (setup_with (setup_of old.core).machine state.bounds)
+    state))
     → Takes old said (taken.Reply answer) new
 done_here old new said answer outcome does right =
     λ state stands.
     let d = does state stands in
-    let is : outcome_of d.0 state said ≡ with_outcome state (outcome d.0 (setup_of old.core) state) =
-    later_is old said d.0 state stands ∙ right d.0 state ∙ ap (λ s. with_outcome state (outcome d.0 s state)) (setup_is old state stands) in
-    (d.0, ap Some d.1 ∙ sym (ap (λ r. reply_in r.answer) is), subst (λ (r : Served). RunsAs new r.state) (sym is) d.2)
+    let is : outcome_of d.0 state said ≡ with_outcome state
+    (outcome d.0 (setup_of old.core) state) =
+    later_is old said d.0 state stands ∙ right d.0 state
+    ∙ ap (λ s. with_outcome state (outcome d.0 s state)) (setup_is old state stands) in (
+      d.0,
+      ap Some d.1 ∙ sym (ap (λ r. reply_in r.answer) is),
+      subst (λ (r : Served). RunsAs new r.state) (sym is) d.2,
+    )
 
 -- a command, or a line of workers
-pub later_done : (old new : Running) (said : Line) (answer : Reply) (outcome : Bool → Setup → State → Outcome)
+pub later_done : (old new : Running) (said : Line) (answer : Reply) (outcome : Bool → Setup → State
+    → Outcome)
     → Does old answer new (λ refused state. outcome refused (setup_of old.core) state)
-    → ((refused : Bool) (machine : Hardware) (state : State) → served_later refused machine state said ≡ with_outcome state (outcome refused (setup_with machine state.bounds) state))
+    → ((refused : Bool) (machine : Hardware) (state : State)
+    → served_later refused machine state said ≡ with_outcome state
+    (outcome refused (setup_with machine state.bounds) state))
     → Takes old said (taken.Reply answer) new
-later_done old new said answer outcome does right = done_here old new said answer outcome does (λ refused state. right refused (setup_of old.core).machine state)
+later_done old new said answer outcome does right = done_here old new said answer outcome does
+    (λ refused state. right refused (setup_of old.core).machine state)
 
--- an mbind of length 0 whose mode, flag and nodes don't go together: the kernel's rules make it a command
-pub bound_nothing : (old new : Running) (start : ℕ) (fault : WordError) (answer : Reply) → is_linux (setup_of old.core).machine.rules ≡ true
-    → Does old answer new (λ refused state. event_outcome refused (setup_of old.core) state.world state.resident (Accept (empty_bind start)))
+-- an mbind of length 0 whose mode, flag and nodes don't go together: the kernel's rules make it a
+-- command
+pub bound_nothing : (old new : Running) (start : ℕ) (fault : WordError) (answer : Reply)
+    → is_linux (setup_of old.core).machine.rules ≡ true
+    → Does old answer new (λ refused state. event_outcome refused (setup_of old.core) state.world
+    state.resident (Accept (empty_bind start)))
     → Takes old (line.EmptyBind start fault) (taken.Reply answer) new
 bound_nothing old new start fault answer kernels does =
-    done_here old new (line.EmptyBind start fault) answer (λ refused s state. event_outcome refused s state.world state.resident (Accept (empty_bind start))) does
-    (λ refused state. ap (λ (b : Bool). command_outcome refused (setup_of old.core).machine state (if b then Ok (empty_bind start) else Err fault)) kernels)
+    done_here old new (line.EmptyBind start fault) answer
+    (λ refused s state. event_outcome refused s state.world state.resident
+    (Accept (empty_bind start))) does
+    (λ refused state.
+    ap (λ (b : Bool). command_outcome refused (setup_of old.core).machine state
+    (if b then Ok (empty_bind start) else Err fault)) kernels)
 
 -- and the documents' a fault
-pub bound_by_documents : (running : Running) (start : ℕ) (fault : WordError) → is_linux (setup_of running.core).machine.rules ≡ false
+pub bound_by_documents : (running : Running) (start : ℕ) (fault : WordError)
+    → is_linux (setup_of running.core).machine.rules ≡ false
     → Takes running (line.EmptyBind start fault) (taken.Reply (reply.BadWord fault)) running
 bound_by_documents running start fault documents =
     same_here running (line.EmptyBind start fault) (reply.BadWord fault)
-    (λ state. ap (λ (b : Bool). command_outcome false (setup_of running.core).machine state (if b then Ok (empty_bind start) else Err fault)) documents)
+    (λ state.
+    ap (λ (b : Bool). command_outcome false (setup_of running.core).machine state
+    (if b then Ok (empty_bind start) else Err fault)) documents)
 
 -- ---- answers as bytes
 
 -- the bytes of a reply are those of the answer
-text-of_reply : (answer : Answer) (told : Reply) → Some told ≡ reply_in answer → text_of told ≡ bytes_of answer
+text-of_reply : (answer : Answer) (told : Reply) → Some told ≡ reply_in answer
+    → text_of told ≡ bytes_of answer
 text-of_reply (Replied other) told e = cc
 text-of_reply (Shown text) told e = cc
 
 -- the line was served, and its answer was said, of which P tells; and whether there was no memory
 abbrev pub IsServed : Running → Running → Line → (List ℕ → Type 0) → Bool → Type 0
 IsServed old new said P lacks =
-    (state : State) → RunsAs old state → (refused : Bool) × RunsAs new (after refused state said) × P (answer_of refused state said) × (IsTrue lacks ↔ IsStarved refused state said)
+    (state : State) → RunsAs old state → (refused : Bool) × RunsAs new (after refused state said)
+    × P (answer_of refused state said) × (IsTrue lacks ↔ IsStarved refused state said)
 
 -- a reply that was said
-pub told_later : (old new : Running) (said : Line) (answer : Reply) (P : List ℕ → Type 0) (lacks : Bool) → Takes old said (taken.Reply answer) new → P (text_of answer) → (IsTrue lacks ↔ LacksMemory answer) → IsServed old new said P lacks
+pub told_later : (old new : Running) (said : Line) (answer : Reply) (P : List ℕ → Type 0)
+    (lacks : Bool) → Takes old said (taken.Reply answer) new → P (text_of answer)
+    → (IsTrue lacks ↔ LacksMemory answer) → IsServed old new said P lacks
 told_later old new said answer P lacks takes told starved =
     λ state stands.
-    let t = takes state stands in
-    (t.0, t.2, subst P (text-of_reply (outcome_of t.0 state said).answer answer t.1) told, told-starved answer lacks t.0 state said t.1 starved)
+    let t = takes state stands in (
+      t.0,
+      t.2,
+      subst P (text-of_reply (outcome_of t.0 state said).answer answer t.1) told,
+      told-starved answer lacks t.0 state said t.1 starved,
+    )
 
-pub told_first : (settings settings_then : Settings) (running_then : Option Running) (said : Line) (answer : Reply) (P : List ℕ → Type 0) (lacks : Bool) → Replies settings None said (Some answer) settings_then running_then → P (text_of answer) → (IsTrue lacks ↔ LacksMemory answer)
-    → (state : State) → Stands settings None state → (refused : Bool) × Stands settings_then running_then (after refused state said) × P (answer_of refused state said) × (IsTrue lacks ↔ IsStarved refused state said)
+pub told_first : (settings settings_then : Settings) (running_then : Option Running) (said : Line)
+    (answer : Reply) (P : List ℕ → Type 0) (lacks : Bool)
+    → Replies settings None said (Some answer) settings_then running_then → P (text_of answer)
+    → (IsTrue lacks ↔ LacksMemory answer)
+    → (state : State) → Stands settings None state → (refused : Bool)
+    × Stands settings_then running_then (after refused state said)
+    × P (answer_of refused state said) × (IsTrue lacks ↔ IsStarved refused state said)
 told_first settings settings_then running_then said answer P lacks replies told starved =
     λ state stands.
-    let t = replies state stands in
-    (t.0, t.2, subst P (text-of_reply (outcome_of t.0 state said).answer answer t.1) told, told-starved answer lacks t.0 state said t.1 starved)
+    let t = replies state stands in (
+      t.0,
+      t.2,
+      subst P (text-of_reply (outcome_of t.0 state said).answer answer t.1) told,
+      told-starved answer lacks t.0 state said t.1 starved,
+    )
 
 -- a question
-pub asked_later : (old mid new : Running) (said : Line) (asked : Question) (P : List ℕ → Type 0) (lacks : Bool) → said ≡ line.Question asked → mid ≡ old
-    → ((state : State) → RunsAs mid state → RunsAs new state × P (question_text lacks (setup_of mid.core).machine state.world.history asked)) → (asked ≡ question.Ranges → lacks ≡ false)
+pub asked_later : (old mid new : Running) (said : Line) (asked : Question) (P : List ℕ → Type 0)
+    (lacks : Bool) → said ≡ line.Question asked → mid ≡ old
+    → ((state : State) → RunsAs mid state → RunsAs new state
+    × P (question_text lacks (setup_of mid.core).machine state.world.history asked))
+    → (asked ≡ question.Ranges → lacks ≡ false)
     → IsServed old new said P lacks
 asked_later old mid new said asked P lacks is same h ranges =
     subst (λ (l : Line). IsServed old new l P lacks) (sym is)
     (subst (λ (r : Running). IsServed r new (line.Question asked) P lacks) same
     (λ state stands.
     let a = h state stands in
-    let is : outcome_of lacks state (line.Question asked) ≡ with_text (question_text lacks (setup_of mid.core).machine state.world.history asked) state = later_is mid (line.Question asked) lacks state stands in
-    (lacks, subst (λ (r : Served). RunsAs new r.state) (sym is) a.0, subst (λ (r : Served). P (bytes_of r.answer)) (sym is) a.1, asked-starved mid asked lacks state stands ranges)))
+    let is : outcome_of lacks state (line.Question asked)
+    ≡ with_text (question_text lacks (setup_of mid.core).machine state.world.history asked)
+    state = later_is mid (line.Question asked) lacks state stands in (
+      lacks,
+      subst (λ (r : Served). RunsAs new r.state) (sym is) a.0,
+      subst (λ (r : Served). P (bytes_of r.answer)) (sym is) a.1,
+      asked-starved mid asked lacks state stands ranges,
+    )))
 
 -- maps
-pub listed_later : (old mid : Running) (said : Line) (task : ℕ) (P : List ℕ → Type 0) → said ≡ line.Maps task → mid ≡ old
-    → ((state : State) → RunsAs mid state → P (listing_of (setup_of mid.core).machine state.world.history task state.resident))
+pub listed_later : (old mid : Running) (said : Line) (task : ℕ) (P : List ℕ → Type 0)
+    → said ≡ line.Maps task → mid ≡ old
+    → ((state : State) → RunsAs mid state
+    → P (listing_of (setup_of mid.core).machine state.world.history task state.resident))
     → IsServed old mid said P false
 listed_later old mid said task P is same h =
     subst (λ (l : Line). IsServed old mid l P false) (sym is)
     (subst (λ (r : Running). IsServed r mid (line.Maps task) P false) same
     (λ state stands.
-    let is : outcome_of false state (line.Maps task) ≡ with_text (listing_of (setup_of mid.core).machine state.world.history task state.resident) state = later_is mid (line.Maps task) false state stands in
-    (false, subst (λ (r : Served). RunsAs mid r.state) (sym is) stands, subst (λ (r : Served). P (bytes_of r.answer)) (sym is) (h state stands), listed-starved mid task state stands)))
+    let is : outcome_of false state (line.Maps task)
+    ≡ with_text (listing_of (setup_of mid.core).machine state.world.history task state.resident)
+    state = later_is mid (line.Maps task) false state stands in (
+      false,
+      subst (λ (r : Served). RunsAs mid r.state) (sym is) stands,
+      subst (λ (r : Served). P (bytes_of r.answer)) (sym is) (h state stands),
+      listed-starved mid task state stands,
+    )))
 
 -- ---- a question and `maps` have no reply
 
 abbrev pub HasNone : Running → Running → Line → Type 0
-HasNone old new said = (state : State) → RunsAs old state → (refused : Bool) × (None ≡ reply_of refused state said) × RunsAs new (after refused state said)
+HasNone old new said = (state : State) → RunsAs old state → (refused : Bool)
+    × (None ≡ reply_of refused state said) × RunsAs new (after refused state said)
 
-pub question_has_none : (old new : Running) (said : Line) (asked : Question) → said ≡ line.Question asked → new ≡ old → HasNone old new said
+pub question_has_none : (old new : Running) (said : Line) (asked : Question)
+    → said ≡ line.Question asked → new ≡ old → HasNone old new said
 question_has_none old new said asked is same =
     subst (λ (l : Line). HasNone old new l) (sym is)
     (subst (λ (r : Running). HasNone r new (line.Question asked)) same
     (λ state stands.
-    let is : outcome_of false state (line.Question asked) ≡ with_text (question_text false (setup_of new.core).machine state.world.history asked) state = later_is new (line.Question asked) false state stands in
-    (false, sym (ap (λ r. reply_in r.answer) is), subst (λ (r : Served). RunsAs new r.state) (sym is) stands)))
+    let is : outcome_of false state (line.Question asked)
+    ≡ with_text (question_text false (setup_of new.core).machine state.world.history asked)
+    state = later_is new (line.Question asked) false state stands in (
+      false,
+      sym (ap (λ r. reply_in r.answer) is),
+      subst (λ (r : Served). RunsAs new r.state)
+          (sym is) stands,
+    )))
 
-pub maps_have_none : (old new : Running) (said : Line) (task : ℕ) → said ≡ line.Maps task → new ≡ old → HasNone old new said
+pub maps_have_none : (old new : Running) (said : Line) (task : ℕ) → said ≡ line.Maps task
+    → new ≡ old → HasNone old new said
 maps_have_none old new said task is same =
     subst (λ (l : Line). HasNone old new l) (sym is)
     (subst (λ (r : Running). HasNone r new (line.Maps task)) same
     (λ state stands.
-    let is : outcome_of false state (line.Maps task) ≡ with_text (listing_of (setup_of new.core).machine state.world.history task state.resident) state = later_is new (line.Maps task) false state stands in
-    (false, sym (ap (λ r. reply_in r.answer) is), subst (λ (r : Served). RunsAs new r.state) (sym is) stands)))
+    let is : outcome_of false state (line.Maps task)
+    ≡ with_text (listing_of (setup_of new.core).machine state.world.history task state.resident)
+    state = later_is new (line.Maps task) false state stands in (
+      false,
+      sym (ap (λ r. reply_in r.answer) is),
+      subst (λ (r : Served). RunsAs new r.state)
+          (sym is) stands,
+    )))

@@ -1,7 +1,5 @@
 -- A line has a cause of its fault exactly where it is malformed.
-use Rattle.std.specs.Prelude.{suc, ◌≡◌, ℕ, ◌+◌, ◌==◌, ◌<◌, ◌/◌, ◌||◌, ◌&&◌, Bool, true, false, List}
-use Rattle.std.specs.Prelude.{[], ◌∷◌, length, position, nat_lt, is_some, is_none, unwrap_or, cond}
-use Rattle.std.specs.Prelude.{Option, Some, None, Result, Ok, Err, option_and_then, refl, if◌then◌else◌}
+use Rattle.std.specs.Prelude.{suc, ◌≡◌, ℕ, ◌+◌, ◌==◌, ◌<◌, ◌/◌, ◌||◌, ◌&&◌, Bool, true, false, List, [], ◌∷◌, length, position, nat_lt, is_some, is_none, unwrap_or, cond, Option, Some, None, Result, Ok, Err, option_and_then, refl, if◌then◌else◌}
 use Rattle.std.specs.List.{list_any}
 use Rattle.std.specs.Option.{option_map}
 use Rattle.std.proofs.Common.{sym, ◌∙◌, ap, arith}
@@ -12,14 +10,8 @@ use Rattle.numa_mode.specs.Policy.{Specification}
 use Rattle.numa_space.specs.declared.event.Event.TheVariants as event
 use Rattle.numa_space.specs.declared.command.Command.{Command}
 use Rattle.numa_space.specs.declared.command.Command.TheVariants as command
-use Rattle.numa_script.specs.Causes.{parameters_of, form_of, misfit_of, misfit_else, fault_behind}
-use Rattle.numa_script.specs.Causes.{first_misfit, keyword_fault, words_fault, width_of, empty_word}
-use Rattle.numa_script.specs.Causes.{empty_else, is_stray, stray_else, fault_of, is_malformed}
-use Rattle.numa_script.specs.Lines.{keyword_of, line_after, limits_line, rules_line, cpus_line}
-use Rattle.numa_script.specs.Lines.{machine_line, map_line, unmap_line, mbind_line, home_line}
-use Rattle.numa_script.specs.Lines.{task_line, inherit_line, weight_line, mems_line, place_line}
-use Rattle.numa_script.specs.Lines.{span_line, counts_line, ranges_line, maps_line, words_line}
-use Rattle.numa_script.specs.Lines.{with_policy, bind_line, with_nodes, is_silent, has_empty_word, line_of}
+use Rattle.numa_script.specs.Causes.{parameters_of, form_of, misfit_of, misfit_else, fault_behind, first_misfit, keyword_fault, words_fault, width_of, empty_word, empty_else, is_stray, stray_else, fault_of, is_malformed}
+use Rattle.numa_script.specs.Lines.{keyword_of, line_after, limits_line, rules_line, cpus_line, machine_line, map_line, unmap_line, mbind_line, home_line, task_line, inherit_line, weight_line, mems_line, place_line, span_line, counts_line, ranges_line, maps_line, words_line, with_policy, bind_line, with_nodes, is_silent, has_empty_word, line_of}
 use Rattle.numa_script.specs.Machines.{frames_of, distances_of, rules_of, has_kernel_orders}
 use Rattle.numa_script.specs.Numbers.{below, few_of, number_of, small_of, page_of, node_of, frame_number_of}
 use Rattle.numa_script.specs.Parts.{words_of}

@@ -13,10 +13,12 @@ taken : {T O : Type 0} (has_taken : T → O → T → O → List ℕ → Type 0)
     → Takes has_taken made_taker made_output piece_taker piece_output got
     → Takes has_taken piece_taker piece_output then output_then []
     → Takes has_taken taker output then output_then (made ++ got)
-taken has_taken taker output made_taker made_output piece_taker piece_output then output_then made got
+taken has_taken taker output made_taker made_output piece_taker piece_output then output_then made
+    got
     first piece handed =
     subst (λ bytes. Takes has_taken taker output then output_then (made ++ bytes)) (append-nil got)
-    (takes_both has_taken taker output made_taker made_output then output_then made (got ++ []) first
+    (takes_both has_taken taker output made_taker made_output then output_then made (got ++ [])
+    first
     (takes_both has_taken made_taker made_output piece_taker piece_output then output_then got []
     piece handed))
 
@@ -31,7 +33,8 @@ returns-in-Err-handed-clause-err g c =
       has_read = record {
         read = Consumes-trans _ _ _ made.read.0 got made.read.1.read c.in-Ok.ensures.bytes.0;
         takes = taken g.T.TakeText.has_taken c.args.taker.now c.args.output.now c.loop-made.taker
-            c.loop-made.output c.take-taken.new.self c.take-taken.new.output c.hand_over-handed.new.self
+            c.loop-made.output c.take-taken.new.self c.take-taken.new.output
+            c.hand_over-handed.new.self
             c.hand_over-handed.new.output made.read.0 got made.read.1.takes c.in-Ok-taken.ensures.ok
             c.hand_over-handed.ensures.takes;
       };
@@ -49,8 +52,10 @@ loop-made-preserved g c =
         record {
           read = Consumes-trans _ _ _ made.read.0 got made.read.1.read c.in-Ok.ensures.bytes.0;
           takes = taken g.T.TakeText.has_taken c.args.taker.now c.args.output.now c.loop-made.taker
-              c.loop-made.output c.take-taken.new.self c.take-taken.new.output c.hand_over-handed.new.self
-              c.hand_over-handed.new.output made.read.0 got made.read.1.takes c.in-Ok-taken.ensures.ok
+              c.loop-made.output c.take-taken.new.self c.take-taken.new.output
+              c.hand_over-handed.new.self
+              c.hand_over-handed.new.output made.read.0 got made.read.1.takes
+              c.in-Ok-taken.ensures.ok
               c.hand_over-handed.ensures.takes;
         },
       );

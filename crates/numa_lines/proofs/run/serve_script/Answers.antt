@@ -23,12 +23,15 @@ returns-in_default-hand_over-clause-write g c e =
     c.gather.ensures.failed c.gather.ensures.held c.begin-2.ensures.inner c.begin-2.ensures.well
     c.begin-2.ensures.held in
     let far =
-    answered_so_far g.W.Write.contents g.S.Serve.answer_of g.S.Serve.after g.S.Serve.start c.requires.enough
+    answered_so_far g.W.Write.contents g.S.Serve.answer_of g.S.Serve.after g.S.Serve.start
+    c.requires.enough
     (g.S.Serve.stands_for c.in-Ok.lines.taker.server) from c.hand_over.new.self [] starts.0 in
     record {
       front = [];
       refused = far.0;
-      read = subst (λ reader. Consumes (g.R.Read.remaining c.args.input.now.inner) (g.R.Read.remaining reader) [])
+      read =
+          subst (λ reader. Consumes (g.R.Read.remaining c.args.input.now.inner)
+          (g.R.Read.remaining reader) [])
           (sym c.begin.ensures.inner) (Consumes-nil (g.R.Read.remaining c.args.input.now.inner));
       written = inl (wrote_front g.W.Write.contents c.args.output.now from c.hand_over.new.self _
           has_begun c.in_default-hand_over.ensures.err far.1);
@@ -52,17 +55,23 @@ returns-in-Err-clause-read g c e =
     let stops = at_input c.in-Err.why _ _ (λ lost. lost.lost.0) e c.in-Err.ensures.err in
     let taken = stops.has_read.takes c.in-Ok.lines from [] starts in
     let far =
-    answered_so_far g.W.Write.contents g.S.Serve.answer_of g.S.Serve.after g.S.Serve.start c.requires.enough
-    (g.S.Serve.stands_for c.read_text.new.taker.taker.server) from c.read_text.new.output stops.bytes taken.0 in
+    answered_so_far g.W.Write.contents g.S.Serve.answer_of g.S.Serve.after g.S.Serve.start
+    c.requires.enough
+    (g.S.Serve.stands_for c.read_text.new.taker.taker.server) from c.read_text.new.output
+    stops.bytes taken.0 in
     let handed = stops.settled (c.in-Ok-hand_over.ensures.ok, c.hand_over.ensures.empty) in
     record {
       front = stops.bytes;
       refused = far.0;
-      read = subst (λ reader. Consumes (g.R.Read.remaining reader) (g.R.Read.remaining c.read_text.new.input.inner) stops.bytes)
+      read =
+          subst (λ reader. Consumes (g.R.Read.remaining reader)
+          (g.R.Read.remaining c.read_text.new.input.inner) stops.bytes)
           c.begin.ensures.inner stops.has_read.read;
-      written = wrote_all g.W.Write.contents c.args.output.now from c.read_text.new.output _ has_begun
+      written = wrote_all g.W.Write.contents c.args.output.now from c.read_text.new.output _
+          has_begun
           handed.0 handed.1 far.1;
-      cause = either inl (λ all. inr (all ∙ ap (λ (n : ℕ). n + most_reads) c.begin.ensures.reads)) stops.cause;
+      cause = either inl (λ all. inr (all ∙ ap (λ (n : ℕ). n + most_reads) c.begin.ensures.reads))
+          stops.cause;
       output_is_sound = handed.0;
     }
 
@@ -82,12 +91,16 @@ returns-in-Err-clause-write g c e =
     let stops = at_output c.in-Err.why _ _ (λ lost. lost.lost.0) e c.in-Err.ensures.err in
     let taken = stops.has_read.takes c.in-Ok.lines from [] starts in
     let far =
-    answered_so_far g.W.Write.contents g.S.Serve.answer_of g.S.Serve.after g.S.Serve.start c.requires.enough
-    (g.S.Serve.stands_for c.read_text.new.taker.taker.server) from c.read_text.new.output stops.bytes taken.0 in
+    answered_so_far g.W.Write.contents g.S.Serve.answer_of g.S.Serve.after g.S.Serve.start
+    c.requires.enough
+    (g.S.Serve.stands_for c.read_text.new.taker.taker.server) from c.read_text.new.output
+    stops.bytes taken.0 in
     record {
       front = stops.bytes;
       refused = far.0;
-      read = subst (λ reader. Consumes (g.R.Read.remaining reader) (g.R.Read.remaining c.read_text.new.input.inner) stops.bytes)
+      read =
+          subst (λ reader. Consumes (g.R.Read.remaining reader)
+          (g.R.Read.remaining c.read_text.new.input.inner) stops.bytes)
           c.begin.ensures.inner stops.has_read.read;
       written = inl (wrote_front g.W.Write.contents c.args.output.now from c.read_text.new.output _
           has_begun stops.lost.1 far.1);
@@ -110,14 +123,19 @@ returns-in-Ok-finish-clause-ok g c =
     c.begin-2.ensures.held in
     let stops = c.in-Ok-read_text.ensures.ok in
     let ends = unless_failed c.in-Ok-finish.ensures in
-    let taken = ends.1 c.in-Ok.lines from stops.bytes (stops.has_read.takes c.in-Ok.lines from [] starts) in
+    let taken = ends.1 c.in-Ok.lines from stops.bytes
+    (stops.has_read.takes c.in-Ok.lines from [] starts) in
     let far =
-    answered_to_end g.W.Write.contents g.S.Serve.answer_of g.S.Serve.after g.S.Serve.start c.requires.enough
-    (g.S.Serve.stands_for c.finish.new.self.taker.server) from c.finish.new.output stops.bytes taken.0 in
+    answered_to_end g.W.Write.contents g.S.Serve.answer_of g.S.Serve.after g.S.Serve.start
+    c.requires.enough
+    (g.S.Serve.stands_for c.finish.new.self.taker.server) from c.finish.new.output stops.bytes
+    taken.0 in
     record {
       script = stops.bytes;
       refused = far.0;
-      read = subst (λ reader. Consumes (g.R.Read.remaining reader) (g.R.Read.remaining c.read_text.new.input.inner) stops.bytes)
+      read =
+          subst (λ reader. Consumes (g.R.Read.remaining reader)
+          (g.R.Read.remaining c.read_text.new.input.inner) stops.bytes)
           c.begin.ensures.inner stops.has_read.read;
       ended = stops.ended;
       written = wrote_all g.W.Write.contents c.args.output.now from c.finish.new.output _ has_begun
@@ -141,14 +159,19 @@ returns-clause-write g c e =
     c.begin-2.ensures.held in
     let stops = c.in-Ok-read_text.ensures.ok in
     let ends = unless_failed c.in-Err-finish.ensures in
-    let taken = ends.1 c.in-Ok.lines from stops.bytes (stops.has_read.takes c.in-Ok.lines from [] starts) in
+    let taken = ends.1 c.in-Ok.lines from stops.bytes
+    (stops.has_read.takes c.in-Ok.lines from [] starts) in
     let far =
-    answered_to_end g.W.Write.contents g.S.Serve.answer_of g.S.Serve.after g.S.Serve.start c.requires.enough
-    (g.S.Serve.stands_for c.finish.new.self.taker.server) from c.finish.new.output stops.bytes taken.0 in
+    answered_to_end g.W.Write.contents g.S.Serve.answer_of g.S.Serve.after g.S.Serve.start
+    c.requires.enough
+    (g.S.Serve.stands_for c.finish.new.self.taker.server) from c.finish.new.output stops.bytes
+    taken.0 in
     record {
       front = stops.bytes;
       refused = far.0;
-      read = subst (λ reader. Consumes (g.R.Read.remaining reader) (g.R.Read.remaining c.read_text.new.input.inner) stops.bytes)
+      read =
+          subst (λ reader. Consumes (g.R.Read.remaining reader)
+          (g.R.Read.remaining c.read_text.new.input.inner) stops.bytes)
           c.begin.ensures.inner stops.has_read.read;
       written = inr (
         stops.ended,

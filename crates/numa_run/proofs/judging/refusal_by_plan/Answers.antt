@@ -6,4 +6,5 @@ pub returns-in-Err : goal.returns-in-Err
 returns-in-Err c =
     λ machine history stands.
     rw c.in-Place.is
-    (sym c.in-Err.ensures.err ∙ refusal-meant machine c.args.plan.now history stands (c.in-Place.address / 4096) c.in-Place.cpu)
+    (sym c.in-Err.ensures.err ∙ refusal-meant machine c.args.plan.now history stands
+    (c.in-Place.address / 4096) c.in-Place.cpu)

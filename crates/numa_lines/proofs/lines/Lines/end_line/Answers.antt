@@ -10,8 +10,10 @@ returns-clause-ok g c =
     (on_ok_weaker c.take-taken.result
     (λ takes first begun front h.
     cut_line (has first.taker begun c.args.self.now.taker c.args.output.now)
-    (has first.taker begun c.take-taken.new.self c.take-taken.new.output) c.args.self.now.line c.hold.new.self
+    (has first.taker begun c.take-taken.new.self c.take-taken.new.output) c.args.self.now.line
+    c.hold.new.self
     front c.args.bytes.now c.requires.piece c.hold.ensures
     (λ lines had.
-    subst (λ l. has first.taker begun c.take-taken.new.self c.take-taken.new.output (lines ++ l ∷ []))
+    subst (λ l. has first.taker begun c.take-taken.new.self c.take-taken.new.output
+    (lines ++ l ∷ []))
     c.bytes.ensures (takes first.taker begun lines had)) h) c.take-taken.ensures.ok)

@@ -5,7 +5,8 @@ use Rattle.numa_lines.proofs.lines.LinesTakeText.take.Given as goal
 
 abbrev pub invariant-loop-end : goal.invariant-loop-end
 invariant-loop-end g l =
-    (front : List ℕ) × Takes (HasCut g.T.TakeLine.has_taken) l.fn.self l.fn.output l.self l.output front
+    (front : List ℕ) × Takes (HasCut g.T.TakeLine.has_taken) l.fn.self l.fn.output l.self l.output
+    front
     × (l.piece ≡ front ++ l.rest)
 
 abbrev pub decreases-loop-end : goal.decreases-loop-end

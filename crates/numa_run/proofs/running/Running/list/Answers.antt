@@ -9,8 +9,13 @@ pub returns : goal.returns
 returns g c =
     λ state stands.
     let space : SpaceState = c.space-space.result.now in
-    let there : StandsFor space state.world.history = subst (λ s. StandsFor s state.world.history) (sym c.space-space.ensures.space) stands.core.world.space in
-    let text = listing-same space state.world.history c.args.task c.args.self.now.resident there c.range_iter.ensures.rising c.range_iter.ensures.maximal
-    ∙ ap (λ (s : SpaceState). listing_of s.machine state.world.history c.args.task c.args.self.now.resident) c.space-space.ensures.space
-    ∙ ap (λ kept. listing_of c.args.self.now.core.space.machine state.world.history c.args.task kept) stands.resident in
-    said_same g.W.Write.contents c.args.output.now c.write_maps.new.output _ _ text c.write_maps.ensures.says
+    let there : StandsFor space state.world.history = subst (λ s. StandsFor s state.world.history)
+    (sym c.space-space.ensures.space) stands.core.world.space in
+    let text = listing-same space state.world.history c.args.task c.args.self.now.resident there
+    c.range_iter.ensures.rising c.range_iter.ensures.maximal
+    ∙ ap (λ (s : SpaceState). listing_of s.machine state.world.history c.args.task
+    c.args.self.now.resident) c.space-space.ensures.space
+    ∙ ap (λ kept. listing_of c.args.self.now.core.space.machine state.world.history c.args.task
+    kept) stands.resident in
+    said_same g.W.Write.contents c.args.output.now c.write_maps.new.output _ _ text
+    c.write_maps.ensures.says

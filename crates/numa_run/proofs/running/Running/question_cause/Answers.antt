@@ -10,21 +10,29 @@ use Rattle.numa_run.proofs.running.Running.question_cause.Goals as goal
 pub returns-in-None : goal.returns-in-None
 returns-in-None c =
     λ state stands.
-    let ready = same-core c.args.self.now (record { core = c.prepare.new.self; resident = c.args.self.now.resident }) state c.prepare.ensures refl stands in
+    let ready =
+    same-core c.args.self.now
+    (record { core = c.prepare.new.self; resident = c.args.self.now.resident }) state
+    c.prepare.ensures refl stands in
     let machine = c.prepare.new.self.space.machine in
     let history = state.world.history in
     let plan = c.in-Some.ensures.meaning state.world ready.core.world in
     let why = c.refusal_by_plan.ensures machine history plan in (
       false,
       ready,
-      ap (option_map (cause_at (length history))) (sym c.in-None.is ∙ why) ∙ sym (plain-cause machine history c.args.question)
-          ∙ ap (λ (core : CoreState). question_cause false core.space.machine history c.args.question) c.prepare.ensures,
+      ap (option_map (cause_at (length history))) (sym c.in-None.is ∙ why)
+          ∙ sym (plain-cause machine history c.args.question)
+          ∙ ap (λ (core : CoreState). question_cause false core.space.machine history
+          c.args.question) c.prepare.ensures,
     )
 
 pub returns-in-Some-BadCpu : goal.returns-in-Some-BadCpu
 returns-in-Some-BadCpu c =
     λ state stands.
-    let ready = same-core c.args.self.now (record { core = c.prepare.new.self; resident = c.args.self.now.resident }) state c.prepare.ensures refl stands in
+    let ready =
+    same-core c.args.self.now
+    (record { core = c.prepare.new.self; resident = c.args.self.now.resident }) state
+    c.prepare.ensures refl stands in
     let machine = c.prepare.new.self.space.machine in
     let history = state.world.history in
     let plan = c.in-Some.ensures.meaning state.world ready.core.world in
@@ -32,14 +40,19 @@ returns-in-Some-BadCpu c =
     let is = c.in-Some-BadCpu.is ∙ ap Some c.in-Some-BadCpu.field-0-is in (
       false,
       ready,
-      ap (option_map (cause_at (length history))) (sym is ∙ why) ∙ sym (plain-cause machine history c.args.question)
-          ∙ ap (λ (core : CoreState). question_cause false core.space.machine history c.args.question) c.prepare.ensures,
+      ap (option_map (cause_at (length history))) (sym is ∙ why)
+          ∙ sym (plain-cause machine history c.args.question)
+          ∙ ap (λ (core : CoreState). question_cause false core.space.machine history
+          c.args.question) c.prepare.ensures,
     )
 
 pub returns-in-Some-Unmapped : goal.returns-in-Some-Unmapped
 returns-in-Some-Unmapped c =
     λ state stands.
-    let ready = same-core c.args.self.now (record { core = c.prepare.new.self; resident = c.args.self.now.resident }) state c.prepare.ensures refl stands in
+    let ready =
+    same-core c.args.self.now
+    (record { core = c.prepare.new.self; resident = c.args.self.now.resident }) state
+    c.prepare.ensures refl stands in
     let machine = c.prepare.new.self.space.machine in
     let history = state.world.history in
     let plan = c.in-Some.ensures.meaning state.world ready.core.world in
@@ -48,6 +61,8 @@ returns-in-Some-Unmapped c =
       false,
       ready,
       ap (λ v. Some (Unmapped v)) (c.version.ensures ∙ plan.version)
-          ∙ ap (option_map (cause_at (length history))) (sym is ∙ why) ∙ sym (plain-cause machine history c.args.question)
-          ∙ ap (λ (core : CoreState). question_cause false core.space.machine history c.args.question) c.prepare.ensures,
+          ∙ ap (option_map (cause_at (length history))) (sym is ∙ why)
+          ∙ sym (plain-cause machine history c.args.question)
+          ∙ ap (λ (core : CoreState). question_cause false core.space.machine history
+          c.args.question) c.prepare.ensures,
     )

@@ -11,36 +11,47 @@ use Rattle.numa_run.proofs.LineLemmas.{later_same, later_done}
 use Rattle.numa_run.proofs.running.Running.take.Goals as goal
 
 pub returns-in-Silent : goal.returns-in-Silent
-returns-in-Silent c = rw c.in-Silent.is (later_same c.args.self.now line.Silent reply.Silent (λ machine state. refl))
+returns-in-Silent c =
+    rw c.in-Silent.is (later_same c.args.self.now line.Silent reply.Silent (λ machine state. refl))
 
 pub returns-in-Malformed : goal.returns-in-Malformed
-returns-in-Malformed c = rw c.in-Malformed.is (later_same c.args.self.now line.Malformed reply.BadWords (λ machine state. refl))
+returns-in-Malformed c =
+    rw c.in-Malformed.is
+    (later_same c.args.self.now line.Malformed reply.BadWords (λ machine state. refl))
 
 pub returns-in-Limits : goal.returns-in-Limits
-returns-in-Limits c = rw c.in-Limits.is (later_same c.args.self.now _ reply.BadState (λ machine state. refl))
+returns-in-Limits c =
+    rw c.in-Limits.is (later_same c.args.self.now _ reply.BadState (λ machine state. refl))
 
 pub returns-in-Rules : goal.returns-in-Rules
-returns-in-Rules c = rw c.in-Rules.is (later_same c.args.self.now _ reply.BadState (λ machine state. refl))
+returns-in-Rules c =
+    rw c.in-Rules.is (later_same c.args.self.now _ reply.BadState (λ machine state. refl))
 
 pub returns-in-Cpus : goal.returns-in-Cpus
-returns-in-Cpus c = rw c.in-Cpus.is (later_same c.args.self.now _ reply.BadState (λ machine state. refl))
+returns-in-Cpus c =
+    rw c.in-Cpus.is (later_same c.args.self.now _ reply.BadState (λ machine state. refl))
 
 pub returns-in-Machine : goal.returns-in-Machine
-returns-in-Machine c = rw c.in-Machine.is (later_same c.args.self.now _ reply.BadState (λ machine state. refl))
+returns-in-Machine c =
+    rw c.in-Machine.is (later_same c.args.self.now _ reply.BadState (λ machine state. refl))
 
 pub returns-in-Ok : goal.returns-in-Ok
 returns-in-Ok c =
-    let stepped : Running = record { core = c.step-answer.new.self; resident = c.args.self.now.resident } in
+    let stepped : Running =
+    record { core = c.step-answer.new.self; resident = c.args.self.now.resident } in
     rw (c.in-Command.is, c.in-Ok.is, c.to_event.ensures)
-    (later_done c.args.self.now stepped (line.Command (Ok c.in-Ok.command)) (reply_to c.step-answer.result)
+    (later_done c.args.self.now stepped (line.Command (Ok c.in-Ok.command))
+    (reply_to c.step-answer.result)
     (λ refused s state. event_outcome refused s state.world state.resident (Accept c.in-Ok.command))
-    (does-event c.args.self.now stepped (Accept c.in-Ok.command) c.step-answer.result c.step-answer.ensures.answer c.step-answer.ensures.setup refl)
+    (does-event c.args.self.now stepped (Accept c.in-Ok.command) c.step-answer.result
+    c.step-answer.ensures.answer c.step-answer.ensures.setup refl)
     (λ refused machine state. refl))
 
 pub returns-in-Err : goal.returns-in-Err
 returns-in-Err c =
     rw (c.in-Command.is, c.in-Err.is)
-    (later_same c.args.self.now (line.Command (Err c.in-Err.fault)) (reply.BadWord c.in-Err.fault) (λ machine state. refl))
+    (later_same c.args.self.now (line.Command (Err c.in-Err.fault)) (reply.BadWord c.in-Err.fault)
+    (λ machine state. refl))
 
 pub returns-in-EmptyBind : goal.returns-in-EmptyBind
 returns-in-EmptyBind c = rw c.in-EmptyBind.is c.bind_nothing.ensures
@@ -48,5 +59,7 @@ returns-in-EmptyBind c = rw c.in-EmptyBind.is c.bind_nothing.ensures
 pub returns-in-Work : goal.returns-in-Work
 returns-in-Work c =
     rw c.in-Work.is
-    (later_done c.args.self.now c.work.new.self (line.Work c.in-Work.work) c.work.result (λ refused s state. work_outcome refused s state.world state.resident c.in-Work.work) c.work.ensures
+    (later_done c.args.self.now c.work.new.self (line.Work c.in-Work.work) c.work.result
+    (λ refused s state. work_outcome refused s state.world state.resident c.in-Work.work)
+    c.work.ensures
     (λ refused machine state. refl))

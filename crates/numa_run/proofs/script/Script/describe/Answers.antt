@@ -1,5 +1,6 @@
 use Rattle.std.proofs.Common.{◌∙◌, ap, sym, subst, [], true, false}
-use Rattle.numa_run.proofs.LineLemmas.{described, first_ready, first_bad, first_bad_list, core-starved}
+use Rattle.numa_run.proofs.LineLemmas.{described, first_ready, first_bad, first_bad_list}
+use Rattle.numa_run.proofs.LineLemmas.{core-starved}
 use Rattle.numa_core.specs.Standing.{LeadsTo, setup_of}
 use Rattle.numa_run.specs.States.{setup_with}
 use Rattle.numa_run.specs.Machines.{first_fault, nodes_with_cpus}
@@ -7,12 +8,15 @@ use Rattle.numa_machine.specs.declared.fault.MachineFault.TheVariants as machine
 use Rattle.numa_run.proofs.script.Script.describe.Goals as goal
 
 pub returns-in-Err : goal.returns-in-Err
-returns-in-Err c = rw c.requires (first_bad_list c.args.self.now.settings c.args.said.now c.in-Err.fault c.in-Err.is)
+returns-in-Err c =
+    rw c.requires (first_bad_list c.args.self.now.settings c.args.said.now c.in-Err.fault
+    c.in-Err.is)
 
 pub returns-in-Err-build : goal.returns-in-Err-build
 returns-in-Err-build c =
     let why = c.in-Err-build.ensures.err in
-    rw c.requires (first_bad c.args.self.now.settings c.args.said.now c.in-Ok.memory why.0 c.in-Err-build.fault c.in-Ok.is why.1)
+    rw c.requires (first_bad c.args.self.now.settings c.args.said.now c.in-Ok.memory why.0
+    c.in-Err-build.fault c.in-Ok.is why.1)
 
 pub returns-in-Err-new : goal.returns-in-Err-new
 returns-in-Err-new c =
@@ -20,8 +24,10 @@ returns-in-Err-new c =
     let settings = c.args.self.now.settings in
     let cpus = nodes_with_cpus c.args.said.now.nodes settings.cpus in
     let sound = ap (first_fault false cpus) (sym made.0) ∙ made.1 in
-    rw c.requires (first_bad settings c.args.said.now c.in-Ok.memory true machine_fault.NoMemory c.in-Ok.is
-    (core-starved cpus (described c.args.said.now c.in-Ok.memory settings.rules settings.cpus) sound))
+    rw c.requires (first_bad settings c.args.said.now c.in-Ok.memory true machine_fault.NoMemory
+    c.in-Ok.is
+    (core-starved cpus (described c.args.said.now c.in-Ok.memory settings.rules settings.cpus)
+    sound))
 
 pub returns-in-Ok-new : goal.returns-in-Ok-new
 returns-in-Ok-new c =
@@ -29,6 +35,8 @@ returns-in-Ok-new c =
     let settings = c.args.self.now.settings in
     let cpus = nodes_with_cpus c.args.said.now.nodes settings.cpus in
     let core = c.new-in-Ok-new.ensures.core in
-    let setup = ap setup_of core ∙ c.in-Ok-new.ensures.setup ∙ ap (λ machine. setup_with machine settings.limits) made.0 in
-    (first_ready settings c.args.said.now c.in-Ok.memory c.new-in-Ok-new.result c.in-Ok.is (ap (first_fault false cpus) (sym made.0) ∙ made.1) setup
+    let setup = ap setup_of core ∙ c.in-Ok-new.ensures.setup
+    ∙ ap (λ machine. setup_with machine settings.limits) made.0 in
+    (first_ready settings c.args.said.now c.in-Ok.memory c.new-in-Ok-new.result c.in-Ok.is
+    (ap (first_fault false cpus) (sym made.0) ∙ made.1) setup
     (subst (LeadsTo []) (sym core) c.in-Ok-new.ensures.opens) c.new-in-Ok-new.ensures.resident)

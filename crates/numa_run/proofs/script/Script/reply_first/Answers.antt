@@ -4,25 +4,39 @@ use Rattle.numa_script.specs.declared.reply.Reply.TheVariants as reply
 use Rattle.numa_run.proofs.script.Script.reply_first.Goals as goal
 
 pub returns-in-Silent : goal.returns-in-Silent
-returns-in-Silent c = rw (c.in-Silent.is, c.requires) (first_same c.args.self.now.settings _ reply.Silent false (λ state. refl))
+returns-in-Silent c =
+    rw (c.in-Silent.is, c.requires)
+    (first_same c.args.self.now.settings _ reply.Silent false (λ state. refl))
 
 pub returns-in-Malformed : goal.returns-in-Malformed
-returns-in-Malformed c = rw (c.in-Malformed.is, c.requires) (first_same c.args.self.now.settings _ reply.BadWords false (λ state. refl))
+returns-in-Malformed c =
+    rw (c.in-Malformed.is, c.requires)
+    (first_same c.args.self.now.settings _ reply.BadWords false (λ state. refl))
 
 pub returns-in-Command : goal.returns-in-Command
-returns-in-Command c = rw (c.in-Command.is, c.requires) (first_same c.args.self.now.settings _ reply.BadState false (λ state. refl))
+returns-in-Command c =
+    rw (c.in-Command.is, c.requires)
+    (first_same c.args.self.now.settings _ reply.BadState false (λ state. refl))
 
 pub returns-in-EmptyBind : goal.returns-in-EmptyBind
-returns-in-EmptyBind c = rw (c.in-EmptyBind.is, c.requires) (first_same c.args.self.now.settings _ reply.BadState false (λ state. refl))
+returns-in-EmptyBind c =
+    rw (c.in-EmptyBind.is, c.requires)
+    (first_same c.args.self.now.settings _ reply.BadState false (λ state. refl))
 
 pub returns-in-Question : goal.returns-in-Question
-returns-in-Question c = rw (c.in-Question.is, c.requires) (first_same c.args.self.now.settings _ reply.BadState false (λ state. refl))
+returns-in-Question c =
+    rw (c.in-Question.is, c.requires)
+    (first_same c.args.self.now.settings _ reply.BadState false (λ state. refl))
 
 pub returns-in-Maps : goal.returns-in-Maps
-returns-in-Maps c = rw (c.in-Maps.is, c.requires) (first_same c.args.self.now.settings _ reply.BadState false (λ state. refl))
+returns-in-Maps c =
+    rw (c.in-Maps.is, c.requires)
+    (first_same c.args.self.now.settings _ reply.BadState false (λ state. refl))
 
 pub returns-in-Work : goal.returns-in-Work
-returns-in-Work c = rw (c.in-Work.is, c.requires) (first_same c.args.self.now.settings _ reply.BadState false (λ state. refl))
+returns-in-Work c =
+    rw (c.in-Work.is, c.requires)
+    (first_same c.args.self.now.settings _ reply.BadState false (λ state. refl))
 
 pub returns-in-Limits : goal.returns-in-Limits
 returns-in-Limits c = rw c.in-Limits.is c.limit.ensures
