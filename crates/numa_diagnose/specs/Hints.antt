@@ -1,5 +1,5 @@
--- What a kernel does otherwise with a line, and a line as the twin of a script has it, which goes by
--- the other rules.
+-- What a kernel does otherwise with a line, and a line as the twin of a script has it, which goes
+-- by the other rules.
 use Rattle.std.specs.Prelude.{Option, None, Ok}
 use Rattle.numa_rules.specs.Otherwise.{otherwise_of, otherwise_of_empty_bind}
 use Rattle.numa_rules.specs.Others.{other_rules}

@@ -1,4 +1,4 @@
-//! What is known of a fault or a refusal beyond its name.
+//! Details of an error or a refusal.
 use crate::finding::Detail;
 use crate::pages::{first_mapped, first_unmapped, first_without_home, is_mapped};
 use numa_core::Core;
@@ -9,17 +9,17 @@ use numa_script::parts::{items, words};
 use numa_script::{Line, Question, Reply, WordError, Work, why_malformed};
 use numa_space::{Command, CoreRefusal, Event, Refusal, Space};
 
-/// How many bytes a page has.
+/// The size of a page in bytes.
 const PAGE: u64 = 4096;
 
-/// A span of pages, the last of them apart.
+/// A span of pages: the first, and the one after the last.
 #[derive(Clone, Copy)]
 struct PageInterval {
     first: u64,
     end: u64,
 }
 
-/// So many pages from that of an address on.
+/// `count` pages from that of an address on.
 fn pages_from(address: u64, count: u64) -> PageInterval {
     let first = address / PAGE;
     PageInterval {
@@ -28,7 +28,7 @@ fn pages_from(address: u64, count: u64) -> PageInterval {
     }
 }
 
-/// How many pages so many bytes need.
+/// The number of pages that `length` bytes need.
 fn page_count(length: u64) -> u64 {
     if length.is_multiple_of(PAGE) {
         return length / PAGE;
@@ -47,7 +47,7 @@ fn span_of(command: &Command) -> Option<PageInterval> {
     }
 }
 
-/// A page, where there is one.
+/// A page, if there is one.
 fn page_detail(page: Option<u64>) -> Detail {
     match page {
         Some(page) => Detail::Page(page),
@@ -55,7 +55,7 @@ fn page_detail(page: Option<u64>) -> Detail {
     }
 }
 
-/// The page of a span that makes a command's refusal.
+/// The page of a span that causes a command's refusal.
 fn span_detail(space: &Space, pages: PageInterval, refusal: Refusal) -> Detail {
     match refusal {
         Refusal::Unaligned => Detail::Page(pages.first),
@@ -66,7 +66,7 @@ fn span_detail(space: &Space, pages: PageInterval, refusal: Refusal) -> Detail {
     }
 }
 
-/// What is known of a command's refusal.
+/// The details of a command's refusal.
 fn command_detail(space: &Space, command: &Command, refusal: Refusal) -> Detail {
     match refusal {
         Refusal::NoSuchNode => return last_node(space),
@@ -89,7 +89,7 @@ fn last_node(space: &Space) -> Detail {
     Detail::LastNode(space.machine().nodes().saturating_sub(1))
 }
 
-/// The pages that a question asks of.
+/// The pages of a question.
 fn asked_pages(question: &Question) -> Option<PageInterval> {
     match *question {
         Question::Place { address, .. } => Some(pages_from(address, 1)),
@@ -99,7 +99,7 @@ fn asked_pages(question: &Question) -> Option<PageInterval> {
     }
 }
 
-/// The page that a worker is to find a frame for.
+/// The page for which a worker is to find a frame.
 fn touched_page(work: &Work) -> Option<u64> {
     match work {
         Work::Event(Event::Begin(_, request)) => Some(request.page),
@@ -108,7 +108,7 @@ fn touched_page(work: &Work) -> Option<u64> {
     }
 }
 
-/// The page that isn't mapped, or isn't yet in what is published.
+/// The page that isn't mapped, or whose mapping isn't published yet.
 fn unmapped_detail(space: &Space, said: &Line<'_>) -> Detail {
     match said {
         Line::Question(question) => match asked_pages(question) {
@@ -123,7 +123,7 @@ fn unmapped_detail(space: &Space, said: &Line<'_>) -> Detail {
     }
 }
 
-/// What is known of a refusal.
+/// The details of a refusal.
 fn refusal_detail(core: &Core, said: &Line<'_>, cause: CoreRefusal) -> Detail {
     let space = core.space();
     match cause {
@@ -142,7 +142,7 @@ fn ends_with_return(line: &[u8]) -> bool {
     line.last() == Some(&b'\r')
 }
 
-/// Whether `all` is an item of a list, which stands behind a mode or alone.
+/// Whether `all` is an item of a list, after a mode or alone.
 fn has_all(word: &[u8]) -> bool {
     let list = match first_place(word, b':') {
         Some(place) => &word[place + 1..],
@@ -156,7 +156,7 @@ fn has_all(word: &[u8]) -> bool {
     false
 }
 
-/// Whether `all` stands in a line where nodes should.
+/// Whether a line has `all` where nodes belong.
 fn names_all(line: &[u8]) -> bool {
     for word in words(line) {
         if has_all(word) {
@@ -178,7 +178,7 @@ fn is_decimal_start(line: &[u8]) -> bool {
     }
 }
 
-/// What to write for all nodes, where so many are there.
+/// The way to write all nodes of a machine with `nodes` nodes.
 fn all_nodes(nodes: u32) -> Detail {
     Detail::AllNodes(nodes.saturating_sub(1))
 }
@@ -194,7 +194,7 @@ fn all_detail(script: &Script, said: &Line<'_>) -> Detail {
     }
 }
 
-/// What is known of a fault of a list or a policy.
+/// The details of an error in a list or a policy.
 fn word_detail(script: &Script, line: &[u8], said: &Line<'_>, fault: WordError) -> Detail {
     if ends_with_return(line) {
         return Detail::CarriageReturn;
@@ -208,7 +208,7 @@ fn word_detail(script: &Script, line: &[u8], said: &Line<'_>, fault: WordError) 
     }
 }
 
-/// What is known of a fault or a refusal of a line, by the script after it.
+/// The details of a line's error or refusal, by the script after it.
 pub(crate) fn detail_of(script: &Script, line: &[u8], said: &Line<'_>, fault: Reply) -> Detail {
     match fault {
         Reply::BadWords => match why_malformed(line) {

@@ -1,4 +1,4 @@
-//! Why a page goes where it goes.
+//! Explaining why a page goes where it goes.
 ghost use Rattle.std.specs.Prelude.{◌≡◌, List, IfOk, IfErr};
 ghost use Rattle.numa_space.specs.Standing.{StandsFor, place_refusal_of};
 ghost use Rattle.numa_space.specs.declared.command.Command.{Command};
@@ -22,17 +22,17 @@ pub struct Explanation {
     pub task: u32,
     /// The page: its address divided by 4,096.
     pub page: u64,
-    /// The node of the processor that the task runs on.
+    /// The node of the CPU on which the task runs.
     pub cpu: u32,
-    /// The range that has the page, with the policy of its own, if it has one.
+    /// The range that has the page, with its own policy, if it has one.
     pub range: Run<RangeRecord>,
     /// The page's index, by which nodes take turns.
     pub index: u64,
     /// The task's policy, if it has one.
     pub task_policy: Option<Record>,
-    /// The scope whose policy counts.
+    /// The scope whose policy applies.
     pub scope: Scope,
-    /// The policy that counts; None is local allocation.
+    /// The policy that applies; `None` is local allocation.
     pub policy: Option<Record>,
     /// The nodes on which memory may be placed.
     pub allowed: NodeMask,
@@ -42,7 +42,7 @@ pub struct Explanation {
     pub nodes: ArrayVec<u8, 256>,
 }
 
-/// The policy that a range has of its own.
+/// The own policy of a range.
 pub(crate) fn own_policy(range: &Run<RangeRecord>) -> Option<Record>
     ensures { result ≡ range.now.value }
 {
@@ -52,8 +52,8 @@ pub(crate) fn own_policy(range: &Run<RangeRecord>) -> Option<Record>
 /// Why memory for a page is looked for on its nodes, if the task touched it now.
 ///
 /// # Errors
-/// `Refused` with `BadCpu` where the machine has no such node, else with `Unmapped` where the page
-/// isn't mapped; `NoMemory` where there was none for the turns of weighted interleave.
+/// The first that applies: `Refused(BadCpu)`, the machine lacks the node; `Refused(Unmapped)`, the
+/// page isn't mapped; `NoMemory`, there is no memory for the cycle of weighted interleave.
 pub fn explain(
     alloc: Global,
     space: &Space,

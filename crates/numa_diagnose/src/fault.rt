@@ -1,16 +1,16 @@
-//! Why there is no explanation.
+//! Why an explanation is refused.
 ghost use Rattle.std.specs.Prelude.{◌≡◌};
 ghost use Rattle.numa_diagnose.specs.declared.fault.ReasonError.TheVariants as fault;
 
 use numa_space::PlaceRefusal;
 use std::alloc::AllocError;
 
-/// Why there is no explanation.
+/// Why an explanation is refused.
 #[derive(Clone, Copy, Debug)]
 pub enum ReasonError {
-    /// The question was refused: the machine has no such node, or the page isn't mapped.
+    /// The question was refused: the machine lacks the node, or the page isn't mapped.
     Refused(PlaceRefusal),
-    /// There was no memory for it.
+    /// Out of memory.
     NoMemory,
 }
 

@@ -1,4 +1,4 @@
-//! What is wrong with a line.
+//! Findings: what is wrong with a line.
 ghost use Rattle.std.specs.Prelude.{◌≡◌, Bool};
 ghost use Rattle.numa_diagnose.specs.Checks.{Checks};
 
@@ -8,47 +8,46 @@ use numa_script::line::parse;
 use numa_script::{Malformed, Reply};
 use std::alloc::Global;
 
-/// What is known beyond the name of a fault or a refusal.
+/// A detail of an error or a refusal, beyond its name.
 #[derive(Clone, Copy)]
 pub enum Detail {
     /// Nothing.
     None,
     /// Why the line is malformed, and where.
     Malformed(Malformed),
-    /// No machine is ready yet, so that the line wasn't judged.
+    /// No machine is ready yet, so the line wasn't judged.
     NoMachine,
-    /// A machine is ready already.
+    /// A machine is already ready.
     MachineReady,
-    /// The line ends with a carriage return, which stands in its list or policy.
+    /// The line ends with a carriage return, which is in its list or policy.
     CarriageReturn,
-    /// A tab stands in a list or a policy.
+    /// There is a tab in a list or a policy.
     Tab,
-    /// `all` stands where nodes should; the highest node of the machine.
+    /// There is `all` where nodes belong; with the highest node of the machine.
     AllNodes(u32),
-    /// START begins with 0 and has no `0x`, so that it is decimal.
+    /// START begins with 0 without `0x`, so it is decimal.
     DecimalStart,
-    /// A page, by its number: the first that stands in the way, or that is missing.
+    /// The number of a page: the first that is in the way, or that is missing.
     Page(u64),
-    /// A page, by its number, that is mapped and isn't published yet.
+    /// The number of a page that is mapped but not published yet.
     Unpublished(u64),
     /// The highest node of the machine.
     LastNode(u32),
-    /// How many there are now of what is limited.
+    /// The present number of what is limited.
     Count(u64),
     /// The nodes to be allowed have no memory.
     Mems,
 }
 
-/// What is wrong with a line: the fault or the refusal that it is answered, and what else is known.
+/// What is wrong with a line: its error or refusal, and a detail.
 #[derive(Clone, Copy)]
 pub struct Finding {
     pub fault: Reply,
     pub detail: Detail,
 }
 
-/// Does what a line says, without its line feed, and finds what is wrong with it: something exactly
-/// where it is answered by a fault or a refusal, and that one. A question is judged and not
-/// answered.
+/// Carries out a line, without its line feed, and returns what is wrong with it: `Some` exactly if
+/// its answer is an error or a refusal, and then that one. A question is judged and not answered.
 pub fn judge(alloc: Global, script: &mut Script, line: &[u8]) -> Option<Finding>
     ensures { Checks script.old line.now result script.new }
 {

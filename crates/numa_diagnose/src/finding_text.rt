@@ -19,22 +19,22 @@ const FRAMES_FORM: &str = " are no decimal numbers below 2^32 with commas betwee
 const DISTANCES_FORM: &str = " is neither flat nor decimal numbers of at most 255 with commas \
 and semicolons; either may stand behind kernel:";
 
-/// What is told of a carriage return.
+/// The message for a carriage return.
 const RETURN: &str =
     "a carriage return; lines end with a line feed alone: take it out, as tr -d '\\r' does";
 
-/// What is told of a tab.
+/// The message for a tab.
 const TAB: &str =
     "a tab; words stand between single spaces: write one, or nothing at the end of a line";
 
-/// What is told of a START that is decimal and looks like another.
+/// The message for a decimal START that looks like another.
 const DECIMAL_START: &str = "START begins with 0 and has no 0x, so it is decimal, and no multiple \
 of 4096; write 0x before hexadecimal digits";
 
-/// What stands behind a page that is mapped and isn't published.
+/// The text after a page that is mapped but not published.
 const UNPUBLISHED: &str = " is mapped, but not published yet; publish first";
 
-/// Appends how a keyword's lines are written, behind a semicolon.
+/// Appends the syntax of a keyword's lines, after a semicolon.
 fn put_usage(text: &mut Text, keyword: Keyword) {
     text.put("; ");
     text.put(keyword.name());
@@ -50,7 +50,7 @@ fn put_usage(text: &mut Text, keyword: Keyword) {
     }
 }
 
-/// Appends what a word has to be.
+/// Appends the form that a word must have.
 fn put_form(text: &mut Text, parameter: Parameter) {
     text.put(parameter.name());
     match parameter.form() {
@@ -88,7 +88,7 @@ fn put_byte(text: &mut Text, byte: u8) {
     }
 }
 
-/// What is wrong with a malformed line, where more words follow: those before them.
+/// What is wrong with a malformed line; if more words follow, those before them.
 fn cause_words(cause: Cause) -> &'static str {
     match cause {
         Cause::TooLong => "the line has more than 4096 bytes",
@@ -117,7 +117,7 @@ fn put_cause(text: &mut Text, cause: Cause) {
     }
 }
 
-/// Appends a fault by its head, its name and why.
+/// Appends an error: its head, its name and its cause.
 fn put_fault(text: &mut Text, head: &str, fault: Named, words: &str) {
     text.put(head);
     text.put_bytes(fault.name());
@@ -125,7 +125,7 @@ fn put_fault(text: &mut Text, head: &str, fault: Named, words: &str) {
     text.put(words);
 }
 
-/// Appends a fault of a node list or a policy: its name, and why.
+/// Appends an error in a node list or a policy: its name and its cause.
 fn put_word_fault(text: &mut Text, fault: WordError) {
     match fault {
         WordError::List(fault) => {
@@ -138,7 +138,7 @@ fn put_word_fault(text: &mut Text, fault: WordError) {
     }
 }
 
-/// The name of a refusal; that of a command has its error number behind it.
+/// The name of a refusal; that of a command is followed by its error number.
 fn name_of(cause: CoreRefusal) -> &'static [u8] {
     match cause {
         CoreRefusal::Command(refusal) => Named::Refusal(refusal).name(),
@@ -163,7 +163,7 @@ fn put_refusal_name(text: &mut Text, cause: CoreRefusal) {
     }
 }
 
-/// What stands behind the address of a page in the way.
+/// The text after the address of a page in the way.
 fn page_words(cause: CoreRefusal) -> &'static str {
     match cause {
         CoreRefusal::Command(refusal) => match refusal {
@@ -176,13 +176,13 @@ fn page_words(cause: CoreRefusal) -> &'static str {
     }
 }
 
-/// Appends why a line is refused for a page, and what stands behind the page's address.
+/// Appends why a line is refused for a page, with the text after the page's address.
 fn put_page(text: &mut Text, page: u64, words: &str) {
     text.put_hex("page ", page.saturating_mul(4096));
     text.put(words);
 }
 
-/// Appends why a line is refused, and a number with words before and behind it.
+/// Appends why a line is refused, and a number with words before and after it.
 fn put_counted(text: &mut Text, cause: CoreRefusal, words: &str, number: u64, behind: &str) {
     text.put(worker_words(cause));
     text.put_number(words, number);
@@ -204,14 +204,14 @@ fn put_refusal(text: &mut Text, cause: CoreRefusal, detail: Detail) {
     }
 }
 
-/// Appends a refusal: its name, and why.
+/// Appends a refusal: its name and its cause.
 fn put_refused(text: &mut Text, cause: CoreRefusal, detail: Detail) {
     put_refusal_name(text, cause);
     text.put(": ");
     put_refusal(text, cause, detail);
 }
 
-/// Appends the fault or the refusal that a line is answered, and why.
+/// Appends a line's error or refusal, and its cause.
 fn put_answer(text: &mut Text, fault: Reply, detail: Detail) {
     match fault {
         Reply::BadWords => text.put("bad words"),
@@ -227,7 +227,7 @@ fn put_answer(text: &mut Text, fault: Reply, detail: Detail) {
     }
 }
 
-/// What is known of a fault of words or of the state.
+/// The text of a detail of bad words or a bad state.
 fn detail_words(detail: Detail) -> &'static str {
     match detail {
         Detail::Malformed(_) => ": ",
@@ -241,7 +241,7 @@ fn detail_words(detail: Detail) -> &'static str {
     }
 }
 
-/// Appends what to write in place of `all`, on a machine with this highest node.
+/// Appends what to write instead of `all`, on a machine with this highest node.
 fn put_all(text: &mut Text, last: u32) {
     text.put("; in place of all write 0");
     if last > 0 {
@@ -249,7 +249,7 @@ fn put_all(text: &mut Text, last: u32) {
     }
 }
 
-/// Appends what else is known of a fault of words or of the state.
+/// Appends the detail of bad words or a bad state.
 fn put_detail(text: &mut Text, detail: Detail) {
     text.put(detail_words(detail));
     match detail {
@@ -267,18 +267,17 @@ fn put_finding(text: &mut Text, finding: &Finding) {
     put_detail(text, finding.detail);
 }
 
-/// Appends what is wrong with a line: its answer, and why, with what to do, where there is
-/// something.
+/// Appends what is wrong with a line: its answer and its cause, with what to do, if anything.
 ///
 /// # Errors
-/// `AllocError`: out of memory. The text may then have a part of it.
+/// `AllocError`: out of memory. A part may have been appended.
 pub fn say_finding(text: &mut Vec<u8>, finding: &Finding) -> Result<(), AllocError> {
     let mut written = Text::of(text);
     put_finding(&mut written, finding);
     written.end(text)
 }
 
-/// Appends where a finding stands: the name of the text, the line, and for bad words the column.
+/// Appends the position of a finding: the name of the text, the line, and for bad words the column.
 fn put_place(text: &mut Text, name: &str, place: u64, detail: Detail) {
     text.put(name);
     text.put_number(":", place);
@@ -288,11 +287,11 @@ fn put_place(text: &mut Text, name: &str, place: u64, detail: Detail) {
     text.put(": ");
 }
 
-/// Appends a line about a line: where it stands, by the name of its text and its place there from
+/// Appends a message about a line: its position, by the name of its text and its number there from
 /// 1, and what is wrong with it.
 ///
 /// # Errors
-/// `AllocError`: out of memory. The text may then have a part of it.
+/// `AllocError`: out of memory. A part may have been appended.
 pub fn say_line(
     text: &mut Vec<u8>,
     name: &str,
@@ -306,10 +305,10 @@ pub fn say_line(
     written.end(text)
 }
 
-/// Appends a line about so many lines that weren't judged.
+/// Appends a message about `count` lines that weren't judged.
 ///
 /// # Errors
-/// `AllocError`: out of memory. The text may then have a part of it.
+/// `AllocError`: out of memory. A part may have been appended.
 pub fn say_unjudged(text: &mut Vec<u8>, count: u64) -> Result<(), AllocError> {
     let mut written = Text::of(text);
     written.put_number("not judged, since no machine was ready: ", count);

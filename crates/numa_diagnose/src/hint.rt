@@ -1,5 +1,4 @@
-//! What a running kernel would do otherwise with a line, and the lines of a script as its twin has
-//! them, which goes by the other rules.
+//! What a running kernel would do differently with a line, and playing a script by the other rules.
 ghost use Rattle.std.specs.Prelude.{◌≡◌, Option};
 ghost use Rattle.numa_script.specs.Lines.{line_of};
 ghost use Rattle.numa_run.specs.Scripts.{ScriptReplies};
@@ -12,9 +11,9 @@ use numa_script::{Line, Reply};
 use numa_space::Space;
 use std::alloc::Global;
 
-/// What a running kernel would do otherwise with a line, without its line feed, where a space that
-/// goes by the documents' rules is as its script so far has left it. Something only where the line
-/// says a command, or is one by the kernel's rules.
+/// What a running kernel would do differently with a line, without its line feed, in a space that
+/// follows the documents' rules. `Some` only if the line is a command, or is one by the kernel's
+/// rules.
 pub fn hint_of(space: &Space, line: &[u8]) -> Option<Otherwise>
     ensures { result ≡ hint_for space.now (line_of line.now) }
 {
@@ -25,9 +24,9 @@ pub fn hint_of(space: &Space, line: &[u8]) -> Option<Otherwise>
     }
 }
 
-/// Does what a line says, without its line feed, but for a line `rules`: that is taken for one with
-/// the other rules. So two scripts, of which one begins by the rules that the other doesn't, and
-/// that are handed the same lines, one by `judge` and one by this, go by the two sets of rules.
+/// Carries out a line, without its line feed, but takes a line `rules` for one with the other
+/// rules. So of two scripts that begin with different rules and are given the same lines, one by
+/// `judge` and one by this, each follows its own set of rules.
 pub fn reply_by_other(alloc: Global, script: &mut Script, line: &[u8]) -> Option<Reply>
     ensures { ScriptReplies script.old (turned (line_of line.now)) result script.new }
 {

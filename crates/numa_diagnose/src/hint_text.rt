@@ -1,4 +1,4 @@
-//! What a running kernel would do otherwise, as texts.
+//! Hints at a running kernel, as texts.
 use crate::text::Text;
 use numa_machine::Rules;
 use numa_mask::{NodeMask, list_text};
@@ -7,7 +7,7 @@ use numa_rules::{ByOther, Otherwise, Owner, Parted};
 use numa_space::PAGE_BYTES;
 use std::alloc::AllocError;
 
-/// What stands behind every hint.
+/// The end of every hint.
 const SEE: &str = "; see rules linux";
 
 /// Appends nodes, in words.
@@ -20,7 +20,7 @@ fn put_nodes(text: &mut Text, nodes: &NodeMask) {
     text.put(list_text(nodes).as_str());
 }
 
-/// Appends whose a policy is.
+/// Appends the owner of a policy.
 fn put_owner(text: &mut Text, owner: Owner) {
     match owner {
         Owner::Range(first) => text.put_hex(" of the range at ", first.saturating_mul(PAGE_BYTES)),
@@ -28,12 +28,12 @@ fn put_owner(text: &mut Text, owner: Owner) {
     }
 }
 
-/// Whether a kernel keeps the nodes of such a policy: else it has put nodes in the place of none.
+/// Whether a kernel keeps the nodes of such a policy; else it has replaced an empty set.
 fn keeps_nodes(policy: &Record) -> bool {
     matches!(policy.spec().mode(), Mode::Preferred | Mode::PreferredMany)
 }
 
-/// Appends which nodes a kernel gives to a policy, and which the documents do.
+/// Appends the nodes of a policy in a kernel, and by the documents.
 fn put_parted(text: &mut Text, parted: &Parted) {
     text.put(if keeps_nodes(&parted.linux) {
         "keeps "
@@ -50,7 +50,7 @@ fn put_parted(text: &mut Text, parted: &Parted) {
     put_nodes(text, &parted.document.effective());
 }
 
-/// What a kernel does otherwise, where no policy is to be named.
+/// What a kernel does differently, without naming a policy.
 fn otherwise_words(otherwise: &Otherwise) -> &'static str {
     match otherwise {
         Otherwise::KeepsLastPage => "keeps the last page below 2^47 free: ENOMEM",
@@ -67,8 +67,11 @@ fn otherwise_words(otherwise: &Otherwise) -> &'static str {
     }
 }
 
-/// Appends a line about a line: where it stands, by the name of its text and its place there from
-/// 1, and what a running kernel would do otherwise with it.
+/// Appends a message about a line: its position, by the name of its text and its number there from
+/// 1, and what a running kernel would do differently with it.
+///
+/// # Errors
+/// `AllocError`: out of memory. A part may have been appended.
 pub fn say_hint(
     text: &mut Vec<u8>,
     name: &str,
@@ -88,7 +91,7 @@ pub fn say_hint(
     written.end(text)
 }
 
-/// Whose rules count, and whose don't.
+/// The names of the rules that apply and of the others.
 fn rules_words(rules: Rules) -> &'static str {
     match rules {
         Rules::Document => "rules: those of the documents; by rules linux ",
@@ -96,8 +99,11 @@ fn rules_words(rules: Rules) -> &'static str {
     }
 }
 
-/// Appends a line to an explanation that goes by these rules: that they count, and what the other
-/// ones make of the page.
+/// Appends a line to an explanation by these rules: that they apply, and where the page goes by the
+/// others.
+///
+/// # Errors
+/// `AllocError`: out of memory. A part may have been appended.
 pub fn say_by_other(text: &mut Vec<u8>, rules: Rules, other: &ByOther) -> Result<(), AllocError> {
     let mut written = Text::of(text);
     written.put(rules_words(rules));

@@ -1,18 +1,18 @@
-//! Reasons in words: what is wrong with a line, and why a page goes where it goes.
+//! Diagnosis: what is wrong with a line, and why a page goes where it goes.
 //!
-//! [`judge`] takes a line to a running script and finds something exactly where the line is
-//! answered by a fault or a refusal. [`say_finding`] tells it in a few words, with what to do, and
-//! [`say_line`] in a line of its own, with where it stands.
+//! [`judge`] passes a line to a running script and returns what is wrong with it, if its answer is
+//! an error or a refusal. [`say_finding`] says that in a few words, with what to do, and
+//! [`say_line`] in a line with its position.
 //!
-//! [`explain`] gives the range that has a page, which policy counts there, and the rule that puts
-//! the nodes in order, as a value, each stated by the history of accepted commands, and
-//! [`say_explanation`] tells them in six lines. ("NUMA Memory Policy", scope and components of
+//! [`explain`] returns the range that has a page, the policy that applies there, and the rule that
+//! orders the nodes, as a value that is defined by the history of accepted commands, and
+//! [`say_explanation`] writes them in six lines. ("NUMA Memory Policy", scope and components of
 //! memory policies)
 //!
-//! Where the rules of the documents count, [`hint_of`] finds what a running kernel would do
-//! otherwise with a line, and [`say_hint`] tells it. A second script that is handed the same lines
-//! by [`reply_by_other`] goes by the other rules; [`numa_rules::by_other_rules`] finds what it
-//! makes of a page, and [`say_by_other`] tells it.
+//! By the documents' rules, [`hint_of`] returns what a running kernel would do differently with a
+//! line, and [`say_hint`] writes it. A second script that is given the same lines by
+//! [`reply_by_other`] follows the other rules; [`numa_rules::by_other_rules`] returns where it
+//! leads for a page, and [`say_by_other`] writes that.
 #![tactic(auto)]
 
 mod details;

@@ -1,4 +1,4 @@
-//! Pages of a span that are mapped, and pages that aren't.
+//! Mapped and unmapped pages of a span.
 use numa_mode::Mode;
 use numa_space::Space;
 
@@ -29,7 +29,7 @@ pub(crate) fn first_mapped(space: &Space, first: u64, end: u64) -> Option<u64> {
     None
 }
 
-/// The first page from `first` up to `end` whose range has a policy that takes no home.
+/// The first page from `first` up to `end` whose range has a policy that takes no home node.
 pub(crate) fn first_without_home(space: &Space, first: u64, end: u64) -> Option<u64> {
     for range in space.range_iter() {
         let behind = range.first.saturating_add(range.pages);

@@ -15,7 +15,7 @@ fn has_page(run: &Run<RangeRecord>, page: u64) -> bool
     run.first <= page && page - run.first < run.pages
 }
 
-/// The range of a space that has a page, where one has it.
+/// The range of a space that has a page, if it is mapped.
 pub fn range_of(space: &Space, page: u64) -> Option<Run<RangeRecord>>
     ensures run { result ≡ run_with space.now.ranges page }
     ensures range { IfSome result (λ run. IsRange same_record (page_at space.now.ranges) run) }

@@ -9,7 +9,7 @@ use numa_mode::Record;
 use numa_space::PAGE_BYTES;
 use std::alloc::AllocError;
 
-/// The first line: the question, and the nodes in order.
+/// Writes the first line: the question, and the nodes in order.
 fn put_question(text: &mut Text, said: &Explanation) {
     let address = said.page.saturating_mul(PAGE_BYTES);
     let asked = [said.task as u64, said.cpu as u64];
@@ -35,7 +35,7 @@ fn put_range(text: &mut Text, said: &Explanation) {
     text.put_form(form, &[range.index, last, said.index]);
 }
 
-/// Whose a policy is, the policy, and what is to be said of it.
+/// Writes the owner of a policy, the policy, and a remark.
 fn put_owned(text: &mut Text, owner: &str, policy: &Record, why: &str) {
     text.put(owner);
     text.put("'s, ");
@@ -43,7 +43,7 @@ fn put_owned(text: &mut Text, owner: &str, policy: &Record, why: &str) {
     text.put(why);
 }
 
-/// Why the policy of a scope doesn't count.
+/// Writes why the policy of a scope doesn't apply.
 fn put_passed(text: &mut Text, owner: &str, policy: &Option<Record>) {
     let Some(policy) = policy else {
         text.put(owner);
@@ -57,7 +57,7 @@ fn put_passed(text: &mut Text, owner: &str, policy: &Option<Record>) {
     put_owned(text, owner, policy, why);
 }
 
-/// Why the other policies don't count.
+/// Writes why the other policies don't apply.
 fn put_others_passed(text: &mut Text, said: &Explanation) {
     if let Scope::Range = said.scope {
         return put_passed(text, "the task", &said.task_policy);
@@ -68,7 +68,7 @@ fn put_others_passed(text: &mut Text, said: &Explanation) {
     }
 }
 
-/// The line of the policy: which counts, and why the others don't.
+/// Writes the line of the policy: which one applies, and why the others don't.
 fn put_policy(text: &mut Text, said: &Explanation) {
     let owner = match said.scope {
         Scope::Range => "\npolicy: the range",
@@ -82,7 +82,7 @@ fn put_policy(text: &mut Text, said: &Explanation) {
     put_others_passed(text, said);
 }
 
-/// A set of nodes behind words; `none` where it has none.
+/// Writes words and a set of nodes, `none` if it is empty.
 fn put_set(text: &mut Text, words: &str, set: &NodeMask) {
     text.put(words);
     if set.is_empty() {
@@ -101,7 +101,7 @@ fn put_sets(text: &mut Text, said: &Explanation) {
     put_set(text, "; allowed nodes: ", &said.allowed);
 }
 
-/// A node behind words, and how far it is from another.
+/// Writes words, a node, and its distance from another.
 fn put_node(text: &mut Text, machine: &Machine, words: &str, node: u8, from: u32) {
     text.put_number(words, node as u64);
     let node = node as u32;
@@ -111,7 +111,7 @@ fn put_node(text: &mut Text, machine: &Machine, words: &str, node: u8, from: u32
     }
 }
 
-/// Whether nodes stand in the order that a kernel computes, and not the nearest first.
+/// Whether nodes are in a kernel's order, not the nearest first.
 fn is_kernel_order(machine: &Machine) -> bool {
     match machine.fallback() {
         Fallback::Nearest => false,
@@ -119,7 +119,8 @@ fn is_kernel_order(machine: &Machine) -> bool {
     }
 }
 
-/// The first node, which is the first around another of the nodes that the words name.
+/// Writes the first node, which is the first, in the order of another, of the nodes that the words
+/// name.
 fn put_nearest(text: &mut Text, machine: &Machine, said: &Explanation, words: &str, from: u32) {
     text.put(words);
     text.put(if is_kernel_order(machine) {
@@ -152,7 +153,8 @@ fn put_block(text: &mut Text, index: u64, block: WeightedTurn) {
     text.put_form(" has turns $ to $ (weight $), so node $", &turns);
 }
 
-/// The line of the first node: why it is the first. Gives the node around which all are in order.
+/// Writes the line of the first node: why it is the first. Returns the node by whose order all are
+/// sorted.
 fn put_first(text: &mut Text, machine: &Machine, said: &Explanation) -> u32 {
     match said.rule {
         OrderRule::Local(from) => {
@@ -181,7 +183,7 @@ fn put_first(text: &mut Text, machine: &Machine, said: &Explanation) -> u32 {
     }
 }
 
-/// Which nodes follow the first, and in which order.
+/// The nodes that follow the first, and their order, in words.
 fn order_words(rule: OrderRule) -> &'static str {
     match rule {
         OrderRule::Bind(_) => "\nthen: the other effective nodes",
@@ -191,7 +193,7 @@ fn order_words(rule: OrderRule) -> &'static str {
     }
 }
 
-/// Around which node the others are in order; what stands behind it.
+/// Writes by which node's order the others are sorted, and returns the text after it.
 fn put_around(text: &mut Text, machine: &Machine, from: u32) -> &'static str {
     if is_kernel_order(machine) {
         text.put_number(", in the kernel's order of node ", from as u64);
@@ -201,7 +203,7 @@ fn put_around(text: &mut Text, machine: &Machine, from: u32) -> &'static str {
     " first: "
 }
 
-/// The line of the other nodes, which are in order around a node.
+/// Writes the line of the other nodes, which are sorted by a node's order.
 fn put_others(text: &mut Text, machine: &Machine, said: &Explanation, from: u32) {
     let others = said.nodes.as_slice().get(1..).unwrap_or(&[]);
     if others.is_empty() {
@@ -217,11 +219,11 @@ fn put_others(text: &mut Text, machine: &Machine, said: &Explanation, from: u32)
 }
 
 /// Appends why memory for a page is looked for on its nodes, in six lines: the question with the
-/// nodes in order, the range, the policy that counts, the sets of nodes, the first node and the
+/// nodes in order, the range, the policy that applies, the sets of nodes, the first node and the
 /// others. The machine is that of the space.
 ///
 /// # Errors
-/// `AllocError`: out of memory. The text may then have a part of it.
+/// `AllocError`: out of memory. A part may have been appended.
 pub fn say_explanation(
     text: &mut Vec<u8>,
     machine: &Machine,

@@ -1,4 +1,4 @@
-//! The rule that puts the nodes of a page in order.
+//! The rule that orders the nodes of a page.
 ghost use Rattle.std.specs.Prelude.{◌≡◌, ◌≢◌, true, IfOk, IfSome, slice_index};
 ghost use Rattle.numa_mask.specs.NodeSet.{members};
 ghost use Rattle.numa_machine.specs.Weights.{weight_at, weight_below};
@@ -10,46 +10,46 @@ use numa_mask::NodeMask;
 use numa_mode::{Mode, Record};
 use std::alloc::{AllocError, Global};
 
-/// A turn of interleave: the members of the set, rising, have the places 0, 1, .. in each round.
+/// A turn of interleave: the members of the set, in ascending order, have the places 0, 1, .. in
+/// each round.
 #[derive(Clone, Copy)]
 pub struct Turn {
     /// The page's index modulo the number of members.
     pub place: u64,
-    /// How many members there are.
+    /// The number of members.
     pub members: u64,
     /// The member at that place.
     pub node: u8,
 }
 
-/// A turn of weighted interleave: in each round the members, rising, have as many places as their
-/// weights.
+/// A turn of weighted interleave: in each round the members, in ascending order, have as many
+/// places as their weights.
 #[derive(Clone, Copy)]
 pub struct WeightedTurn {
-    /// The page's index modulo the weights of all members together.
+    /// The page's index modulo the total weight.
     pub place: u64,
-    /// The weights of all members together.
+    /// The total weight of the members.
     pub total: u64,
     /// The member that has that place.
     pub node: u8,
-    /// Its first place: the weights of the members below it together.
+    /// Its first place: the total weight of the members below it.
     pub before: u64,
-    /// How many places it has: its weight.
+    /// The number of its places: its weight.
     pub weight: u64,
 }
 
-/// The rule that puts the nodes of a page in order ("NUMA Memory Policy", components of memory
-/// policies). The order of a node is the machine's: the nearest to it first, or a kernel's.
+/// The rule that orders the nodes of a page ("NUMA Memory Policy", components of memory policies).
+/// The order of a node is the machine's fallback order: the nearest first, or a kernel's.
 #[derive(Clone, Copy)]
 pub enum OrderRule {
     /// The allowed nodes in the order of this node, which is the faulting one.
     Local(u32),
     /// The allowed nodes in the order of this node, which is the lowest of the effective set.
     Preferred(u8),
-    /// The effective nodes alone, in the order of this node, which is the home or the faulting
-    /// node.
+    /// Only the effective nodes, in the order of this node, which is the home or the faulting node.
     Bind(u32),
     /// The effective nodes that are allowed, in the order of this node, which is the home or the
-    /// faulting node, and behind them the other allowed ones in the same order.
+    /// faulting node, and after them the other allowed ones in the same order.
     PreferredMany(u32),
     /// The allowed nodes in the order of the node whose turn it is.
     Interleave(Turn),
@@ -74,7 +74,7 @@ fn turn_of(set: &NodeMask, index: u64) -> Turn
     }
 }
 
-/// The weights of the members below a node together.
+/// The total weight of the members below a node.
 fn weight_below(weights: &Weights, set: &NodeMask, node: u8) -> u64
     ensures { result ≡ weight_below (weight_at weights.now) set.now node }
 {

@@ -1,4 +1,4 @@
-//! The scope whose policy counts.
+//! The scope whose policy applies.
 ghost use Rattle.std.specs.Prelude.{◌≡◌};
 ghost use Rattle.numa_mode.specs.Policy.{is_live};
 ghost use Rattle.numa_space.specs.Policies.{where_live};
@@ -6,10 +6,10 @@ ghost use Rattle.numa_diagnose.specs.Reasons.{has_live, scope_of};
 
 use numa_mode::Record;
 
-/// The scope whose policy counts ("NUMA Memory Policy", scope of memory policies).
+/// The scope whose policy applies ("NUMA Memory Policy", scope of memory policies).
 #[derive(Clone, Copy)]
 pub enum Scope {
-    /// The page's range has a live policy of its own (mbind(2)).
+    /// The page's range has a live own policy (mbind(2)).
     Range,
     /// The range has none, and the task has one (set_mempolicy(2)).
     Task,
@@ -27,7 +27,7 @@ pub(crate) fn has_live(policy: &Option<Record>) -> bool
     }
 }
 
-/// The scope whose policy counts, of a range and a task with these policies.
+/// The scope whose policy applies, of a range and a task with these policies.
 pub(crate) fn scope_of(range: &Option<Record>, task: &Option<Record>) -> Scope
     ensures { result ≡ scope_of range.now task.now }
 {

@@ -6,7 +6,7 @@ use std::mem::replace;
 /// The digits of hexadecimal numbers.
 static DIGITS: [u8; 16] = *b"0123456789abcdef";
 
-/// A text that is being appended to. Once there was no memory for a part, no more is appended.
+/// A text that is being appended to. After it ran out of memory nothing more is appended.
 #[derive(Drop)]
 pub(crate) struct Text {
     bytes: Vec<u8>,
@@ -14,7 +14,7 @@ pub(crate) struct Text {
 }
 
 impl Text {
-    /// Takes over some bytes, until the end; nothing is appended to them yet.
+    /// Takes over some bytes until `end`.
     pub(crate) fn of(bytes: &mut Vec<u8>) -> Text {
         let none = Vec::new(*bytes.allocator());
         Text {
@@ -35,14 +35,14 @@ impl Text {
         self.put_bytes(words.as_bytes());
     }
 
-    /// Appends words, and a number in decimal behind them.
+    /// Appends words and a decimal number.
     pub(crate) fn put_number(&mut self, words: &str, number: u64) {
         let mut buffer = Buffer::new();
         self.put(words);
         self.put(buffer.format(number));
     }
 
-    /// Appends words, and a number as `0x` and hexadecimal digits behind them.
+    /// Appends words and a hexadecimal number with `0x`.
     pub(crate) fn put_hex(&mut self, words: &str, number: u64) {
         let zeros = number.leading_zeros() / 4;
         self.put(words);
@@ -53,7 +53,7 @@ impl Text {
         }
     }
 
-    /// Appends a form, with the next of the numbers for each `$`.
+    /// Appends a format in which each `$` stands for the next of the numbers.
     pub(crate) fn put_form(&mut self, form: &str, numbers: &[u64]) {
         let mut rest = numbers;
         for letter in form.as_bytes() {
@@ -66,7 +66,7 @@ impl Text {
         }
     }
 
-    /// Gives the bytes back. Whether there was memory for all of them.
+    /// Gives the bytes back, and returns whether there was memory for all of them.
     pub(crate) fn end(self, bytes: &mut Vec<u8>) -> Result<(), AllocError> {
         *bytes = self.bytes;
         self.outcome

@@ -1,5 +1,4 @@
-//! The causes of faults and refusals in a few words, each with what to do, where there is
-//! something.
+//! The causes of errors and refusals in a few words, each with what to do, if anything.
 use numa_machine::MachineFault;
 use numa_mask::ListFault;
 use numa_mode::SpecError;
@@ -50,7 +49,7 @@ another node"
     }
 }
 
-/// Why a command is refused, where no page or count is to be told.
+/// Why a command is refused, without naming a page or a count.
 pub(crate) fn command_words(refusal: Refusal) -> &'static str {
     match refusal {
         Refusal::CommandsSpent =>
@@ -79,7 +78,7 @@ pub(crate) fn command_words(refusal: Refusal) -> &'static str {
     }
 }
 
-/// Why a worker or a question is refused, where no page is to be told.
+/// Why a worker or a question is refused, without naming a page.
 pub(crate) fn worker_words(cause: CoreRefusal) -> &'static str {
     match cause {
         CoreRefusal::Command(refusal) => command_words(refusal),

@@ -1,4 +1,4 @@
-//! An answer, with which the lines that are wanted are compared.
+//! The latest answer, with which the expected lines are compared.
 ghost use Rattle.std.specs.Prelude.{◌≡◌, ◌≤◌, length};
 ghost use Rattle.numa_lines.specs.Counts.{is_over};
 
@@ -10,7 +10,7 @@ use std::alloc::Global;
 pub(crate) struct LatestAnswer {
     /// Whole lines with their line feeds, or nothing.
     pub(crate) text: Vec<u8>,
-    // Where its next line begins, and how far the wanted line has that.
+    // The byte at which its next line begins, and the byte up to which the expected line matches.
     line: usize,
     at: usize,
 }
@@ -25,14 +25,14 @@ impl LatestAnswer {
         }
     }
 
-    /// Forgets it.
+    /// Clears it.
     pub(crate) fn clear(&mut self) {
         self.text.clear();
         self.line = 0;
         self.at = 0;
     }
 
-    /// Whether it has no further line.
+    /// Whether all its lines were compared.
     pub(crate) fn is_over(&self) -> bool
         ensures { result ≡ is_over self.now }
     {
@@ -50,12 +50,12 @@ impl LatestAnswer {
         }
     }
 
-    /// What the wanted line has of that.
+    /// The part of that line which the expected line matches so far.
     pub(crate) fn taken(&self) -> &[u8] {
         self.text.get(self.line..self.at).unwrap_or(&[])
     }
 
-    /// Goes on to the next line.
+    /// Moves to the next line.
     pub(crate) fn go_on(&mut self) {
         self.line = self
             .line
@@ -64,7 +64,7 @@ impl LatestAnswer {
         self.at = self.line;
     }
 
-    /// Takes the next bytes of a wanted line, where it goes on with them. Whether it does.
+    /// Matches the next bytes of an expected line, and returns whether they match.
     pub(crate) fn take(&mut self, bytes: &[u8]) -> bool {
         let goes_on = match self.text.get(self.at..) {
             Some(rest) => rest.starts_with(bytes),
@@ -76,8 +76,8 @@ impl LatestAnswer {
         goes_on
     }
 
-    /// Takes the next bytes of a wanted line, up to the first with which it doesn't go on. How many
-    /// these are.
+    /// Matches the next bytes of an expected line up to the first that differs, and returns how
+    /// many match.
     pub(crate) fn take_some(&mut self, bytes: &[u8]) -> usize
         ensures { result ≤ length bytes.now }
     {
@@ -89,7 +89,8 @@ impl LatestAnswer {
         bytes.len()
     }
 
-    /// Goes on to the next line, where the wanted line has all of this one. Whether it has.
+    /// Moves to the next line if the expected line matches all of this one, and returns whether it
+    /// does.
     pub(crate) fn end_line(&mut self) -> bool {
         let ends = self.take(b"\n");
         if ends {

@@ -1,18 +1,18 @@
-//! Bytes that are held over calls: texts on their way to a writer, or a line that is not ended.
+//! Bytes kept from call to call: text on its way to a writer, or a line that hasn't ended.
 ghost use Rattle.std.specs.Prelude.{◌≡◌, ℕ, ◌++◌, [], List, IfOk, if◌then◌else◌};
 ghost use Rattle.numa_lines.specs.Lines.{given_part};
 
 use std::alloc::{AllocError, Global};
 use std::marker::Model;
 
-/// How many bytes of texts are held at most.
+/// The most bytes of text that are held back.
 const ROOM: usize = 4096;
 
-/// The most bytes of a line that a server is given.
+/// The most bytes of a line that are kept.
 const LIMIT: usize = 4097;
 
-/// Texts that are not yet handed to the writer, or the line that no line feed has ended yet: as
-/// many of its bytes as a server is given.
+/// Text not yet handed to the writer (up to 4,096 bytes), or the first 4,097 bytes of the line that
+/// no line feed has ended yet.
 #[derive(Drop)]
 pub(crate) struct LineBuffer {
     bytes: Vec<u8>,
@@ -29,7 +29,7 @@ impl Model for LineBuffer {
 }
 
 impl LineBuffer {
-    /// Room for a line or for texts, and nothing held yet.
+    /// An empty buffer of 4,097 bytes.
     ///
     /// # Errors
     /// `AllocError`: out of memory.
@@ -40,7 +40,7 @@ impl LineBuffer {
         Ok(LineBuffer { bytes })
     }
 
-    /// Keeps a text after those that are held, where there is room for it. Whether there is.
+    /// Appends a text if there is room for it, and returns whether there is.
     #[inline(always)]
     pub fn keep(&mut self, text: &[u8]) -> bool
         ensures { self.new ≡ (if result then self.old ++ text.now else self.old) }
@@ -52,7 +52,7 @@ impl LineBuffer {
         true
     }
 
-    /// Takes more bytes of the line.
+    /// Appends bytes of the line, as far as they are kept.
     #[tactic(auto, using(crate::proofs::Seeing::seen_more, crate::proofs::Seeing::seen_full))]
     pub fn hold(&mut self, bytes: &[u8])
         ensures { (line : List ℕ) → self.old ≡ given_part line
@@ -66,14 +66,14 @@ impl LineBuffer {
         self.bytes.extend_from_slice(&bytes[..kept]).unwrap();
     }
 
-    /// What is held.
+    /// The bytes.
     pub fn bytes(&self) -> &[u8]
         ensures { result.now ≡ self.now }
     {
         self.bytes.as_slice()
     }
 
-    /// Holds nothing any more.
+    /// Empties it.
     pub fn clear(&mut self)
         ensures { self.new ≡ [] }
     {

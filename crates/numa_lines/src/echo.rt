@@ -1,4 +1,4 @@
-//! Script lines, each with what it was answered, as worked scripts hold them.
+//! Script lines with their answers, in the form of worked scripts.
 ghost use Rattle.std.specs.Prelude.{◌≡◌, ◌++◌, OnOk};
 ghost use Rattle.numa_lines.specs.Echo.{echo_of, is_one_line, with_marks};
 
@@ -20,7 +20,7 @@ fn is_one_line(answer: &[u8]) -> bool
     }
 }
 
-/// Says an answer with `=> ` before each of its lines.
+/// Appends an answer with `=> ` before each of its lines.
 #[tactic(auto, using(crate::proofs::Marking::marking))]
 fn say_with_marks(text: &mut Vec<u8>, answer: &[u8]) -> Result<(), AllocError>
     ensures { OnOk result (text.new.items ≡ text.old.items ++ with_marks answer.now) }
@@ -42,12 +42,12 @@ fn say_with_marks(text: &mut Vec<u8>, answer: &[u8]) -> Result<(), AllocError>
     Ok(())
 }
 
-/// Says a script line, and what it was answered: an answer of one line on the same line, behind
-/// ` => `, and each line of a longer one on a line of its own, behind `=> `. An answer is whole
-/// lines with their line feeds, or nothing.
+/// Appends a script line and its answer: an answer of one line on the same line, after ` => `, and
+/// each line of a longer one on a line of its own, after `=> `. An answer is whole lines with their
+/// line feeds, or nothing.
 ///
 /// # Errors
-/// `AllocError` where there is no memory: then a part of that may have been said.
+/// `AllocError`: out of memory; part of it may have been appended.
 #[tactic(auto, using(crate::proofs::Marking::echoing))]
 pub fn say_echo(text: &mut Vec<u8>, line: &[u8], answer: &[u8]) -> Result<(), AllocError>
     ensures { OnOk result (text.new.items ≡ text.old.items ++ echo_of line.now answer.now) }
@@ -67,7 +67,7 @@ pub fn say_echo(text: &mut Vec<u8>, line: &[u8], answer: &[u8]) -> Result<(), Al
     say_with_marks(text, answer)
 }
 
-/// Writes script lines as they are answered, each with its answer.
+/// Has script lines answered, and writes each with its answer.
 #[derive(Drop)]
 pub struct Echo<A, W> {
     answerer: A,
@@ -80,7 +80,7 @@ impl<A: Respond, W: Write> Echo<A, W> {
     /// Before the first line.
     pub fn new(alloc: Global, answerer: A, output: W) -> Echo<A, W> {
         let mut output = Watched::new(output);
-        // Without that memory each text is written alone.
+        // If that fails, each text is written at once.
         let _ = output.gather(alloc);
         Echo {
             answerer,

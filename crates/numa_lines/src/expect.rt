@@ -1,4 +1,4 @@
-//! Worked scripts, compared with what their lines are answered as they are read.
+//! Worked scripts, compared with the answers to their lines as they are read.
 ghost use Rattle.std.specs.Prelude.{◌≡◌, ℕ, ◌≤◌, Bool, List, length, if◌then◌else◌};
 ghost use Rattle.numa_lines.specs.Counts.{with_different, with_end, with_idle, with_rest};
 
@@ -12,65 +12,69 @@ use memchr::memchr;
 use std::alloc::{AllocError, Global};
 use std::io::Write;
 
-/// What is told of a text in which no answer is wanted.
+/// What is reported of a text that expects no answer.
 const NOTHING: &[u8] = b": nothing is compared: no answer stands behind ' => '\n";
 
 /// What answers script lines.
 pub trait Respond {
-    /// Whether an answer tells a fault or a refusal.
+    /// Whether an answer is an error or a refusal.
     ghost is_fault: { List ℕ → Bool };
 
     /// Begins a script.
     fn begin(&mut self);
 
-    /// Puts the answer to a line into a text that is empty: whole lines with their line feeds.
+    /// Writes the answer to a line into an empty text: whole lines with their line feeds.
+    ///
+    /// # Errors
+    /// `AllocError`: out of memory.
     fn respond(&mut self, line: &[u8], answer: &mut Vec<u8>) -> Result<(), AllocError>;
 
-    /// Whether such an answer tells a fault or a refusal.
+    /// Whether such an answer is an error or a refusal.
     fn tells_fault(&self, answer: &[u8]) -> bool
         ensures { result ≡ is_fault answer.now };
 }
 
-/// What is known of the line that is read.
+/// What is known of the current line.
 #[derive(Clone, Copy)]
 enum Reading {
-    /// Not yet what it holds.
+    /// Its form isn't known yet.
     Head,
     /// A script line without an answer.
     Passed,
-    /// A wanted answer, as given so far.
+    /// An expected answer, the same as the given one so far.
     Same,
-    /// A wanted answer that isn't the given one.
+    /// An expected answer that differs from the given one.
     Different,
 }
 
-/// A line of a worked script, and the answer that it is compared with.
+/// A line of a worked script, and the answer with which it is compared.
 #[derive(Drop)]
 struct Comparison<W> {
     told: Watched<W>,
-    // Whether there was no memory for an answer, or for a line that is read.
+    // Whether memory ran out for an answer, or for a line.
     lacks_memory: bool,
     counts: Counts,
-    // The line that is read: its text, its place there from 1, and what is known.
+    // The current line: the name of its text, its number there from 1, and what is known of it.
     name: String,
     place: u64,
     reading: Reading,
-    // The answer to the latest script line, whether it is wanted, and whether one in this text is.
+    // The answer to the latest script line, whether it is expected, and whether one in this text
+    // is.
     answer: LatestAnswer,
     is_wanted: bool,
     is_worked: bool,
 }
 
-/// Worked scripts, a script of its own in each text, that are compared with their answers.
+/// Compares worked scripts, each text a separate script, with the answers to their lines.
 #[derive(Drop)]
 pub struct Expect<A, W> {
     answerer: A,
     comparison: Comparison<W>,
-    // The first bytes of the line that is read.
+    // The first bytes of the current line.
     head: Vec<u8>,
 }
 
-/// Begins to tell a difference: where it is, and what was wanted.
+/// Begins to report a difference: where it is, and what was expected.
 fn tell_wanted<W: Write>(told: &mut Watched<W>, name: &str, place: u64, wanted: &[u8]) {
     told.say(name.as_bytes());
     told.say(b":");
@@ -79,7 +83,7 @@ fn tell_wanted<W: Write>(told: &mut Watched<W>, name: &str, place: u64, wanted: 
     told.say(wanted);
 }
 
-/// Ends that: the line that was given, or that none was.
+/// Ends the report with the line that was given, if one was.
 fn tell_given<W: Write>(told: &mut Watched<W>, is_none: bool, line: &[u8]) {
     if is_none {
         return told.say(b", got nothing\n");
@@ -90,14 +94,14 @@ fn tell_given<W: Write>(told: &mut Watched<W>, is_none: bool, line: &[u8]) {
 }
 
 impl<W: Write> Comparison<W> {
-    /// Begins to tell a difference in the line at hand: where, and what was wanted as far as it is
-    /// as given.
+    /// Begins to report a difference in the current line: where it is, and what was expected as far
+    /// as it is the same.
     fn tell_wanted(&mut self) {
         let taken = self.answer.taken();
         tell_wanted(&mut self.told, self.name.as_str(), self.place, taken);
     }
 
-    /// Ends that: what was given. Counts it.
+    /// Ends the report with what was given, and counts the difference.
     fn tell_given(&mut self)
         ensures { self.new.counts ≡ with_different self.old.counts }
     {
@@ -105,7 +109,7 @@ impl<W: Write> Comparison<W> {
         tell_given(&mut self.told, self.answer.is_over(), self.answer.line());
     }
 
-    /// Takes bytes of a wanted line.
+    /// Compares bytes of an expected line.
     fn want(&mut self, bytes: &[u8]) {
         let Reading::Same = self.reading else {
             return self.told.say(bytes);
@@ -119,7 +123,7 @@ impl<W: Write> Comparison<W> {
         self.told.say(&bytes[count..]);
     }
 
-    /// Compares the end of a wanted line.
+    /// Compares the end of an expected line.
     fn end_wanted(&mut self) {
         if let Reading::Same = self.reading {
             if self.answer.end_line() {
@@ -132,7 +136,7 @@ impl<W: Write> Comparison<W> {
         self.answer.go_on();
     }
 
-    /// Tells of the line before the one at hand that this was wanted in place of what was given.
+    /// Reports for the line before the current one that this was expected, not what was given.
     fn tell_rest(&mut self, wanted: &[u8])
         ensures { self.new.counts ≡ with_different self.old.counts }
     {
@@ -141,8 +145,8 @@ impl<W: Write> Comparison<W> {
         self.tell_given();
     }
 
-    /// Counts what was given beyond what was wanted, and tells it where something was, or where it
-    /// is a fault.
+    /// Counts what was given beyond what was expected, and reports it if something was expected, or
+    /// if it is an error.
     #[cold]
     #[inline(never)]
     fn count_rest<A: Respond>(&mut self, answerer: &A)
@@ -170,8 +174,8 @@ impl<W: Write> Comparison<W> {
         self.is_wanted = false;
     }
 
-    /// Takes all of a wanted line, where that and a line feed are the whole answer. Whether they
-    /// are: most answers are one line, and as wanted.
+    /// Compares a whole expected line with the whole answer, and returns whether they are the same:
+    /// most answers are one line, and as expected.
     fn take_whole(&mut self, wanted: &[u8]) -> bool {
         let is_same = match self.answer.text.split_last() {
             Some((end, line)) => *end == b'\n' && line == wanted,
@@ -185,7 +189,7 @@ impl<W: Write> Comparison<W> {
         is_same
     }
 
-    /// Ends the text: tells where no answer was wanted in it.
+    /// Ends the text, and reports if it expects no answer.
     fn end_text(&mut self)
         ensures { self.new.counts
             ≡ (if self.old.is_worked then self.old.counts else with_idle self.old.counts) }
@@ -198,7 +202,7 @@ impl<W: Write> Comparison<W> {
         self.told.say(NOTHING);
     }
 
-    /// Has a script line answered.
+    /// Ends the answer to the line before, and has a script line answered.
     fn ask<A: Respond>(&mut self, answerer: &mut A, line: &[u8]) {
         self.end_answer(answerer);
         if let Err(_) = answerer.respond(line, &mut self.answer.text) {
@@ -206,7 +210,7 @@ impl<W: Write> Comparison<W> {
         }
     }
 
-    /// Whether more can be answered, and told; why not.
+    /// Why nothing more can be answered or reported, if so.
     fn outcome(&self) -> Result<(), RunFault> {
         if self.lacks_memory {
             return Err(RunFault::Memory);
@@ -217,7 +221,7 @@ impl<W: Write> Comparison<W> {
         Ok(())
     }
 
-    /// Takes the first bytes of the line at hand, which show what it holds, or the whole line.
+    /// Takes the whole line, or as many of its first bytes as show its form.
     fn take_head<A: Respond>(&mut self, answerer: &mut A, head: &[u8], is_whole: bool) {
         match read_form(head) {
             LineForm::Script => {
@@ -246,10 +250,10 @@ impl<W: Write> Comparison<W> {
 }
 
 impl<A: Respond, W: Write> Expect<A, W> {
-    /// Before the first text; the differences are told to the writer.
+    /// The state before the first text; differences go to the writer.
     pub fn new(alloc: Global, answerer: A, output: W) -> Expect<A, W> {
         let mut told = Watched::new(output);
-        // Without that memory each text is written alone.
+        // If that fails, each text is written at once.
         let _ = told.gather(alloc);
         let comparison = Comparison {
             told,
@@ -276,14 +280,14 @@ impl<A: Respond, W: Write> Expect<A, W> {
         self.comparison.counts
     }
 
-    /// Sees what the line at hand holds.
+    /// Finds the form of the current line.
     fn see(&mut self) {
         self.comparison
             .take_head(&mut self.answerer, self.head.as_slice(), false);
         self.head.clear();
     }
 
-    /// Ends the line at hand, and goes on to the next.
+    /// Ends the current line, and moves to the next.
     fn end_line(&mut self) {
         if let Reading::Head = self.comparison.reading {
             self.see();
@@ -297,7 +301,7 @@ impl<A: Respond, W: Write> Expect<A, W> {
         comparison.place = comparison.place.saturating_add(1);
     }
 
-    /// Whether nothing of the line at hand was taken.
+    /// Whether nothing of the current line was taken.
     fn is_new(&self) -> bool {
         match self.comparison.reading {
             Reading::Head => self.head.is_empty(),
@@ -305,8 +309,7 @@ impl<A: Respond, W: Write> Expect<A, W> {
         }
     }
 
-    /// Takes the rest of the line at hand. A line that lies whole in its piece, and shows there
-    /// what it holds, isn't copied.
+    /// Takes the rest of the current line. A short line that lies whole in its piece isn't copied.
     fn take_rest(&mut self, rest: &[u8]) {
         if rest.len() <= HEAD && self.is_new() {
             self.comparison.take_head(&mut self.answerer, rest, true);
@@ -316,8 +319,8 @@ impl<A: Respond, W: Write> Expect<A, W> {
         self.end_line();
     }
 
-    /// Takes the first bytes of the line at hand, up to those that show what it holds, and tells
-    /// how many these are.
+    /// Takes the first bytes of the current line, up to those that show its form, and returns how
+    /// many.
     fn take_first(&mut self, bytes: &[u8]) -> usize
         ensures { result ≤ length bytes.now }
     {
@@ -331,7 +334,7 @@ impl<A: Respond, W: Write> Expect<A, W> {
         count
     }
 
-    /// Takes the next bytes of the line at hand.
+    /// Takes the next bytes of the current line.
     fn feed(&mut self, bytes: &[u8]) {
         let mut rest = bytes;
         if let Reading::Head = self.comparison.reading {
@@ -344,7 +347,7 @@ impl<A: Respond, W: Write> Expect<A, W> {
         }
     }
 
-    /// Tells the counts, in a last line.
+    /// Writes the counts, in a last line.
     ///
     /// # Errors
     /// `Write` where this or an earlier write failed.
@@ -402,7 +405,7 @@ impl<A: Respond, W: Write> TakeText<()> for Expect<A, W> {
         comparison.outcome()
     }
 
-    // Whole lines: a difference that is begun waits for its end.
+    // Whole lines only: a difference waits until its line has ended.
     fn hand_over(&mut self, _output: &mut ()) -> Result<(), RunFault> {
         if let Reading::Different = self.comparison.reading {
             return Ok(());

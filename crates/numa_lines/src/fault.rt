@@ -8,13 +8,13 @@ use thiserror::Error;
 /// Why a run ended early.
 #[derive(Clone, Copy, Debug, PartialEq, Eq, Error)]
 pub enum RunFault {
-    /// A read failed, or one more than 4,294,967,295 reads was needed.
+    /// A read failed, or more than 4,294,967,295 reads were needed.
     #[error("read fault")]
     Read,
     /// A write failed, or took no byte.
     #[error("write fault")]
     Write,
-    /// There was no memory.
+    /// Out of memory.
     #[error("out of memory")]
     Memory,
 }

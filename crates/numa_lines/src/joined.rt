@@ -7,18 +7,18 @@ use std::io;
 use std::io::Read;
 use std::vec::IntoIter;
 
-/// Readers in turn. What a reader gives is ended by a line feed, where it doesn't end with one;
-/// where a reader has nothing left but that, `read` gives it alone.
+/// Readers in turn, as one. If the bytes of a reader don't end with a line feed, one is added, by a
+/// `read` that returns it alone.
 #[derive(Drop)]
 pub struct Joined<R> {
     reader: Option<R>,
     others: IntoIter<R>,
-    // Whether the last byte that the reader gave was no line feed.
+    // Whether the reader's last byte was other than a line feed.
     is_open: bool,
 }
 
 impl<R: Read + Drop> Joined<R> {
-    /// Before the first byte of the first reader.
+    /// Reads from the first reader next.
     pub fn new(readers: Vec<R>) -> Joined<R>
         ensures { joined_bytes R.remaining result ≡ bytes_in_turn R.remaining readers.items }
     {
@@ -31,7 +31,7 @@ impl<R: Read + Drop> Joined<R> {
         }
     }
 
-    /// Goes on to the next reader. Whether a line was open.
+    /// Moves to the next reader, and returns whether a line was open.
     fn go_on(&mut self) -> bool
         ensures others { into_iter_items self.old.others
             ≡ option_to_list self.new.reader ++ into_iter_items self.new.others }

@@ -1,6 +1,6 @@
-//! Lines in, bytes out: reads the lines of scripts, has a server answer each, and hands the answers
-//! to a writer; worked scripts, which hold their own answers; several readers read as one. It knows
-//! nothing of what a line says.
+//! Lines in, bytes out: reads texts and cuts them into lines, has a server answer each, and writes
+//! the answers; worked scripts, which hold the expected answers; several readers read as one. What
+//! a line says is no concern of this crate.
 #![tactic(auto)]
 
 mod answer;

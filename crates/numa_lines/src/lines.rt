@@ -1,4 +1,4 @@
-//! The lines of texts, as their bytes come.
+//! Cutting texts into lines as their bytes come.
 ghost use Rattle.std.specs.Prelude.{◌≡◌, [], ◌∷◌, ◌++◌, ◌⊎◌};
 ghost use Rattle.std.specs.Prelude.{IfOk, IfErr, OnOk, IsErrAnd};
 ghost use Rattle.numa_lines.specs.Lines.{IsPiece};
@@ -11,36 +11,35 @@ use crate::reading::TakeText;
 use memchr::memchr;
 use std::alloc::{AllocError, Global};
 
-/// What takes the lines of texts. It answers into an output, `()` where it has one of its own.
+/// A consumer of lines. Answers go to the output, which is `()` if the consumer owns its output.
 pub trait TakeLine<O> {
     ghost use Rattle.std.specs.Prelude.{ℕ, List, Result, ⊤};
     ghost use Rattle.numa_lines.specs.declared.fault.RunFault.{RunFault};
 
-    /// That a taker and its output, as they were first, have come to this state by these lines;
-    /// where it doesn't say, nothing is promised.
+    /// That consumer and output, from this first state, have come to this one by these lines. By
+    /// default nothing is promised.
     ghost has_taken: { Self → O → Self → O → List (List ℕ) → Type 0 } = { λ _ _ _ _ _. ⊤ };
 
-    /// The faults that taking a line may meet; where it doesn't say, any.
+    /// The faults with which a line may be refused; by default any.
     ghost fails: { RunFault → Type 0 } = { λ _. ⊤ };
 
-    /// What is known of the output once it was handed over, with this result; where it doesn't say,
-    /// nothing.
+    /// What is known of the output after `hand_over` returned this result; by default nothing.
     ghost handed: { Result (Unit {0}) RunFault → O → Type 0 } = { λ _ _. ⊤ };
 
-    /// Takes a line without its line feed: the name of its text, its place there from 1, and as
-    /// many of its bytes as show whether a script line is too long, 4,097.
+    /// Takes a line without its line feed: the name of its text, its number there from 1, and its
+    /// first 4,097 bytes, which show whether a script line is too long.
     ///
     /// # Errors
-    /// Where it can't be taken.
+    /// A fault of the consumer's own, one of `fails`.
     fn take(&mut self, name: &str, place: u64, line: &[u8], output: &mut O) -> Result<(), RunFault>
         ensures ok { OnOk result
             (Takes has_taken self.old output.old self.new output.new (line.now ∷ [])) }
         ensures err { IfErr result fails };
 
-    /// Hands over what was answered.
+    /// Hands the answers so far to their writer.
     ///
     /// # Errors
-    /// `Write` where this or an earlier write failed.
+    /// `Write`: this or an earlier write failed.
     fn hand_over(&mut self, output: &mut O) -> Result<(), RunFault>
         ensures takes { Takes has_taken self.old output.old self.new output.new [] }
         ensures handed { handed result output.new };
@@ -49,7 +48,7 @@ pub trait TakeLine<O> {
 /// Cuts texts into lines. The last one of a text may lack its line feed.
 #[derive(Drop)]
 pub struct Lines<T> {
-    /// What takes the lines.
+    /// The consumer of the lines.
     pub taker: T,
     name: String,
     place: u64,
@@ -57,7 +56,7 @@ pub struct Lines<T> {
 }
 
 impl<T: Drop> Lines<T> {
-    /// Before the first text.
+    /// The state before the first text.
     ///
     /// # Errors
     /// `AllocError`: out of memory.
@@ -76,7 +75,7 @@ impl<T: Drop> Lines<T> {
 }
 
 impl<T> Lines<T> {
-    /// Takes the last bytes of the open line, hands it on, and opens the next.
+    /// Ends the open line with these bytes, hands it on, and opens the next.
     fn end_line<O>(&mut self, bytes: &[u8], output: &mut O) -> Result<(), RunFault>
     where
         T: TakeLine<O>,
@@ -94,10 +93,10 @@ impl<T> Lines<T> {
         taken
     }
 
-    /// Hands on the open line, which may be empty, and hands over what was answered.
+    /// Hands on the open line, which may be empty, and then the answers.
     ///
     /// # Errors
-    /// Those of the taker.
+    /// Those of the consumer.
     pub(crate) fn finish<O>(&mut self, output: &mut O) -> Result<(), RunFault>
     where
         T: TakeLine<O>,

@@ -1,5 +1,4 @@
-//! The reader of texts: pieces of at most 4,096 bytes, each of which is answered before the next
-//! read.
+//! Reading texts in pieces of at most 4,096 bytes, each of which is answered before the next read.
 ghost use Rattle.std.specs.Prelude.{◌≤◌, ◌+◌, [], IfOk, IfErr, OnOk};
 ghost use Rattle.numa_lines.specs.Reading.{ReadsToEnd, StopsReading, Takes};
 ghost use Rattle.numa_lines.specs.Watching.{read_count};
@@ -8,23 +7,23 @@ use crate::fault::RunFault;
 use crate::watched::Watched;
 use std::io::Read;
 
-/// How many reads are made at most, for all texts of a run together.
+/// The most reads of a run, for all its texts together.
 pub(crate) const READS: u64 = 4_294_967_295;
 
-/// What takes texts piece by piece. It answers into an output, `()` where it has one of its own.
+/// A consumer of texts, piece by piece. Answers go to the output, which is `()` if the consumer
+/// owns its output.
 pub trait TakeText<O> {
     ghost use Rattle.std.specs.Prelude.{ℕ, List, Result, ⊤};
     ghost use Rattle.numa_lines.specs.declared.fault.RunFault.{RunFault};
 
-    /// That a taker and its output, as they were first, have come to this state by these bytes;
-    /// where it doesn't say, nothing is promised.
+    /// That consumer and output, from this first state, have come to this one by these bytes. By
+    /// default nothing is promised.
     ghost has_taken: { Self → O → Self → O → List ℕ → Type 0 } = { λ _ _ _ _ _. ⊤ };
 
-    /// The faults that taking bytes may meet; where it doesn't say, any.
+    /// The faults with which a piece may be refused; by default any.
     ghost fails: { RunFault → Type 0 } = { λ _. ⊤ };
 
-    /// What is known of the output once it was handed over, with this result; where it doesn't say,
-    /// nothing.
+    /// What is known of the output after `hand_over` returned this result; by default nothing.
     ghost handed: { Result (Unit {0}) RunFault → O → Type 0 } = { λ _ _. ⊤ };
 
     /// Begins the text of this name.
@@ -36,32 +35,32 @@ pub trait TakeText<O> {
     /// Takes a piece of the text, of any length.
     ///
     /// # Errors
-    /// Where it can't be taken.
+    /// A fault of the consumer's own, one of `fails`.
     fn take(&mut self, piece: &[u8], output: &mut O) -> Result<(), RunFault>
         ensures ok { OnOk result
             (Takes has_taken self.old output.old self.new output.new piece.now) }
         ensures err { IfErr result fails };
 
-    /// Ends the text, by a line feed or not.
+    /// Ends the text, with or without a line feed.
     ///
     /// # Errors
     /// As `take`.
     fn end(&mut self, output: &mut O) -> Result<(), RunFault>;
 
-    /// Hands over what was answered.
+    /// Hands the answers so far to their writer.
     ///
     /// # Errors
-    /// `Write` where this or an earlier write failed.
+    /// `Write`: this or an earlier write failed.
     fn hand_over(&mut self, output: &mut O) -> Result<(), RunFault>
         ensures takes { Takes has_taken self.old output.old self.new output.new [] }
         ensures handed { handed result output.new };
 }
 
-/// Reads a text to its end. Hands each piece on before the next read, and tells how many of the
-/// reads that may be made are left.
+/// Reads a text to its end with at most this many reads, hands on each piece and then its answers
+/// before the next read, and returns how many reads are left.
 ///
 /// # Errors
-/// `Read` where a read failed, or more reads were needed than may be made; those of the taker.
+/// `Read`: a read failed, or more reads were needed; those of the consumer.
 pub(crate) fn read_text<R: Read, O, T: TakeText<O>>(
     input: &mut Watched<R>,
     reads: u64,
@@ -96,7 +95,7 @@ pub(crate) fn read_text<R: Read, O, T: TakeText<O>>(
     Err(RunFault::Read)
 }
 
-/// Reads the text of this name to its end, and ends it. How many reads are left.
+/// Reads the text of this name to its end, ends it, and returns how many reads are left.
 pub(crate) fn read_named<R: Read + Drop, O, T: TakeText<O>>(
     name: &str,
     reader: R,
@@ -126,10 +125,11 @@ pub(crate) fn read_named<R: Read + Drop, O, T: TakeText<O>>(
     }
 }
 
-/// Reads the texts in turn, each with its name, and hands on what is read before the next read.
+/// Reads the texts in turn, each with its name, and hands on each piece and then its answers before
+/// the next read.
 ///
 /// # Errors
-/// Those of the taker; `Read` where a read failed, or more than 4,294,967,295 were needed.
+/// `Read`: a read failed, or more than 4,294,967,295 were needed; those of the consumer.
 pub fn read_all<R: Read + Drop, O, T: TakeText<O>>(
     texts: Vec<(String, R)>,
     taker: &mut T,

@@ -14,15 +14,15 @@ use crate::watched::Watched;
 use std::alloc::Global;
 use std::io::{Read, Write};
 
-/// Answers the script that a reader gives, and hands the answers to a writer. Whatever is answered
-/// is handed over before the next read. At most 4,294,967,295 reads are made. That a call on either
-/// failed before is forgotten. The server stands for its first state, and says the same of a line
-/// as of its first 4,097 bytes.
+/// Reads a script, has the server answer its lines, and writes the answers; those to the lines that
+/// have ended are written before the next read. Makes at most 4,294,967,295 reads. Clears any
+/// earlier error of reader or writer. The server must be in its first state, and must answer a line
+/// as its first 4,097 bytes.
 ///
 /// # Errors
-/// `Read` where a read failed, or one more was needed; `Write` where a write failed or took no
-/// byte, after which nothing more is read or written; `Memory` where there was none for the open
-/// line and the answers, before anything is read.
+/// `Read`: a read failed, or one more was needed. `Write`: a write failed or took no byte, after
+/// which nothing more is read or written. `Memory`: out of memory for the open line and the
+/// answers, before anything is read.
 pub fn serve_script<S: Serve + Drop, R: Read, W: Write>(
     alloc: Global,
     server: S,

@@ -1,4 +1,4 @@
-//! Worked scripts, sought among other scripts.
+//! Telling worked scripts from others.
 ghost use Rattle.std.specs.Prelude.{◌≡◌, ◌||◌};
 ghost use Rattle.numa_lines.specs.Worked.{form_of, wants_answer};
 
@@ -9,7 +9,7 @@ use crate::worked::{LineForm, read_form};
 use std::alloc::Global;
 use std::io::Read;
 
-/// Whether a line, without its line feed, holds an answer that is wanted.
+/// Whether a line, without its line feed, holds an expected answer.
 fn wants_answer(line: &[u8]) -> bool
     ensures { result ≡ wants_answer (form_of line.now) }
 {
@@ -19,7 +19,7 @@ fn wants_answer(line: &[u8]) -> bool
     }
 }
 
-/// Looks for an answer that is wanted.
+/// Looks for an expected answer.
 #[derive(Drop)]
 struct Seeking {
     is_found: bool,
@@ -46,12 +46,11 @@ impl TakeLine<()> for Seeking {
     }
 }
 
-/// Reads a text to its end. Whether it is a worked script: a line of it, by its first 4,097 bytes,
-/// holds an answer that is wanted.
+/// Reads a text to its end, and returns whether it is a worked script: one of its lines, by its
+/// first 4,097 bytes, holds an expected answer.
 ///
 /// # Errors
-/// `Read` where a read failed, or more than 4,294,967,295 were needed; `Memory` where there was no
-/// memory.
+/// `Read`: a read failed, or more than 4,294,967,295 were needed. `Memory`: out of memory.
 pub fn is_worked<R: Read + Drop>(alloc: Global, text: R) -> Result<bool, RunFault> {
     let Ok(mut lines) = Lines::new(alloc, Seeking { is_found: false }) else {
         return Err(RunFault::Memory);

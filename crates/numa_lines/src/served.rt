@@ -1,4 +1,4 @@
-//! A server of scripts, as what takes lines.
+//! A server as a consumer of lines.
 use crate::fault::RunFault;
 use crate::lines::TakeLine;
 use crate::serve::Serve;
@@ -6,7 +6,7 @@ use crate::watched::Watched;
 use std::alloc::Global;
 use std::io::Write;
 
-/// A server, whose answers go to a writer.
+/// A server whose answers go to a writer.
 #[derive(Drop)]
 pub(crate) struct Served<S> {
     pub(crate) alloc: Global,

@@ -1,7 +1,6 @@
-//! Readers and writers that remember whether a call on them has failed, what is read from the ones
-//! and what is said to the others.
-ghost use Rattle.std.specs.Prelude.{◌≡◌, ℕ, ◌+◌, ◌++◌, [], IfErr, OnOk, OnErr, true, false, decimal};
-ghost use Rattle.std.specs.Prelude.{if◌then◌else◌};
+//! Readers and writers that remember whether a call on them has failed; writers also gather texts.
+ghost use Rattle.std.specs.Prelude.{◌≡◌, ℕ, ◌+◌, ◌++◌, [], IfErr, OnOk, OnErr, true, false};
+ghost use Rattle.std.specs.Prelude.{decimal, if◌then◌else◌};
 ghost use Rattle.std.specs.Io.{ReadsAtMost};
 ghost use Rattle.std.specs.Io.KnownBytes.{Appends, ReadConsumes};
 ghost use Rattle.numa_lines.specs.Watching.{has_failed, held_in, read_count, unsent};
@@ -15,7 +14,7 @@ use std::alloc::{AllocError, Global};
 use std::io::{Read, Write};
 
 /// A reader or a writer, and whether a call on it has failed. Contracts see how often it was read.
-/// A writer can hold back texts that are said to it, once there is room for them.
+/// After `gather` a writer holds back up to 4,096 bytes of text.
 #[derive(Drop)]
 pub struct Watched<S> {
     /// The reader or the writer.
@@ -26,8 +25,7 @@ pub struct Watched<S> {
 }
 
 impl<S> Watched<S> {
-    /// Watches a reader or a writer, on which no call is known to have failed. It holds nothing
-    /// back.
+    /// Wraps a reader or a writer; no call has failed, and nothing is held back.
     pub fn new(inner: S) -> Watched<S>
         ensures inner { result.inner ≡ inner }
         ensures well { has_failed result ≡ false }
@@ -49,7 +47,7 @@ impl<S> Watched<S> {
         *failed
     }
 
-    /// Forgets that a call has failed, and what was lost by it.
+    /// Clears any earlier error, and the text that it lost.
     pub(crate) fn begin(&mut self)
         ensures inner { self.new.inner ≡ self.old.inner }
         ensures well { has_failed self.new ≡ false }
@@ -67,11 +65,11 @@ impl<S> Watched<S> {
 }
 
 impl<R: Read> Watched<R> {
-    /// Reads some bytes into the buffer, and says how many. At the end of the input, and only there
-    /// or where the buffer has no room, that is 0.
+    /// Reads bytes into the buffer, and returns how many: 0 at the end of the input, or if the
+    /// buffer is empty, and only then.
     ///
     /// # Errors
-    /// `Read` where the reader's call failed.
+    /// `Read`: the reader's call failed.
     pub fn read(&mut self, buffer: &mut [u8]) -> Result<usize, RunFault>
         ensures bound { ReadsAtMost result buffer.new }
         ensures bytes { ReadConsumes (R.remaining self.old.inner) (R.remaining self.new.inner)
@@ -92,8 +90,8 @@ impl<R: Read> Watched<R> {
     }
 }
 
-/// Writes all the bytes. A call of the writer that takes no byte has failed; after an error the
-/// first part of the bytes was written.
+/// Writes all the bytes. A call that takes no byte counts as failed; after an error the first part
+/// of the bytes was written.
 fn write_all<W: Write>(writer: &mut W, bytes: &[u8]) -> Result<(), RunFault>
     ensures ok { OnOk result (Appends (W.contents writer.old) (W.contents writer.new) bytes.now) }
     ensures front { OnErr result
@@ -110,11 +108,11 @@ fn write_all<W: Write>(writer: &mut W, bytes: &[u8]) -> Result<(), RunFault>
 }
 
 impl<W: Write> Watched<W> {
-    /// Makes room for 4,096 bytes of texts, which go to the writer together. Without it each text
-    /// goes to the writer at once.
+    /// Makes room for 4,096 bytes of text, which then go to the writer together. Without it each
+    /// text is written at once.
     ///
     /// # Errors
-    /// `AllocError`: out of memory. Texts go to the writer at once, as before.
+    /// `AllocError`: out of memory; each text is written at once, as before.
     pub fn gather(&mut self, alloc: Global) -> Result<(), AllocError>
         ensures inner { self.new.inner ≡ self.old.inner }
         ensures failed { has_failed self.new ≡ has_failed self.old }
@@ -127,7 +125,7 @@ impl<W: Write> Watched<W> {
         Ok(())
     }
 
-    /// Holds a text back, where there is room for it. Whether there is.
+    /// Holds a text back if there is room for it, and returns whether there is.
     #[inline(always)]
     fn keep(&mut self, text: &[u8]) -> bool
         ensures inner { self.new.inner ≡ self.old.inner }
@@ -141,7 +139,7 @@ impl<W: Write> Watched<W> {
         }
     }
 
-    /// Writes the bytes past those that are held back, unless a write has failed.
+    /// Writes bytes past the text that is held back, unless a write has failed.
     fn send(&mut self, bytes: &[u8])
         ensures sent { IsSent W.contents self.old self.new bytes.now }
         ensures held { held_in self.new ≡ held_in self.old }
@@ -154,7 +152,7 @@ impl<W: Write> Watched<W> {
         }
     }
 
-    /// Hands what is held back to the writer, unless a write has failed.
+    /// Writes the text that is held back, unless a write has failed.
     fn flush(&mut self)
         ensures says { SaidNothing W.contents self.old self.new }
         ensures empty { held_in self.new ≡ [] }
@@ -167,10 +165,10 @@ impl<W: Write> Watched<W> {
         self.held = Some(held);
     }
 
-    /// Hands what is held back to the writer.
+    /// Writes the text that is held back.
     ///
     /// # Errors
-    /// `Write` where this or an earlier write failed. Then nothing more is written.
+    /// `Write`: this or an earlier write failed; then nothing more is written.
     pub fn hand_over(&mut self) -> Result<(), RunFault>
         ensures says { SaidNothing W.contents self.old self.new }
         ensures empty { held_in self.new ≡ [] }
@@ -185,11 +183,11 @@ impl<W: Write> Watched<W> {
         Ok(())
     }
 
-    /// Writes a text after what was said before, and holds nothing back.
+    /// Writes the text that is held back, and then this one, at once.
     ///
     /// # Errors
-    /// `Write` where this or an earlier write failed: the first part of the text was written, or
-    /// nothing where the writer had failed before.
+    /// `Write`: this write failed, and the first part of the text was written; or an earlier one
+    /// failed, and nothing was.
     pub fn put(&mut self, text: &[u8]) -> Result<(), RunFault>
         ensures says { Said W.contents self.old self.new text.now }
         ensures empty { held_in self.new ≡ [] }
@@ -205,9 +203,8 @@ impl<W: Write> Watched<W> {
         Ok(())
     }
 
-    /// Says a text after what was said before: it is held back, and where there is no room for it,
-    /// what is held back goes to the writer first. A text of more than 4,096 bytes goes to the
-    /// writer too.
+    /// Writes a text, or holds it back if there is room. If not, the text held back is written
+    /// first, and then this one too if it has more than 4,096 bytes.
     pub fn say(&mut self, text: &[u8])
         ensures { Said W.contents self.old self.new text.now }
     {
@@ -217,8 +214,7 @@ impl<W: Write> Watched<W> {
         self.say_past(text);
     }
 
-    /// Says a text for which there is no room behind what is held back: that goes to the writer
-    /// first.
+    /// Does so for a text that doesn't fit after the text that is held back.
     #[cold]
     #[inline(never)]
     fn say_past(&mut self, text: &[u8])
@@ -231,7 +227,7 @@ impl<W: Write> Watched<W> {
         self.send(text);
     }
 
-    /// Says a number in decimal.
+    /// Writes a number in decimal, as `say` does.
     pub fn say_number(&mut self, number: u64)
         ensures { Said W.contents self.old self.new (decimal number) }
     {

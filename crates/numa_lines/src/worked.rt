@@ -1,33 +1,33 @@
-//! Worked scripts: script lines, and what each is to be answered.
+//! Worked scripts: script lines with their expected answers.
 //!
 //! A line of a worked script is one of three:
 //!
-//! - `LINE => ANSWER`: a script line, and what it is to be answered, or the first line of that;
-//! - `=> ANSWER`: the next line of what the script line above is to be answered;
+//! - `LINE => ANSWER`: a script line and its expected answer, or the first line of that;
+//! - `=> ANSWER`: the next line of the expected answer to the script line above;
 //! - anything else, and each line that begins with `#`: a script line.
 //!
-//! A script line ends at the last ` => ` that begins behind at most 4,097 bytes, so that a script
-//! line may hold one itself. No answer does.
+//! A script line ends at the last ` => ` that begins after at most 4,097 bytes, so that a script
+//! line may contain one itself. No answer does.
 ghost use Rattle.std.specs.Prelude.{◌≡◌, ◌+◌, ◌≤◌, ◌<◌, true, codes, drop, length, take, IfSome};
 ghost use Rattle.numa_lines.specs.Worked.{begins_with, last_mark, form_of, IsWithin};
 
 use memchr::memrchr;
 
-/// How many bytes of a line are looked at: those that show that a script line is too long, and
+/// How many bytes of a line show its form: those that show that a script line is too long, and
 /// ` => `.
 pub const HEAD: usize = 4101;
 
-/// What stands between a script line and its answer on the same line.
+/// The mark between a script line and its answer on the same line.
 const MARK: &[u8] = b" => ";
 
-/// What a line of a worked script holds.
+/// The form of a line of a worked script.
 #[derive(Clone, Copy)]
 pub enum LineForm {
     /// A script line.
     Script,
-    /// A script line of so many bytes, and, 4 bytes further, what it is to be answered.
+    /// A script line of this many bytes, and 4 bytes further its expected answer.
     Answered(usize),
-    /// From byte 3 on, the next line of what the script line above is to be answered.
+    /// From byte 3 on, the next line of the expected answer to the script line above.
     Answer,
 }
 
@@ -41,7 +41,7 @@ fn begins_mark(text: &[u8], place: usize) -> bool
 }
 
 /// Where the last ` => ` of a text begins, sought from the end by its `>`: answers are short, and
-/// few bytes are that.
+/// few bytes are `>`.
 fn last_mark(text: &[u8]) -> Option<usize>
     ensures value { result ≡ last_mark text.now }
     ensures within { IfSome result (λ place. place + 4 ≤ length text.now) }
@@ -71,7 +71,7 @@ fn head_of(line: &[u8]) -> &[u8]
     }
 }
 
-/// What a line of a worked script holds, by its first 4,101 bytes; its line feed is no part of it.
+/// The form of a line of a worked script, by its first 4,101 bytes, without its line feed.
 pub fn read_form(line: &[u8]) -> LineForm
     ensures value { result ≡ form_of line.now }
     ensures within { IsWithin line.now result }

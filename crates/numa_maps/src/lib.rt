@@ -8,5 +8,4 @@ pub mod listing;
 pub mod resident;
 
 pub use listing::{WriteFault, write_maps};
-pub use numa_lines::watched::{self, Watched};
 pub use resident::{RecordRefusal, Resident};

@@ -22,8 +22,8 @@ abbrev pub nodes_with_cpus : ℕ → Option ℕ → ℕ
 nodes_with_cpus nodes None = set_of (range_with_len 0 nodes)
 nodes_with_cpus nodes (Some cpus) = cpus
 
--- the orders in which allocations fall back: a kernel's, where these nodes have CPUs, or by distance
--- alone
+-- the orders in which allocations fall back: a kernel's, where these nodes have CPUs, or by
+-- distance alone
 abbrev pub fallback_by : Bool → ℕ → Fallback
 fallback_by true cpus = Kernel cpus
 fallback_by false cpus = Nearest

@@ -25,8 +25,8 @@ pub record RunsAs (running : Running) (state : State) : Type 0 where
   pub core : IsCoreIn running.core state
   pub resident : running.resident ≡ state.resident
 
--- without a running machine the limits, the rules and the nodes with CPUs are those of the machine to
--- come
+-- without a running machine the limits, the rules and the nodes with CPUs are those of the machine
+-- to come
 abbrev pub Stands : Settings → Option Running → State → Type 0
 Stands settings None state =
     (state.bounds ≡ settings.limits) × (state.rules ≡ settings.rules)

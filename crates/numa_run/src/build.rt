@@ -1,4 +1,4 @@
-//! The machine that a line describes.
+//! Building the machine that a line describes.
 ghost use Rattle.std.specs.Prelude.{◌≡◌, ◌≤◌, Bool, None, Some, IfOk, IfErr, MatchOption, true};
 ghost use Rattle.std.specs.Prelude.{false};
 ghost use Rattle.std.specs.List.{range_with_len};
@@ -24,7 +24,7 @@ fn add_node(set: &mut NodeMask, number: u8)
     }
 }
 
-/// The set of all nodes of so many.
+/// The set of all nodes below `nodes`.
 #[tactic(auto, using(crate::proofs::Cpus::all_nodes_more))]
 fn all_nodes(nodes: u32) -> NodeMask
     requires { nodes ≤ 256 }
@@ -37,15 +37,15 @@ fn all_nodes(nodes: u32) -> NodeMask
     set
 }
 
-/// Whether a set has a node that is none of so many.
+/// Whether a set has a node that a machine with `nodes` nodes lacks.
 fn has_other_node(nodes: u32, set: &NodeMask) -> bool
     ensures { result ≡ has_other_node nodes set.now }
 {
     set.iter().any(|node| nodes <= u32::from(node.number()))
 }
 
-/// The nodes with CPUs, where the machine has so many nodes: those that were named, or else all.
-/// None where there are too many nodes, or none, or one of those that were named is none of them.
+/// The nodes with CPUs of a machine with `nodes` nodes: those that were named, or else all. `None`
+/// if the number of nodes is 0 or too high, or the machine lacks a named one.
 fn cpus_among(nodes: u32, named: Option<NodeMask>) -> Option<NodeMask>
     ensures { MatchOption result (has_bad_nodes nodes (nodes_with_cpus nodes named) ≡ true)
         (λ cpus. (cpus ≡ nodes_with_cpus nodes named) × (has_bad_nodes nodes cpus ≡ false)) }
@@ -63,7 +63,7 @@ fn cpus_among(nodes: u32, named: Option<NodeMask>) -> Option<NodeMask>
     Some(cpus)
 }
 
-/// The orders in which allocations fall back: a kernel's, or by distance alone.
+/// The fallback orders: a kernel's, or by distance alone.
 fn fallback_by(kernel_orders: bool, cpus: NodeMask) -> Fallback
     ensures { result ≡ fallback_by kernel_orders cpus }
 {
@@ -74,9 +74,9 @@ fn fallback_by(kernel_orders: bool, cpus: NodeMask) -> Fallback
     }
 }
 
-/// The machine that a line describes, these of its nodes with memory, by these rules; and these of
-/// its nodes with CPUs, or else all. The nodes are judged first; then the tables are made, for which
-/// there may be no memory; then all is judged.
+/// The machine that a line describes, with these nodes with memory, these rules, and these nodes
+/// with CPUs, or else all. The nodes are checked first; then the tables are made, for which there
+/// may be no memory; then everything is checked.
 pub(crate) fn build(
     alloc: Global,
     said: &MachineLine<'_>,

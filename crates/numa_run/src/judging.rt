@@ -1,4 +1,4 @@
-//! Replies and questions that are judged, and not answered.
+//! Judging replies and questions without answering them.
 ghost use Rattle.std.specs.Prelude.{◌≡◌, ◌↔◌, List, IsTrue};
 ghost use Rattle.numa_compile.specs.Standing.{PlanStandsFor};
 ghost use Rattle.numa_machine.specs.Machine.{Hardware};
@@ -11,7 +11,7 @@ use numa_plan::Plan;
 use numa_script::{Question, Reply};
 use numa_space::{CoreRefusal, PAGE_BYTES, PlaceRefusal, Refusal};
 
-/// The reply, where it tells a fault or a refusal.
+/// The reply, if it is an error or a refusal.
 pub(crate) fn fault_in(reply: Reply) -> Option<Reply>
     ensures { result ≡ fault_in reply }
 {
@@ -35,7 +35,7 @@ pub fn lacks_memory(reply: Reply) -> bool
         || reply == Reply::Refused(CoreRefusal::NoMemory)
 }
 
-/// The first cause that refuses so many pages from one on.
+/// The first cause that refuses a question about a span of pages.
 fn span_refusal(plan: &Plan, task: u32, first: u64, pages: u64, cpu: u32) -> Option<PlaceRefusal>
     ensures { (machine : Hardware) (history : List Command) → PlanStandsFor machine plan.now history
         → result ≡ span_refusal_of machine history first pages cpu }

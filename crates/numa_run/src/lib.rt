@@ -1,4 +1,4 @@
-//! A running script: from a line to its reply, and to the answer of a question.
+//! Running scripts: from a line to its reply or its answer.
 #![tactic(auto)]
 
 mod build;

@@ -1,4 +1,4 @@
-//! Questions about pages, by a plan.
+//! Answering questions about pages by a plan.
 ghost use Rattle.std.specs.Prelude.{◌≡◌, ℕ, List, length};
 ghost use Rattle.numa_compile.specs.Standing.{PlanStandsFor};
 ghost use Rattle.numa_machine.specs.Machine.{Hardware};
@@ -22,7 +22,7 @@ pub(crate) fn fault_at(task: u32, address: u64, cpu: u32) -> Request
     Request { task, page, cpu }
 }
 
-/// `place TASK ADDR CPU`: the list of nodes for a fault.
+/// `place TASK ADDR CPU`: writes the node list for a fault.
 pub(crate) fn say_place<W: Write>(plan: &Plan, fault: Request, output: &mut Watched<W>)
     ensures { (machine : Hardware) (history : List Command) → PlanStandsFor machine plan.now history
         → Said W.contents output.old output.new
@@ -34,8 +34,8 @@ pub(crate) fn say_place<W: Write>(plan: &Plan, fault: Request, output: &mut Watc
     }
 }
 
-/// Says the first node of each page's list, for the pages from that of the first fault on, as many
-/// as there is room for.
+/// Writes the first node of each page's list, for the pages from that of the first fault on, as
+/// many as `nodes` has places.
 fn say_firsts<W: Write>(plan: &Plan, first: Request, nodes: &mut [u8], output: &mut Watched<W>)
     ensures { (machine : Hardware) (history : List Command) → PlanStandsFor machine plan.now history
         → Said W.contents output.old output.new
@@ -47,8 +47,8 @@ fn say_firsts<W: Write>(plan: &Plan, first: Request, nodes: &mut [u8], output: &
     }
 }
 
-/// `span TASK ADDR PAGES CPU`: the first node of each page's list, for so many pages from that of
-/// the first fault on. Returns whether memory ran out; then the answer says so.
+/// `span TASK ADDR PAGES CPU`: writes the first node of each page's list, for PAGES pages from that
+/// of the first fault on. Returns whether memory ran out; then the answer says so.
 pub(crate) fn say_span<W: Write>(
     alloc: Global,
     plan: &Plan,
@@ -68,8 +68,8 @@ pub(crate) fn say_span<W: Write>(
     false
 }
 
-/// `counts TASK ADDR PAGES CPU`: how many pages each node would get, of so many pages from that of
-/// the first fault on.
+/// `counts TASK ADDR PAGES CPU`: writes the number of pages that each node would get, of PAGES
+/// pages from that of the first fault on.
 pub(crate) fn say_pages<W: Write>(plan: &Plan, first: Request, pages: u64, output: &mut Watched<W>)
     ensures { (machine : Hardware) (history : List Command) → PlanStandsFor machine plan.now history
         → Said W.contents output.old output.new

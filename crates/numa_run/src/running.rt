@@ -1,4 +1,4 @@
-//! A machine that is running.
+//! Running machines.
 ghost use Rattle.std.specs.Prelude.{◌≡◌, Bool, [], None, Some, false, MatchResult};
 ghost use Rattle.numa_lines.specs.Written.{Said};
 ghost use Rattle.numa_core.specs.Standing.{setup_of};
@@ -24,7 +24,7 @@ use numa_space::{CoreRefusal, CoreReply, Event, PlaceRefusal, Placement, Request
 use std::alloc::Global;
 use std::io::Write;
 
-/// The placement that was won, or the reply where none was.
+/// The placement that was won, or the reply if none was.
 fn won_by(answer: Result<CoreReply, CoreRefusal>) -> Result<Placement, Reply>
     ensures { MatchResult result (λ placement. won_by answer ≡ Some placement)
         (λ reply. (won_by answer ≡ None) × (reply ≡ reply_to answer)) }
@@ -39,19 +39,18 @@ fn won_by(answer: Result<CoreReply, CoreRefusal>) -> Result<Placement, Reply>
     }
 }
 
-/// What a line comes to where a machine is ready.
+/// The effect of a line once a machine is ready.
 #[derive(Drop)]
 pub(crate) enum Taken {
-    /// A reply, and what the line says is done.
+    /// A reply; the line has been carried out.
     Reply(Reply),
-    /// A question, whose answer is to be said.
+    /// A question, whose answer is still to be written.
     Question(Question),
-    /// The ranges are to be listed, for a task.
+    /// The ranges are still to be listed, for a task.
     Maps(u32),
 }
 
-/// A machine that is running: its core, which keeps the plan that answers questions, and the pages
-/// that are placed.
+/// A running machine: its core, which keeps the plan that answers questions, and the placed pages.
 #[derive(Drop)]
 pub(crate) struct Running {
     pub core: Core,
@@ -59,7 +58,7 @@ pub(crate) struct Running {
 }
 
 impl Running {
-    /// With no page placed.
+    /// A machine with no page placed.
     pub fn new(alloc: Global, core: Core) -> Running
         ensures core { result.core ≡ core }
         ensures resident { result.resident ≡ [] }
@@ -70,7 +69,7 @@ impl Running {
         }
     }
 
-    /// Keeps a placement that a worker won, unless its page has one or there is no memory for it:
+    /// Records a placement that a worker won, unless its page has one or there is no memory for it:
     /// then its frame is given back.
     fn keep(&mut self, worker: u32, placement: Placement) -> Reply
         ensures { Does self.old result self.new (λ refused state.
@@ -92,7 +91,7 @@ impl Running {
         }
     }
 
-    /// A worker looks for a frame for a page, and the page keeps it.
+    /// A worker finds a frame for a page, and the page keeps it.
     fn touch(&mut self, worker: u32, request: Request) -> Reply
         ensures { Does self.old result self.new (λ refused state.
             touch_outcome refused (setup_of self.old.core) state.world state.resident worker
@@ -104,7 +103,7 @@ impl Running {
         }
     }
 
-    /// A worker gives back the frame that is kept for a page. Where it may not, the page keeps it.
+    /// A worker gives back the frame of a page. If it may not, the page keeps it.
     fn release(&mut self, worker: u32, page: u64) -> Reply
         ensures { Does self.old result self.new (λ refused state.
             release_outcome refused (setup_of self.old.core) state.world state.resident worker
@@ -122,7 +121,7 @@ impl Running {
         Reply::to_event(&answer)
     }
 
-    /// What a line of workers asks for.
+    /// Carries out a line of workers.
     pub fn work(&mut self, work: Work) -> Reply
         ensures { Does self.old result self.new (λ refused state.
             work_outcome refused (setup_of self.old.core) state.world state.resident work) }
@@ -184,19 +183,19 @@ impl Running {
         }
     }
 
-    /// Lists the ranges, with their policies for a task and the pages that are placed there.
+    /// Lists the ranges, with their policies for a task and the placed pages.
     pub fn list<W: Write>(&self, task: u32, output: &mut Watched<W>)
         ensures { (state : State) → RunsAs self.now state
             → Said W.contents output.old output.new (listing_of self.now.core.space.machine
             state.world.history task state.resident) }
     {
         let space = self.core.space();
-        // Tells the proof that the ranges rise and are maximal.
+        // Tells the proof that the ranges are in ascending order and maximal.
         let _ = space.range_iter();
         let _ = write_maps(space, task, &self.resident, output);
     }
 
-    /// Does what an `mbind` of length 0 says whose mode, flag and nodes don't go together.
+    /// Carries out an `mbind` of length 0 whose mode, flag and nodes are refused together.
     fn bind_nothing(&mut self, start: u64, fault: WordError) -> Reply
         ensures { Takes self.old (Line.EmptyBind start fault) (Taken.Reply result) self.new }
     {
@@ -207,7 +206,7 @@ impl Running {
         Reply::BadWord(fault)
     }
 
-    /// Does what a line says. The answer of a question and of a line `maps` is left to be said.
+    /// Carries out a line. The answer to a question or a line `maps` is still to be written.
     pub fn take(&mut self, line: &Line<'_>) -> Taken
         ensures { Takes self.old line.now result self.new }
     {
@@ -241,7 +240,7 @@ impl Running {
         if let Question::Ranges = question {
             return None;
         }
-        // Where it finds no memory, there may be no plan to ask.
+        // On out-of-memory there may be no plan.
         let _ = self.core.prepare();
         let Some(plan) = self.core.accepted_plan() else {
             return Some(CoreRefusal::NoMemory);

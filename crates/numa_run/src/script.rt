@@ -1,4 +1,4 @@
-//! A script that is being answered.
+//! Running scripts.
 ghost use Rattle.std.specs.Prelude.{◌≡◌, ℕ, ◌+◌, Bool, List, Option, None, Some, Ok, MatchOption};
 ghost use Rattle.std.specs.Prelude.{◌↔◌, length, IsTrue};
 ghost use Rattle.numa_lines.specs.Written.{Said};
@@ -24,11 +24,11 @@ use numa_space::Limits;
 use std::alloc::Global;
 use std::io::Write;
 
-/// How many workers a machine has.
+/// The number of workers of a machine.
 const WORKERS: u32 = 4;
 
-/// A script that is being answered: the limits, the rules and the nodes with CPUs of the machine to
-/// come, and the machine that is ready.
+/// A running script: the limits, the rules and the nodes with CPUs of the machine to come, and the
+/// machine once it is ready.
 #[derive(Drop)]
 pub struct Script {
     pub(crate) settings: Settings,
@@ -36,15 +36,15 @@ pub struct Script {
 }
 
 impl Script {
-    /// Before the first line: no machine, and the limits that hold where no line gives others, with
-    /// the rules of the documents. Takes no memory.
+    /// The state before the first line: no machine, the default limits, and the documents' rules.
+    /// It doesn't allocate.
     pub fn new() -> Script
         ensures { ScriptStandsFor result start }
     {
         Script::by(Rules::Document)
     }
 
-    /// The same, with these rules where no line gives others. Takes no memory.
+    /// The same, with these rules unless a line says otherwise. It doesn't allocate.
     pub fn by(rules: Rules) -> Script
         ensures { ScriptStandsFor result (start_by rules) }
     {
@@ -58,7 +58,7 @@ impl Script {
         }
     }
 
-    /// The core of the machine that is ready.
+    /// The core of the machine, if one is ready.
     pub fn core(&self) -> Option<&Core>
         ensures { (state : State) → ScriptStandsFor self.now state
             → MatchOption result (state.machine ≡ None) (λ core. IsCoreIn core.now state) }
@@ -67,7 +67,7 @@ impl Script {
         Some(&running.core)
     }
 
-    /// The pages that are placed on the machine that is ready.
+    /// The placed pages of the machine, if one is ready.
     pub fn resident(&self) -> Option<&Resident>
         ensures { (state : State) → ScriptStandsFor self.now state
             → MatchOption result (state.machine ≡ None) (λ kept. IsResidentIn kept.now state) }
@@ -76,9 +76,8 @@ impl Script {
         Some(&running.resident)
     }
 
-    /// Does what a line says, and gives its reply. A question to a machine that is ready, and a
-    /// line `maps`, have none: their answers are texts, which `serve` says; for them nothing
-    /// changes.
+    /// Carries out a line and returns its reply. A question to a ready machine and a line `maps`
+    /// have none, and change nothing: their answers are texts, which `serve` writes.
     pub fn reply(&mut self, alloc: Global, line: &Line<'_>) -> Option<Reply>
         ensures { ScriptReplies self.old line.now result self.new }
     {
@@ -92,7 +91,7 @@ impl Script {
         Some(self.reply_first(alloc, line))
     }
 
-    /// Takes limits, where no machine is ready.
+    /// Sets the limits, if no machine is ready.
     fn limit(&mut self, ranges: u32, tasks: u32, commands: u32) -> Reply
         requires { self.old.running ≡ None }
         ensures { Replies self.old.settings None (Line.Limits ranges tasks commands)
@@ -107,7 +106,7 @@ impl Script {
         }
     }
 
-    /// Takes whose rules count, where no machine is ready.
+    /// Sets the rules, if no machine is ready.
     fn choose(&mut self, rules: Rules) -> Reply
         requires { self.old.running ≡ None }
         ensures { Replies self.old.settings None (Line.Rules rules)
@@ -117,7 +116,7 @@ impl Script {
         Reply::RulesOk
     }
 
-    /// Takes which nodes have CPUs, where no machine is ready.
+    /// Sets the nodes with CPUs, if no machine is ready.
     fn equip(&mut self, said: &Result<NodeMask, ListFault>) -> Reply
         requires { self.old.running ≡ None }
         ensures { Replies self.old.settings None (Line.Cpus said.now)
@@ -132,7 +131,7 @@ impl Script {
         }
     }
 
-    /// Makes the machine that a line describes, where none is ready.
+    /// Makes the machine that a line describes, if none is ready.
     fn describe(&mut self, alloc: Global, said: &MachineLine<'_>) -> Reply
         requires { self.old.running ≡ None }
         ensures { Replies self.old.settings None (Line.Machine said.now)
@@ -157,7 +156,8 @@ impl Script {
         }
     }
 
-    /// Serves a line, and says its answer. Returns whether memory ran out; then the answer says so.
+    /// Carries out a line, and writes its answer. Returns whether memory ran out; then the answer
+    /// says so.
     pub fn serve_line<W: Write>(
         &mut self,
         alloc: Global,
@@ -187,7 +187,7 @@ impl Script {
         lacks_memory(reply)
     }
 
-    /// Does what a line says where no machine is ready.
+    /// Carries out a line while no machine is ready.
     pub(crate) fn reply_first(&mut self, alloc: Global, line: &Line<'_>) -> Reply
         requires { self.old.running ≡ None }
         ensures { Replies self.old.settings None line.now
@@ -212,8 +212,8 @@ impl Script {
         }
     }
 
-    /// Does what a line says, as `reply` does, and gives the fault or the refusal that it is
-    /// answered; None where the answer is neither. A question is judged and not answered.
+    /// Carries out a line, as `reply`, and returns its error or refusal; `None` if its answer is
+    /// neither. A question is judged and not answered.
     pub fn judge(&mut self, alloc: Global, line: &Line<'_>) -> Option<Reply>
         ensures { ScriptJudges self.old line.now result self.new }
     {

@@ -1,10 +1,10 @@
-//! What holds for the machine to come.
+//! Settings of the machine to come.
 use numa_machine::Rules;
 use numa_mask::NodeMask;
 use numa_space::Limits;
 
-/// What the lines before a machine have set for it: its limits, whose rules count on it, and which of
-/// its nodes have CPUs, where a line named them.
+/// What the lines before a machine have set for it: its limits, its rules, and its nodes with CPUs,
+/// if a line named them.
 #[derive(Clone, Copy)]
 pub struct Settings {
     pub limits: Limits,

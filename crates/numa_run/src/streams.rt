@@ -1,4 +1,4 @@
-//! A script from a reader, and its answers to a writer.
+//! Running a script from a reader to a writer.
 ghost use Rattle.std.specs.Prelude.{◌≤◌, ◌+◌, OnOk, IsErrOf};
 ghost use Rattle.numa_lines.specs.Runs.{AnswersAll, NeverBegins, StopsAtRead, StopsAtWrite};
 ghost use Rattle.numa_lines.specs.Runs.{most_reads};
@@ -12,14 +12,21 @@ use numa_machine::Rules;
 use std::alloc::Global;
 use std::io::{Read, Write};
 
-/// Answers the script that a reader gives, and hands the answers to a writer. Whatever is answered
-/// is handed over before the next read. At most 4,294,967,295 reads are made. That a call on either
-/// failed before is forgotten.
+/// Reads a script and writes its answers. Each answer is written before the next read. It makes at
+/// most 4,294,967,295 reads. Clears any earlier I/O error of the reader and the writer.
 ///
 /// # Errors
-/// `Read` where a read failed, or one more was needed; `Write` where a write failed or took no
-/// byte, after which nothing more is read or written; `Memory` where there was none for the open
-/// line and the answers, before anything is read.
+/// `Read`: a read failed, or one more than that was needed. `Write`: a write failed or took no
+/// byte, after which nothing more is read or written. `Memory`: there was no memory for the current
+/// line and the answers, before anything was read.
+///
+/// # Examples
+/// Answers a script of one line:
+///
+/// ```
+/// let mut input = Watched::new(b"x\n".as_slice());
+/// let result = run(rt.alloc(), &mut input, &mut output);
+/// ```
 pub fn run<R: Read, W: Write>(
     alloc: Global,
     input: &mut Watched<R>,
@@ -38,7 +45,7 @@ pub fn run<R: Read, W: Write>(
     run_by(alloc, Rules::Document, input, output)
 }
 
-/// A script on which the rules of the kernel count, where no line gives others.
+/// A script that follows the kernel's rules unless a line says otherwise.
 #[derive(Drop)]
 struct KernelScript {
     script: Script,
@@ -64,10 +71,10 @@ impl Serve for KernelScript {
     }
 }
 
-/// Does what [`run`] does; these rules count where no line gives others.
+/// As [`run`], with these rules unless a line says otherwise.
 ///
 /// # Errors
-/// Those of [`run`].
+/// As [`run`].
 pub fn run_by<R: Read, W: Write>(
     alloc: Global,
     rules: Rules,

@@ -20,7 +20,6 @@ pub mod work;
 
 pub use line::{Line, MachineLine, Question};
 pub use malformed::{Cause, Malformed, why_malformed};
-pub use numa_lines::{RunFault, Serve, Watched, run, serve, serve_script};
 pub use parameter::{Form, Misfit, Parameter};
 pub use policy::WordError;
 pub use reply::{Reply, Win};

@@ -1,4 +1,4 @@
-//! Where pages would go after scripts.
+//! Predictions and differences after scripts.
 use crate::findings::{Ended, Findings};
 use crate::halt::{Halt, halt_of};
 use crate::playing::{Scripts, play};
@@ -10,10 +10,10 @@ use numa_run::Script;
 use std::alloc::Global;
 use std::io::{Read, Write};
 
-/// What added lines are told by.
+/// The name of the added lines in messages.
 const ADDED: &str = "--then";
 
-/// What stands in the space that a script has led to.
+/// The state of the space to which a script led.
 fn outlook_in(alloc: Global, script: &Script) -> Result<Outlook, Halt> {
     let space = match space_of(script) {
         Ok(space) => space,
@@ -25,7 +25,7 @@ fn outlook_in(alloc: Global, script: &Script) -> Result<Outlook, Halt> {
     }
 }
 
-/// The first node of free pages that a machine of so many nodes lacks.
+/// The first node of `free` that a machine with `nodes` nodes lacks.
 fn lacking_node(free: &[FreePages], nodes: u32) -> Option<u8> {
     match free.iter().find(|one| one.node as u32 >= nodes) {
         Some(lacking) => Some(lacking.node),
@@ -33,8 +33,8 @@ fn lacking_node(free: &[FreePages], nodes: u32) -> Option<u8> {
     }
 }
 
-/// Ends what is told, and returns where all mapped pages would go, if they were touched now, as a
-/// text.
+/// Finishes the messages, and returns where all mapped pages would go, if they were touched now, as
+/// a text.
 fn prediction<T: Write>(
     alloc: Global,
     findings: &mut Findings<T>,
@@ -61,13 +61,13 @@ fn prediction<T: Write>(
     }
 }
 
-/// Plays the scripts, and writes where all mapped pages would go, if they were touched
-/// now; where nodes are named in `free`, those have so many free pages, and the text tells what is
-/// left on them. What is wrong with a line is told to `told`, and the line passed over, which the
-/// result says too. The answer is whole before its first byte is written.
+/// Plays the scripts, and writes where all mapped pages would go, if they were touched now. Nodes
+/// in `free` have that many free pages, and the text says how many are left. What is wrong with a
+/// line is written to `told`, and the line is skipped, which the result says too. The answer is
+/// complete before its first byte is written.
 ///
 /// # Errors
-/// Where there is no answer; what was told by then stays.
+/// Why there is no answer. Text already written to `told` stays.
 pub fn predict<R: Read + Drop, W: Write, T: Write + Drop>(
     alloc: Global,
     scripts: Scripts<R>,
@@ -85,7 +85,7 @@ pub fn predict<R: Read + Drop, W: Write, T: Write + Drop>(
     write(text, ended, output)
 }
 
-/// Plays the added lines, and ends what is told.
+/// Plays the added lines, and finishes the messages.
 fn play_lines<T: Write>(findings: &mut Findings<T>, lines: &[String]) -> Result<(), RunFault> {
     let mut place = 1u64;
     for line in lines {
@@ -97,7 +97,7 @@ fn play_lines<T: Write>(findings: &mut Findings<T>, lines: &[String]) -> Result<
     findings.end()
 }
 
-/// Which pages go elsewhere from one outlook to another, as a text.
+/// The difference of two outlooks as a text.
 fn difference_of(
     alloc: Global,
     before: &Outlook,
@@ -120,8 +120,8 @@ fn difference_of(
     }
 }
 
-/// What stands in the space that the script has led to. Where no machine does, what is wrong with
-/// the script is told first.
+/// The state of the space to which the script led. Without a machine, what is wrong with the script
+/// is written first.
 fn outlook_before<T: Write>(alloc: Global, findings: &mut Findings<T>) -> Result<Outlook, Halt> {
     match outlook_in(alloc, findings.script()) {
         Ok(outlook) => Ok(outlook),
@@ -132,7 +132,7 @@ fn outlook_before<T: Write>(alloc: Global, findings: &mut Findings<T>) -> Result
     }
 }
 
-/// Plays the lines, and tells which pages go elsewhere by them than before, as a text.
+/// Plays the lines, and returns which pages go elsewhere after them, as a text.
 fn difference_from<T: Write>(
     alloc: Global,
     before: &Outlook,
@@ -146,7 +146,7 @@ fn difference_from<T: Write>(
     }
 }
 
-/// Which pages go elsewhere once the lines are played, as a text.
+/// Which pages go elsewhere after the lines, as a text.
 fn difference<T: Write>(
     alloc: Global,
     findings: &mut Findings<T>,
@@ -162,13 +162,13 @@ fn difference<T: Write>(
     text
 }
 
-/// Plays the scripts, and then the lines, and writes which pages would go to another
-/// node after the lines than before, if they were touched. What is wrong with a line is told to
-/// `told`, and the line passed over; the added lines have the name `--then` and are numbered from
-/// 1. The answer is whole before its first byte is written.
+/// Plays the scripts and then the lines, and writes which pages would go to another node after the
+/// lines than before, if they were touched. What is wrong with a line is written to `told`, and the
+/// line is skipped; the added lines have the name `--then` and numbers from 1 on. The answer is
+/// complete before its first byte is written.
 ///
 /// # Errors
-/// Where there is no answer; what was told by then stays.
+/// Why there is no answer. Text already written to `told` stays.
 pub fn diff<R: Read + Drop, W: Write, T: Write + Drop>(
     alloc: Global,
     scripts: Scripts<R>,

@@ -40,7 +40,7 @@ fn reasons_in(alloc: Global, space: &Space, asked: Touch, page: u64) -> Result<V
     }
 }
 
-/// Puts a line behind reasons where the other rules make something else of the page.
+/// Appends a line to an explanation if the page goes elsewhere by the other rules.
 fn with_other(
     text: Vec<u8>,
     space: &Space,
@@ -63,7 +63,7 @@ fn with_other(
     }
 }
 
-/// Why a page would go where it goes after played lines, and by which rules, where they matter.
+/// Why a page would go where it goes after played lines, and by which rules, if that matters.
 fn reasons<T: Write>(
     alloc: Global,
     findings: &Findings<T>,
@@ -84,7 +84,7 @@ fn reasons<T: Write>(
     }
 }
 
-/// Ends what is told, and gives the reasons.
+/// Finishes the messages, and returns the explanation.
 fn reasons_after<T: Write>(
     alloc: Global,
     findings: &mut Findings<T>,
@@ -97,13 +97,12 @@ fn reasons_after<T: Write>(
     }
 }
 
-/// Plays the scripts, and writes why a page would go where it goes, if it were touched now; where
-/// the other rules make something else of the page, also by which it went. What is wrong with a line
-/// is told to `told`, and the line passed over. The answer is whole before its first byte is
-/// written.
+/// Plays the scripts, and writes why a page would go where it goes, if it were touched now, and by
+/// which rules, if by the others it would go elsewhere. What is wrong with a line is written to
+/// `told`, and the line is skipped. The answer is complete before its first byte is written.
 ///
 /// # Errors
-/// Where there is no answer; what was told by then stays.
+/// Why there is no answer. Text already written to `told` stays.
 pub fn explain<R: Read + Drop, W: Write, T: Write + Drop>(
     alloc: Global,
     scripts: Scripts<R>,

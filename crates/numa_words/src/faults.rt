@@ -1,12 +1,12 @@
-//! Answers that tell a fault or a refusal.
+//! Recognizing errors and refusals in answers.
 ghost use Rattle.std.specs.Prelude.{◌≡◌};
 ghost use Rattle.numa_script.specs.Texts.{text_of};
 ghost use Rattle.numa_script.specs.declared.reply.Reply.{Reply};
 ghost use Rattle.numa_run.specs.Judged.{is_fault};
 ghost use Rattle.numa_words.specs.Faults.{tells_fault};
 
-/// Whether an answer tells a fault or a refusal: it begins with `bad ` or `refused `, as the text
-/// of no other reply does.
+/// Whether an answer is an error or a refusal: it begins with `bad ` or `refused `, as no other
+/// reply does.
 #[tactic(auto, using(crate::proofs::Replies::fault_of_text))]
 pub fn tells_fault(answer: &[u8]) -> bool
     ensures value { result ≡ tells_fault answer.now }

@@ -1,4 +1,4 @@
-//! What is wrong with the lines of scripts, told as they are played.
+//! Reporting what is wrong with the lines of scripts as they are played.
 ghost use Rattle.std.specs.Prelude.{◌≡◌};
 ghost use Rattle.numa_words.specs.Faults.{ended_by, has_faults};
 
@@ -14,37 +14,37 @@ use numa_space::{CoreRefusal, Refusal, Space};
 use std::alloc::Global;
 use std::io::Write;
 
-/// Which lines of the scripts an answer goes by.
+/// The lines of the scripts on which an answer is based.
 #[derive(Clone, Copy, Debug, PartialEq, Eq)]
 pub enum Ended {
     /// All of them.
     Clean,
-    /// Those that were accepted: others were faulty or refused, or not judged.
+    /// The accepted ones: others were malformed, refused, or not judged.
     Faulty,
 }
 
-/// A script that is played, and what is told of its lines: one line of output for each that is
-/// answered by a fault or a refusal, and, where hints are asked for, one for each with which a
-/// running kernel would do otherwise.
+/// A script that is played, and the messages about its lines: one for each line with an error or a
+/// refusal and, with hints, one for each line that a running kernel would treat differently.
 #[derive(Drop)]
 pub struct Findings<W> {
     alloc: Global,
     script: Script,
-    // The same script by the other rules, where it is asked for.
+    // The same script by the other rules, if requested.
     other: Option<Script>,
-    // Whether hints are told.
+    // Whether hints are written.
     hints: bool,
     output: Watched<W>,
     // What is told of a line.
     text: Vec<u8>,
-    // How many lines were told of, and how many weren't judged, since no machine was ready.
+    // The number of lines with a message, and of lines that weren't judged, since no machine was
+    // ready.
     told: u64,
     unjudged: u64,
 }
 
 impl<W: Write> Findings<W> {
-    /// Before the first line; what is found is told to the writer. These rules count where no line
-    /// gives others.
+    /// The state before the first line. Messages go to the writer. These rules apply unless a line
+    /// says otherwise.
     pub fn new(alloc: Global, rules: Rules, output: W) -> Findings<W> {
         let mut output = Watched::new(output);
         // Without that memory each text is written alone.
@@ -61,20 +61,19 @@ impl<W: Write> Findings<W> {
         }
     }
 
-    /// The same, and hints are told.
+    /// The same, with hints.
     pub fn with_hints(mut self) -> Findings<W> {
         self.hints = true;
         self
     }
 
-    /// The same, and the lines are played by the other rules too, where these count until a line
-    /// gives others.
+    /// The same, and the lines are also played by the rules other than these.
     pub fn with_other(mut self, rules: Rules) -> Findings<W> {
         self.other = Some(Script::by(other_rules(rules)));
         self
     }
 
-    /// The space to which the lines have led by the other rules, where they are played by those.
+    /// The space to which the lines led by the other rules, if they are played by those.
     pub fn other_space(&self) -> Option<&Space> {
         let other = self.other.as_ref()?;
         match other.core() {
@@ -83,7 +82,7 @@ impl<W: Write> Findings<W> {
         }
     }
 
-    /// The script, as its lines so far have left it.
+    /// The script after the lines so far.
     pub fn script(&self) -> &Script {
         &self.script
     }
@@ -95,7 +94,7 @@ impl<W: Write> Findings<W> {
         self.told > 0 || self.unjudged > 0
     }
 
-    /// Which lines an answer goes by now.
+    /// The lines on which an answer is based now.
     pub fn ended(&self) -> Ended
         ensures { result ≡ ended_by (has_faults self.now.told self.now.unjudged) }
     {
@@ -106,7 +105,7 @@ impl<W: Write> Findings<W> {
         }
     }
 
-    /// Tells what was found in a line.
+    /// Writes what was found in a line.
     fn tell(&mut self, name: &str, place: u64, finding: &Finding) -> Result<(), RunFault> {
         self.text.clear();
         if let Err(_) = say_line(&mut self.text, name, place, finding) {
@@ -117,7 +116,7 @@ impl<W: Write> Findings<W> {
         Ok(())
     }
 
-    /// What a kernel would do otherwise with a line to come, where hints are told.
+    /// What a kernel would do differently with the next line, if hints are written.
     fn hint(&self, line: &[u8]) -> Option<Otherwise> {
         if !self.hints {
             return None;
@@ -128,7 +127,7 @@ impl<W: Write> Findings<W> {
         }
     }
 
-    /// Tells what a kernel would do otherwise with a line, if it would.
+    /// Writes what a kernel would do differently with a line, if anything.
     fn tell_hint(
         &mut self,
         name: &str,
@@ -146,7 +145,7 @@ impl<W: Write> Findings<W> {
         Ok(())
     }
 
-    /// Tells what was found in a line, and what a kernel would do otherwise with it.
+    /// Writes what was found in a line, and what a kernel would do differently with it.
     fn tell_both(
         &mut self,
         name: &str,
@@ -160,7 +159,7 @@ impl<W: Write> Findings<W> {
         }
     }
 
-    /// Plays a line by the other rules, where that is asked for.
+    /// Plays a line by the other rules, if requested.
     fn follow(&mut self, line: &[u8]) -> Result<(), RunFault> {
         let Some(other) = &mut self.other else {
             return Ok(());
@@ -171,7 +170,7 @@ impl<W: Write> Findings<W> {
         }
     }
 
-    /// Tells how many lines weren't judged, where some weren't, and writes what is to be written.
+    /// Writes the number of lines that weren't judged, if any, and the gathered text.
     ///
     /// # Errors
     /// `Write` where writing failed, `Memory` where there was no memory for the text.
@@ -187,7 +186,7 @@ impl<W: Write> Findings<W> {
     }
 }
 
-/// Whether a line is refused for the number of commands alone, as a kernel's rules do too.
+/// Whether a line is refused only for the number of commands, as by a kernel's rules too.
 fn is_spent(finding: &Finding) -> bool {
     finding.fault == Reply::Refused(CoreRefusal::Command(Refusal::CommandsSpent))
 }

@@ -8,19 +8,19 @@ use numa_reports::ReportError;
 use numa_traces::ReplayError;
 use std::alloc::AllocError;
 
-/// Why a question about played scripts has no answer. Then nothing of one was written, but for
+/// Why a question about played scripts has no answer. Nothing of an answer was written, except for
 /// `Stopped(Write)`.
 #[derive(Clone, Copy, Debug)]
 pub enum Halt {
-    /// A read or a write failed, or there was no memory.
+    /// A read or a write failed, or out of memory.
     Stopped(RunFault),
     /// No line of the scripts made a machine.
     NoMachine,
-    /// The machine has so many nodes, and not the one that is asked of.
+    /// The machine has this many nodes, and lacks the one in question.
     NoNode(u32),
-    /// Free pages are given to this node, and the machine has so many nodes, and not this one.
+    /// Free pages are given for this node, which the machine, with this many nodes, lacks.
     NoFreeNode(u8, u32),
-    /// The page that is asked of isn't mapped.
+    /// The page in question isn't mapped.
     Unmapped,
     /// A line of the trace, from 1, can't be replayed.
     BadAccess(u64, ReplayError),
@@ -42,7 +42,7 @@ impl From<AllocError> for Halt {
     }
 }
 
-/// Why there is no report on a machine of so many nodes.
+/// Why there is no report on a machine with `nodes` nodes.
 pub(crate) fn halt_of(fault: ReportError, nodes: u32) -> Halt {
     match fault {
         ReportError::Refused(_) => Halt::NoNode(nodes),

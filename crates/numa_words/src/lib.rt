@@ -1,9 +1,10 @@
-//! Scripts that are played to their end, and what is asked of the state that they lead to.
+//! The work behind the program's subcommands: playing scripts to their end, and answering questions
+//! about the state to which they lead.
 //!
-//! Lines that are faulty or refused are passed over, and what is wrong with each is told. [`check`]
-//! does no more; [`predict`], [`diff`], [`explain`] and [`replay`] answer by the lines that were
-//! accepted, and tell by [`Ended`] whether there were others. [`tells_fault`] knows the answers of
-//! such lines.
+//! Malformed and refused lines are skipped, and what is wrong with each is reported. [`check`] does
+//! only that; [`predict`], [`diff`], [`explain`] and [`replay`] answer by the accepted lines, and
+//! return in [`Ended`] whether there were others. [`tells_fault`] recognizes the answers of such
+//! lines.
 #![tactic(auto)]
 
 mod asking;

@@ -1,19 +1,19 @@
-//! Scripts that are played to their end.
+//! Playing scripts to their end.
 use crate::findings::{Ended, Findings};
 use numa_lines::{Lines, RunFault, read_all};
 use numa_machine::Rules;
 use std::alloc::Global;
 use std::io::{Read, Write};
 
-/// Scripts that are read in turn, as one: texts with their names, and the rules that count where no
-/// line of them gives others.
+/// Scripts that are read in order, as one: texts with their names, and the rules that apply unless
+/// a line says otherwise.
 #[derive(Drop)]
 pub struct Scripts<R> {
     pub texts: Vec<(String, R)>,
     pub rules: Rules,
 }
 
-/// Reads texts in turn, plays their lines as one script, and reports what is wrong with them: the
+/// Reads texts in order, plays their lines as one script, and reports what is wrong with them: the
 /// text's name, the line, for bad words the column, the answer, and its cause. `Findings::end`
 /// reports how many lines weren't judged.
 ///
@@ -37,7 +37,7 @@ pub fn play<R: Read + Drop, W: Write + Drop>(
     }
 }
 
-/// Ends what is told. Which lines were accepted.
+/// Finishes the messages, and returns which lines were accepted.
 fn end<W: Write>(findings: &mut Findings<W>) -> Result<Ended, RunFault> {
     match findings.end() {
         Ok(()) => Ok(findings.ended()),
@@ -45,11 +45,11 @@ fn end<W: Write>(findings: &mut Findings<W>) -> Result<Ended, RunFault> {
     }
 }
 
-/// Reads the scripts, and tells the writer what is wrong with their lines: with none, where it ends
-/// clean. Tells too what a running kernel would do otherwise with a line.
+/// Reads the scripts, and writes what is wrong with their lines, and what a running kernel would do
+/// differently with a line. `Clean` if nothing is wrong.
 ///
 /// # Errors
-/// Where a read or a write failed, or there was no memory.
+/// A read or a write failed, or out of memory.
 pub fn check<R: Read + Drop, W: Write + Drop>(
     alloc: Global,
     scripts: Scripts<R>,

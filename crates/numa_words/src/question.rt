@@ -16,7 +16,7 @@ pub(crate) fn space_of(script: &Script) -> Result<&Space, Halt> {
     }
 }
 
-/// Ends what is told, and gives the space that the scripts have led to.
+/// Finishes the messages, and returns the space to which the scripts led.
 pub(crate) fn space_after<T: Write>(findings: &mut Findings<T>) -> Result<&Space, Halt> {
     match findings.end() {
         Ok(()) => space_of(findings.script()),
@@ -24,7 +24,7 @@ pub(crate) fn space_after<T: Write>(findings: &mut Findings<T>) -> Result<&Space
     }
 }
 
-/// Writes an answer, if there is one, that goes by such lines.
+/// Writes an answer, if there is one, based on lines that ended so.
 pub(crate) fn write<W: Write>(
     text: Result<Vec<u8>, Halt>,
     ended: Ended,

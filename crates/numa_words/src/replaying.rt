@@ -1,4 +1,4 @@
-//! Traces that are replayed after scripts.
+//! Replaying traces after scripts.
 use crate::findings::{Ended, Findings};
 use crate::halt::Halt;
 use crate::playing::{Scripts, play};
@@ -11,7 +11,7 @@ use numa_traces::{Replaying, Shape, replay_lines, report_text};
 use std::alloc::Global;
 use std::io::{Read, Write};
 
-/// What a trace met on the machine of a space, as a text.
+/// The report of a replay on the machine of a space, as a text.
 fn met(
     alloc: Global,
     space: &Space,
@@ -27,7 +27,7 @@ fn met(
     }
 }
 
-/// Replays a trace in a space by its plan, and gives what it met as a text.
+/// Replays a trace in a space by its plan, and returns the report as a text.
 fn replayed_by<S: Read + Drop>(
     alloc: Global,
     space: &Space,
@@ -49,8 +49,8 @@ fn replayed_by<S: Read + Drop>(
     }
 }
 
-/// Ends what is told, replays a trace by the plan of all accepted commands, and returns what it met
-/// as a text.
+/// Finishes the messages, replays a trace by the plan of all accepted commands, and returns the
+/// report as a text.
 fn replayed<S: Read + Drop, T: Write>(
     alloc: Global,
     findings: &mut Findings<T>,
@@ -73,14 +73,13 @@ fn replayed<S: Read + Drop, T: Write>(
     text
 }
 
-/// Plays the scripts, and then a trace on a machine where no page is placed, by the
-/// plan of all commands that were accepted; writes what the trace met. What is wrong with a line of
-/// the scripts is told to `told`, and the line passed over. The answer is whole before its first
-/// byte is written.
+/// Plays the scripts, replays a trace on a machine where no page is placed, by the plan of all
+/// accepted commands, and writes the report. What is wrong with a line of the scripts is written to
+/// `told`, and the line is skipped. The answer is complete before its first byte is written.
 ///
 /// # Errors
-/// Where there is no answer; what was told by then stays. `BadAccess` at the first line of the
-/// trace that can't be replayed.
+/// Why there is no answer; `BadAccess` is the first line of the trace that can't be replayed. Text
+/// already written to `told` stays.
 pub fn replay<R: Read + Drop, S: Read + Drop, W: Write, T: Write + Drop>(
     alloc: Global,
     scripts: Scripts<R>,

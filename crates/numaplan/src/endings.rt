@@ -1,8 +1,7 @@
 //! Exit statuses and messages.
-use numa_command_line::JobFault;
+use numa_command_line::{JobFault, Outlet};
 use numa_lines::RunFault;
 use numa_reports::Touch;
-use numa_sources::Outlet;
 use numa_words::{Ended, Halt};
 use std::io;
 use std::io::{ErrorKind, Write};

@@ -15,8 +15,7 @@ mod terminal;
 mod words;
 
 use endings::tell_fault;
-use numa_command_line::{Job, JobFault, ScriptJob, job};
-use numa_sources::{open_all, open_worked};
+use numa_command_line::{Job, JobFault, ScriptJob, job, open_all, open_worked};
 use numa_words::Scripts;
 use std::env::Env;
 use std::io::{IsTerminal, Read};

@@ -1,8 +1,7 @@
 //! Subcommands that ask about pages that a task would touch.
 use crate::endings::{StandardError, answered};
-use numa_command_line::PageQuestion;
+use numa_command_line::{Outlet, PageQuestion};
 use numa_reports::Touch;
-use numa_sources::Outlet;
 use numa_words::{Scripts, diff, explain, predict};
 use std::io;
 use std::io::Read;

@@ -1,6 +1,6 @@
 //! Reports what is wrong with scripts.
 use crate::endings::{status_of, stop_quietly};
-use numa_sources::Outlet;
+use numa_command_line::Outlet;
 use numa_words::Scripts;
 use std::io;
 use std::io::Read;

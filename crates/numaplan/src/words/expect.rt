@@ -2,8 +2,8 @@
 use crate::answering::Answering;
 use crate::endings::stop_quietly;
 use crate::lacking::{Lack, Noting};
+use numa_command_line::Outlet;
 use numa_lines::{Expect, RunFault, read_all};
-use numa_sources::Outlet;
 use numa_words::Scripts;
 use std::io;
 use std::io::{Read, Write};

@@ -1,7 +1,6 @@
 //! Replays a trace of accesses.
 use crate::endings::{StandardError, ended};
-use numa_command_line::JobFault;
-use numa_sources::{Outlet, open_all};
+use numa_command_line::{JobFault, Outlet, open_all};
 use numa_traces::Shape;
 use numa_words::Scripts;
 use std::io;

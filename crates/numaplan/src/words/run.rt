@@ -1,9 +1,9 @@
 //! Answers scripts.
 use crate::answering::Answering;
 use crate::endings::fail;
+use numa_command_line::without_names;
 use numa_lines::{Echo, Joined, Lines, RunFault, Watched, read_all};
 use numa_run::run_by;
-use numa_sources::without_names;
 use numa_words::Scripts;
 use std::io;
 use std::io::Read;

@@ -1,5 +1,5 @@
 //! The files of a command line: `-` is standard input, which is also read without files.
-use numa_command_line::JobFault;
+use crate::jobs::JobFault;
 use std::alloc::{AllocError, Global};
 use std::fs::OpenFile;
 use std::io::{ErrorKind, IsTerminal, Read};

@@ -1,6 +1,6 @@
 //! The worked scripts of folders.
 use crate::files::{Source, Texts, add_file, open_fault, open_file};
-use numa_command_line::JobFault;
+use crate::jobs::JobFault;
 use numa_lines::{RunFault, is_worked};
 use std::alloc::AllocError;
 use std::io::IsTerminal;
