@@ -1,4 +1,2 @@
 pub mod Checks
-pub mod Explained
 pub mod Hints
-pub mod Reasons

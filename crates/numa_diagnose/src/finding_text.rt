@@ -1,7 +1,7 @@
 //! Findings as texts.
 use crate::finding::{Detail, Finding};
-use crate::text::Text;
 use crate::words::{list_words, machine_words, policy_words, worker_words};
+use numa_rules::Text;
 use numa_script::keyword::Keyword;
 use numa_script::names::Named;
 use numa_script::parameter::parameters;

@@ -3,11 +3,10 @@ use crate::findings::{Ended, Findings};
 use crate::halt::Halt;
 use crate::playing::{Scripts, play};
 use crate::question::{space_of, write};
-use numa_diagnose::{Explanation, ReasonError, say_by_other, say_explanation};
 use numa_lines::RunFault;
 use numa_machine::Machine;
 use numa_reports::Touch;
-use numa_rules::by_other_rules;
+use numa_rules::{Explanation, ReasonError, by_other_rules, say_by_other, say_explanation};
 use numa_space::{PlaceRefusal, Space};
 use std::alloc::Global;
 use std::io::{Read, Write};
@@ -26,7 +25,7 @@ fn text_of(alloc: Global, machine: &Machine, said: &Explanation) -> Result<Vec<u
 
 /// Why a page of a space would go where it goes, as a text.
 fn reasons_in(alloc: Global, space: &Space, asked: Touch, page: u64) -> Result<Vec<u8>, Halt> {
-    match numa_diagnose::explain(alloc, space, asked.task, page, asked.cpu) {
+    match numa_rules::explain(alloc, space, asked.task, page, asked.cpu) {
         Ok(said) => {
             let text = text_of(alloc, space.machine(), &said);
             drop(said);

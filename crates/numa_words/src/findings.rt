@@ -2,12 +2,10 @@
 ghost use Rattle.std.specs.Prelude.{◌≡◌};
 ghost use Rattle.numa_words.specs.Faults.{ended_by, has_faults};
 
-use numa_diagnose::{
-    Detail, Finding, hint_of, judge, reply_by_other, say_hint, say_line, say_unjudged,
-};
+use numa_diagnose::{Detail, Finding, hint_of, judge, reply_by_other, say_line, say_unjudged};
 use numa_lines::{RunFault, TakeLine, Watched};
 use numa_machine::Rules;
-use numa_rules::{Otherwise, other_rules};
+use numa_rules::{Otherwise, other_rules, say_hint};
 use numa_run::{Script, lacks_memory};
 use numa_script::Reply;
 use numa_space::{CoreRefusal, Refusal, Space};

@@ -18,8 +18,8 @@ use Rattle.numa_space.specs.Same.{same_record}
 use Rattle.numa_space.specs.Standing.{SpaceState, StandsFor, place_refusal_in}
 use Rattle.numa_space.specs.declared.command.Command.{Command}
 use Rattle.numa_space.specs.declared.refusal.PlaceRefusal.TheVariants.{BadCpu, Unmapped}
-use Rattle.numa_diagnose.specs.Reasons.{ordered_by, rule_by_mode, rule_for, run_with, set_for}
-use Rattle.numa_diagnose.proofs.Ranges.{in_pages-inside, run-page}
+use Rattle.numa_rules.specs.Reasons.{ordered_by, rule_by_mode, rule_for, run_with, set_for}
+use Rattle.numa_rules.proofs.Ranges.{in_pages-inside, run-page}
 
 pair-of : (p q : ℕ × Option PolicyRecord) → Some p ≡ Some q → p ≡ q
 pair-of p q same = cc

@@ -6,7 +6,7 @@ use Rattle.std.specs.Option.{option_map}
 use Rattle.std.proofs.lemmas.Bool.{cases_Bool, leb-true, ltb-true}
 use Rattle.numa_ranges.specs.Runs.{page_at, in_pages, AreApart, end_of}
 use Rattle.numa_ranges.specs.declared.run.Run.{Run}
-use Rattle.numa_diagnose.specs.Reasons.{run_with}
+use Rattle.numa_rules.specs.Reasons.{run_with}
 
 pub in_pages-inside : (first pages page : ℕ) → in_pages first pages page ≡ true
     → (first ≤ page) × (page < first + pages)

@@ -3,7 +3,7 @@ ghost use Rattle.std.specs.Prelude.{◌≡◌, ◌+◌, ◌≤◌, ◌^◌, IfSo
 ghost use Rattle.numa_ranges.specs.Counts.{IsRange};
 ghost use Rattle.numa_ranges.specs.Runs.{in_pages, page_at};
 ghost use Rattle.numa_space.specs.Same.{same_record};
-ghost use Rattle.numa_diagnose.specs.Reasons.{run_with};
+ghost use Rattle.numa_rules.specs.Reasons.{run_with};
 
 use numa_ranges::Run;
 use numa_space::{RangeRecord, Space};

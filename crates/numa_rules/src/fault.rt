@@ -1,6 +1,6 @@
 //! Why an explanation is refused.
 ghost use Rattle.std.specs.Prelude.{◌≡◌};
-ghost use Rattle.numa_diagnose.specs.declared.fault.ReasonError.TheVariants as fault;
+ghost use Rattle.numa_rules.specs.declared.fault.ReasonError.TheVariants as fault;
 
 use numa_space::PlaceRefusal;
 use std::alloc::AllocError;

@@ -1,9 +1,11 @@
 //! Hints at a running kernel, as texts.
+use crate::otherwise::Otherwise;
+use crate::page::ByOther;
+use crate::parted::{Owner, Parted};
 use crate::text::Text;
 use numa_machine::Rules;
 use numa_mask::{NodeMask, list_text};
 use numa_mode::{Mode, Record};
-use numa_rules::{ByOther, Otherwise, Owner, Parted};
 use numa_space::PAGE_BYTES;
 use std::alloc::AllocError;
 

@@ -2,7 +2,7 @@
 ghost use Rattle.std.specs.Prelude.{◌≡◌, List, IfOk, IfErr};
 ghost use Rattle.numa_space.specs.Standing.{StandsFor, place_refusal_of};
 ghost use Rattle.numa_space.specs.declared.command.Command.{Command};
-ghost use Rattle.numa_diagnose.specs.Explained.{IsExplanation, IsRefusedBy};
+ghost use Rattle.numa_rules.specs.Explained.{IsExplanation, IsRefusedBy};
 
 use crate::fault::ReasonError;
 use crate::place::range_of;

@@ -11,14 +11,14 @@ use Rattle.numa_mode.specs.declared.modes.Mode.TheVariants as mode
 use Rattle.numa_ranges.specs.Runs.{in_pages}
 use Rattle.numa_ranges.specs.declared.run.Run.{Run}
 use Rattle.numa_space.specs.Lists.{Setting, near, within}
-use Rattle.numa_diagnose.specs.declared.rule.WeightedTurn.{WeightedTurn}
-use Rattle.numa_diagnose.specs.declared.rule.OrderRule.{OrderRule}
-use Rattle.numa_diagnose.specs.declared.rule.OrderRule.TheVariants.{Local, Preferred, Bind}
-use Rattle.numa_diagnose.specs.declared.rule.OrderRule.TheVariants.{PreferredMany, Interleave}
-use Rattle.numa_diagnose.specs.declared.rule.OrderRule.TheVariants.{WeightedInterleave}
-use Rattle.numa_diagnose.specs.declared.rule.Turn.{Turn}
-use Rattle.numa_diagnose.specs.declared.scope.Scope.{Scope}
-use Rattle.numa_diagnose.specs.declared.scope.Scope.TheVariants as scope
+use Rattle.numa_rules.specs.declared.rule.WeightedTurn.{WeightedTurn}
+use Rattle.numa_rules.specs.declared.rule.OrderRule.{OrderRule}
+use Rattle.numa_rules.specs.declared.rule.OrderRule.TheVariants.{Local, Preferred, Bind}
+use Rattle.numa_rules.specs.declared.rule.OrderRule.TheVariants.{PreferredMany, Interleave}
+use Rattle.numa_rules.specs.declared.rule.OrderRule.TheVariants.{WeightedInterleave}
+use Rattle.numa_rules.specs.declared.rule.Turn.{Turn}
+use Rattle.numa_rules.specs.declared.scope.Scope.{Scope}
+use Rattle.numa_rules.specs.declared.scope.Scope.TheVariants as scope
 
 -- the run that has a page
 abbrev pub run_with : {T : Type 0} → List (Run T) → ℕ → Option (Run T)

@@ -4,11 +4,11 @@ use Rattle.numa_ranges.specs.Runs.{in_pages}
 use Rattle.numa_space.specs.Lists.{Setting, setting_of}
 use Rattle.numa_space.specs.Pages.{index_of, range_record, resolved_policy}
 use Rattle.numa_space.specs.Policies.{node_weight, task_record}
-use Rattle.numa_diagnose.specs.Reasons.{ordered_by, rule_for, scope_of, set_for}
-use Rattle.numa_diagnose.proofs.Ranges.{in_pages-inside, run-has}
-use Rattle.numa_diagnose.proofs.Reasoning.{has-run, ordered-policy, said-index, said-range}
-use Rattle.numa_diagnose.proofs.Reasoning.{said-record}
-use Rattle.numa_diagnose.proofs.explanation.explain.Goals as goal
+use Rattle.numa_rules.specs.Reasons.{ordered_by, rule_for, scope_of, set_for}
+use Rattle.numa_rules.proofs.Ranges.{in_pages-inside, run-has}
+use Rattle.numa_rules.proofs.Reasoning.{has-run, ordered-policy, said-index, said-range}
+use Rattle.numa_rules.proofs.Reasoning.{said-record}
+use Rattle.numa_rules.proofs.explanation.explain.Goals as goal
 
 pub unreachable-requires : goal.unreachable-requires
 unreachable-requires c =

@@ -8,14 +8,14 @@ static DIGITS: [u8; 16] = *b"0123456789abcdef";
 
 /// A text that is being appended to. After it ran out of memory nothing more is appended.
 #[derive(Drop)]
-pub(crate) struct Text {
+pub struct Text {
     bytes: Vec<u8>,
     outcome: Result<(), AllocError>,
 }
 
 impl Text {
     /// Takes over some bytes until `end`.
-    pub(crate) fn of(bytes: &mut Vec<u8>) -> Text {
+    pub fn of(bytes: &mut Vec<u8>) -> Text {
         let none = Vec::new(*bytes.allocator());
         Text {
             bytes: replace(bytes, none),
@@ -24,26 +24,26 @@ impl Text {
     }
 
     /// Appends some bytes.
-    pub(crate) fn put_bytes(&mut self, bytes: &[u8]) {
+    pub fn put_bytes(&mut self, bytes: &[u8]) {
         if let Ok(()) = self.outcome {
             self.outcome = self.bytes.extend_from_slice(bytes);
         }
     }
 
     /// Appends words.
-    pub(crate) fn put(&mut self, words: &str) {
+    pub fn put(&mut self, words: &str) {
         self.put_bytes(words.as_bytes());
     }
 
     /// Appends words and a decimal number.
-    pub(crate) fn put_number(&mut self, words: &str, number: u64) {
+    pub fn put_number(&mut self, words: &str, number: u64) {
         let mut buffer = Buffer::new();
         self.put(words);
         self.put(buffer.format(number));
     }
 
     /// Appends words and a hexadecimal number with `0x`.
-    pub(crate) fn put_hex(&mut self, words: &str, number: u64) {
+    pub fn put_hex(&mut self, words: &str, number: u64) {
         let zeros = number.leading_zeros() / 4;
         self.put(words);
         self.put("0x");
@@ -54,7 +54,7 @@ impl Text {
     }
 
     /// Appends a format in which each `$` stands for the next of the numbers.
-    pub(crate) fn put_form(&mut self, form: &str, numbers: &[u64]) {
+    pub fn put_form(&mut self, form: &str, numbers: &[u64]) {
         let mut rest = numbers;
         for letter in form.as_bytes() {
             if *letter != b'$' {
@@ -67,7 +67,7 @@ impl Text {
     }
 
     /// Gives the bytes back, and returns whether there was memory for all of them.
-    pub(crate) fn end(self, bytes: &mut Vec<u8>) -> Result<(), AllocError> {
+    pub fn end(self, bytes: &mut Vec<u8>) -> Result<(), AllocError> {
         *bytes = self.bytes;
         self.outcome
     }

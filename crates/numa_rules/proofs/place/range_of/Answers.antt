@@ -1,6 +1,6 @@
 use Rattle.std.proofs.Common.{sym, ◌∙◌}
-use Rattle.numa_diagnose.proofs.Ranges.{run-here, run-among, run-small}
-use Rattle.numa_diagnose.proofs.place.range_of.Goals as goal
+use Rattle.numa_rules.proofs.Ranges.{run-here, run-among, run-small}
+use Rattle.numa_rules.proofs.place.range_of.Goals as goal
 
 pub returns-then-has_page-clause-range : goal.returns-then-has_page-clause-range
 returns-then-has_page-clause-range c =

@@ -9,10 +9,10 @@ use Rattle.numa_space.specs.Policies.{allowed_nodes, node_weight, task_record}
 use Rattle.numa_space.specs.Same.{same_record}
 use Rattle.numa_space.specs.declared.command.Command.{Command}
 use Rattle.numa_space.specs.declared.refusal.PlaceRefusal.{PlaceRefusal}
-use Rattle.numa_diagnose.specs.Reasons.{ordered_by, rule_for, scope_of, set_for}
-use Rattle.numa_diagnose.specs.declared.explanation.Explanation.{Explanation}
-use Rattle.numa_diagnose.specs.declared.fault.ReasonError.{ReasonError}
-use Rattle.numa_diagnose.specs.declared.fault.ReasonError.TheVariants.{Refused, NoMemory}
+use Rattle.numa_rules.specs.Reasons.{ordered_by, rule_for, scope_of, set_for}
+use Rattle.numa_rules.specs.declared.explanation.Explanation.{Explanation}
+use Rattle.numa_rules.specs.declared.fault.ReasonError.{ReasonError}
+use Rattle.numa_rules.specs.declared.fault.ReasonError.TheVariants.{Refused, NoMemory}
 
 -- each part is what the accepted commands mean: the range has the page, and is a range; the page
 -- has the index; the task has the policy; the scope is the one that counts, and its policy is the

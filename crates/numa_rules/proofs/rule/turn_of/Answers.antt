@@ -2,7 +2,7 @@ use Rattle.std.proofs.Common.{◌≡◌, ◌%◌, ℕ, Some, sym, slice_get, sli
 use Rattle.numa_mask.specs.NodeSet.{members, weight_of}
 use Rattle.numa_machine.specs.Weights.{interleave_node}
 use Rattle.numa_space.proofs.Chosen.{index-got}
-use Rattle.numa_diagnose.proofs.rule.turn_of.Goals as goal
+use Rattle.numa_rules.proofs.rule.turn_of.Goals as goal
 
 pub returns : goal.returns
 unfolding interleave_node

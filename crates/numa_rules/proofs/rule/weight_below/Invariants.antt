@@ -2,7 +2,7 @@ use Rattle.std.proofs.Common.{◌≡◌, ◌+◌, ◌*◌, ◌≤◌, length, su
 use Rattle.std.specs.Prelude.{nat_lt}
 use Rattle.numa_mask.specs.NodeSet.{members}
 use Rattle.numa_machine.specs.Weights.{weight_at}
-use Rattle.numa_diagnose.proofs.rule.weight_below.Given as goal
+use Rattle.numa_rules.proofs.rule.weight_below.Given as goal
 
 abbrev pub invariant-loop-member : goal.invariant-loop-member
 invariant-loop-member l = record {

@@ -3,7 +3,7 @@ use Rattle.std.specs.Prelude.{nat_lt}
 use Rattle.numa_mask.specs.NodeSet.{members}
 use Rattle.numa_machine.specs.Weights.{weight_at, weight_below}
 use Rattle.numa_space.proofs.ListSizes.{weight-few}
-use Rattle.numa_diagnose.proofs.rule.weight_below.Goals as goal
+use Rattle.numa_rules.proofs.rule.weight_below.Goals as goal
 
 pub overflow_add-sum : goal.overflow_add-sum
 overflow_add-sum c =

@@ -3,7 +3,7 @@ ghost use Rattle.std.specs.Prelude.{◌≡◌, ◌≢◌, true, IfOk, IfSome, sl
 ghost use Rattle.numa_mask.specs.NodeSet.{members};
 ghost use Rattle.numa_machine.specs.Weights.{weight_at, weight_below};
 ghost use Rattle.numa_mode.specs.Policy.{is_live};
-ghost use Rattle.numa_diagnose.specs.Reasons.{block_of, rule_by_mode, rule_for, turn_of};
+ghost use Rattle.numa_rules.specs.Reasons.{block_of, rule_by_mode, rule_for, turn_of};
 
 use numa_machine::Weights;
 use numa_mask::NodeMask;
