@@ -75,7 +75,7 @@ OPENING = {"limits": limits, "rules": rules, "cpus": cpus, "machine": machine}
 
 
 def place(space, task, address, cpu):
-    """`place`: the node list of a page."""
+    """`place`: the fallback list of a page."""
     cause = place_cause(space, address, cpu)
     if cause:
         return f"refused {cause}"

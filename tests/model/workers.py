@@ -10,7 +10,7 @@ WORD = 64
 
 
 class FrameSearch:
-    """What a busy worker is about: the version and the node list that it took, the frames met."""
+    """What a busy worker is about: its version and fallback list, and the frames met."""
 
     def __init__(self, version, nodes):
         self.version = version
@@ -37,7 +37,7 @@ def place_cause(space, address, cpu):
 
 
 def list_of_page(space, task, address, cpu):
-    """The node list of a mapped page: that of the policy which counts there, at its index."""
+    """The fallback list of a mapped page: that of the policy which counts there, at its index."""
     page = page_of(address)
     piece = piece_at(space, page)
     return policy_list(space, resolved(space, task, piece), index_at(piece, page), cpu)
@@ -79,7 +79,7 @@ def goes_on(crew, worker):
 
 
 def begin(crew, worker, task, address, cpu):
-    """`begin`: the worker takes what is published, and the page's node list; it has met none."""
+    """`begin`: the worker takes what is published, and the fallback list; it has met none."""
     space = crew.published
     cause = worker_cause(crew, worker, False) or place_cause(space, address, cpu)
     if cause:
