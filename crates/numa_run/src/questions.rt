@@ -22,7 +22,7 @@ pub(crate) fn fault_at(task: u32, address: u64, cpu: u32) -> Request
     Request { task, page, cpu }
 }
 
-/// `place TASK ADDR CPU`: writes the node list for a fault.
+/// `place TASK ADDR CPU`: writes the fallback list for a fault.
 pub(crate) fn say_place<W: Write>(plan: &Plan, fault: Request, output: &mut Watched<W>)
     ensures { (machine : Hardware) (history : List Command) → PlanStandsFor machine plan.now history
         → Said W.contents output.old output.new

@@ -45,8 +45,8 @@ pub struct MachineLine<'a> {
 /// A question about a machine.
 #[derive(Clone, Copy, Debug, PartialEq, Eq)]
 pub enum Question {
-    /// The node list for the page of an address, in bytes, that the task first touches on a CPU of
-    /// node `cpu`.
+    /// The fallback list for the page of an address, in bytes, that the task first touches on a CPU
+    /// of node `cpu`.
     Place {
         task: u32,
         address: u64,

@@ -6,8 +6,8 @@ use crate::policy::WordError;
 use numa_machine::{Frame, MachineFault};
 use numa_space::{CoreRefusal, CoreReply, Placement};
 
-/// A frame that was won: the version of the node list that led to it, its node, its number on that
-/// node, and the node's place in the list, from 0.
+/// A frame that was won: the version of the fallback list that led to it, its node, its number on
+/// that node, and the node's place in the list, from 0.
 #[derive(Clone, Copy, Debug, PartialEq, Eq)]
 pub struct Win {
     pub version: u64,
