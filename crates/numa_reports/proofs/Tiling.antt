@@ -94,7 +94,7 @@ not-mapped space history page stands missing =
       | inr f ↦ f
     ]
 
--- the pages that a plan sends to a node, range by range, are all mapped pages whose node list
+-- the pages that a plan sends to a node, range by range, are all mapped pages whose fallback list
 -- begins with it
 pub counted-all : (space : SpaceState) (plan : PlanData) (history : List Command)
     (task cpu node : ℕ) → StandsFor space history → PlanStandsFor space.machine plan history

@@ -31,7 +31,7 @@ abbrev pub with_named : List ℕ → List FreePages → List ℕ
 with_named free [] = free
 with_named free (one ∷ named) = with_named (slice_set free one.node one.pages) named
 
--- the node list of a page; none where it isn't mapped
+-- the fallback list of a page; none where it isn't mapped
 abbrev pub nodes_of : Hardware → List Command → ℕ → ℕ → ℕ → List ℕ
 nodes_of machine history task cpu page =
     if is_mapped history page then node_list machine history task page cpu else []

@@ -24,7 +24,7 @@ planned_moves before after task cpu first pages from to =
     count_pages (λ page. is_number from (planned_first before task page cpu)
     && is_number to (planned_first after task page cpu)) first pages
 
--- the page is mapped, and has the node as the first of its node list
+-- the page is mapped, and has the node as the first of its fallback list
 abbrev pub goes_to : Hardware → List Command → ℕ → ℕ → ℕ → ℕ → Bool
 goes_to machine history task cpu node page =
     is_mapped history page && (first_node machine history task page cpu == node)

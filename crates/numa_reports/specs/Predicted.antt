@@ -19,7 +19,7 @@ abbrev pub AddsSpan : PlanData → ℕ → ℕ → ℕ → ℕ → List ℕ → 
 AddsSpan plan task cpu first pages old new =
     Adds old new (planned_count plan task cpu first pages)
 
--- each node's count is that of the mapped pages of the span whose node list begins with it
+-- each node's count is that of the mapped pages of the span whose fallback list begins with it
 abbrev pub AreFirsts : Hardware → List Command → ℕ → ℕ → ℕ → ℕ → List ℕ → Type 0
 AreFirsts machine history task cpu first pages counts =
     (node : ℕ) → node < 256

@@ -142,7 +142,7 @@ fn period_within(period: u64, left: u64) -> u64
     period
 }
 
-/// Takes a free page for each page of a span, in ascending order. The pages' node lists repeat
+/// Takes a free page for each page of a span, in ascending order. The pages' fallback lists repeat
 /// after `period` pages, or it is 0. The time depends on the period and on the number of nodes that
 /// run out; if the period is 0 or longer than the span, on the pages.
 pub(crate) fn fill_span(

@@ -1,4 +1,4 @@
-//! The number of pages after which the node lists of a policy repeat.
+//! The number of pages after which the fallback lists of a policy repeat.
 ghost use Rattle.std.specs.Prelude.{◌≡◌, ℕ, List};
 ghost use Rattle.numa_machine.specs.Weights.{total_weight, weight_at};
 ghost use Rattle.numa_space.specs.Lists.{Setting, setting_of};

@@ -32,7 +32,7 @@ pub struct RangePrediction {
     /// The policy that serves the task there: the range's if it is live, else the task's if it is
     /// live. `None` is local allocation.
     pub policy: Option<Record>,
-    /// For each node, the number of pages of the range whose node list begins with it.
+    /// For each node, the number of pages of the range whose fallback list begins with it.
     pub counts: [u64; 256],
 }
 

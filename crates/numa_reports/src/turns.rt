@@ -1,8 +1,8 @@
 //! Filling many periods of pages at once.
 //!
-//! The node lists of a range's pages repeat after a period. If each node has more free pages than
-//! some periods take of it, all these periods take the same, since none of their pages finds a node
-//! without a free page.
+//! The fallback lists of a range's pages repeat after a period. If each node has more free pages
+//! than some periods take of it, all these periods take the same, since none of their pages finds a
+//! node without a free page.
 ghost use Rattle.std.specs.Prelude.{◌≡◌, ◌-◌, ◌*◌, ◌≤◌, length};
 ghost use Rattle.numa_reports.specs.Turns.{AllLast, AreLeftBehind, Lasts};
 

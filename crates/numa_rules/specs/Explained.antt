@@ -16,8 +16,8 @@ use Rattle.numa_rules.specs.declared.fault.ReasonError.TheVariants.{Refused, NoM
 
 -- each part is what the accepted commands mean: the range has the page, and is a range; the page
 -- has the index; the task has the policy; the scope is the one that counts, and its policy is the
--- one that serves; the rule is that policy's; the nodes are the node list, and they are as the rule
--- puts them in order
+-- one that serves; the rule is that policy's; the nodes are the fallback list, and they are as the
+-- rule puts them in order
 pub record IsExplanation (machine : Hardware) (history : List Command) (task page cpu : ℕ)
     (said : Explanation) : Type 0 where
   pub asked : (said.task ≡ task) × (said.page ≡ page) × (said.cpu ≡ cpu)
