@@ -144,7 +144,7 @@ fn told(answer: Result<usize, ChoiceRefusal>, count: usize) -> usize
     }
 }
 
-/// Copies the node list of a page.
+/// Copies the fallback list of a page.
 #[unsafe(no_mangle)]
 pub extern "C" fn np_plan_choice(
     alloc: Global,
