@@ -8,11 +8,11 @@ use Rattle.numa_space.specs.declared.command.Command.{Command}
 use Rattle.numa_space.specs.declared.refusal.PlaceRefusal.{PlaceRefusal}
 use Rattle.numa_space.specs.declared.refusal.PlaceRefusal.TheVariants.{BadCpu, Unmapped}
 
--- the first node of the node list
+-- the first node of the fallback list
 abbrev pub first_node : Hardware → List Command → ℕ → ℕ → ℕ → ℕ
 first_node machine history task page cpu = slice_index (node_list machine history task page cpu) 0
 
--- how many pages of a span are mapped and have this node as the first of their node list
+-- how many pages of a span are mapped and have this node as the first of their fallback list
 abbrev pub meant_count : Hardware → List Command → ℕ → ℕ → ℕ → ℕ → ℕ → ℕ
 meant_count machine history task cpu first pages node =
     count_pages (λ page. is_mapped history page

@@ -12,7 +12,7 @@ use Rattle.numa_plan.specs.Meaning.{PlanData, planned_list}
 
 -- the plan stands for the history: its version is the number of accepted commands, its nodes are
 -- the machine's, and its list of each mapped page, for each task and each node of the machine, is
--- the node list; a page that isn't mapped has none
+-- the fallback list; a page that isn't mapped has none
 pub record PlanStandsFor (machine : Hardware) (plan : PlanData)
     (history : List Command) : Type 0 where
   pub version : plan.version ≡ length history

@@ -14,12 +14,12 @@ ghost use Rattle.numa_compile.specs.Standing.{PlanStandsFor};
 ghost use Rattle.numa_compile.specs.Spans.{first_node, meant_count, SpanIsRefused};
 
 /// A plan that stands for a history answers by it, in the terms of the clauses of `choice`, `fill`
-/// and `counts`: each list of the plan is the node list of a mapped page; a question about a page
-/// is refused exactly if the history refuses it, and for the same cause; the first node by the plan
-/// is the first of the node list; a node is counted once for each mapped page of the span whose
-/// node list begins with it; and a span is refused exactly if the history refuses it, for a missing
-/// faulting node before an unmapped page. On a machine with memory, each list of a plan of accepted
-/// commands isn't empty, has no node twice, and has only allowed nodes.
+/// and `counts`: each list of the plan is the fallback list of a mapped page; a question about a
+/// page is refused exactly if the history refuses it, and for the same cause; the first node by the
+/// plan is the first of the fallback list; a node is counted once for each mapped page of the span
+/// whose fallback list begins with it; and a span is refused exactly if the history refuses it, for
+/// a missing faulting node before an unmapped page. On a machine with memory, each list of a plan
+/// of accepted commands isn't empty, has no node twice, and has only allowed nodes.
 pub fn every_plan()
     ensures choice { (machine : Hardware) (plan : PlanData) (history : List Command)
         (task page cpu : ℕ) (nodes : List ℕ)

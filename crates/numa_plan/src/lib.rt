@@ -1,9 +1,9 @@
-//! Compiled plans, from which readers get the node list of any page.
+//! Compiled plans, from which readers get the fallback list of any page.
 //!
-//! A [`Plan`] has the node list of any page, for any task and any faulting node, without the space
-//! from which it was made. It keeps runs of pages, each with the number of its rule or none, rules
-//! in numbered slots, each with its policy, the number of a rule for some tasks, and one local
-//! rule. A [`Rule`] has rows of nodes, and a key that says which row applies.
+//! A [`Plan`] has the fallback list of any page, for any task and any faulting node, without the
+//! space from which it was made. It keeps runs of pages, each with the number of its rule or none,
+//! rules in numbered slots, each with its policy, the number of a rule for some tasks, and one
+//! local rule. A [`Rule`] has rows of nodes, and a key that says which row applies.
 //!
 //! [`Plan::choice`] lends the list of a page. [`Plan::fill`] and [`Plan::counts`] handle a whole
 //! span, run by run: the first node of each page's list, and the number of pages for which each

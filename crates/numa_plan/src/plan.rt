@@ -27,7 +27,7 @@ use std::alloc::Global;
 use std::collections::BTreeMap;
 use std::marker::Model;
 
-/// The node lists of a space's pages: runs of pages, each with the number of its rule or none,
+/// The fallback lists of a space's pages: runs of pages, each with the number of its rule or none,
 /// rules in numbered slots, each with its policy, the number of a rule for some tasks, and a local
 /// rule.
 ///
@@ -142,8 +142,8 @@ impl Plan {
         self.runs.len()
     }
 
-    /// The node list of a page, for a task and a fault on node `cpu`: from 1 to 256 nodes, in the
-    /// order in which memory is looked for on them. The plan lends it.
+    /// The fallback list of a page, for a task and a fault on node `cpu`: from 1 to 256 nodes, in
+    /// the order in which memory is looked for on them. The plan lends it.
     ///
     /// The page is compared with the first pages of at most log2(runs + 1) runs, rounded up.
     /// `steps` counts these comparisons, for contracts only.
