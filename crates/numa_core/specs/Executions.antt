@@ -134,9 +134,9 @@ module _ (s : Setup) where
 
   -- after the execution the placement is right for the worker: its version is that of the worker's
   -- last Begin, and was published before it; task and page are those that were asked for; its node
-  -- is at its rank in the node list of the accepted commands up to that version; its frame is one
-  -- of that node and had no owner; and each frame of each node earlier in the list was found with
-  -- an owner since that Begin
+  -- is at its rank in the fallback list of the accepted commands up to that version; its frame is
+  -- one of that node and had no owner; and each frame of each node earlier in the list was found
+  -- with an owner since that Begin
   pub record IsRightPlacement (w : ℕ) (placement : Placement) (past : List CoreStep) : Type 0 where
     pub begun : Begun
     pub nodes : List ℕ

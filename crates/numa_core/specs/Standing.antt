@@ -33,7 +33,7 @@ place_of machine n k = place_in machine.frames n k
 
 -- ---- what a core shows
 
--- what a busy worker is about: its request, the version and the node list that it took, and the
+-- what a busy worker is about: its request, the version and the fallback list that it took, and the
 -- frames that it met, one bit for each frame's place in words of 64
 pub record Busy : Type 0 where
   pub request : Request

@@ -18,8 +18,8 @@ pub record Setup : Type 0 where
   pub bounds : Bounds
   pub workers : ℕ
 
--- a worker's frame search for a frame: its request, the version and the node list that it took, and
--- the frames that it met, by node and number
+-- a worker's frame search: its request, the version and the fallback list that it took, and the
+-- frames that it met, by node and number
 pub record FrameSearch : Type 0 where
   pub request : Request
   pub version : ℕ
@@ -68,14 +68,14 @@ owner_of world frame = world.owner frame.node frame.number
 abbrev pub is_frame : Frame → ℕ → ℕ → Bool
 is_frame frame n k = (n == frame.node) && (k == frame.number)
 
--- ---- the node list of a version
+-- ---- the fallback list of a version
 
 -- the first commands of a history, this many of them
 abbrev pub first_commands : ℕ → List Command → List Command
 first_commands version history = drop (length history - version) history
 
--- the node list that the accepted commands up to the version mean for the request; none where they
--- leave its page unmapped
+-- the fallback list that the accepted commands up to the version mean for the request; none where
+-- they leave its page unmapped
 unfoldable pub list_at : Hardware → List Command → ℕ → Request → Option (List ℕ)
 list_at machine history version request =
     if is_mapped (first_commands version history) request.page

@@ -29,8 +29,8 @@ pub fn cause_at(version: u64, refusal: PlaceRefusal) -> CoreRefusal
     }
 }
 
-/// The node list for a worker's request in the plan of the newest published version, lent by the
-/// plan; or the refusal of the worker's Begin.
+/// The fallback list for a worker's request in the plan of the newest published version, lent by
+/// the plan; or the refusal of the worker's Begin.
 pub(crate) fn row_for<'a>(
     plan: &'a Plan,
     seats: &Vec<WorkerSeat>,

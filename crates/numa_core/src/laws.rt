@@ -68,9 +68,9 @@ pub fn every_execution_has_commands()
         newest_published (world_of s earlier) ≤ newest_published (world_of s (later ++ earlier)) }
 {}
 
-/// On a machine with memory, each node list of a version of an execution isn't empty, has no node
-/// twice, and has only nodes that are allowed at that version; so the node of each won frame is
-/// allowed.
+/// On a machine with memory, each fallback list of a version of an execution isn't empty, has no
+/// node twice, and has only nodes that are allowed at that version; so the node of each won frame
+/// is allowed.
 pub fn every_list()
     ensures sound { (s : Setup) (past : List CoreStep) (version : ℕ) (request : Request)
         (nodes : List ℕ) →

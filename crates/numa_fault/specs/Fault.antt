@@ -1,4 +1,4 @@
--- What a fault does: it enters once, and a seat walks the page's node list for a frame.
+-- What a fault does: it enters once, and a seat walks the page's fallback list for a frame.
 use Rattle.std.specs.Prelude.{◌≡◌, ℕ, ◌+◌, ◌++◌, List, length, Option, Some, None, Result, Ok, Err}
 use Rattle.std.specs.Prelude.{slice_get}
 use Rattle.numa_machine.specs.declared.frame.Frame.{Frame}
@@ -52,7 +52,7 @@ pub record Walks
 
 -- ---- one page
 
--- the node list of the request, and why its page is refused, by the history
+-- the fallback list of the request, and why its page is refused, by the history
 abbrev pub list_of : Hardware → List Command → Request → List ℕ
 list_of machine history request = node_list machine history request.task request.page request.cpu
 

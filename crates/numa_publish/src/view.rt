@@ -65,7 +65,7 @@ impl PlanView {
         self.past.version
     }
 
-    /// The node list for a fault: from 1 to 256 allowed nodes, each once, in the order in which
+    /// The fallback list for a fault: from 1 to 256 allowed nodes, each once, in the order in which
     /// memory is looked for on them. The view lends it.
     ///
     /// The page is compared with the first pages of at most log2(ranges + 1) ranges, rounded up.

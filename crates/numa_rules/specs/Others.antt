@@ -14,7 +14,7 @@ abbrev pub other_rules : Rules → Rules
 other_rules Document = Linux
 other_rules Linux = Document
 
--- the node list of a page; none where the question is refused
+-- the fallback list of a page; none where the question is refused
 abbrev pub nodes_in : Hardware → List Command → ℕ → ℕ → ℕ → List ℕ
 nodes_in machine history task page cpu =
     if is_some (place_refusal_of machine history page cpu) then []

@@ -97,7 +97,7 @@ impl PlanHandle {
         Some(version)
     }
 
-    /// Copies the node list of a page, and returns the number of nodes. `None` if the handle is
+    /// Copies the fallback list of a page, and returns the number of nodes. `None` if the handle is
     /// closed.
     ///
     /// # Errors
