@@ -1,7 +1,9 @@
 -- How what a server is given of the open line grows piece by piece.
-use Rattle.std.specs.Prelude.{◌≡◌, ℕ, ◌-◌, ◌<◌, ◌≤◌, ◌++◌, List, length, take, min}
+use Rattle.std.specs.Prelude.{◌≡◌, ◌==◌, ℕ, ◌-◌, ◌<◌, ◌≤◌, ◌++◌, List, [], ◌∷◌, length, take}
+use Rattle.std.specs.Prelude.{min, refl, true}
 use Rattle.std.proofs.Common.{sym, ◌∙◌, ap, arith}
 use Rattle.std.proofs.Math.Seq.{take-append-add}
+use Rattle.std.proofs.lemmas.Bool.Decides.{nat_tests}
 use Rattle.std.proofs.lemmas.List.{take_all, take-append-le, length-take-le}
 use Rattle.numa_lines.specs.Lines.{given_part}
 
@@ -40,3 +42,21 @@ pub seen_full : (items line more : List ℕ) → 4097 ≤ length items → items
 unfolding given_part
 seen_full items line more h e =
     e ∙ sym (take-append-le 4097 line more (take_full 4097 line (omega (arith, h, ap length e))))
+
+none_seen : (n : ℕ) (line : List ℕ) → 0 < n → [] ≡ take n line → line ≡ []
+none_seen n line some e =
+    let few : length line < n = take_short n line (omega (arith, some, ap length e)) in
+    sym (take_all n line (omega (arith, few))) ∙ sym e
+
+-- a line of which nothing was held, and that is whole
+pub seen_whole : (held bytes : List ℕ) → held ≡ [] → length bytes ≤ 4097 → (line : List ℕ)
+    → held ≡ given_part line → bytes ≡ given_part (line ++ bytes)
+unfolding given_part
+seen_whole held bytes none le line e =
+    let empty : line ≡ [] = none_seen 4097 line (omega arith) (sym none ∙ e) in
+    sym (ap (λ l. take 4097 (l ++ bytes)) empty ∙ take_all 4097 bytes le)
+
+-- nothing is held
+pub none_held : (held : List ℕ) → (length held == 0) ≡ true → held ≡ []
+none_held [] h = refl
+none_held (b ∷ bs) h = grind (arith, nat_tests)

@@ -9,7 +9,7 @@ use std::marker::Model;
 const ROOM: usize = 4096;
 
 /// The most bytes of a line that are kept.
-const LIMIT: usize = 4097;
+pub(crate) const LIMIT: usize = 4097;
 
 /// Text not yet handed to the writer (up to 4,096 bytes), or the first 4,097 bytes of the line that
 /// no line feed has ended yet.

@@ -5,7 +5,7 @@ ghost use Rattle.numa_lines.specs.Lines.{IsPiece};
 ghost use Rattle.numa_lines.specs.Cuts.{HasCut};
 ghost use Rattle.numa_lines.specs.Reading.{Takes};
 
-use crate::buffer::LineBuffer;
+use crate::buffer::{LIMIT, LineBuffer};
 use crate::fault::RunFault;
 use crate::reading::TakeText;
 use memchr::memchr;
@@ -75,8 +75,31 @@ impl<T: Drop> Lines<T> {
 }
 
 impl<T> Lines<T> {
-    /// Ends the open line with these bytes, hands it on, and opens the next.
+    /// Ends the open line with these bytes, hands it on, and opens the next. A line that is whole is
+    /// handed on where it stands.
+    #[inline(always)]
     fn end_line<O>(&mut self, bytes: &[u8], output: &mut O) -> Result<(), RunFault>
+    where
+        T: TakeLine<O>,
+        requires piece { IsPiece bytes.now }
+        ensures ok { OnOk result (Takes (HasCut T.has_taken)
+            self.old output.old self.new output.new (bytes.now ++ 10 ∷ [])) }
+        ensures err { IfErr result T.fails }
+    {
+        if bytes.len() > LIMIT || !self.line.bytes().is_empty() {
+            return self.end_held(bytes, output);
+        }
+        let taken = self
+            .taker
+            .take(self.name.as_str(), self.place, bytes, output);
+        self.place = self.place.saturating_add(1);
+        taken
+    }
+
+    /// Does so for a line that is held as far as it was read before, or is long.
+    #[cold]
+    #[inline(never)]
+    fn end_held<O>(&mut self, bytes: &[u8], output: &mut O) -> Result<(), RunFault>
     where
         T: TakeLine<O>,
         requires piece { IsPiece bytes.now }
